@@ -1,0 +1,3 @@
+-- BLAKE2b without a key after RFC 7693, section 3.3, as definitions: a byte string is a list of numbers below 256.
+pub mod Hash
+pub mod Call

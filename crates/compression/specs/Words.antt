@@ -1,0 +1,15 @@
+-- The declared vectors of words as lists.
+use Prim.Native.Nat.{ℕ}
+use mathlib.Core.List.{List, [], _∷_}
+use Rattle.compression.specs.declared.State.{State}
+use Rattle.compression.specs.declared.Block.{Block}
+
+-- the state: eight words
+abbrev pub stateWords : State → List ℕ
+stateWords h = h .h0 ∷ h .h1 ∷ h .h2 ∷ h .h3 ∷ h .h4 ∷ h .h5 ∷ h .h6 ∷ h .h7 ∷ []
+
+-- the message block: sixteen words
+abbrev pub blockWords : Block → List ℕ
+blockWords m =
+    m .m0 ∷ m .m1 ∷ m .m2 ∷ m .m3 ∷ m .m4 ∷ m .m5 ∷ m .m6 ∷ m .m7 ∷ m .m8 ∷ m .m9 ∷ m .m10 ∷ m .m11 ∷ m .m12
+    ∷ m .m13 ∷ m .m14 ∷ m .m15 ∷ []

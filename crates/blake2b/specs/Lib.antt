@@ -1,3 +1,5 @@
 -- BLAKE2b without a key after RFC 7693, section 3.3, as definitions: a byte string is a list of numbers below 256.
 pub mod Hash
 pub mod Call
+pub mod Pieces
+pub mod Post

@@ -1,0 +1,60 @@
+-- `blake2b::final_state` meets its contract. The invariant: p is the place of a block, which is not past the end, and the state is that after the blocks before it.
+-- Assumes nothing.
+use mathlib.Core.Path.{_≡_, refl, sym}
+use mathlib.Core.List.{_++_}
+use Prim.Native.Nat.{_≤_, _-_, _%_, _/_}
+use lib.ListN.{length-append}
+use Rattle.compression.specs.Words.{stateWords, blockWords}
+use Rattle.blake2b.specs.Hash.{initial, after}
+use Rattle.blake2b.proofs.Blocks.{after-more, final-at}
+use borrow.Author.Needs.{needs}
+use native.Mathlib.Omega.{arith}
+use Rattle.blake2b.proofs.final_state.Statement.{statement}
+use Rattle.blake2b.proofs.final_state.Tie as tie
+
+abbrev Inv-loop : tie.InvT-loop
+Inv-loop length prefix body total h₀ p₀ h p = (p % 128 ≡ 0) × (p ≤ total - 1) × (stateWords h ≡ after (initial length) (prefix ++ body) (p / 128))
+
+abbrev μ-loop : tie.MeasureT-loop
+μ-loop length prefix body total h₀ p₀ h p = total - p
+
+loop-holds : tie.Need-loop-holds Inv-loop μ-loop
+unfolding after
+loop-holds c = (refl, search needs, c .first-state .ensures)
+
+loop-again : tie.Need-loop-again Inv-loop μ-loop
+loop-again c =
+    let l = c .before .before .before in
+    let a = l .before .before .before .before .args in (
+      omega arith,
+      omega arith,
+      after-more (initial (a .length)) (a .prefix .now ++ a .body .now) (l .loop .p) (stateWords (l .loop .h)) (blockWords (c .before .block-at .result))
+          (stateWords (c .compress .result)) (l .loop .inv .0) (l .loop .inv .2) (c .before .block-at .ensures) (c .compress .ensures),
+    )
+
+returns : tie.Need-returns Inv-loop μ-loop
+returns c =
+    let l = c .before .before .before in
+    let a = l .before .before .before .before .args in
+    final-at (a .length) (a .prefix .now ++ a .body .now) (l .loop .p) _ (stateWords (l .loop .h)) (blockWords (c .before .block-at2 .result))
+    (stateWords (c .compress2 .result)) (l .loop .inv .0) (l .loop .inv .1) (omega arith) (sym (length-append (a .prefix .now) (a .body .now)))
+    (l .loop .inv .2) (c .before .block-at2 .ensures) (c .compress2 .ensures)
+
+pub final-state-spec : {M : Type 1} → statement M
+final-state-spec =
+    tie.close
+    (tie.spec
+    Inv-loop
+    μ-loop
+    (λ c. search needs)
+    (λ c κs. search needs)
+    loop-holds
+    (λ c. search needs)
+    (λ c κs. search needs)
+    (λ c. search needs)
+    (λ c κs. search needs)
+    (λ c. search needs)
+    loop-again
+    (λ c κs. search needs)
+    (λ c κs. search needs)
+    returns)

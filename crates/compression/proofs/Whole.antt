@@ -1,0 +1,54 @@
+-- The compression's parts put together.
+use Prim.Native.Nat.{ℕ, _/_, _%_, _^_, _<_}
+use mathlib.Core.Path.{_≡_, ap, ap₂, sym, _∙_}
+use mathlib.Core.Bool.{Bool}
+use mathlib.Core.List.{List, [], _∷_, _++_}
+use native.Mathlib.Nat.{mod-eq-of-lt}
+use native.Mathlib.Omega.{arith}
+use lib.Bits.{bitXor, xor-zero-r}
+use Rattle.compression.specs.Constants.{IV}
+use Rattle.compression.specs.Mixing.{at}
+use Rattle.compression.specs.Compression.{round, row, rounds, flagged, start, folded, F}
+
+-- eight words of the state, and IV with p, q and r for its words 4, 5 and 6
+abbrev vector : List ℕ → ℕ → ℕ → ℕ → List ℕ
+vector h p q r = h ++ at IV 0 ∷ at IV 1 ∷ at IV 2 ∷ at IV 3 ∷ p ∷ q ∷ r ∷ at IV 7 ∷ []
+
+-- a counter of one word: its high word is 0, which changes nothing
+pub started : (h0 h1 h2 h3 h4 h5 h6 h7 t : ℕ) (f : Bool) {r : ℕ} →
+    let h : List ℕ = h0 ∷ h1 ∷ h2 ∷ h3 ∷ h4 ∷ h5 ∷ h6 ∷ h7 ∷ [] in
+    t < 2 ^ 64 → r ≡ flagged f (at IV 6) → vector h (bitXor (at IV 4) t) (at IV 5) r ≡ start h t f
+unfolding start IV
+started h0 h1 h2 h3 h4 h5 h6 h7 t f {r} fits e =
+    let h : List ℕ = h0 ∷ h1 ∷ h2 ∷ h3 ∷ h4 ∷ h5 ∷ h6 ∷ h7 ∷ [] in
+    let low : t ≡ t % 2 ^ 64 = sym (mod-eq-of-lt fits) in
+    let none : 0 ≡ t / 2 ^ 64 % 2 ^ 64 = omega arith in
+    let high : at IV 5 ≡ bitXor (at IV 5) (t / 2 ^ 64 % 2 ^ 64) = sym (xor-zero-r (at IV 5)) ∙ ap (bitXor (at IV 5)) none in
+    ap₂ (λ (p q : ℕ). vector h (bitXor (at IV 4) p) q r) low high
+    ∙ ap (vector h (bitXor (at IV 4) (t % 2 ^ 64)) (bitXor (at IV 5) (t / 2 ^ 64 % 2 ^ 64))) e
+
+-- the twelve rounds, from the vector after each
+pub twelve : (m v₀ : List ℕ) {v₁ v₂ v₃ v₄ v₅ v₆ v₇ v₈ v₉ v₁₀ v₁₁ v₁₂ : List ℕ}
+    → v₁ ≡ round (row 0) m v₀
+    → v₂ ≡ round (row 1) m v₁
+    → v₃ ≡ round (row 2) m v₂
+    → v₄ ≡ round (row 3) m v₃
+    → v₅ ≡ round (row 4) m v₄
+    → v₆ ≡ round (row 5) m v₅
+    → v₇ ≡ round (row 6) m v₆
+    → v₈ ≡ round (row 7) m v₇
+    → v₉ ≡ round (row 8) m v₈
+    → v₁₀ ≡ round (row 9) m v₉
+    → v₁₁ ≡ round (row 10) m v₁₀
+    → v₁₂ ≡ round (row 11) m v₁₁
+    → v₁₂ ≡ rounds 12 m v₀
+unfolding rounds
+twelve m v₀ e₁ e₂ e₃ e₄ e₅ e₆ e₇ e₈ e₉ e₁₀ e₁₁ e₁₂ =
+    rw (e₁₂, e₁₁, e₁₀, e₉, e₈, e₇, e₆, e₅, e₄, e₃, e₂, e₁)
+
+-- F, from the vector before the rounds and after them
+pub compressed : (h m : List ℕ) (t : ℕ) (f : Bool) {w v : List ℕ} → w ≡ start h t f → v ≡ rounds 12 m w
+    → folded h v 0 ∷ folded h v 1 ∷ folded h v 2 ∷ folded h v 3 ∷ folded h v 4 ∷ folded h v 5 ∷ folded h v 6 ∷ folded h v 7 ∷ []
+    ≡ F h m t f
+unfolding F
+compressed h m t f e₁ e₂ = rw (e₂, e₁)

@@ -1,0 +1,13 @@
+-- The working vector, word by word.
+use borrow.Author.Needs.{needs}
+use Rattle.compression.specs.Constants.{IV}
+use Rattle.compression.proofs.Whole.{started}
+use Rattle.compression.proofs.start_vector.Statement.{statement}
+use Rattle.compression.proofs.start_vector.Tie as tie
+
+returns : tie.Need-returns
+unfolding IV
+returns c = started _ _ _ _ _ _ _ _ _ _ (search needs) (c .with-flag .ensures)
+
+pub start-vector-spec : {M : Type 1} → statement M
+start-vector-spec = tie.close (tie.spec (λ c κs. search needs) returns)

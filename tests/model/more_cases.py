@@ -1,0 +1,152 @@
+"""Cases of the model beyond the scope's [T] rows: the calls agree with the images, every refusal has its order and
+place, and the comparing walk finds the collisions of a weak hash.  Prints one line."""
+
+import sys
+
+sys.dont_write_bytecode = True  # nothing generated lies beside the sources
+from sleep_model import *
+
+
+def weak(message):
+    """A hash of few values, so that collisions are at hand."""
+    return bytes([sum(message) % 3] * 32)
+
+
+def chunk_list(n):
+    return [bytes([k % 256]) * (k * 5 % 7) for k in range(n)]
+
+
+def built(chunks, F=node_hash):
+    """A register made by the calls, in buffers that are longer than they need be and not clear."""
+    n, size = len(chunks), sum(map(len, chunks))
+    r = Register(*(bytearray(b'\xa5' * (used + 7)) for used in used_sizes(n, n, size)))
+    answers = [start(r)]
+    for chunk in chunks:
+        answers += [append(r, chunk, F)[:1], store_signature(r, bytes(SIGNATURE))]
+    check('calls', answers, [('done',)] * (2 * n + 1))
+    return r
+
+
+def spoilt(r, image, at, byte=None):
+    """A copy of the register with one byte changed."""
+    other = Register(*map(bytearray, images_of(r)), r.n, r.s, r.size)
+    buffer = getattr(other, image)
+    buffer[at] = buffer[at] ^ 1 if byte is None else byte
+    return other
+
+
+def told(r, **numbers):
+    """The same images, and other numbers told."""
+    known = dict(n=r.n, s=r.s, size=r.size)
+    return Register(*map(bytearray, images_of(r)), **{**known, **numbers})
+
+
+def agreement():
+    for n in (0, 1, 2, 3, 5, 8, 13, 21):
+        chunks = chunk_list(n)
+        r, image = built(chunks), register_of(chunks)
+        used = used_sizes(r.n, r.s, r.size)
+        yield 'images of %d' % n, [x[:u] for x, u in zip(images_of(r), used)], list(images_of(image))
+        yield 'bytes past the images', [bytes(x[u:]) for x, u in zip(images_of(r), used)], [b'\xa5' * 7] * 4
+        yield 'audit of %d' % n, (audit(r), compare(r, image)), (('done',), ('equal',))
+        starts = [sum(map(len, chunks[:k])) for k in range(n)]
+        for k in range(n):
+            yield 'place', place_lookup(r, k), ('done', starts[k], len(chunks[k]))
+            yield 'read', read(None, r, 'content', k), ('done', chunks[k])
+            for b in range(len(chunks[k])):
+                yield 'byte', byte_lookup(r, starts[k] + b), ('done', k, b)
+            packet = bytearray(2000)
+            length = make_packet(r, k, packet)[1]
+            yield 'packet', check_packet(packet[:length], n, k, root_hash(r)[1]), ('done', chunks[k])
+            yield 'packet cut', check_packet(packet[:length - 1], n, k, root_hash(r)[1]), refused(12)
+            yield 'packet longer', check_packet(packet[:length + 1], n, k, root_hash(r)[1]), refused(12)
+            yield 'packet, other root', check_packet(packet[:length], n, k, bytes(32)), refused(13)
+            yield 'no room', make_packet(r, k, bytearray(length - 1)), refused(14)
+
+
+def borders():
+    """Appends around the border of a bitfield entry, from the images of n chunks."""
+    for n in (8191, 8192, 16383):
+        chunks = [b''] * n
+        r, after = register_of(chunks), register_of(chunks + [b'x'])
+        for image, full in zip(images_of(r), images_of(after)):
+            image.extend(b'\xa5' * (len(full) - len(image)))
+        yield 'append to %d' % n, append(r, b'x'), ('done', root_hash(after)[1])
+        yield 'append to %d' % n, (r.tree, r.bitfield, r.data), (after.tree, after.bitfield, after.data)
+
+
+def refusals():
+    room = Register(*(bytearray(70_000) for _ in range(4)))
+    yield 'start', start(room), ('done',)
+    yield 'chunk of 65,537', append(room, bytes(65_537)), refused(7)
+    yield 'chunk of 65,536', append(room, bytes(65_536))[0], 'done'
+    yield 'unsigned', append(room, b''), refused(8)
+    yield 'unsigned and too long', append(room, bytes(65_537)), refused(7)
+    for size, expected in ((31, refused(14)), (32, ('done',))):
+        yield 'start', start(Register(bytearray(32), bytearray(size), bytearray(32), bytearray())), expected
+    none = register_of([])
+    yield 'signature of nothing', store_signature(none, bytes(64)), refused(8)
+    yield 'empty', (audit(none), root_hash(none)), (('done',), ('done', node_hash(b'\2')))
+    yield 'empty', (place_lookup(none, 0), byte_lookup(none, 0)), (refused(9), refused(9))
+    yield 's', audit(told(none, s=2 ** 64 - 1)), refused(3)
+    yield 'size without chunks', (audit(told(none, size=1)), audit(spoilt_size(none))), (refused(4), refused(6))
+    r = register_of(chunk_list(6))  # lengths 0 5 3 1 6 4, roots 3 and 9
+    yield 'n', audit(told(r, n=MOST_CHUNKS + 1)), refused(2)
+    yield 'full', append(told(r, n=MOST_CHUNKS), b''), refused(2)
+    yield 's', [audit(told(r, s=s)) for s in (4, 5, 6, 7)], [refused(3), ('done',), ('done',), refused(3)]
+    for image in ('tree', 'signatures', 'bitfield', 'data'):
+        short = told(r)
+        getattr(short, image).pop()
+        yield 'short ' + image, place_lookup(short, 0), refused(4)
+    for image in ('tree', 'signatures', 'bitfield'):
+        yield 'header of ' + image, byte_lookup(spoilt(r, image, 31), 0), refused(5)
+    yield 'no room', append(r, b''), refused(14)
+    yield 'root length', root_hash(spoilt(r, 'tree', HEADER + ENTRY * 9 + 39)), refused(6)
+    yield 'audit of a root', audit(spoilt(r, 'tree', HEADER + ENTRY * 9)), refused(10, ('tree', 9))
+    yield 'audit of a leaf', audit(spoilt(r, 'tree', HEADER + ENTRY * 4)), refused(10, ('tree', 4))
+    yield 'audit of a hole', audit(spoilt(r, 'tree', HEADER + ENTRY * 7)), refused(10, ('tree', 7))
+    yield 'audit of data', audit(spoilt(r, 'data', 3)), refused(10, ('tree', 2))
+    yield 'audit of bits', audit(spoilt(r, 'bitfield', 3000)), refused(11, ('bitfield', 3000))
+    inner = spoilt(r, 'tree', HEADER + ENTRY * 5 + 39)
+    yield 'lookup stops', [place_lookup(inner, k)[1:] for k in (0, 3)], [(10, ('tree', 3))] * 2
+    yield 'lookup elsewhere', place_lookup(inner, 4), ('done', 9, 6)
+    yield 'long leaf', long_leaf(), refused(10, ('tree', 0))
+    yield 'read of other bytes', read(spoilt(r, 'data', 3), None, 'metadata', 1), refused(10, ('tree', 2))
+    for data in (b'', b'\0\0\0', be(4, 65), be(4, 0) + b'x', be(4, 1), be(4, 1) + be(4, 4097) + bytes(4097)):
+        yield 'listing', listing(data), b'refused input\n'
+    yield 'listing of nothing', listing(be(4, 0)), b'chunks 0 bytes 0 roots\n'
+
+
+def spoilt_size(none):
+    r = told(none, size=1)
+    r.data.append(0)
+    return r
+
+
+def long_leaf():
+    """A register of one leaf whose stored length fits the data and is above 65,536."""
+    r = register_of([b''])
+    r.data, r.size = bytearray(65_537), 65_537
+    r.put(0, entry_bytes(leaf_node(bytes(r.data), node_hash)))
+    return place_lookup(r, 0)
+
+
+def walks():
+    lists = [[], [b''], [b'\1'], [b'\2'], [b'\4'], [b'\1', b''], [b'', b'\1'], [b'\1', b'\2'], [b'\2', b'\1']]
+    seen = set()
+    for a in lists:
+        for b in lists:
+            answer = compare(register_of(a, weak), register_of(b, weak), weak)
+            seen.add(answer[0] if answer[0] != 'collision' else answer)
+            yield 'walk', answer == ('equal',), a == b
+            expected = ('equal',) if a == b else ('roots differ',)
+            yield 'walk', compare(register_of(a), register_of(b)), expected
+    kinds = {'equal', 'roots differ', ('collision', 'at the roots'), ('collision', ('tree', 0))}
+    yield 'kinds of answers', kinds <= seen, True
+    bad = spoilt(register_of([b'a']), 'data', 0)
+    yield 'second refused', compare(register_of([]), bad), refused(10, ('tree', 0)) + ('second',)
+
+
+if __name__ == '__main__':
+    groups = (agreement, borders, refusals, walks)
+    print('model: %d more cases agree' % sum(check(*case) for cases in groups for case in cases()))

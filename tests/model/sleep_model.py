@@ -1,0 +1,498 @@
+"""A reference model of the SLEEP register calls, to hold beside the scope sentence by sentence.
+
+A register is four bytearrays (tree, signatures, bitfield, data) and three numbers (n chunks, s signatures, data size).
+A call answers a tuple: ('done', ..) with what it gives, or ('refused', number, place), where the place is None,
+('tree', index) or ('bitfield', byte offset).  A refused call changes no byte.  The zeros or the empty part that an
+interface puts beside a refusal are no part of the model.
+
+F, from bytes to 32 bytes, is the hash of every leaf, parent and root message.  It is BLAKE2b with 32 bytes of output
+unless a caller puts another function in.  Numbers are whole numbers: no sum wraps.
+"""
+
+import functools
+import hashlib
+from dataclasses import dataclass
+
+MOST_CHUNKS, LONGEST_CHUNK = 1_048_576, 65_536
+MOST_BYTES = 68_719_476_736  # MOST_CHUNKS chunks, each the longest
+
+HEADER, ENTRY, SIGNATURE, HASH = 32, 40, 64, 32
+BITFIELD_ENTRY, DATA_BYTES, TREE_BYTES, INDEX_BYTES = 3328, 1024, 2048, 256
+CHUNKS_PER_ENTRY, NODES_PER_ENTRY = 8192, 16384
+HOLE = bytes(ENTRY)
+
+# ---- Refusals ----
+class Refused(Exception):
+    """args are the number and the place."""
+
+def refused(number, place=None):
+    return ('refused', number, place)
+
+def refuse_if(holds, number, place=None):
+    if holds:
+        raise Refused(number, place)
+
+def call(function):
+    """A public call: ('done', ..) with what the function gives, or the first refusal that it meets."""
+    def answer(*args, **named):
+        try:
+            return ('done',) + function(*args, **named)
+        except Refused as refusal:
+            return refused(*refusal.args)
+    return answer
+
+# ---- Hash and headers ----
+def node_hash(message):
+    """BLAKE2b with output length 32, which is a parameter of the hash."""
+    return hashlib.blake2b(message, digest_size=HASH).digest()
+
+@call
+def blake2b(length, message):
+    """`length` bytes of hash, then zeros up to 64."""
+    refuse_if(not 1 <= length <= 64, 1)
+    return (hashlib.blake2b(message, digest_size=length).digest().ljust(64, b'\0'),)
+
+def header(magic, entry_size, name):
+    """4 bytes magic, 1 version (0), 2 entry size, 1 name length, name, zeros to the end."""
+    return (be(4, magic) + b'\0' + be(2, entry_size) + be(1, len(name)) + name).ljust(HEADER, b'\0')
+
+def be(width, number):
+    return number.to_bytes(width, 'big')
+
+def number_in(data):
+    return int.from_bytes(data, 'big')
+
+BITFIELD_HEADER = header(0x05025700, BITFIELD_ENTRY, b'')
+SIGNATURES_HEADER = header(0x05025701, SIGNATURE, b'Ed25519')
+TREE_HEADER = header(0x05025702, ENTRY, b'BLAKE2b')
+
+# ---- The in-order tree ----
+def depth(index):
+    """The number of trailing one bits."""
+    return 0 if index % 2 == 0 else 1 + depth(index // 2)
+
+def index_of(d, block):
+    """The node of depth d over chunks block * 2^d to (block + 1) * 2^d - 1."""
+    return (2 * block + 1) * 2 ** d - 1
+
+def block_of(index):
+    return index // 2 ** (depth(index) + 1)
+
+def chunks_below(index):
+    d, block = depth(index), block_of(index)
+    return range(block * 2 ** d, (block + 1) * 2 ** d)
+
+def parent(index):
+    return index_of(depth(index) + 1, block_of(index) // 2)
+
+def children(index):
+    half = 2 ** (depth(index) - 1)
+    return index - half, index + half
+
+def roots(n):
+    """One root for each one bit of n, largest first from the left."""
+    sizes = [d for d in reversed(range(n.bit_length())) if n >> d & 1]
+    return [index_of(d, (n >> d) - 1) for d in sizes]
+
+def root_above(n, chunk):
+    return next(root for root in roots(n) if chunk in chunks_below(root))
+
+def tree_entries(n):
+    return 2 * n - 1 if n > 0 else 0
+
+def filled(n, index):
+    """A parent whose last leaf isn't there yet is a hole; every other entry is filled."""
+    return chunks_below(index).stop <= n
+
+# ---- Messages and entries ----
+def leaf_message(chunk):
+    return b'\0' + be(8, len(chunk)) + chunk
+
+def parent_message(left, right):
+    """`left` and `right` are (hash, length)."""
+    return b'\1' + be(8, left[1] + right[1]) + left[0] + right[0]
+
+def root_message(items):
+    """`items` are (tree index, (hash, length)) from the left."""
+    return b'\2' + b''.join(node[0] + be(8, index) + be(8, node[1]) for index, node in items)
+
+def leaf_node(chunk, F):
+    return F(leaf_message(chunk)), len(chunk)
+
+def parent_node(left, right, F):
+    return F(parent_message(left, right)), left[1] + right[1]
+
+def entry_bytes(node):
+    return node[0] + be(8, node[1])
+
+def entry_node(entry):
+    return bytes(entry[:HASH]), number_in(entry[HASH:])
+
+# ---- Bitfield ----
+def bit(k):
+    """The first bit of a byte is its highest."""
+    return 0x80 >> k % 8
+
+def bits_where(count, holds):
+    """`count` bits as bytes: bit k is 1 where holds(k)."""
+    out = bytearray(count // 8)
+    for k in filter(holds, range(count)):
+        out[k // 8] |= bit(k)
+    return bytes(out)
+
+def pair_tuple(pair):
+    """2 data bytes: 11 if all ones, 00 if all zeros, else 10."""
+    return {b'\xff\xff': 0b11, b'\0\0': 0b00}.get(bytes(pair), 0b10)
+
+def combine(left, right):
+    """Tuple by tuple at the same position: equal 11 or equal 00 is kept, all else is 10."""
+    pairs = [(left >> shift & 3, right >> shift & 3) for shift in (6, 4, 2, 0)]
+    a, b, c, d = ({(0b11, 0b11): 0b11, (0b00, 0b00): 0b00}.get(pair, 0b10) for pair in pairs)
+    return a << 6 | b << 4 | c << 2 | d
+
+def index_bytes(data_bits):
+    """The 256 Index bytes of 1024 data bytes; byte 255 is 0."""
+    index = bytearray(INDEX_BYTES)
+    for k in range(0, DATA_BYTES, 8):
+        for j in range(k, k + 8, 2):
+            index[k // 4] = index[k // 4] << 2 | pair_tuple(data_bits[j:j + 2])
+    for d in range(1, 8):
+        for block in range(128 >> d):
+            left, right = children(index_of(d, block))
+            index[index_of(d, block)] = combine(index[left], index[right])
+    return bytes(index)
+
+def bitfield_entries(n):
+    return -(-n // CHUNKS_PER_ENTRY)
+
+@functools.cache
+def bitfield_image(n):
+    image = bytearray(BITFIELD_HEADER)
+    for e in range(bitfield_entries(n)):
+        chunk, node = CHUNKS_PER_ENTRY * e, NODES_PER_ENTRY * e
+        data_bits = bits_where(8 * DATA_BYTES, lambda k: chunk + k < n)
+        tree_bits = bits_where(8 * TREE_BYTES, lambda k: filled(n, node + k))
+        image += data_bits + tree_bits + index_bytes(data_bits)
+    return bytes(image)
+
+# ---- Registers ----
+@dataclass
+class Register:
+    tree: bytearray
+    signatures: bytearray
+    bitfield: bytearray
+    data: bytearray
+    n: int = 0
+    s: int = 0
+    size: int = 0
+
+    def entry(self, index):
+        at = HEADER + ENTRY * index
+        return bytes(self.tree[at:at + ENTRY])
+
+    def node(self, index):
+        return entry_node(self.entry(index))
+
+    def put(self, index, entry):
+        at = HEADER + ENTRY * index
+        self.tree[at:at + ENTRY] = entry
+
+    def part(self, start, length):
+        return bytes(self.data[start:start + length])
+
+    def root_message(self):
+        return root_message([(index, self.node(index)) for index in roots(self.n)])
+
+def tree_image(chunks, F=node_hash):
+    """The tree file that this document gives for a chunk sequence."""
+    n, nodes = len(chunks), {}
+    for index in sorted(range(tree_entries(n)), key=depth):
+        if filled(n, index):
+            if index % 2 == 0:
+                nodes[index] = leaf_node(chunks[index // 2], F)
+            else:
+                nodes[index] = parent_node(*map(nodes.get, children(index)), F)
+    entries = [entry_bytes(nodes[i]) if i in nodes else HOLE for i in range(tree_entries(n))]
+    return TREE_HEADER + b''.join(entries)
+
+def register_of(chunks, F=node_hash):
+    """A register that belongs to the chunk sequence, with as many signatures, all zero."""
+    data, n = b''.join(chunks), len(chunks)
+    images = (tree_image(chunks, F), SIGNATURES_HEADER + bytes(SIGNATURE * n), bitfield_image(n), data)
+    return Register(*map(bytearray, images), n, n, len(data))
+
+# ---- What every call on a register checks ----
+def used_sizes(n, s, size):
+    """Of tree, signatures, bitfield and data."""
+    return (HEADER + ENTRY * tree_entries(n), HEADER + SIGNATURE * s,
+            HEADER + BITFIELD_ENTRY * bitfield_entries(n), size)
+
+def images_of(r):
+    return r.tree, r.signatures, r.bitfield, r.data
+
+def check_register(r, most=MOST_CHUNKS):
+    """Refusals 2 to 6, with which every call on a register begins."""
+    refuse_if(r.n > most, 2)
+    refuse_if(r.s != 0 if r.n == 0 else r.s not in (r.n, r.n - 1), 3)
+    refuse_if(any(len(image) < used for image, used in zip(images_of(r), used_sizes(r.n, r.s, r.size))), 4)
+    headers = (TREE_HEADER, SIGNATURES_HEADER, BITFIELD_HEADER)
+    refuse_if(any(image[:HEADER] != right for image, right in zip(images_of(r), headers)), 5)
+    refuse_if(sum(r.node(root)[1] for root in roots(r.n)) != r.size, 6)
+
+# ---- The calls that write ----
+@call
+def start(r):
+    """Writes the three headers; every other byte keeps its content."""
+    refuse_if(any(len(image) < HEADER for image in (r.tree, r.signatures, r.bitfield)), 14)
+    r.tree[:HEADER], r.signatures[:HEADER], r.bitfield[:HEADER] = TREE_HEADER, SIGNATURES_HEADER, BITFIELD_HEADER
+    r.n = r.s = r.size = 0
+    return ()
+
+@call
+def append(r, chunk, F=node_hash):
+    """Adds one chunk and gives the new root hash.  n and the data size, which the caller tells next, are raised too."""
+    check_register(r, MOST_CHUNKS - 1)
+    refuse_if(len(chunk) > LONGEST_CHUNK, 7)
+    refuse_if(r.s == r.n - 1, 8)
+    tree, _, bitfield, data = used_sizes(r.n + 1, r.s, r.size + len(chunk))
+    refuse_if(len(r.tree) < tree or len(r.bitfield) < bitfield or len(r.data) < data, 14)
+    r.data[r.size:data] = chunk
+    at = HEADER + BITFIELD_ENTRY * (r.n // CHUNKS_PER_ENTRY)
+    if r.n % CHUNKS_PER_ENTRY == 0:
+        r.bitfield[at:at + BITFIELD_ENTRY] = bytes(BITFIELD_ENTRY)
+    if r.n > 0:
+        r.put(2 * r.n - 1, HOLE)  # a parent takes its place below where the new chunk completes it
+    index = 2 * r.n
+    put_filled(r, index, leaf_node(chunk, F))
+    while filled(r.n + 1, parent(index)):
+        index = parent(index)
+        put_filled(r, index, parent_node(*map(r.node, children(index)), F))
+    set_bit(r, r.n, CHUNKS_PER_ENTRY, 0)
+    r.bitfield[at + DATA_BYTES + TREE_BYTES:at + BITFIELD_ENTRY] = index_bytes(r.bitfield[at:at + DATA_BYTES])
+    r.n, r.size = r.n + 1, data
+    return (F(r.root_message()),)
+
+def put_filled(r, index, node):
+    r.put(index, entry_bytes(node))
+    set_bit(r, index, NODES_PER_ENTRY, DATA_BYTES)
+
+def set_bit(r, number, per_entry, section):
+    """The bit of a chunk number or a tree index, in its bitfield entry and from the start of its section on."""
+    e, k = divmod(number, per_entry)
+    r.bitfield[HEADER + BITFIELD_ENTRY * e + section + k // 8] |= bit(k)
+
+@call
+def store_signature(r, signature):
+    """Stores the 64 bytes unread; s, which the caller tells next, is raised too."""
+    check_register(r)
+    refuse_if(r.s == r.n, 8)
+    at = HEADER + SIGNATURE * r.s
+    refuse_if(len(r.signatures) < at + SIGNATURE, 14)
+    r.signatures[at:at + SIGNATURE] = signature
+    r.s += 1
+    return ()
+
+# ---- Audit and root hash ----
+@call
+def audit(r, F=node_hash):
+    check_register(r)
+    start_of_leaf = 0
+    for index in range(tree_entries(r.n)):
+        refuse_if(not entry_right(r, index, start_of_leaf, F), 10, ('tree', index))
+        start_of_leaf += r.node(index)[1] if index % 2 == 0 else 0
+    for at, byte in enumerate(bitfield_image(r.n)):
+        refuse_if(r.bitfield[at] != byte, 11, ('bitfield', at))
+    return ()
+
+def entry_right(r, index, start_of_leaf, F):
+    """By the leaf's place in the data, from the parent's stored children, or as a hole."""
+    if not filled(r.n, index):
+        return r.entry(index) == HOLE
+    node = r.node(index)
+    if index % 2 == 0:
+        within = node[1] <= LONGEST_CHUNK and start_of_leaf + node[1] <= r.size
+        return within and node == leaf_node(r.part(start_of_leaf, node[1]), F)
+    left, right = map(r.node, children(index))
+    return node[1] == left[1] + right[1] and node == parent_node(left, right, F)
+
+@call
+def root_hash(r, F=node_hash):
+    check_register(r)
+    return (F(r.root_message()),)
+
+# ---- Lookups and reads ----
+def place_of(r, chunk):
+    """Start and length of a chunk."""
+    check_register(r)
+    refuse_if(chunk >= r.n, 9)
+    root = root_above(r.n, chunk)
+    start_of_root = sum(r.node(other)[1] for other in roots(r.n) if other < root)
+    return descend(r, root, start_of_root, lambda right, start_of_right: chunk >= chunks_below(right).start)[1:]
+
+place_lookup = call(place_of)
+
+@call
+def byte_lookup(r, offset):
+    """The chunk whose bytes contain the offset, and the offset less the chunk's start; never an empty chunk."""
+    check_register(r)
+    refuse_if(offset >= r.size, 9)
+    start_of_root = 0
+    for root in roots(r.n):
+        if offset < start_of_root + r.node(root)[1]:
+            break
+        start_of_root += r.node(root)[1]
+    found, start_of_leaf, _ = descend(r, root, start_of_root, lambda right, start_of_right: offset >= start_of_right)
+    return found, offset - start_of_leaf
+
+def descend(r, index, start_of_node, goes_right):
+    """From a visited node down to a leaf through stored lengths: chunk number, start and length."""
+    length = r.node(index)[1]
+    if index % 2 == 0:
+        refuse_if(length > LONGEST_CHUNK, 10, ('tree', index))
+        return index // 2, start_of_node, length
+    left, right = children(index)
+    refuse_if(length != r.node(left)[1] + r.node(right)[1], 10, ('tree', index))
+    start_of_right = start_of_node + r.node(left)[1]
+    if goes_right(right, start_of_right):
+        return descend(r, right, start_of_right, goes_right)
+    return descend(r, left, start_of_node, goes_right)
+
+@call
+def read(metadata, content, name, chunk, F=node_hash):
+    """The bytes of a chunk of the register named 'metadata' or 'content'; the other register is not checked."""
+    return (chunk_bytes({'metadata': metadata, 'content': content}[name], chunk, F),)
+
+def chunk_bytes(r, chunk, F):
+    found = r.part(*place_of(r, chunk))
+    refuse_if(F(leaf_message(found)) != r.node(2 * chunk)[0], 10, ('tree', 2 * chunk))
+    return found
+
+# ---- Packets ----
+@call
+def make_packet(r, chunk, buffer, F=node_hash):
+    """Writes the packet at the front of the buffer and gives its length."""
+    found = chunk_bytes(r, chunk, F)
+    packet = be(4, len(found)) + found
+    for section in packet_indexes(r.n, chunk):
+        packet += be(1, len(section)) + b''.join(map(r.entry, section))
+    refuse_if(len(buffer) < len(packet), 14)
+    buffer[:len(packet)] = packet
+    return (len(packet),)
+
+def packet_indexes(n, chunk):
+    """The siblings from the leaf upward, and the roots that aren't above the chunk, from the left."""
+    siblings, index, root = [], 2 * chunk, root_above(n, chunk)
+    while index != root:
+        left, right = children(parent(index))
+        siblings.append(right if index == left else left)
+        index = parent(index)
+    return siblings, [other for other in roots(n) if other != root]
+
+@call
+def check_packet(packet, n, chunk, root, F=node_hash):
+    """The chunk's part of the packet, where the packet shows the chunk to stand under the root hash."""
+    refuse_if(n > MOST_CHUNKS, 2)
+    refuse_if(chunk >= n, 9)
+    siblings, others = packet_indexes(n, chunk)
+    length = number_in(packet[:4])
+    sizes = [4, length, 1, ENTRY * len(siblings), 1, ENTRY * len(others)]
+    refuse_if(length > LONGEST_CHUNK or len(packet) != sum(sizes), 12)
+    _, found, sibling_count, sibling_part, other_count, other_part = cut(packet, sizes)
+    refuse_if((sibling_count[0], other_count[0]) != (len(siblings), len(others)), 12)
+    entries = cut(sibling_part + other_part, [ENTRY] * len(siblings + others))
+    nodes = dict(zip(siblings + others, map(entry_node, entries)))
+    refuse_if(length + sum(node[1] for node in nodes.values()) > MOST_BYTES, 13)
+    index = 2 * chunk
+    nodes[index] = leaf_node(found, F)
+    for _ in siblings:
+        index = parent(index)
+        nodes[index] = parent_node(*map(nodes.get, children(index)), F)
+    refuse_if(F(root_message([(top, nodes[top]) for top in roots(n)])) != root, 13)
+    return (found,)
+
+def cut(data, sizes):
+    """Consecutive parts of these sizes."""
+    parts, at = [], 0
+    for size in sizes:
+        parts.append(bytes(data[at:at + size]))
+        at += size
+    return parts
+
+# ---- The comparing walk ----
+def compare(first, second, F=node_hash):
+    """('equal',), ('roots differ',), ('collision', 'at the roots'), ('collision', ('tree', index)), or a refusal with
+    'first' or 'second' after its place."""
+    for r, which in ((first, 'first'), (second, 'second')):
+        answer = audit(r, F)
+        if answer[0] == 'refused':
+            return answer + (which,)
+    if F(first.root_message()) != F(second.root_message()):
+        return ('roots differ',)
+    if first.root_message() != second.root_message():
+        return ('collision', 'at the roots')
+    for index in range(tree_entries(first.n)):  # equal root messages have equal n
+        messages = [message_at(r, index) for r in (first, second) if filled(first.n, index)]
+        if len(set(messages)) == 2 and F(messages[0]) == F(messages[1]):
+            return ('collision', ('tree', index))
+    return ('equal',)
+
+def message_at(r, index):
+    """The message at a filled tree index of an accepted register."""
+    if index % 2:
+        return parent_message(*map(r.node, children(index)))
+    start_of_leaf = sum(r.node(2 * chunk)[1] for chunk in range(index // 2))
+    return leaf_message(r.part(start_of_leaf, r.node(index)[1]))
+
+# ---- The listing ----
+def listing(data):
+    """Bytes of standard input to bytes of standard output."""
+    chunks = listing_chunks(data)
+    if chunks is None:
+        return b'refused input\n'
+    r = register_of(chunks)
+    lines = [' '.join(['chunks %d bytes %d roots' % (r.n, r.size)] + [str(root) for root in roots(r.n)])]
+    for index in range(tree_entries(r.n)):
+        kind = 'leaf' if index % 2 == 0 else 'parent' if filled(r.n, index) else 'hole'
+        start_of_node = sum(map(len, chunks[:chunks_below(index).start])) if kind != 'hole' else 0
+        lines.append('%d %s %d %d' % (index, kind, start_of_node, r.node(index)[1]))
+    return ('\n'.join(lines) + '\n').encode()
+
+def listing_chunks(data):
+    """The chunks of a 4-byte count (at most 64) and for each a 4-byte length and its bytes (at most 4,096 together)."""
+    count, at, chunks = number_in(data[:4]), 4, []
+    if len(data) < 4 or count > 64:
+        return None
+    for _ in range(count):
+        length = number_in(data[at:at + 4])
+        if len(data) < at + 4 + length:
+            return None
+        chunks.append(data[at + 4:at + 4 + length])
+        at += 4 + length
+    return chunks if at == len(data) and sum(map(len, chunks)) <= 4096 else None
+
+# ---- Self-check ----
+def check(what, answer, expected):
+    if answer != expected:
+        raise SystemExit('%s: %r, expected %r' % (what, answer, expected))
+    return 1
+
+def table():
+    """The cases of the scope that are marked [T]: what is asked, the model's answer, the scope's."""
+    for n, expected in ((0, []), (1, [0]), (2, [1]), (3, [1, 4]), (6, [3, 9]), (7, [3, 9, 12]), (8, [7])):
+        yield 'roots of %d' % n, roots(n), expected
+    yield 'parents of 2 and 5, children of 3', (parent(2), parent(5), children(3)), (1, 3, (1, 5))
+    yield 'filled by the fourth chunk', [i for i in range(7) if filled(4, i) and not filled(3, i)], [3, 5, 6]
+    for n, expected in ((10, '80800080'), (16, 'c080'), (64, 'ffaa'), (128, 'ffffffaa')):
+        index = bitfield_image(n)[HEADER + DATA_BYTES + TREE_BYTES:]
+        yield 'Index of %d' % n, index[:len(expected) // 2].hex(), expected
+    for n, expected in ((0, 32), (8192, 3360), (8193, 6688)):
+        yield 'bitfield size of %d' % n, (used_sizes(n, n, 0)[2], len(bitfield_image(n))), (expected, expected)
+    r = register_of([b'AB', b'', b'CDE'])
+    for offset, expected in ((1, ('done', 0, 1)), (2, ('done', 2, 0)), (5, refused(9))):
+        yield 'byte lookup of %d' % offset, byte_lookup(r, offset), expected
+    listed = b'chunks 3 bytes 5 roots 1 4\n0 leaf 0 2\n1 parent 0 2\n2 leaf 2 0\n3 hole 0 0\n4 leaf 2 3\n'
+    yield 'listing', listing(be(4, 3) + be(4, 2) + b'AB' + be(4, 0) + be(4, 3) + b'CDE'), listed
+
+if __name__ == '__main__':
+    cases = sum(check(*case) for case in table())
+    print('model: %d cases marked [T] agree' % cases)

@@ -1,0 +1,213 @@
+//! Safe calls of the proved library `libc_api.a`: slices in, `Result` out. Link it by
+//! `rustc -L native=target/staticlib -l static=c_api`. What each call does, needs and refuses is said in include/sleep_register.h.
+#![allow(dead_code)]
+
+/// What a refusal points at.
+#[derive(Clone, Copy, Debug, PartialEq, Eq)]
+pub enum Place {
+    None,
+    TreeIndex(u64),
+    BitfieldByte(u64),
+}
+
+/// A refused call: nothing that was lent to it has changed.
+#[derive(Clone, Copy, Debug, PartialEq, Eq)]
+pub struct Refusal {
+    pub number: u64,
+    pub place: Place,
+}
+
+/// Two numbers that a lookup gives: start and length, or chunk number and offset within the chunk.
+pub type Pair = (u64, u64);
+
+/// A register's images, to be read, and its numbers.
+#[derive(Clone, Copy)]
+pub struct Register<'a> {
+    pub tree: &'a [u8],
+    pub signatures: &'a [u8],
+    pub bitfield: &'a [u8],
+    pub data: &'a [u8],
+    pub n: u64,
+    pub s: u64,
+    pub size: u64,
+}
+
+/// A register's images in buffers of its own. The numbers follow the calls that are done.
+#[derive(Clone, Debug, PartialEq, Eq)]
+pub struct Store {
+    pub tree: Vec<u8>,
+    pub signatures: Vec<u8>,
+    pub bitfield: Vec<u8>,
+    pub data: Vec<u8>,
+    pub n: u64,
+    pub s: u64,
+    pub size: u64,
+}
+
+#[repr(C)]
+struct Answer {
+    number: u64,
+    place_kind: u64,
+    place: u64,
+}
+
+type In = *const u8;
+type Out = *mut u8;
+
+extern "C" {
+    fn sleep_hash(length: u64, message: In, message_length: usize, digest: Out) -> u64;
+    fn sleep_start(t: Out, tl: usize, g: Out, gl: usize, b: Out, bl: usize, d: In, dl: usize) -> Answer;
+    #[rustfmt::skip]
+    fn sleep_append(t: Out, tl: usize, g: In, gl: usize, b: Out, bl: usize, d: Out, dl: usize, n: u64, s: u64, size: u64,
+        chunk: In, chunk_length: usize, root: Out) -> Answer;
+    #[rustfmt::skip]
+    fn sleep_store_signature(t: In, tl: usize, g: Out, gl: usize, b: In, bl: usize, d: In, dl: usize, n: u64, s: u64, size: u64,
+        signature: In) -> Answer;
+    #[rustfmt::skip]
+    fn sleep_root_hash(t: In, tl: usize, g: In, gl: usize, b: In, bl: usize, d: In, dl: usize, n: u64, s: u64, size: u64,
+        root: Out) -> Answer;
+    #[rustfmt::skip]
+    fn sleep_audit(t: In, tl: usize, g: In, gl: usize, b: In, bl: usize, d: In, dl: usize, n: u64, s: u64, size: u64) -> Answer;
+    #[rustfmt::skip]
+    fn sleep_place(t: In, tl: usize, g: In, gl: usize, b: In, bl: usize, d: In, dl: usize, n: u64, s: u64, size: u64,
+        chunk: u64, out: *mut u64) -> Answer;
+    #[rustfmt::skip]
+    fn sleep_byte(t: In, tl: usize, g: In, gl: usize, b: In, bl: usize, d: In, dl: usize, n: u64, s: u64, size: u64,
+        offset: u64, out: *mut u64) -> Answer;
+    #[rustfmt::skip]
+    fn sleep_read(t: In, tl: usize, g: In, gl: usize, b: In, bl: usize, d: In, dl: usize, n: u64, s: u64, size: u64,
+        chunk: u64, out: *mut u64) -> Answer;
+}
+
+impl Answer {
+    fn result<T>(self, given: T) -> Result<T, Refusal> {
+        if self.number == 0 {
+            return Ok(given);
+        }
+        let place = match self.place_kind {
+            1 => Place::TreeIndex(self.place),
+            2 => Place::BitfieldByte(self.place),
+            _ => Place::None,
+        };
+        Err(Refusal { number: self.number, place })
+    }
+}
+
+/// BLAKE2b with `length` bytes of output, 1 to 64, then zeros.
+pub fn hash(length: u64, message: &[u8]) -> Result<[u8; 64], Refusal> {
+    let mut digest = [0; 64];
+    // The pointers are of slices with these lengths, as in every call below.
+    let number = unsafe { sleep_hash(length, message.as_ptr(), message.len(), digest.as_mut_ptr()) };
+    Answer { number, place_kind: 0, place: 0 }.result(digest)
+}
+
+/// A call on a register that is only read: the four slices and the three numbers come first.
+macro_rules! reading {
+    ($call:ident, $r:expr $(, $other:expr)*) => {
+        unsafe {
+            $call(
+                $r.tree.as_ptr(), $r.tree.len(), $r.signatures.as_ptr(), $r.signatures.len(), $r.bitfield.as_ptr(),
+                $r.bitfield.len(), $r.data.as_ptr(), $r.data.len(), $r.n, $r.s, $r.size $(, $other)*
+            )
+        }
+    };
+}
+
+impl<'a> Register<'a> {
+    pub fn root_hash(&self) -> Result<[u8; 32], Refusal> {
+        let mut root = [0; 32];
+        let answer = reading!(sleep_root_hash, self, root.as_mut_ptr());
+        answer.result(root)
+    }
+
+    pub fn audit(&self) -> Result<(), Refusal> {
+        reading!(sleep_audit, self).result(())
+    }
+
+    /// Start and length of a chunk.
+    pub fn place(&self, chunk: u64) -> Result<Pair, Refusal> {
+        let mut out = [0; 2];
+        let answer = reading!(sleep_place, self, chunk, out.as_mut_ptr());
+        answer.result((out[0], out[1]))
+    }
+
+    /// The chunk that has the byte at an offset, and the offset less its start.
+    pub fn byte(&self, offset: u64) -> Result<Pair, Refusal> {
+        let mut out = [0; 2];
+        let answer = reading!(sleep_byte, self, offset, out.as_mut_ptr());
+        answer.result((out[0], out[1]))
+    }
+
+    /// The bytes of a chunk, where they lie, after their hash was compared.
+    pub fn read(&self, chunk: u64) -> Result<&'a [u8], Refusal> {
+        let mut out = [0; 2];
+        let answer = reading!(sleep_read, self, chunk, out.as_mut_ptr());
+        answer.result(())?;
+        let (start, length) = (out[0] as usize, out[1] as usize);
+        Ok(&self.data[start..start + length])
+    }
+}
+
+impl Store {
+    /// Buffers with room for `chunks` chunks of `bytes` bytes together; `start` comes next.
+    pub fn with_room(chunks: usize, bytes: usize) -> Store {
+        Store {
+            tree: vec![0; 32 + 40 * (2 * chunks).saturating_sub(1)],
+            signatures: vec![0; 32 + 64 * chunks],
+            bitfield: vec![0; 32 + 3328 * ((chunks + 8191) / 8192)],
+            data: vec![0; bytes],
+            n: 0,
+            s: 0,
+            size: 0,
+        }
+    }
+
+    pub fn register(&self) -> Register<'_> {
+        Register {
+            tree: &self.tree,
+            signatures: &self.signatures,
+            bitfield: &self.bitfield,
+            data: &self.data,
+            n: self.n,
+            s: self.s,
+            size: self.size,
+        }
+    }
+
+    pub fn start(&mut self) -> Result<(), Refusal> {
+        let (t, g, b, d) = (&mut self.tree, &mut self.signatures, &mut self.bitfield, &self.data);
+        let (tl, gl, bl) = (t.len(), g.len(), b.len());
+        unsafe { sleep_start(t.as_mut_ptr(), tl, g.as_mut_ptr(), gl, b.as_mut_ptr(), bl, d.as_ptr(), d.len()) }.result(())?;
+        (self.n, self.s, self.size) = (0, 0, 0);
+        Ok(())
+    }
+
+    /// One more chunk; the new root hash.
+    pub fn append(&mut self, chunk: &[u8]) -> Result<[u8; 32], Refusal> {
+        let mut root = [0; 32];
+        let (t, g, b, d) = (&mut self.tree, &self.signatures, &mut self.bitfield, &mut self.data);
+        let (tl, bl, dl) = (t.len(), b.len(), d.len());
+        #[rustfmt::skip]
+        let answer = unsafe {
+            sleep_append(t.as_mut_ptr(), tl, g.as_ptr(), g.len(), b.as_mut_ptr(), bl, d.as_mut_ptr(), dl, self.n, self.s, self.size,
+                chunk.as_ptr(), chunk.len(), root.as_mut_ptr())
+        };
+        answer.result(())?;
+        self.n += 1;
+        self.size += chunk.len() as u64;
+        Ok(root)
+    }
+
+    pub fn store_signature(&mut self, signature: &[u8; 64]) -> Result<(), Refusal> {
+        let (t, g, b, d) = (&self.tree, &mut self.signatures, &self.bitfield, &self.data);
+        let gl = g.len();
+        #[rustfmt::skip]
+        let answer = unsafe {
+            sleep_store_signature(t.as_ptr(), t.len(), g.as_mut_ptr(), gl, b.as_ptr(), b.len(), d.as_ptr(), d.len(), self.n, self.s,
+                self.size, signature.as_ptr())
+        };
+        answer.result(())?;
+        self.s += 1;
+        Ok(())
+    }
+}

@@ -1,0 +1,185 @@
+-- What the audit's verdict "done" says, entry by entry and byte by byte.
+-- Assumes nothing.
+use Prim.Native.Nat.{ℕ, zero, suc, _+_, _-_, _*_, _≤_, _<_}
+use mathlib.Core.Path.{_≡_, refl, sym, ap, ap₂, _∙_, subst₂}
+use mathlib.Core.Bool.{Bool, true, false, cond, _&&_}
+use mathlib.Core.List.{List}
+use native.Mathlib.Nat.{add-zero, add-suc, suc-add, zero-add}
+use native.Mathlib.Omega.{arith}
+use borrow.Author.Tests.{leb-true, eqb-true, le-leb, eq-eqb}
+use lib.ListN.{getD}
+use lib.Dec.{leb, eqb}
+use Rattle.counts.specs.Verdict.{Spot, Verdict, tree, bitfield, done}
+use Rattle.sequences.specs.Lists.{part, sameList, zeros}
+use Rattle.sequences.proofs.Lists.{same-eq}
+use Rattle.tree_index.specs.Tree.{index, depth, block, leftChild, rightChild, filled, entries}
+use Rattle.tree_index.proofs.Index.{depth-index, block-index, leftChild-index, rightChild-index}
+use Rattle.files.specs.Sizes.{longestChunk, entryPlace, usedBitfield}
+use Rattle.files.specs.Messages.{leafMessage, parentMessage}
+use Rattle.files.specs.Images.{bitfieldImage}
+use Rattle.files.specs.Stored.{storedHash, storedSize, storedStart, storedChunk}
+use Rattle.files.specs.Belongs.{Register}
+use Rattle.files.proofs.Nodes.{byDepth}
+use Rattle.checks.proofs.Passed.{Passed, passes, passed, same-of}
+use Rattle.audit.specs.Audit.{Lowest, nowhere, first, lowest, leafRight, parentRight, holeRight, entryRight, wrongEntry, byteRight, wrongByte, refusedAt, audit, Accepted}
+
+-- ---- the lowest wrong number
+
+abbrev orElse : Bool → Lowest → ℕ → Lowest
+orElse b l i = elim b [ true ↦ l | false ↦ first i ]
+
+only : (b : Bool) (l : Lowest) (i : ℕ) → orElse b l i ≡ nowhere → (b ≡ true) × (l ≡ nowhere)
+only true l i e = (refl, e)
+only false l i e = let z : _≡_ {A = ℕ} 0 1 = cc in absurd (omega arith)
+
+pub nowhere-right : (right : ℕ → Bool) (i k : ℕ) → lowest right i k ≡ nowhere → (j : ℕ) → j < k → right (i + j) ≡ true
+unfolding lowest
+nowhere-right right i zero e j h = absurd (omega arith)
+nowhere-right right i (suc k) e zero h = ap right (add-zero i) ∙ only (right i) (lowest right (suc i) k) i e .0
+nowhere-right right i (suc k) e (suc j) h =
+    ap right (add-suc i j ∙ sym (suc-add i j)) ∙ nowhere-right right (suc i) k (only (right i) (lowest right (suc i) k) i e .1) j (omega arith)
+
+pub right-nowhere : (right : ℕ → Bool) (i k : ℕ) → ((j : ℕ) → j < k → right (i + j) ≡ true) → lowest right i k ≡ nowhere
+unfolding lowest
+right-nowhere right i zero h = refl
+right-nowhere right i (suc k) h =
+    ap (λ (b : Bool). orElse b (lowest right (suc i) k) i) (ap right (sym (add-zero i)) ∙ h 0 (omega arith))
+    ∙ right-nowhere right (suc i) k (λ j l. ap right (suc-add i j ∙ sym (add-suc i j)) ∙ h (suc j) (omega arith))
+
+-- ---- one entry
+
+and-true : (a b : Bool) → (a && b) ≡ true → (a ≡ true) × (b ≡ true)
+and-true true b e = (refl, e)
+and-true false b e = let z : _≡_ {A = ℕ} 0 1 = cc in absurd (omega arith)
+
+module _ (F : List ℕ → List ℕ) (t content : List ℕ) where
+  -- "a leaf .. is wrong if it is over 65,536, runs past the data or has another hash"
+  pub record LeafRight (size k : ℕ) : Type 0 where
+    pub short : storedSize t (2 * k) ≤ longestChunk
+    pub inside : storedStart t k + storedSize t (2 * k) ≤ size
+    pub hash : storedHash t (2 * k) ≡ F (leafMessage (storedChunk t content k))
+
+  pub leaf-right : (size k : ℕ) → leafRight F t content size k ≡ true → LeafRight size k
+  unfolding leafRight
+  leaf-right size k e =
+      let a = and-true (leb (storedSize t (2 * k)) longestChunk) (leb (storedStart t k + storedSize t (2 * k)) size && sameList (storedHash t (2 * k)) (F (leafMessage (storedChunk t content k)))) e in
+      let b = and-true (leb (storedStart t k + storedSize t (2 * k)) size) (sameList (storedHash t (2 * k)) (F (leafMessage (storedChunk t content k)))) (a .1) in
+      record {
+        short = leb-true (storedSize t (2 * k)) longestChunk (a .0);
+        inside = leb-true (storedStart t k + storedSize t (2 * k)) size (b .0);
+        hash = same-eq (storedHash t (2 * k)) (F (leafMessage (storedChunk t content k))) (b .1);
+      }
+
+  pub right-leaf : (size k : ℕ) → LeafRight size k → leafRight F t content size k ≡ true
+  unfolding leafRight
+  right-leaf size k p =
+      ap₂ _&&_ (le-leb (storedSize t (2 * k)) longestChunk (p .short))
+      (ap₂ _&&_ (le-leb (storedStart t k + storedSize t (2 * k)) size (p .inside)) (same-of (storedHash t (2 * k)) (F (leafMessage (storedChunk t content k))) (p .hash)))
+
+  -- "a parent if it doesn't follow from its stored children", which are l and r
+  pub record ParentRight (i l r : ℕ) : Type 0 where
+    pub sum : storedSize t i ≡ storedSize t l + storedSize t r
+    pub hash : storedHash t i ≡ F (parentMessage (storedSize t l + storedSize t r) (storedHash t l) (storedHash t r))
+
+  pub parent-right : (i : ℕ) → parentRight F t i ≡ true → ParentRight i (leftChild i) (rightChild i)
+  unfolding parentRight
+  parent-right i e =
+      let m : List ℕ = parentMessage (storedSize t (leftChild i) + storedSize t (rightChild i)) (storedHash t (leftChild i)) (storedHash t (rightChild i)) in
+      let a = and-true (eqb (storedSize t i) (storedSize t (leftChild i) + storedSize t (rightChild i))) (sameList (storedHash t i) (F m)) e in
+      record { sum = eqb-true (storedSize t i) (storedSize t (leftChild i) + storedSize t (rightChild i)) (a .0); hash = same-eq (storedHash t i) (F m) (a .1) }
+
+  pub right-parent : (i : ℕ) → ParentRight i (leftChild i) (rightChild i) → parentRight F t i ≡ true
+  unfolding parentRight
+  right-parent i p =
+      let m : List ℕ = parentMessage (storedSize t (leftChild i) + storedSize t (rightChild i)) (storedHash t (leftChild i)) (storedHash t (rightChild i)) in
+      ap₂ _&&_ (eq-eqb (storedSize t i) (storedSize t (leftChild i) + storedSize t (rightChild i)) (p .sum)) (same-of (storedHash t i) (F m) (p .hash))
+
+  -- what is asked of an entry, by coordinates
+  module _ (n size : ℕ) where
+    asked : (b : Bool) (x k i : ℕ) → Bool
+    asked b x k i = cond b (byDepth x (leafRight F t content size k) (parentRight F t i)) (holeRight F t i)
+
+    entryRight-leaf : (k : ℕ) → filled n (index zero k) ≡ true → entryRight F t content n size (index zero k) ≡ leafRight F t content size k
+    unfolding entryRight asked
+    entryRight-leaf k h = (λ j. asked (h j) (depth-index zero k j) (block-index zero k j) (index zero k))
+
+    entryRight-parent : (d k : ℕ) → filled n (index (suc d) k) ≡ true → entryRight F t content n size (index (suc d) k) ≡ parentRight F t (index (suc d) k)
+    unfolding entryRight asked
+    entryRight-parent d k h = (λ j. asked (h j) (depth-index (suc d) k j) (block (index (suc d) k)) (index (suc d) k))
+
+    -- the same of any index, by its depth
+    pub even-entry : (i : ℕ) → depth i ≡ zero → filled n i ≡ true → entryRight F t content n size i ≡ leafRight F t content size (block i)
+    unfolding entryRight asked
+    even-entry i z h = (λ j. asked (h j) (z j) (block i) i)
+
+    pub odd-entry : (i d : ℕ) → depth i ≡ suc d → filled n i ≡ true → entryRight F t content n size i ≡ parentRight F t i
+    unfolding entryRight asked
+    odd-entry i d z h = (λ j. asked (h j) (z j) (block i) i)
+
+    pub entryRight-hole : (i : ℕ) → filled n i ≡ false → entryRight F t content n size i ≡ holeRight F t i
+    unfolding entryRight asked
+    entryRight-hole i h = (λ j. asked (h j) (depth i) (block i) i)
+
+    -- and what it says
+    pub leaf-says : (k : ℕ) → filled n (index zero k) ≡ true → entryRight F t content n size (index zero k) ≡ true → LeafRight size k
+    leaf-says k h e = leaf-right size k (sym (entryRight-leaf k h) ∙ e)
+
+    pub says-leaf : (k : ℕ) → filled n (index zero k) ≡ true → LeafRight size k → entryRight F t content n size (index zero k) ≡ true
+    says-leaf k h p = entryRight-leaf k h ∙ right-leaf size k p
+
+    pub parent-says : (d k : ℕ) → filled n (index (suc d) k) ≡ true → entryRight F t content n size (index (suc d) k) ≡ true
+        → ParentRight (index (suc d) k) (index d (2 * k)) (index d (2 * k + 1))
+    parent-says d k h e =
+        subst₂ (ParentRight (index (suc d) k)) (leftChild-index d k) (rightChild-index d k) (parent-right (index (suc d) k) (sym (entryRight-parent d k h) ∙ e))
+
+    pub says-parent : (d k : ℕ) → filled n (index (suc d) k) ≡ true → ParentRight (index (suc d) k) (index d (2 * k)) (index d (2 * k + 1))
+        → entryRight F t content n size (index (suc d) k) ≡ true
+    says-parent d k h p =
+        entryRight-parent d k h ∙ right-parent (index (suc d) k) (subst₂ (ParentRight (index (suc d) k)) (sym (leftChild-index d k)) (sym (rightChild-index d k)) p)
+
+    pub hole-says : (i : ℕ) → filled n i ≡ false → entryRight F t content n size i ≡ true → part t (entryPlace i) 40 ≡ zeros 40
+    unfolding holeRight
+    hole-says i h e = same-eq (part t (entryPlace i) 40) (zeros 40) (sym (entryRight-hole i h) ∙ e)
+
+    pub says-hole : (i : ℕ) → filled n i ≡ false → part t (entryPlace i) 40 ≡ zeros 40 → entryRight F t content n size i ≡ true
+    unfolding holeRight
+    says-hole i h e = entryRight-hole i h ∙ same-of (part t (entryPlace i) 40) (zeros 40) e
+
+-- ---- the verdict
+
+at-must : (m : ℕ) (at : ℕ → Spot) (l : Lowest) (next : Verdict) → refusedAt m at l next ≡ done → (l ≡ nowhere) × (next ≡ done)
+unfolding refusedAt
+at-must m at nowhere next e = (refl, e)
+at-must m at (first i) next e = let z : _≡_ {A = ℕ} 0 1 = cc in absurd (omega arith)
+
+module _ (F : List ℕ → List ℕ) where
+  pub record Audited (r : Register) : Type 0 where
+    pub checked : Passed r
+    pub entry : (i : ℕ) → i < entries (r .n) → entryRight F (r .tree) (r .content) (r .n) (r .size) i ≡ true
+    pub byte : (b : ℕ) → 32 ≤ b → b < usedBitfield (r .n) → getD (r .bitfield) b 0 ≡ getD (bitfieldImage (r .n)) b 0
+
+  pub accepted-audited : (r : Register) → Accepted F r → Audited r
+  unfolding audit wrongEntry wrongByte byteRight
+  accepted-audited r e =
+      let a = passed r (refusedAt 10 tree (wrongEntry F r) (refusedAt 11 bitfield (wrongByte r) done)) e in
+      let b = at-must 10 tree (wrongEntry F r) (refusedAt 11 bitfield (wrongByte r) done) (a .1) in
+      let c = at-must 11 bitfield (wrongByte r) done (b .1) in
+      record {
+        checked = a .0;
+        entry = λ i h. ap (entryRight F (r .tree) (r .content) (r .n) (r .size)) (sym (zero-add i)) ∙ nowhere-right (entryRight F (r .tree) (r .content) (r .n) (r .size)) 0 (entries (r .n)) (b .0) i h;
+        byte = λ i l h. eqb-true (getD (r .bitfield) i 0) (getD (bitfieldImage (r .n)) i 0)
+            (let j : ℕ = i - 32 in
+            let q : i ≡ 32 + j = omega arith in
+            ap (byteRight (r .bitfield) (r .n)) q ∙ nowhere-right (byteRight (r .bitfield) (r .n)) 32 (usedBitfield (r .n) - 32) (c .0) j (omega arith));
+      }
+
+  pub audited-accepted : (r : Register) → Audited r → Accepted F r
+  unfolding audit wrongEntry wrongByte byteRight refusedAt
+  audited-accepted r a =
+      passes r (refusedAt 10 tree (wrongEntry F r) (refusedAt 11 bitfield (wrongByte r) done)) (a .checked)
+      ∙ ap (λ (l : Lowest). refusedAt 10 tree l (refusedAt 11 bitfield (wrongByte r) done))
+      (right-nowhere (entryRight F (r .tree) (r .content) (r .n) (r .size)) 0 (entries (r .n))
+      (λ j h. ap (entryRight F (r .tree) (r .content) (r .n) (r .size)) (zero-add j) ∙ a .entry j h))
+      ∙ ap (λ (l : Lowest). refusedAt 11 bitfield l done)
+      (right-nowhere (byteRight (r .bitfield) (r .n)) 32 (usedBitfield (r .n) - 32)
+      (λ j h. eq-eqb (getD (r .bitfield) (32 + j) 0) (getD (bitfieldImage (r .n)) (32 + j) 0) (a .byte (32 + j) (omega arith) (omega arith))))

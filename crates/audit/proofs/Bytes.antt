@@ -1,0 +1,252 @@
+-- The bitfield file as the code judges it: byte by byte in an entry, and entry by entry.
+-- Assumes nothing.
+use Prim.Native.Nat.{ℕ, zero, suc, _+_, _-_, _*_, _≤_, _<_}
+use mathlib.Core.Path.{_≡_, refl, sym, ap, ap₂, _∙_, subst}
+use mathlib.Core.Logic.{_⊎_, inl, inr, ⊎-elim}
+use mathlib.Core.Bool.{Bool, true, false}
+use mathlib.Core.List.{List, [], _∷_, _++_}
+use native.Mathlib.Nat.{add-zero, zero-add, mul-comm}
+use native.Mathlib.Decide.{decLt}
+use native.Mathlib.Omega.{arith}
+use borrow.Author.Tests.{eq-eqb, ne-eqb, eqb-true}
+use lib.ListN.{length, getD, take, drop, List·getD-append}
+use lib.Seq.{ext-getD}
+use lib.Dec.{eqb}
+use Rattle.counts.specs.Verdict.{Verdict, bitfield, done, refused}
+use Rattle.sequences.specs.Lists.{part, run, joined}
+use Rattle.sequences.proofs.Lists.{getD-behind, getD-part, length-part, part-joined}
+use Rattle.tree_index.specs.Tree.{filled}
+use Rattle.bitfield.specs.Bits.{byteOf, bytesOf}
+use Rattle.bitfield.specs.Index.{indexBytes}
+use Rattle.bitfield.specs.Image.{dataBytes, treeBytes, entry, entryCount, heldBelow, entriesOf}
+use Rattle.bitfield.proofs.Image.{length-data, length-tree, length-entry}
+use Rattle.files.specs.Sizes.{usedBitfield}
+use Rattle.files.specs.Headers.{bitfieldHeader}
+use Rattle.files.specs.Images.{bitfieldImage}
+use Rattle.files.proofs.OfImage.{bitfieldHeader-length}
+use Rattle.audit.specs.Audit.{Lowest, lowest, byteRight, refusedAt}
+use Rattle.audit.specs.Bytes.{entryWith, BitsIn, AtBits}
+use Rattle.audit.proofs.Search.{lowest-on, lowest-off, lowest-end, lowest-agree, andThen, search-parts}
+
+-- ---- the bytes of an entry
+
+getD-bytesOf : (p : ℕ → Bool) (b k j : ℕ) → j < k → getD (bytesOf p b k) j 0 ≡ byteOf p (b + 8 * j)
+unfolding bytesOf
+getD-bytesOf p b zero j h = absurd (omega arith)
+getD-bytesOf p b (suc k) zero h = ap (byteOf p) (omega arith)
+getD-bytesOf p b (suc k) (suc j) h = getD-bytesOf p (b + 8) k j (omega arith) ∙ ap (byteOf p) (omega arith)
+
+module _ (n e : ℕ) (ix : List ℕ) where
+  pub with-data : (j : ℕ) → j < 1024 → byteOf (heldBelow n) (8192 * e + 8 * j) ≡ getD (entryWith n e ix) j 0
+  unfolding entryWith dataBytes
+  with-data j h =
+      sym (List·getD-append (dataBytes (heldBelow n) e) (treeBytes (filled n) e ++ ix) 0 j (omega (arith, length-data (heldBelow n) e))
+      ∙ getD-bytesOf (heldBelow n) (8192 * e) 1024 j h)
+
+  behind-data : (j : ℕ) → getD (entryWith n e ix) (1024 + j) 0 ≡ getD (treeBytes (filled n) e ++ ix) j 0
+  unfolding entryWith
+  behind-data j = getD-behind (dataBytes (heldBelow n) e) (treeBytes (filled n) e ++ ix) 1024 j 0 (length-data (heldBelow n) e)
+
+  pub with-tree : (j : ℕ) → 1024 ≤ j → j < 3072 → byteOf (filled n) (16384 * e + 8 * (j - 1024)) ≡ getD (entryWith n e ix) j 0
+  unfolding treeBytes
+  with-tree j h g =
+      let k : ℕ = j - 1024 in
+      let q : 1024 + k ≡ j = omega arith in
+      sym (ap (λ (x : ℕ). getD (entryWith n e ix) x 0) (sym q) ∙ behind-data k
+      ∙ List·getD-append (treeBytes (filled n) e) ix 0 k (omega (arith, length-tree (filled n) e))
+      ∙ getD-bytesOf (filled n) (16384 * e) 2048 k (omega arith))
+
+  pub with-index : (j : ℕ) → 3072 ≤ j → getD ix (j - 3072) 0 ≡ getD (entryWith n e ix) j 0
+  with-index j h =
+      let k : ℕ = j - 3072 in
+      let q : 1024 + (2048 + k) ≡ j = omega arith in
+      sym (ap (λ (x : ℕ). getD (entryWith n e ix) x 0) (sym q) ∙ behind-data (2048 + k)
+      ∙ getD-behind (treeBytes (filled n) e) ix 2048 k 0 (length-tree (filled n) e))
+
+-- entries that differ in their Index bytes are the same before them
+with-before : (n e : ℕ) (ix iy : List ℕ) (j : ℕ) → j < 3072 → getD (entryWith n e ix) j 0 ≡ getD (entryWith n e iy) j 0
+with-before n e ix iy j h = elim (decLt j 1024) [
+  | yes l ↦ sym (with-data n e ix j l) ∙ with-data n e iy j l
+  | no l ↦ sym (with-tree n e ix j (omega arith) h) ∙ with-tree n e iy j (omega arith) h
+]
+
+-- ---- the image's bytes
+
+image-byte : (n e j : ℕ) → e < entryCount n → j < 3328
+    → getD (bitfieldImage n) (32 + 3328 * e + j) 0 ≡ getD (entryWith n e (indexBytes (dataBytes (heldBelow n) e))) j 0
+unfolding bitfieldImage entriesOf entry entryWith
+image-byte n e j h g =
+    let q : 32 + 3328 * e + j ≡ 32 + (e * 3328 + j) = omega arith in
+    ap (λ (x : ℕ). getD (bitfieldHeader ++ entriesOf n) x 0) q
+    ∙ getD-behind bitfieldHeader (entriesOf n) 32 (e * 3328 + j) 0 bitfieldHeader-length
+    ∙ sym (getD-part (entriesOf n) (e * 3328) 3328 j 0 g)
+    ∙ ap (λ (xs : List ℕ). getD xs j 0)
+    (part-joined (entry (heldBelow n) (filled n)) 3328 (length-entry (heldBelow n) (filled n)) 0 (entryCount n) e h
+    ∙ ap (entry (heldBelow n) (filled n)) (zero-add e))
+
+-- ---- an entry judged by the Index of its stored data bytes
+
+-- an entry of the file is one of few, and lies within it
+pub entry-room : (xs : List ℕ) (n e : ℕ) → AtBits xs n e → (e < 128) × (32 + 3328 * e + 3328 ≤ length xs)
+unfolding usedBitfield entryCount
+entry-room xs n e w = (omega (arith, w .entry, w .file .count), omega (arith, w .entry, w .file .inside))
+
+pub part-long : (xs : List ℕ) (at m : ℕ) → at + 1024 ≤ length xs → m ≡ 1024 → length (take m (drop at xs)) ≡ 1024
+unfolding part
+part-long xs at m h e = ap (λ (k : ℕ). length (take k (drop at xs))) e ∙ length-part xs at 1024 h
+
+pub index-by : (xs : List ℕ) (e m : ℕ) (r : List ℕ) → m ≡ 1024 → r ≡ indexBytes (take m (drop (32 + 3328 * e) xs))
+    → r ≡ indexBytes (part xs (32 + 3328 * e) 1024)
+unfolding part
+index-by xs e m r h q = q ∙ ap (λ (k : ℕ). indexBytes (take k (drop (32 + 3328 * e) xs))) h
+
+-- the test that the code makes of the byte at place b of the file
+abbrev pub byStored : List ℕ → ℕ → ℕ → ℕ → Bool
+byStored xs n e b = eqb (getD xs b 0) (getD (entryWith n e (indexBytes (part xs (32 + 3328 * e) 1024))) (b - (32 + 3328 * e)) 0)
+
+module _ (xs : List ℕ) (n e : ℕ) (w : AtBits xs n e) where
+  abbrev at : ℕ
+  at = 32 + 3328 * e
+
+  -- where all data bytes are right, they are the image's
+  data-right : ((m : ℕ) → at ≤ m → m < at + 1024 → byteRight xs n m ≡ true) → part xs at 1024 ≡ dataBytes (heldBelow n) e
+  unfolding byteRight entryWith
+  data-right h =
+      let long : length (part xs at 1024) ≡ 1024 = length-part xs at 1024 (omega (arith, entry-room xs n e w .1)) in
+      ext-getD 0 (part xs at 1024) (dataBytes (heldBelow n) e) (long ∙ sym (length-data (heldBelow n) e))
+      (λ j l. getD-part xs at 1024 j 0 (omega (arith, long))
+      ∙ eqb-true (getD xs (at + j) 0) (getD (bitfieldImage n) (at + j) 0) (h (at + j) (omega arith) (omega (arith, long)))
+      ∙ image-byte n e j (w .entry) (omega (arith, long))
+      ∙ List·getD-append (dataBytes (heldBelow n) e) (treeBytes (filled n) e ++ indexBytes (dataBytes (heldBelow n) e)) 0 j
+      (omega (arith, long, length-data (heldBelow n) e)))
+
+  -- the code's test and the definition's find the same byte
+  agree : (b : ℕ) → at ≤ b → b < at + 3328 → ((m : ℕ) → at ≤ m → m < b → byteRight xs n m ≡ true) → byStored xs n e b ≡ byteRight xs n b
+  unfolding byteRight
+  agree b l h before =
+      let j : ℕ = b - at in
+      let q : at + j ≡ b = omega arith in
+      let own : getD (bitfieldImage n) b 0 ≡ getD (entryWith n e (indexBytes (dataBytes (heldBelow n) e))) j 0 =
+      ap (λ (x : ℕ). getD (bitfieldImage n) x 0) (sym q) ∙ image-byte n e j (w .entry) (omega arith) in
+      ap (λ (y : ℕ). eqb (getD xs b 0) y)
+      (elim (decLt j 3072) [
+        | yes f ↦ with-before n e (indexBytes (part xs at 1024)) (indexBytes (dataBytes (heldBelow n) e)) j f
+        | no f ↦ ap (λ (d : List ℕ). getD (entryWith n e (indexBytes d)) j 0) (data-right (λ m s t. before m s (omega arith)))
+      ] ∙ sym own)
+
+  pub entry-agrees : lowest (byStored xs n e) at 3328 ≡ lowest (byteRight xs n) at 3328
+  entry-agrees = lowest-agree (byStored xs n e) (byteRight xs n) at 3328 agree
+
+-- ---- the walk over the bytes of an entry
+
+-- at the byte j of entry e: what is left from there decides
+pub record Passing (xs : List ℕ) (n e at j : ℕ) (index : List ℕ) : Type 0 where
+  pub place : at ≡ 32 + 3328 * e
+  pub below : j ≤ 3328
+  pub by : index ≡ indexBytes (part xs (32 + 3328 * e) 1024)
+  pub rest : lowest (byStored xs n e) at 3328 ≡ lowest (byStored xs n e) (at + j) (at + 3328 - (at + j))
+
+module _ (xs : List ℕ) (n e at : ℕ) (index : List ℕ) where
+  pub passing-start : at ≡ 32 + 3328 * e → index ≡ indexBytes (part xs (32 + 3328 * e) 1024) → Passing xs n e at 0 index
+  passing-start p i =
+      record {
+        place = p;
+        below = omega arith;
+        by = i;
+        rest = ap₂ (lowest (byStored xs n e)) (sym (add-zero at)) (omega arith);
+      }
+
+  module _ (j : ℕ) (w : Passing xs n e at j index) where
+    -- what the code compares
+    tested : (b : Bool) → eqb (getD xs (at + j) 0) (getD (entryWith n e index) j 0) ≡ b → byStored xs n e (at + j) ≡ b
+    tested b h =
+        (λ i. eqb (getD xs (at + j) 0) (getD (entryWith n e (sym (w .by) i)) (k i) 0)) ∙ h
+      where
+        k : at + j - (32 + 3328 * e) ≡ j
+        k = omega (arith, w .place)
+
+    pub passing-next : j < 3328 → getD xs (at + j) 0 ≡ getD (entryWith n e index) j 0 → Passing xs n e at (j + 1) index
+    passing-next h r =
+        let q : at + j + 1 ≡ at + (j + 1) = omega arith in
+        record {
+          place = w .place;
+          below = omega arith;
+          by = w .by;
+          rest = w .rest ∙ lowest-on (byStored xs n e) (at + j) (at + 3328) (omega arith) (tested true (eq-eqb _ _ r))
+              ∙ ap (λ (x : ℕ). lowest (byStored xs n e) x (at + 3328 - x)) q;
+        }
+
+    module _ (b : AtBits xs n e) where
+      agreed : lowest (byteRight xs n) (32 + 3328 * e) 3328 ≡ lowest (byStored xs n e) (at + j) (at + 3328 - (at + j))
+      agreed = sym (entry-agrees xs n e b) ∙ ap (λ (x : ℕ). lowest (byStored xs n e) x 3328) (sym (w .place)) ∙ w .rest
+
+      pub passing-found : (v : Verdict) → j < 3328 → (getD xs (at + j) 0 ≡ getD (entryWith n e index) j 0 → ⊥) → v ≡ refused 11 (bitfield (at + j))
+          → v ≡ refusedAt 11 bitfield (lowest (byteRight xs n) (32 + 3328 * e) 3328) done
+      unfolding refusedAt
+      passing-found v h r q =
+          q ∙ ap (λ (l : Lowest). refusedAt 11 bitfield l done)
+          (sym (agreed ∙ lowest-off (byStored xs n e) (at + j) (at + 3328) (omega arith) (tested false (ne-eqb _ _ r))))
+
+      pub passing-done : 3328 ≤ j → done ≡ refusedAt 11 bitfield (lowest (byteRight xs n) (32 + 3328 * e) 3328) done
+      unfolding refusedAt
+      passing-done h =
+          ap (λ (l : Lowest). refusedAt 11 bitfield l done)
+          (sym (agreed ∙ lowest-end (byStored xs n e) (at + j) (at + 3328) (omega arith)))
+
+-- ---- the walk over the entries
+
+module _ (xs : List ℕ) (n : ℕ) where
+  -- what is found from entry e on
+  abbrev pub fromEntry : ℕ → ℕ → Verdict
+  fromEntry e k = refusedAt 11 bitfield (lowest (byteRight xs n) (32 + 3328 * e) (3328 * k)) done
+
+  abbrev pub whole : Verdict
+  whole = refusedAt 11 bitfield (lowest (byteRight xs n) 32 (usedBitfield n - 32)) done
+
+  pub record Entering (count e : ℕ) : Type 0 where
+    pub end : count ≡ entryCount n
+    pub below : e ≤ count
+    pub rest : whole ≡ fromEntry e (count - e)
+
+  pub entering-start : (count : ℕ) → count ≡ entryCount n → Entering count 0
+  unfolding usedBitfield
+  entering-start count q =
+      record {
+        end = q;
+        below = omega arith;
+        rest = ap (λ (k : ℕ). refusedAt 11 bitfield (lowest (byteRight xs n) 32 k) done) (omega arith);
+      }
+
+  module _ (count e : ℕ) (w : Entering count e) where
+    pub entering-entry : BitsIn xs n → e < count → AtBits xs n e
+    entering-entry p h = record { file = p; entry = omega (arith, w .end) }
+
+    one-entry : e < count → whole ≡ andThen (refusedAt 11 bitfield (lowest (byteRight xs n) (32 + 3328 * e) 3328) done) (fromEntry (e + 1) (count - (e + 1)))
+    one-entry h =
+        let k : 3328 * (count - e) ≡ 3328 + 3328 * (count - (e + 1)) = omega arith in
+        let p : 32 + 3328 * e + 3328 ≡ 32 + 3328 * (e + 1) = omega arith in
+        w .rest
+        ∙ ap (λ (x : ℕ). refusedAt 11 bitfield (lowest (byteRight xs n) (32 + 3328 * e) x) done) k
+        ∙ search-parts (byteRight xs n) 11 bitfield (32 + 3328 * e) 3328 (3328 * (count - (e + 1)))
+        ∙ ap (λ (x : ℕ). andThen (refusedAt 11 bitfield (lowest (byteRight xs n) (32 + 3328 * e) 3328) done) (refusedAt 11 bitfield (lowest (byteRight xs n) x (3328 * (count - (e + 1)))) done)) p
+
+    -- the verdict on one entry, and what it makes of the whole
+    pub entering-next : (v : Verdict) → e < count → v ≡ refusedAt 11 bitfield (lowest (byteRight xs n) (32 + 3328 * e) 3328) done → v ≡ done
+        → Entering count (e + 1)
+    entering-next v h q d =
+        record {
+          end = w .end;
+          below = omega arith;
+          rest = one-entry h ∙ ap (λ (x : Verdict). andThen x (fromEntry (e + 1) (count - (e + 1)))) (sym q ∙ d);
+        }
+
+    pub entering-found : (v : Verdict) → e < count → v ≡ refusedAt 11 bitfield (lowest (byteRight xs n) (32 + 3328 * e) 3328) done
+        → ((next : Verdict) → andThen v next ≡ v) → v ≡ whole
+    entering-found v h q stop =
+        sym (one-entry h ∙ ap (λ (x : Verdict). andThen x (fromEntry (e + 1) (count - (e + 1)))) (sym q) ∙ stop (fromEntry (e + 1) (count - (e + 1))))
+
+    pub entering-done : count ≤ e → done ≡ whole
+    unfolding lowest refusedAt
+    entering-done h =
+        let k : 3328 * (count - e) ≡ 0 = omega arith in
+        sym (w .rest ∙ ap (λ (x : ℕ). refusedAt 11 bitfield (lowest (byteRight xs n) (32 + 3328 * e) x) done) k)

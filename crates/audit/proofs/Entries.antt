@@ -1,0 +1,245 @@
+-- The tree entries as the code judges them, one by one from the left.
+-- Assumes nothing.
+use Prim.Native.Nat.{ℕ, zero, suc, _+_, _-_, _*_, _/_, _%_, _^_, _≤_, _<_}
+use mathlib.Core.Path.{_≡_, refl, sym, ap, ap₂, _∙_, subst}
+use mathlib.Core.Logic.{_⊎_, inl, inr, ⊎-elim}
+use mathlib.Core.Bool.{Bool, true, false, _&&_}
+use mathlib.Core.List.{List, [], _∷_}
+use native.Mathlib.Nat.{add-zero, zero-add}
+use native.Mathlib.Omega.{arith}
+use borrow.Author.Tests.{le-leb, lt-leb, eq-eqb, ne-eqb, ltb-true, lt-ltb}
+use lib.ListN.{length, take, drop, replicate}
+use lib.Dec.{eqb}
+use Rattle.counts.specs.Verdict.{Verdict, tree, done, refused}
+use Rattle.sequences.specs.Lists.{part, run, total, sameList, allZero, zeros}
+use Rattle.sequences.proofs.Lists.{length-part}
+use Rattle.tree_index.specs.Tree.{index, depth, block, leftChild, rightChild, filled, entries}
+use Rattle.tree_index.proofs.Index.{index-leaf, depth-index, by-coordinates}
+use Rattle.tree_index.proofs.Filled.{filled-leaf, filled-below, children-below}
+use Rattle.tree_index.proofs.Words.{leaf-block}
+use Rattle.bitfield.proofs.Levels.{same-or}
+use Rattle.files.specs.Sizes.{longestChunk, entryPlace, usedTree}
+use Rattle.files.specs.Messages.{leafMessage, parentMessage}
+use Rattle.files.specs.Stored.{storedHash, storedSize, storedStart, storedChunk}
+use Rattle.files.specs.Within.{EntryIn, RootsIn}
+use Rattle.files.proofs.Spans.{total-run-add}
+use Rattle.files.proofs.OfImage.{entry-inside}
+use Rattle.checks.proofs.Steps.{and-stop, and-pass}
+use Rattle.audit.specs.Audit.{Lowest, lowest, leafRight, parentRight, holeRight, entryRight, refusedAt}
+use Rattle.audit.specs.Walked.{leavesBefore, Started, AtEntry, AtLeaf, AtParent}
+use Rattle.audit.proofs.Audited.{leaf-right, even-entry, odd-entry, entryRight-hole}
+use Rattle.audit.proofs.Search.{lowest-on, lowest-off, lowest-end}
+
+-- ---- where an entry lies
+
+pub entry-in : (t : List ℕ) (n i : ℕ) → RootsIn t n → i < entries n → EntryIn t i
+unfolding entries
+entry-in t n i p h = record { small = omega (arith, p .count); inside = omega (arith, entry-inside i n h, p .inside) }
+
+pub entry-as : (t : List ℕ) {i j : ℕ} → i ≡ j → EntryIn t j → EntryIn t i
+entry-as t e p = subst (EntryIn t) (sym e) p
+
+-- an even index is a leaf, an odd one a parent
+pub even-depth : (i : ℕ) → i % 2 ≡ 0 → depth i ≡ 0
+even-depth i h =
+    let k : ℕ = i / 2 in
+    let e : 2 * k ≡ i = omega arith in
+    sym (ap depth (index-leaf k ∙ e)) ∙ depth-index 0 k
+
+pub odd-depth : (i : ℕ) → (i % 2 ≡ 0 → ⊥) → 0 < depth i
+odd-depth = by-coordinates (λ i. (i % 2 ≡ 0 → ⊥) → 0 < depth i) go
+  where
+    go : (d k : ℕ) → (index d k % 2 ≡ 0 → ⊥) → 0 < depth (index d k)
+    go zero k h = absurd (h (let e : index 0 k ≡ 2 * k = index-leaf k in omega arith))
+    go (suc d) k h = subst (λ (x : ℕ). 0 < x) (sym (depth-index (suc d) k)) (omega arith)
+
+-- a filled parent and its children
+pub parent-in : (t : List ℕ) (n i : ℕ) → RootsIn t n → (i % 2 ≡ 0 → ⊥) → filled n i ≡ true → AtParent t i
+parent-in t n i p h f =
+    let c = children-below n i (odd-depth i h) f in
+    record {
+      entry = entry-in t n i p (filled-below n i f);
+      parent = odd-depth i h;
+      left = entry-in t n (leftChild i) p (c .0);
+      right = entry-in t n (rightChild i) p (c .1);
+    }
+
+-- ---- starts
+
+start-next : (t : List ℕ) (k : ℕ) → storedStart t (k + 1) ≡ storedStart t k + storedSize t (2 * k)
+unfolding storedStart run total
+start-next t k =
+    total-run-add (λ j. storedSize t (2 * j)) 0 k 1
+    ∙ ap (λ (x : ℕ). total (run (λ j. storedSize t (2 * j)) 0 k) + x)
+    (add-zero (storedSize t (2 * (0 + k))) ∙ ap (λ (x : ℕ). storedSize t (2 * x)) (zero-add k))
+
+pub behind-leaf : (t : List ℕ) (i start s : ℕ) → i % 2 ≡ 0 → start ≡ storedStart t (leavesBefore i) → s ≡ storedSize t i
+    → start + s ≡ storedStart t (leavesBefore (i + 1))
+behind-leaf t i start s h e q =
+    let k : ℕ = i / 2 in
+    let a : (i + 1) / 2 ≡ k = omega arith in
+    let b : (i + 1 + 1) / 2 ≡ k + 1 = omega arith in
+    let d : i ≡ 2 * k = omega arith in
+    ap₂ _+_ (e ∙ ap (storedStart t) a) (q ∙ ap (storedSize t) d) ∙ sym (start-next t k) ∙ ap (storedStart t) (sym b)
+
+pub behind-parent : (t : List ℕ) (i start : ℕ) → (i % 2 ≡ 0 → ⊥) → start ≡ storedStart t (leavesBefore i)
+    → start ≡ storedStart t (leavesBefore (i + 1))
+behind-parent t i start h e = let a : (i + 1) / 2 ≡ (i + 1 + 1) / 2 = omega arith in e ∙ ap (storedStart t) a
+
+-- ---- one entry
+
+module _ (F : List ℕ → List ℕ) (t d : List ℕ) (size k : ℕ) where
+  pub leaf-long : (len : ℕ) → len ≡ storedSize t (2 * k) → longestChunk < len → false ≡ leafRight F t d size k
+  unfolding leafRight
+  leaf-long len e h = and-stop _ _ (lt-leb (storedSize t (2 * k)) longestChunk (omega (arith, e)))
+
+  pub leaf-past : (start len : ℕ) → start ≡ storedStart t k → len ≡ storedSize t (2 * k) → len ≤ longestChunk → size - start < len
+      → start ≤ size → false ≡ leafRight F t d size k
+  unfolding leafRight
+  leaf-past start len e q s h g =
+      and-pass _ _ false (le-leb (storedSize t (2 * k)) longestChunk (omega arith))
+      (and-stop _ _ (lt-leb (storedStart t k + storedSize t (2 * k)) size (omega arith)))
+
+  pub leaf-same : (start len m : ℕ) (stored expected : List ℕ) (r : Bool) → start ≡ storedStart t k → len ≡ storedSize t (2 * k)
+      → len ≤ longestChunk → len ≤ size - start → start ≤ size → m ≡ len → stored ≡ storedHash t (2 * k)
+      → expected ≡ F (leafMessage (take m (drop start d))) → r ≡ sameList stored expected → r ≡ leafRight F t d size k
+  unfolding leafRight storedChunk part
+  leaf-same start len m stored expected r e q s h g me st ex rr =
+      and-pass _ _ r (le-leb (storedSize t (2 * k)) longestChunk (omega arith))
+      (and-pass _ _ r (le-leb (storedStart t k + storedSize t (2 * k)) size (omega arith))
+      (rr ∙ ap₂ sameList st (ex ∙ ap₂ (λ (a b : ℕ). F (leafMessage (take a (drop b d)))) (me ∙ q) e)))
+
+module _ (F : List ℕ → List ℕ) (t : List ℕ) (i here first : ℕ) (h : here ≡ storedSize t i) (f : first ≡ storedSize t (leftChild i)) where
+  pub parent-less : here < first → false ≡ parentRight F t i
+  unfolding parentRight
+  parent-less l =
+      and-stop _ _ (ne-eqb (storedSize t i) (storedSize t (leftChild i) + storedSize t (rightChild i)) (λ z. omega arith))
+
+  pub parent-off : (second : ℕ) → second ≡ storedSize t (rightChild i) → first ≤ here → (here - first ≡ second → ⊥) → false ≡ parentRight F t i
+  unfolding parentRight
+  parent-off second s l o =
+      and-stop _ _ (ne-eqb (storedSize t i) (storedSize t (leftChild i) + storedSize t (rightChild i)) (λ z. o (omega arith)))
+
+  pub parent-same : (second : ℕ) (a b stored expected : List ℕ) (r : Bool) → second ≡ storedSize t (rightChild i) → first ≤ here → here - first ≡ second
+      → a ≡ storedHash t (leftChild i) → b ≡ storedHash t (rightChild i) → expected ≡ F (parentMessage here a b) → stored ≡ storedHash t i
+      → r ≡ sameList stored expected → r ≡ parentRight F t i
+  unfolding parentRight
+  parent-same second a b stored expected r s l o ae be ex st rr =
+      let sum : storedSize t i ≡ storedSize t (leftChild i) + storedSize t (rightChild i) = omega arith in
+      and-pass _ _ r (eq-eqb (storedSize t i) (storedSize t (leftChild i) + storedSize t (rightChild i)) sum)
+      (rr ∙ ap₂ sameList st (ex ∙ (λ j. F (parentMessage ((h ∙ sum) j) (ae j) (be j)))))
+
+zero-same : (xs : List ℕ) → allZero xs ≡ sameList xs (zeros (length xs))
+unfolding allZero sameList
+zero-same [] = refl
+zero-same (x ∷ xs) = ap (λ (b : Bool). eqb x 0 && b) (zero-same xs)
+
+pub hole-same : (F : List ℕ → List ℕ) (t : List ℕ) (i from m : ℕ) (r : Bool) → EntryIn t i → from ≡ entryPlace i → m ≡ 40
+    → r ≡ allZero (take m (drop from t)) → r ≡ holeRight F t i
+unfolding holeRight part
+hole-same F t i from m r p f me rr =
+    rr ∙ ap₂ (λ (a b : ℕ). allZero (take a (drop b t))) me f ∙ zero-same (part t (entryPlace i) 40)
+    ∙ ap (λ (k : ℕ). sameList (part t (entryPlace i) 40) (zeros k)) (length-part t (entryPlace i) 40 (p .inside))
+
+-- ---- an entry, whichever it is
+
+module _ (F : List ℕ → List ℕ) (t d : List ℕ) (n size i start : ℕ) (p : AtEntry t d n size i start) where
+  pub at-entry : EntryIn t i
+  at-entry = entry-in t n i (p .room) (p .entry)
+
+  -- a leaf that is an entry is filled
+  even-filled : i % 2 ≡ 0 → filled n i ≡ true
+  unfolding entries
+  even-filled h =
+      let k : ℕ = i / 2 in
+      let e : i ≡ 2 * k = omega arith in
+      ap (filled n) e ∙ filled-leaf n k ∙ lt-ltb k n (omega (arith, p .entry))
+
+  pub at-leaf : (k : ℕ) → i % 2 ≡ 0 → k ≡ block i → AtLeaf t d size k start
+  at-leaf k h e =
+      let b : k ≡ i / 2 = e ∙ sym (leaf-block i h) in
+      record {
+        entry = entry-as t (omega arith) at-entry;
+        held = p .held;
+        here = p .here ∙ ap (storedStart t) (omega arith);
+        inside = p .inside;
+      }
+
+  pub at-parent : (i % 2 ≡ 0 → ⊥) → filled n i ≡ true → AtParent t i
+  at-parent = parent-in t n i (p .room)
+
+  pub leaf-entry : (k : ℕ) (r : Bool) → i % 2 ≡ 0 → filled n i ≡ true → k ≡ block i → r ≡ leafRight F t d size k → r ≡ entryRight F t d n size i
+  leaf-entry k r h f e rr = rr ∙ ap (leafRight F t d size) e ∙ sym (even-entry F t d n size i (even-depth i h) f)
+
+  pub parent-entry : (r : Bool) → (i % 2 ≡ 0 → ⊥) → filled n i ≡ true → r ≡ parentRight F t i → r ≡ entryRight F t d n size i
+  parent-entry r h f rr =
+      let e : depth i ≡ suc (depth i - 1) = omega (arith, odd-depth i h) in
+      rr ∙ sym (odd-entry F t d n size i (depth i - 1) e f)
+
+  pub hole-entry : (r : Bool) → filled n i ≡ false → r ≡ holeRight F t i → r ≡ entryRight F t d n size i
+  hole-entry r f rr = rr ∙ sym (entryRight-hole F t d n size i f)
+
+  -- a right leaf ends within the data
+  leaf-inside : entryRight F t d n size i ≡ true → i % 2 ≡ 0 → start + storedSize t i ≤ size
+  leaf-inside r h =
+      let k : ℕ = block i in
+      let b : i / 2 ≡ k = leaf-block i h in
+      let a : start ≡ storedStart t k = p .here ∙ ap (storedStart t) (omega arith) in
+      let z : storedSize t i ≡ storedSize t (2 * k) = ap (storedSize t) (omega arith) in
+      let l = leaf-right F t d size k (sym (even-entry F t d n size i (even-depth i h) (even-filled h)) ∙ r) in
+      omega (arith, l .inside)
+
+  pub at-start : size < 2 ^ 64 → entryRight F t d n size i ≡ true → Started t i start
+  at-start s r = record { entry = at-entry; here = p .here; fits = λ h. omega (arith, leaf-inside r h) }
+
+  next-inside : (next : ℕ) → entryRight F t d n size i ≡ true → next ≡ storedStart t (leavesBefore (i + 1)) → next ≤ size
+  next-inside next r e =
+      ⊎-elim (λ h. omega (arith, leaf-inside r h, behind-leaf t i start (storedSize t i) h (p .here) refl))
+      (λ h. omega (arith, behind-parent t i start h (p .here), p .inside)) (same-or (i % 2) 0)
+
+-- ---- the walk over all entries
+
+-- at the entry i: what is left from there decides
+pub record Walking (F : List ℕ → List ℕ) (t d : List ℕ) (n size count i start : ℕ) : Type 0 where
+  pub end : count ≡ entries n
+  pub below : i ≤ count
+  pub here : start ≡ storedStart t (leavesBefore i)
+  pub inside : start ≤ size
+  pub rest : lowest (entryRight F t d n size) 0 (entries n) ≡ lowest (entryRight F t d n size) i (count - i)
+
+module _ (F : List ℕ → List ℕ) (t d : List ℕ) (n size count : ℕ) where
+  pub walking-start : count ≡ entries n → Walking F t d n size count 0 0
+  unfolding storedStart run total
+  walking-start e =
+      record {
+        end = e;
+        below = omega arith;
+        here = refl;
+        inside = omega arith;
+        rest = ap (lowest (entryRight F t d n size) 0) (omega arith);
+      }
+
+  module _ (i start : ℕ) (w : Walking F t d n size count i start) where
+    pub walking-entry : RootsIn t n → size ≤ length d → i < count → AtEntry t d n size i start
+    walking-entry p s h =
+        record { room = p; entry = omega (arith, w .end); held = s; here = w .here; inside = w .inside }
+
+    pub walking-next : (next : ℕ) → AtEntry t d n size i start → i < count → entryRight F t d n size i ≡ true
+        → next ≡ storedStart t (leavesBefore (i + 1)) → Walking F t d n size count (i + 1) next
+    walking-next next p h r e =
+        record {
+          end = w .end;
+          below = omega arith;
+          here = e;
+          inside = next-inside F t d n size i start p next r e;
+          rest = w .rest ∙ lowest-on (entryRight F t d n size) i count h r;
+        }
+
+    pub walking-found : (v : Verdict) → i < count → entryRight F t d n size i ≡ false → v ≡ refused 10 (tree i)
+        → v ≡ refusedAt 10 tree (lowest (entryRight F t d n size) 0 (entries n)) done
+    unfolding refusedAt
+    walking-found v h r e = e ∙ ap (λ (l : Lowest). refusedAt 10 tree l done) (sym (w .rest ∙ lowest-off (entryRight F t d n size) i count h r))
+
+    pub walking-done : count ≤ i → done ≡ refusedAt 10 tree (lowest (entryRight F t d n size) 0 (entries n)) done
+    unfolding refusedAt
+    walking-done h = ap (λ (l : Lowest). refusedAt 10 tree l done) (sym (w .rest ∙ lowest-end (entryRight F t d n size) i count h))

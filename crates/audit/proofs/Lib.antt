@@ -1,0 +1,9 @@
+-- Laws of the audit.
+pub mod Search
+pub mod Audited
+pub mod Entries
+pub mod Bytes
+pub mod Whole
+pub mod Accepts
+pub mod Only
+pub mod Exact

@@ -1,0 +1,206 @@
+-- An accepted register belongs to a chunk sequence: to the chunks that its stored leaf lengths cut out of its data.
+-- Assumes nothing.
+use Prim.Native.Nat.{ℕ, zero, suc, _+_, _*_, _≤_, _<_}
+use mathlib.Core.Path.{_≡_, refl, sym, ap, ap₂, _∙_, subst}
+use mathlib.Core.Bool.{Bool, true, false}
+use mathlib.Core.List.{List, [], _∷_, _++_}
+use native.Mathlib.Nat.{add-zero, zero-add, mul-one}
+use native.Mathlib.Omega.{arith}
+use borrow.Author.Tests.{ltb-true, ltb-false}
+use lib.Dec.{ltb}
+use lib.ListN.{length, getD, take, List·getD-append, List·getD-eq-default}
+use lib.Seq.{take-add, length-take-le, getD-take, ext-getD}
+use Rattle.sequences.specs.Lists.{part, run, joined, total, Bytes}
+use Rattle.sequences.specs.Numbers.{be}
+use Rattle.sequences.proofs.Lists.{length-part, part-add, length-run, getD-run, run-suc, run-ext, joined-run-suc, bytes-part}
+use Rattle.sequences.proofs.Numbers.{be-number}
+use Rattle.tree_index.specs.Tree.{index, filled, entries}
+use Rattle.tree_index.proofs.Index.{by-coordinates}
+use Rattle.tree_index.proofs.Filled.{filled-below, filled-end, end-filled, filled-left, filled-right}
+use Rattle.bitfield.specs.Image.{entriesOf}
+use Rattle.files.specs.Headers.{bitfieldHeader}
+use Rattle.files.specs.Sizes.{mostChunks, longestChunk, entryPlace, usedTree, usedBitfield}
+use Rattle.files.specs.Messages.{HashFunction, leafMessage}
+use Rattle.files.specs.Nodes.{Entry, hole, entryBytes, leaf, parentOf, node, nodeAt, entryAt}
+use Rattle.files.specs.Images.{dataSize, dataImage, bitfieldImage, treeImage, leaves}
+use Rattle.files.specs.Stored.{storedRootSizes, storedHash, storedSize, storedStart, storedChunk}
+use Rattle.files.specs.Belongs.{Register, Lent, Within, Belongs}
+use Rattle.files.proofs.Spans.{span, span-all, total-append, cover}
+use Rattle.files.proofs.Nodes.{leaves-length, leaf-at, node-size, nodeAt-index, entryAt-filled, entryAt-hole}
+use Rattle.files.proofs.OfImage.{bitfieldHeader-length, bitfieldImage-length, entry-inside, overs}
+use Rattle.files.proofs.ToImage.{hole-zeros, tree-of-entries}
+use Rattle.audit.specs.Audit.{Accepted}
+use Rattle.audit.proofs.Audited.{LeafRight, Audited, accepted-audited, leaf-says, parent-says, hole-says}
+use Rattle.audit.proofs.Accepts.{Signed}
+
+-- the chunks that the stored lengths cut out lie one behind the other, from the start of the data on
+pub start-suc : (t : List ℕ) (k : ℕ) → storedStart t (suc k) ≡ storedStart t k + storedSize t (2 * k)
+unfolding storedStart total
+start-suc t k =
+    ap total (run-suc (λ j. storedSize t (2 * j)) 0 k)
+    ∙ total-append (run (λ j. storedSize t (2 * j)) 0 k) (storedSize t (2 * (0 + k)) ∷ [])
+    ∙ ap (λ (z : ℕ). total (run (λ j. storedSize t (2 * j)) 0 k) + z) (add-zero (storedSize t (2 * (0 + k))) ∙ ap (λ (j : ℕ). storedSize t (2 * j)) (zero-add k))
+
+pub cuts-joined : (t content : List ℕ) (k : ℕ) → joined (run (storedChunk t content) 0 k) ≡ take (storedStart t k) content
+unfolding run joined part storedStart storedChunk total
+cuts-joined t content zero = refl
+cuts-joined t content (suc k) =
+    joined-run-suc (storedChunk t content) 0 k
+    ∙ ap₂ _++_ (cuts-joined t content k) (ap (storedChunk t content) (zero-add k))
+    ∙ sym (take-add (storedStart t k) (storedSize t (2 * k)) content) ∙ ap (λ (z : ℕ). take z content) (sym (start-suc t k))
+
+-- an entry's 40 bytes out of the hash and the length that they store
+pub entry-bytes : (t : List ℕ) (i : ℕ) → Bytes t → entryPlace i + 40 ≤ length t → part t (entryPlace i) 40 ≡ storedHash t i ++ be 8 (storedSize t i)
+unfolding storedHash storedSize
+entry-bytes t i p h =
+    part-add t (entryPlace i) 32 8
+    ∙ ap (λ (x : List ℕ). part t (entryPlace i) 32 ++ x)
+    (sym (be-number 8 (part t (entryPlace i + 32) 8) (bytes-part t (entryPlace i + 32) 8 p) (length-part t (entryPlace i + 32) 8 (omega arith))))
+
+-- the chunks that a register's stored leaf lengths cut out of its data
+unfoldable pub cut : Register → List (List ℕ)
+cut r = run (storedChunk (r .tree) (r .content)) 0 (r .n)
+
+module _ (F : List ℕ → List ℕ) (hf : HashFunction F) (r : Register) (l : Lent r) (a : Audited F r) where
+  -- ---- the chunks
+
+  cut-length : length (cut r) ≡ r .n
+  unfolding cut
+  cut-length = length-run (storedChunk (r .tree) (r .content)) 0 (r .n)
+
+  leaf-there : (k : ℕ) → k < r .n → filled (r .n) (index zero k) ≡ true
+  leaf-there k h = end-filled (r .n) zero k (omega (arith, mul-one (k + 1)))
+
+  leaf-fact : (k : ℕ) → k < r .n → LeafRight F (r .tree) (r .content) (r .size) k
+  leaf-fact k h =
+      leaf-says F (r .tree) (r .content) (r .n) (r .size) k (leaf-there k h)
+      (a .entry (index zero k) (filled-below (r .n) (index zero k) (leaf-there k h)))
+
+  cut-at : (k : ℕ) → k < r .n → getD (cut r) k [] ≡ storedChunk (r .tree) (r .content) k
+  unfolding cut
+  cut-at k h = getD-run (storedChunk (r .tree) (r .content)) 0 (r .n) k [] h ∙ ap (storedChunk (r .tree) (r .content)) (zero-add k)
+
+  cut-past : (k : ℕ) → r .n ≤ k → getD (cut r) k [] ≡ []
+  cut-past k h = List·getD-eq-default (cut r) [] (omega (arith, cut-length))
+
+  chunk-size : (k : ℕ) → k < r .n → storedSize (r .tree) (2 * k) ≡ length (getD (cut r) k [])
+  unfolding storedChunk
+  chunk-size k h =
+      sym (ap length (cut-at k h)
+      ∙ length-part (r .content) (storedStart (r .tree) k) (storedSize (r .tree) (2 * k)) (omega (arith, leaf-fact k h .inside, a .checked .content)))
+
+  -- what holds of every chunk below n, and of the empty chunk, holds of each
+  each : (P : List ℕ → Type 0) → P [] → ((k : ℕ) → k < r .n → P (getD (cut r) k [])) → (k : ℕ) → P (getD (cut r) k [])
+  each P e h k = split (ltb k (r .n)) refl
+    where
+      split : (b : Bool) → ltb k (r .n) ≡ b → P (getD (cut r) k [])
+      split true q = h k (ltb-true k (r .n) q)
+      split false q = subst P (sym (cut-past k (ltb-false k (r .n) q))) e
+
+  pub cut-within : Within (cut r)
+  unfolding storedChunk
+  cut-within =
+      record {
+        count = subst (λ (n : ℕ). n ≤ mostChunks) (sym cut-length) (a .checked .count);
+        short = each (λ (c : List ℕ). length c ≤ longestChunk) (omega arith)
+            (λ k h. subst (λ (z : ℕ). z ≤ longestChunk) (chunk-size k h) (leaf-fact k h .short));
+        bytes = each Bytes (λ i. omega arith)
+            (λ k h. subst Bytes (sym (cut-at k h)) (bytes-part (r .content) (storedStart (r .tree) k) (storedSize (r .tree) (2 * k)) (l .content)));
+      }
+
+  -- ---- the entries
+
+  record Same (d k : ℕ) : Type 0 where
+    size : storedSize (r .tree) (index d k) ≡ node F (leaves F (cut r)) d k .size
+    hash : storedHash (r .tree) (index d k) ≡ node F (leaves F (cut r)) d k .hash
+
+  node-same : (d k : ℕ) → filled (r .n) (index d k) ≡ true → Same d k
+  unfolding node parentOf leaf index
+  node-same zero k h =
+      let b : k < r .n = omega (arith, filled-end (r .n) zero k h, mul-one (k + 1)) in
+      let e : getD (leaves F (cut r)) k hole ≡ leaf F (getD (cut r) k []) = leaf-at F (cut r) k (subst (λ (n : ℕ). k < n) (sym cut-length) b) in
+      record {
+        size = chunk-size k b ∙ sym (ap (λ (x : Entry). x .size) e);
+        hash = leaf-fact k b .hash ∙ ap (λ (c : List ℕ). F (leafMessage c)) (sym (cut-at k b)) ∙ sym (ap (λ (x : Entry). x .hash) e);
+      }
+  node-same (suc d) k h =
+      let p = node-same d (2 * k) (filled-left (r .n) d k h) in
+      let q = node-same d (2 * k + 1) (filled-right (r .n) d k h) in
+      let s = parent-says F (r .tree) (r .content) (r .n) (r .size) d k h (a .entry (index (suc d) k) (filled-below (r .n) (index (suc d) k) h)) in
+      record {
+        size = s .sum ∙ ap₂ _+_ (p .size) (q .size);
+        hash = s .hash ∙ ap F (overs (p .size) (q .size) (p .hash) (q .hash));
+      }
+
+  entry-same : (i : ℕ) → i < entries (r .n) → part (r .tree) (entryPlace i) 40 ≡ entryBytes (entryAt F (leaves F (cut r)) i)
+  unfolding entryBytes
+  entry-same i h = split (filled (r .n) i) refl
+    where
+      there : (b : Bool) → filled (r .n) i ≡ b → filled (length (leaves F (cut r))) i ≡ b
+      there b e = ap (λ (n : ℕ). filled n i) (leaves-length F (cut r) ∙ cut-length) ∙ e
+
+      at : (d k : ℕ) → filled (r .n) (index d k) ≡ true
+          → storedHash (r .tree) (index d k) ++ be 8 (storedSize (r .tree) (index d k)) ≡ nodeAt F (leaves F (cut r)) (index d k) .hash ++ be 8 (nodeAt F (leaves F (cut r)) (index d k) .size)
+      at d k g =
+          ap₂ (λ (x : List ℕ) (z : ℕ). x ++ be 8 z) (node-same d k g .hash) (node-same d k g .size)
+          ∙ sym (ap (λ (e : Entry). e .hash ++ be 8 (e .size)) (nodeAt-index F (leaves F (cut r)) d k))
+
+      split : (b : Bool) → filled (r .n) i ≡ b → part (r .tree) (entryPlace i) 40 ≡ entryBytes (entryAt F (leaves F (cut r)) i)
+      split true e =
+          entry-bytes (r .tree) i (l .tree) (omega (arith, entry-inside i (r .n) h, a .checked .tree))
+          ∙ by-coordinates (λ j. filled (r .n) j ≡ true → storedHash (r .tree) j ++ be 8 (storedSize (r .tree) j) ≡ nodeAt F (leaves F (cut r)) j .hash ++ be 8 (nodeAt F (leaves F (cut r)) j .size)) at i e
+          ∙ sym (ap entryBytes (entryAt-filled F (leaves F (cut r)) i (there true e)))
+      split false e =
+          hole-says F (r .tree) (r .content) (r .n) (r .size) i e (a .entry i h)
+          ∙ sym (ap entryBytes (entryAt-hole F (leaves F (cut r)) i (there false e)) ∙ hole-zeros)
+
+  tree-same : take (usedTree (r .n)) (r .tree) ≡ treeImage F (cut r)
+  tree-same = tree-of-entries F (cut r) (r .tree) (r .n) (sym cut-length) (a .checked .treeFront) entry-same
+
+  -- ---- the data
+
+  size-same : r .size ≡ dataSize (cut r)
+  unfolding storedRootSizes
+  size-same =
+      sym (a .checked .adds)
+      ∙ cover (cut r) (storedSize (r .tree)) (r .n) (λ d k h. node-same d k (end-filled (r .n) d k h) .size ∙ node-size F (cut r) d k) (a .checked .count)
+      ∙ ap (span (cut r) 0) (sym cut-length) ∙ span-all (cut r)
+
+  start-all : storedStart (r .tree) (r .n) ≡ dataSize (cut r)
+  unfolding storedStart span
+  start-all =
+      ap total (run-ext (λ j. storedSize (r .tree) (2 * j)) (λ j. length (getD (cut r) j [])) 0 (r .n) (λ j p q. chunk-size j (omega arith)))
+      ∙ ap (span (cut r) 0) (sym cut-length) ∙ span-all (cut r)
+
+  content-same : take (r .size) (r .content) ≡ dataImage (cut r)
+  unfolding dataImage cut
+  content-same = ap (λ (z : ℕ). take z (r .content)) (size-same ∙ sym start-all) ∙ sym (cuts-joined (r .tree) (r .content) (r .n))
+
+  -- ---- the bitfield
+
+  bitfield-same : take (usedBitfield (r .n)) (r .bitfield) ≡ bitfieldImage (r .n)
+  unfolding bitfieldImage
+  bitfield-same =
+      ext-getD 0 (take (usedBitfield (r .n)) (r .bitfield)) (bitfieldImage (r .n)) (long ∙ sym (bitfieldImage-length (r .n)))
+      (λ i h. getD-take (usedBitfield (r .n)) (r .bitfield) i 0 (subst (λ (z : ℕ). i < z) long h) ∙ split i (ltb i 32) refl (subst (λ (z : ℕ). i < z) long h))
+    where
+      long : length (take (usedBitfield (r .n)) (r .bitfield)) ≡ usedBitfield (r .n)
+      long = length-take-le (usedBitfield (r .n)) (r .bitfield) (a .checked .bitfield)
+
+      split : (i : ℕ) (b : Bool) → ltb i 32 ≡ b → i < usedBitfield (r .n) → getD (r .bitfield) i 0 ≡ getD (bitfieldImage (r .n)) i 0
+      split i true e h =
+          let s : i < 32 = ltb-true i 32 e in
+          sym (getD-take 32 (r .bitfield) i 0 s) ∙ ap (λ (x : List ℕ). getD x i 0) (a .checked .bitfieldFront)
+          ∙ sym (List·getD-append bitfieldHeader (entriesOf (r .n)) 0 i (subst (λ (z : ℕ). i < z) (sym bitfieldHeader-length) s))
+      split i false e h = a .byte i (ltb-false i 32 e) h
+
+  pub cut-belongs : Belongs F r (cut r)
+  cut-belongs = record { count = sym cut-length; total = size-same; tree = tree-same; bitfield = bitfield-same; content = content-same }
+
+  pub cut-signed : Signed r
+  cut-signed = record { count = a .checked .signed; long = a .checked .signatures; front = a .checked .signaturesFront }
+
+pub accepted-belongs : (F : List ℕ → List ℕ) → HashFunction F → (r : Register) → Lent r → Accepted F r → Within (cut r) × Belongs F r (cut r) × Signed r
+accepted-belongs F hf r l e =
+    let a : Audited F r = accepted-audited F r e in
+    (cut-within F hf r l a, cut-belongs F hf r l a, cut-signed F hf r l a)

@@ -1,0 +1,57 @@
+-- `audit::bits::wrong_in_entry` meets its contract. The invariant: what is left from byte j on decides. Assumes nothing.
+use Prim.Native.Nat.{_+_, _*_, _-_}
+use Rattle.audit.proofs.Bytes.{Passing, entry-room, part-long, index-by, passing-start, passing-next, passing-found, passing-done}
+use Rattle.counts.specs.Said.{said}
+use borrow.Author.Needs.{needs}
+use mathlib.Core.Path.{_∙_, sym, refl}
+use native.Mathlib.Omega.{arith}
+use Rattle.audit.proofs.bits.wrong_in_entry.Statement.{statement}
+use Rattle.audit.proofs.bits.wrong_in_entry.Tie as tie
+
+abbrev Inv-loop : tie.InvT-loop
+Inv-loop xs n e at from end index j₀ j = Passing xs n e at j index
+
+abbrev μ-loop : tie.MeasureT-loop
+μ-loop xs n e at from end index j₀ j = 3328 - j
+
+mul-at : tie.Need-mul-at Inv-loop μ-loop
+mul-at c = let a = c .before .args in let w = entry-room (a .xs .now) (a .n) (a .e) (c .before .pre) in omega (arith, w .0, w .1)
+
+add-at : tie.Need-add-at Inv-loop μ-loop
+add-at c = let a = c .before .args in let w = entry-room (a .xs .now) (a .n) (a .e) (c .before .pre) in omega (arith, w .0, w .1)
+
+add-end : tie.Need-add-end Inv-loop μ-loop
+add-end c = let a = c .before .args in let w = entry-room (a .xs .now) (a .n) (a .e) (c .before .pre) in omega (arith, w .0, w .1)
+
+part-index-of-end : tie.Need-part-index-of-end Inv-loop μ-loop
+part-index-of-end c = let a = c .before .args in let w = entry-room (a .xs .now) (a .n) (a .e) (c .before .pre) in omega (arith, w .0, w .1)
+
+index-of-requires : tie.Need-index-of-requires Inv-loop μ-loop
+index-of-requires c κs = let a = c .before .before .args in let w = entry-room (a .xs .now) (a .n) (a .e) (c .before .before .pre) in part-long (a .xs .now) (32 + 3328 * a .e) (32 + 3328 * a .e + 1024 - (32 + 3328 * a .e)) (omega (arith, w .1)) (omega arith)
+
+loop-holds : tie.Need-loop-holds Inv-loop μ-loop
+loop-holds c = let a = c .before .before .before .args in passing-start (a .xs .now) (a .n) (a .e) (32 + 3328 * a .e) (c .index-of .result) refl (index-by (a .xs .now) (a .e) (32 + 3328 * a .e + 1024 - (32 + 3328 * a .e)) (c .index-of .result) (omega arith) (c .index-of .ensures))
+
+add-place : tie.Need-add-place Inv-loop μ-loop
+add-place c = let a = c .before .before .before .before .before .args in let w = entry-room (a .xs .now) (a .n) (a .e) (c .before .before .before .before .before .pre) in omega (arith, w .0, w .1)
+
+shared-slice-read-if1 : tie.Need-shared-slice-read-if1 Inv-loop μ-loop
+shared-slice-read-if1 c = let a = c .before .before .before .before .before .before .args in let w = entry-room (a .xs .now) (a .n) (a .e) (c .before .before .before .before .before .before .pre) in omega (arith, w .0, w .1)
+
+expected-byte-requires : tie.Need-expected-byte-requires Inv-loop μ-loop
+expected-byte-requires c κs = let a = c .before .before .before .before .before .before .before .args in (entry-room (a .xs .now) (a .n) (a .e) (c .before .before .before .before .before .before .before .pre) .0, omega (arith, c .before .before .loop-test .taken))
+
+add-t22 : tie.Need-add-t22 Inv-loop μ-loop
+add-t22 c = let a = c .before .before .before .before .before .before .before .before .before .args in let w = entry-room (a .xs .now) (a .n) (a .e) (c .before .before .before .before .before .before .before .before .before .pre) in omega (arith, w .0, w .1)
+
+returns : tie.Need-returns Inv-loop μ-loop
+returns c = let a = c .before .before .before .before .before .before .before .before .before .before .args in passing-found (a .xs .now) (a .n) (a .e) (32 + 3328 * a .e) (c .before .before .before .before .before .before .before .index-of .result) (c .before .before .before .before .before .before .loop .j) (c .before .before .before .before .before .before .loop .inv) (c .before .before .before .before .before .before .before .before .before .before .pre) (said (c .refuse-byte .result)) (omega (arith, c .before .before .before .before .before .loop-test .taken)) (λ z. c .before .if1 .taken (z ∙ sym (c .before .before .expected-byte .ensures))) (c .refuse-byte .ensures)
+
+loop-again : tie.Need-loop-again Inv-loop μ-loop
+loop-again c = let a = c .before .before .before .before .before .before .before .before .before .args in passing-next (a .xs .now) (a .n) (a .e) (32 + 3328 * a .e) (c .before .before .before .before .before .before .index-of .result) (c .before .before .before .before .before .loop .j) (c .before .before .before .before .before .loop .inv) (omega (arith, c .before .before .before .before .loop-test .taken)) (c .if1 .left ∙ c .before .expected-byte .ensures)
+
+returns-2 : tie.Need-returns-2 Inv-loop μ-loop
+returns-2 c = let a = c .before .before .before .before .before .args in passing-done (a .xs .now) (a .n) (a .e) (32 + 3328 * a .e) (c .before .before .index-of .result) (c .before .loop .j) (c .before .loop .inv) (c .before .before .before .before .before .pre) (omega (arith, c .loop-test .left))
+
+pub wrong-in-entry-spec : {M : Type 1} → statement M
+wrong-in-entry-spec = tie.close (tie.spec Inv-loop μ-loop mul-at add-at add-end (λ c. search needs) (λ c. search needs) part-index-of-end index-of-requires loop-holds add-place shared-slice-read-if1 expected-byte-requires add-t22 (λ c κs. search needs) returns (λ c. search needs) (λ c. search needs) loop-again returns-2)

@@ -1,0 +1,40 @@
+-- What the inner functions of the audit require: where a walk over the tree entries from the left has come to.
+use Prim.Native.Nat.{ℕ, _+_, _*_, _/_, _%_, _^_, _≤_, _<_}
+use mathlib.Core.Path.{_≡_}
+use mathlib.Core.List.{List}
+use lib.ListN.{length}
+use Rattle.tree_index.specs.Tree.{depth, leftChild, rightChild, entries}
+use Rattle.files.specs.Stored.{storedSize, storedStart}
+use Rattle.files.specs.Within.{EntryIn, RootsIn}
+
+-- how many leaves stand before the tree index i
+abbrev pub leavesBefore : ℕ → ℕ
+leavesBefore i = (i + 1) / 2
+
+-- at the entry i the next leaf starts at `start`; if i is that leaf, its end is a number of 64 bits
+pub record Started (tree : List ℕ) (i start : ℕ) : Type 0 where
+  pub entry : EntryIn tree i
+  pub here : start ≡ storedStart tree (leavesBefore i)
+  pub fits : i % 2 ≡ 0 → start + storedSize tree i < 2 ^ 64
+
+-- an entry i that a register of n chunks has, and the start of the next leaf, which is within the data
+pub record AtEntry (tree content : List ℕ) (n size i start : ℕ) : Type 0 where
+  pub room : RootsIn tree n
+  pub entry : i < entries n
+  pub held : size ≤ length content
+  pub here : start ≡ storedStart tree (leavesBefore i)
+  pub inside : start ≤ size
+
+-- a leaf that is to be judged
+pub record AtLeaf (tree content : List ℕ) (size k start : ℕ) : Type 0 where
+  pub entry : EntryIn tree (2 * k)
+  pub held : size ≤ length content
+  pub here : start ≡ storedStart tree k
+  pub inside : start ≤ size
+
+-- a parent and its children, all within the tree file
+pub record AtParent (tree : List ℕ) (i : ℕ) : Type 0 where
+  pub entry : EntryIn tree i
+  pub parent : 0 < depth i
+  pub left : EntryIn tree (leftChild i)
+  pub right : EntryIn tree (rightChild i)

@@ -1,0 +1,125 @@
+// The bitfield file, byte by byte against its image. All of these are inner.
+use counts::Answer;
+use counts::ByteOffset;
+use counts::TreeIndex;
+ghost use mathlib.Core.Path.{_≡_};
+ghost use Prim.Native.Nat.{_+_, _*_, _-_, _≤_, _<_};
+ghost use lib.ListN.{length, getD};
+ghost use Rattle.counts.specs.Verdict.{bitfield as atByte, done};
+ghost use Rattle.counts.specs.Said.{said};
+ghost use Rattle.tree_index.specs.Tree.{filled};
+ghost use Rattle.bitfield.specs.Bits.{bit, byteOf};
+ghost use Rattle.bitfield.specs.Image.{heldBelow};
+ghost use Rattle.files.specs.Sizes.{usedBitfield};
+ghost use Rattle.audit.specs.Audit.{lowest, byteRight, refusedAt};
+ghost use Rattle.audit.specs.Bytes.{eight, entryWith, BitsIn, AtBits};
+
+fn bit_of(b: bool) -> u8
+    ensures { λ r. ⌜ (r ≡ bit b) × (r ≤ 1) ⌝ }
+{
+    if b {
+        return 1;
+    }
+    0
+}
+
+// Eight bits in a byte, the first the highest.
+fn byte_of(a: bool, b: bool, c: bool, d: bool, e: bool, f: bool, g: bool, h: bool) -> u8
+    ensures { λ r. ⌜ r ≡ eight a b c d e f g h ⌝ }
+{
+    let high = 128 * bit_of(a) + 64 * bit_of(b) + 32 * bit_of(c) + 16 * bit_of(d);
+    high + 8 * bit_of(e) + 4 * bit_of(f) + 2 * bit_of(g) + bit_of(h)
+}
+
+// The byte of the data bits from chunk k on.
+fn data_byte(n: u64, k: u64) -> u8
+    requires { ⌜ k < 4194304 ⌝ }
+    ensures { λ r. ⌜ r ≡ byteOf (heldBelow n) k ⌝ }
+{
+    byte_of(
+        k < n,
+        k + 1 < n,
+        k + 2 < n,
+        k + 3 < n,
+        k + 4 < n,
+        k + 5 < n,
+        k + 6 < n,
+        k + 7 < n,
+    )
+}
+
+fn filled_bit(n: u64, i: u64) -> bool
+    requires { ⌜ i < 4194304 ⌝ }
+    ensures { λ r. ⌜ r ≡ filled n i ⌝ }
+{
+    tree_index::is_filled(n, TreeIndex(i))
+}
+
+// The byte of the tree bits from tree index i on.
+fn tree_byte(n: u64, i: u64) -> u8
+    requires { ⌜ i + 7 < 4194304 ⌝ }
+    ensures { λ r. ⌜ r ≡ byteOf (filled n) i ⌝ }
+{
+    byte_of(
+        filled_bit(n, i),
+        filled_bit(n, i + 1),
+        filled_bit(n, i + 2),
+        filled_bit(n, i + 3),
+        filled_bit(n, i + 4),
+        filled_bit(n, i + 5),
+        filled_bit(n, i + 6),
+        filled_bit(n, i + 7),
+    )
+}
+
+// The byte j of entry e, with the Index bytes that are handed in.
+fn expected_byte(n: u64, e: u64, j: u64, index: &[u8; 256]) -> u8
+    requires { ⌜ (e < 128) × (j < 3328) ⌝ }
+    ensures { λ r. ⌜ r ≡ getD (entryWith n e (now (index .entry))) j 0 ⌝ }
+{
+    if j < 1024 {
+        return data_byte(n, 8192 * e + 8 * j);
+    }
+    if j < 3072 {
+        return tree_byte(n, 16384 * e + 8 * (j - 1024));
+    }
+    let k = (j - 3072) as usize;
+    index[k]
+}
+
+// The lowest wrong byte of entry e. Its Index is judged by the stored data bytes: a wrong one of these comes first.
+fn wrong_in_entry(xs: &[u8], n: u64, e: u64) -> Answer
+    requires { ⌜ AtBits (now xs) n e ⌝ }
+    ensures { λ r. ⌜ said r ≡ refusedAt 11 atByte (lowest (byteRight (now (xs .entry)) n) (32 + 3328 * e) 3328) done ⌝ }
+{
+    let at = 32 + 3328 * e;
+    let from = at as usize;
+    let end = from + 1024;
+    let index = bitfield::index::index_of(&xs[from..end]);
+    let mut j: u64 = 0;
+    while j < 3328 {
+        let place = (at + j) as usize;
+        if xs[place] != expected_byte(n, e, j, &index) {
+            return counts::refuse_byte(11, ByteOffset(at + j));
+        }
+        j += 1;
+    }
+    Answer::Done
+}
+
+// The lowest wrong byte of the file behind its header, entry by entry.
+pub fn wrong_byte(xs: &[u8], n: u64) -> Answer
+    requires { ⌜ BitsIn (now xs) n ⌝ }
+    ensures { λ r. ⌜ said r ≡ refusedAt 11 atByte (lowest (byteRight (now (xs .entry)) n) 32 (usedBitfield n - 32)) done ⌝ }
+{
+    let count = (n + 8191) / 8192;
+    let mut e: u64 = 0;
+    while e < count {
+        let answer = wrong_in_entry(xs, n, e);
+        let Answer::Done = answer else {
+            return answer;
+        };
+        e += 1;
+    }
+    Answer::Done
+}

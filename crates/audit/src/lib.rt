@@ -1,0 +1,38 @@
+// The audit of a register: whether its used bytes are the images of some chunk sequence and some signatures.
+mod bits;
+pub mod tree;
+
+use counts::Answer;
+ghost use mathlib.Core.Path.{_≡_};
+ghost use Rattle.counts.specs.Said.{said};
+ghost use Rattle.blake2b.specs.Hash.{nodeHash};
+ghost use Rattle.checks.specs.Given.{registerOf};
+ghost use Rattle.audit.specs.Audit as spec;
+
+// The checks 2 to 6, then 10 at the lowest wrong tree entry, then 11 at the lowest wrong byte of the bitfield file.
+pub fn audit(
+    tree: &[u8],
+    signatures: &[u8],
+    bitfield: &[u8],
+    content: &[u8],
+    n: u64,
+    s: u64,
+    size: u64,
+) -> Answer
+    ensures { λ r.
+        ⌜
+        said r ≡
+        spec.audit nodeHash
+        (registerOf (now (tree .entry)) (now (signatures .entry)) (now (bitfield .entry)) (now (content .entry)) n s size)
+        ⌝ }
+{
+    let checked = checks::judge(tree, signatures, bitfield, content, n, s, size);
+    let Answer::Done = checked else {
+        return checked;
+    };
+    let entry = tree::wrong_entry(tree, content, n, size);
+    let Answer::Done = entry else {
+        return entry;
+    };
+    bits::wrong_byte(bitfield, n)
+}

@@ -1,0 +1,131 @@
+// The tree file: "a leaf .. is wrong if it is over 65,536, runs past the data or has another hash; a parent if it doesn't follow
+// from its stored children, sums taken in whole numbers; a hole if it isn't zero." All of these are inner.
+use counts::Answer;
+use counts::ChunkNumber;
+use counts::TreeIndex;
+ghost use mathlib.Core.Path.{_≡_};
+ghost use Prim.Native.Nat.{_+_, _≤_};
+ghost use lib.ListN.{length};
+ghost use Rattle.counts.specs.Verdict.{tree as atTree, done};
+ghost use Rattle.counts.specs.Said.{said};
+ghost use Rattle.tree_index.specs.Tree.{entries as entriesOf};
+ghost use Rattle.blake2b.specs.Hash.{nodeHash};
+ghost use Rattle.files.specs.Stored.{storedStart};
+ghost use Rattle.files.specs.Within.{EntryIn, RootsIn};
+ghost use Rattle.audit.specs.Audit.{lowest, leafRight, parentRight, holeRight, entryRight, refusedAt};
+ghost use Rattle.audit.specs.Walked.{leavesBefore, Started, AtEntry, AtLeaf, AtParent};
+
+// Inner: how many entries the tree file of n chunks has.
+pub fn entries(n: u64) -> u64
+    requires { ⌜ n ≤ 1048576 ⌝ }
+    ensures { λ r. ⌜ r ≡ entriesOf n ⌝ }
+{
+    if n == 0 {
+        return 0;
+    }
+    2 * n - 1
+}
+
+// Inner: where the next leaf starts once a walk from the left has passed the entry i.
+pub fn start_behind(tree: &[u8], i: TreeIndex, start: u64) -> u64
+    requires { ⌜ Started (now tree) (i .0) start ⌝ }
+    ensures { λ r. ⌜ r ≡ storedStart (now (tree .entry)) (leavesBefore (i .0 + 1)) ⌝ }
+{
+    if i.0 % 2 == 0 {
+        return start + files::entries::stored_size(tree, i);
+    }
+    start
+}
+
+// Whether a leaf is right. Its chunk is hashed from its place in the data.
+fn leaf_right(tree: &[u8], content: &[u8], size: u64, c: ChunkNumber, start: u64) -> bool
+    requires { ⌜ AtLeaf (now tree) (now content) size (c .0) start ⌝ }
+    ensures { λ r. ⌜ r ≡ leafRight nodeHash (now (tree .entry)) (now (content .entry)) size (c .0) ⌝ }
+{
+    let i = tree_index::leaf_index(c);
+    let length = files::entries::stored_size(tree, i);
+    if 65536 < length {
+        return false;
+    }
+    if size - start < length {
+        return false;
+    }
+    let from = start as usize;
+    let end = from + (length as usize);
+    let expected = files::hashes::leaf_hash(&content[from..end]);
+    let stored = files::entries::stored_hash(tree, i);
+    sequences::same(&stored, &expected)
+}
+
+// Whether a parent is right. No sum is taken that could wrap.
+fn parent_right(tree: &[u8], i: TreeIndex) -> bool
+    requires { ⌜ AtParent (now tree) (i .0) ⌝ }
+    ensures { λ r. ⌜ r ≡ parentRight nodeHash (now (tree .entry)) (i .0) ⌝ }
+{
+    let left = tree_index::left_child(i);
+    let right = tree_index::right_child(i);
+    let here = files::entries::stored_size(tree, i);
+    let first = files::entries::stored_size(tree, left);
+    if here < first {
+        return false;
+    }
+    let second = files::entries::stored_size(tree, right);
+    if here - first != second {
+        return false;
+    }
+    let a = files::entries::stored_hash(tree, left);
+    let b = files::entries::stored_hash(tree, right);
+    let expected = files::hashes::parent_hash(here, &a, &b);
+    let stored = files::entries::stored_hash(tree, i);
+    sequences::same(&stored, &expected)
+}
+
+// Whether a hole is right.
+fn hole_right(tree: &[u8], i: TreeIndex) -> bool
+    requires { ⌜ EntryIn (now tree) (i .0) ⌝ }
+    ensures { λ r. ⌜ r ≡ holeRight nodeHash (now (tree .entry)) (i .0) ⌝ }
+{
+    let from = files::entries::entry_place(i);
+    let end = from + 40;
+    sequences::is_zero(&tree[from..end])
+}
+
+// Whether an entry is right, whichever it is.
+fn entry_right(tree: &[u8], content: &[u8], n: u64, size: u64, i: TreeIndex, start: u64) -> bool
+    requires { ⌜ AtEntry (now tree) (now content) n size (i .0) start ⌝ }
+    ensures { λ r. ⌜ r ≡ entryRight nodeHash (now (tree .entry)) (now (content .entry)) n size (i .0) ⌝ }
+{
+    if !tree_index::is_filled(n, i) {
+        return hole_right(tree, i);
+    }
+    if i.0 % 2 == 0 {
+        return leaf_right(tree, content, size, tree_index::chunk_of_leaf(i), start);
+    }
+    parent_right(tree, i)
+}
+
+// The lowest wrong entry, found by one walk from the left that carries the start of the next leaf, so that each byte of the data is
+// read once.
+pub fn wrong_entry(tree: &[u8], content: &[u8], n: u64, size: u64) -> Answer
+    requires { ⌜ RootsIn (now tree) n × (size ≤ length (now content)) ⌝ }
+    ensures { λ r.
+        ⌜
+        said r ≡
+        refusedAt 10 atTree
+        (lowest (entryRight nodeHash (now (tree .entry)) (now (content .entry)) n size) 0 (entriesOf n))
+        done
+        ⌝ }
+{
+    let count = entries(n);
+    let mut i: u64 = 0;
+    let mut start: u64 = 0;
+    while i < count {
+        if !entry_right(tree, content, n, size, TreeIndex(i), start) {
+            return counts::refuse_entry(10, TreeIndex(i));
+        }
+        let next = start_behind(tree, TreeIndex(i), start);
+        start = next;
+        i += 1;
+    }
+    Answer::Done
+}

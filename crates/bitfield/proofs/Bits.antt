@@ -1,0 +1,217 @@
+-- Laws of bits in bytes. Assumes nothing.
+use mathlib.Core.Path.{_≡_, refl, sym, ap, _∙_, subst}
+use mathlib.Core.Logic.{_⊎_, inl, inr, ⊎-elim}
+use mathlib.Core.Bool.{Bool, true, false, _&&_, _||_}
+use mathlib.Core.List.{List, [], _∷_, _++_}
+use Prim.Native.Nat.{ℕ, zero, suc, _+_, _-_, _*_, _/_, _%_, _^_, _<_, _≤_}
+use native.Mathlib.Nat.{add-zero, zero-add, add-assoc, suc-add}
+use native.Mathlib.Omega.{arith}
+use lib.Dec.{T, eqb, ltb, eqb→eq}
+use lib.ListN.{length, getD, set, length-set, List·getD-append}
+use lib.Seq.{set-append-left}
+use lib.Bits.{bitOr}
+use borrow.Author.Tests.{eqb-true, eqb-false, eq-eqb, ne-eqb, ltb-true, ltb-false}
+use Rattle.sequences.specs.Lists.{Bytes}
+use Rattle.sequences.proofs.Lists.{getD-behind}
+use Rattle.bitfield.specs.Bits.{bit, byteOf, bytesOf, setBit}
+
+-- the bit number r of a byte, the first the highest
+pub mask : (r : ℕ) → r < 8 → 128 / 2 ^ r ≡ 2 ^ (7 - r)
+mask zero h = refl
+mask (suc zero) h = refl
+mask (suc (suc zero)) h = refl
+mask (suc (suc (suc zero))) h = refl
+mask (suc (suc (suc (suc zero)))) h = refl
+mask (suc (suc (suc (suc (suc zero))))) h = refl
+mask (suc (suc (suc (suc (suc (suc zero)))))) h = refl
+mask (suc (suc (suc (suc (suc (suc (suc zero))))))) h = refl
+mask (suc (suc (suc (suc (suc (suc (suc (suc r)))))))) h = absurd (over r h)
+  where
+    over : (r : ℕ) → suc (suc (suc (suc (suc (suc (suc (suc r))))))) < 8 → ⊥
+    over r h = omega arith
+
+-- ---- one byte: a test computed at every byte and every bit
+
+abbrev byte8 : Bool → Bool → Bool → Bool → Bool → Bool → Bool → Bool → ℕ
+byte8 a b c d e f g h = 128 * bit a + 64 * bit b + 32 * bit c + 16 * bit d + 8 * bit e + 4 * bit f + 2 * bit g + bit h
+
+abbrev both : (Bool → Bool) → Bool
+both f = f true && f false
+
+abbrev below8 : (ℕ → Bool) → Bool
+below8 f = f 0 && (f 1 && (f 2 && (f 3 && (f 4 && (f 5 && (f 6 && f 7))))))
+
+and-left : (a b : Bool) → T (a && b) → T a
+and-left true b t = tt
+and-left false b t = t
+
+and-right : (a b : Bool) → T (a && b) → T b
+and-right true b t = t
+and-right false b t = absurd t
+
+both-at : (f : Bool → Bool) → T (both f) → (b : Bool) → T (f b)
+both-at f t true = and-left (f true) (f false) t
+both-at f t false = and-right (f true) (f false) t
+
+below8-at : (f : ℕ → Bool) → T (below8 f) → (r : ℕ) → r < 8 → T (f r)
+below8-at f t zero h = and-left (f 0) _ t
+below8-at f t (suc zero) h = and-left (f 1) _ (and-right (f 0) _ t)
+below8-at f t (suc (suc zero)) h = and-left (f 2) _ (and-right (f 1) _ (and-right (f 0) _ t))
+below8-at f t (suc (suc (suc zero))) h = and-left (f 3) _ (and-right (f 2) _ (and-right (f 1) _ (and-right (f 0) _ t)))
+below8-at f t (suc (suc (suc (suc zero)))) h = and-left (f 4) _ (and-right (f 3) _ (and-right (f 2) _ (and-right (f 1) _ (and-right (f 0) _ t))))
+below8-at f t (suc (suc (suc (suc (suc zero))))) h = and-left (f 5) _ (and-right (f 4) _ (and-right (f 3) _ (and-right (f 2) _ (and-right (f 1) _ (and-right (f 0) _ t)))))
+below8-at f t (suc (suc (suc (suc (suc (suc zero)))))) h = and-left (f 6) _ (and-right (f 5) _ (and-right (f 4) _ (and-right (f 3) _ (and-right (f 2) _ (and-right (f 1) _ (and-right (f 0) _ t))))))
+below8-at f t (suc (suc (suc (suc (suc (suc (suc zero))))))) h = and-right (f 6) _ (and-right (f 5) _ (and-right (f 4) _ (and-right (f 3) _ (and-right (f 2) _ (and-right (f 1) _ (and-right (f 0) _ t))))))
+below8-at f t (suc (suc (suc (suc (suc (suc (suc (suc r)))))))) h = absurd (over r h)
+  where
+    over : (r : ℕ) → suc (suc (suc (suc (suc (suc (suc (suc r))))))) < 8 → ⊥
+    over r h = omega arith
+
+right : ℕ → Bool → Bool → Bool → Bool → Bool → Bool → Bool → Bool → Bool
+right r a b c d e f g h =
+    eqb (bitOr (byte8 a b c d e f g h) (2 ^ (7 - r)))
+    (byte8 (a || eqb 0 r) (b || eqb 1 r) (c || eqb 2 r) (d || eqb 3 r) (e || eqb 4 r) (f || eqb 5 r) (g || eqb 6 r) (h || eqb 7 r))
+
+all-right : T (below8 (λ r. both (λ a. both (λ b. both (λ c. both (λ d. both (λ e. both (λ f. both (λ g. both (λ h. right r a b c d e f g h))))))))))
+unfolding right
+all-right = tt
+
+all-at : (r : ℕ) → r < 8 → (a b c d e f g h : Bool) → T (right r a b c d e f g h)
+all-at r l a b c d e f g h =
+    both-at (λ h. right r a b c d e f g h) (both-at (λ g. both (λ h. right r a b c d e f g h)) (both-at (λ f. both (λ g. both (λ h. right r a b c d e f g h))) (both-at (λ e. both (λ f. both (λ g. both (λ h. right r a b c d e f g h)))) (both-at (λ d. both (λ e. both (λ f. both (λ g. both (λ h. right r a b c d e f g h))))) (both-at (λ c. both (λ d. both (λ e. both (λ f. both (λ g. both (λ h. right r a b c d e f g h)))))) (both-at (λ b. both (λ c. both (λ d. both (λ e. both (λ f. both (λ g. both (λ h. right r a b c d e f g h))))))) (both-at (λ a. both (λ b. both (λ c. both (λ d. both (λ e. both (λ f. both (λ g. both (λ h. right r a b c d e f g h)))))))) (below8-at (λ r. both (λ a. both (λ b. both (λ c. both (λ d. both (λ e. both (λ f. both (λ g. both (λ h. right r a b c d e f g h))))))))) all-right r l) a) b) c) d) e) f) g) h
+
+or-byte : (r : ℕ) → r < 8 → (a b c d e f g h : Bool) → bitOr (byte8 a b c d e f g h) (2 ^ (7 - r))
+    ≡ byte8 (a || eqb 0 r) (b || eqb 1 r) (c || eqb 2 r) (d || eqb 3 r) (e || eqb 4 r) (f || eqb 5 r) (g || eqb 6 r) (h || eqb 7 r)
+unfolding right
+or-byte r l a b c d e f g h =
+    eqb→eq (bitOr (byte8 a b c d e f g h) (2 ^ (7 - r)))
+    (byte8 (a || eqb 0 r) (b || eqb 1 r) (c || eqb 2 r) (d || eqb 3 r) (e || eqb 4 r) (f || eqb 5 r) (g || eqb 6 r) (h || eqb 7 r))
+    (all-at r l a b c d e f g h)
+
+pub cases : (t : Bool) → (t ≡ true) ⊎ (t ≡ false)
+cases true = inl refl
+cases false = inr refl
+
+-- the same at any bit number
+eqb-add : (b i r : ℕ) → eqb (b + i) (b + r) ≡ eqb i r
+eqb-add b i r =
+    ⊎-elim
+    (λ e. eq-eqb (b + i) (b + r) (ap (λ (t : ℕ). b + t) (eqb-true i r e)) ∙ sym e)
+    (λ e. ne-eqb (b + i) (b + r) (λ z. eqb-false i r e (omega (arith, z))) ∙ sym e)
+    (cases (eqb i r))
+
+eqb-base : (b r : ℕ) → eqb b (b + r) ≡ eqb 0 r
+eqb-base b r = ap (λ (t : ℕ). eqb t (b + r)) (sym (add-zero b)) ∙ eqb-add b 0 r
+
+pub or-of : (p : ℕ → Bool) (b r : ℕ) → r < 8 → bitOr (byteOf p b) (2 ^ (7 - r)) ≡ byteOf (λ j. p j || eqb j (b + r)) b
+unfolding byteOf
+or-of p b r h =
+    or-byte r h (p b) (p (b + 1)) (p (b + 2)) (p (b + 3)) (p (b + 4)) (p (b + 5)) (p (b + 6)) (p (b + 7))
+    ∙ sym (simp (eqb-base, eqb-add))
+
+-- bytes of the same bits
+byte-ext : (p q : ℕ → Bool) (b : ℕ) → ((j : ℕ) → b ≤ j → j < b + 8 → p j ≡ q j) → byteOf p b ≡ byteOf q b
+unfolding byteOf
+byte-ext p q b h =
+    simp (h b (omega arith) (omega arith), h (b + 1) (omega arith) (omega arith), h (b + 2) (omega arith) (omega arith), h (b + 3) (omega arith) (omega arith), h (b + 4) (omega arith) (omega arith), h (b + 5) (omega arith) (omega arith), h (b + 6) (omega arith) (omega arith), h (b + 7) (omega arith) (omega arith))
+
+pub bytesOf-ext : (p q : ℕ → Bool) (b k : ℕ) → ((j : ℕ) → b ≤ j → j < b + 8 * k → p j ≡ q j) → bytesOf p b k ≡ bytesOf q b k
+unfolding bytesOf
+bytesOf-ext p q b zero h = refl
+bytesOf-ext p q b (suc k) h =
+    ap (λ (x : ℕ). x ∷ bytesOf p (b + 8) k) (byte-ext p q b (λ j l m. h j l (omega arith)))
+    ∙ ap (λ (r : List ℕ). byteOf q b ∷ r) (bytesOf-ext p q (b + 8) k (λ j l m. h j (omega arith) (omega arith)))
+
+pub length-bytesOf : (p : ℕ → Bool) (b k : ℕ) → length (bytesOf p b k) ≡ k
+unfolding bytesOf
+length-bytesOf p b zero = refl
+length-bytesOf p b (suc k) = ap suc (length-bytesOf p (b + 8) k)
+
+bit-le : (b : Bool) → bit b ≤ 1
+bit-le true = omega arith
+bit-le false = omega arith
+
+byte-lt : (p : ℕ → Bool) (b : ℕ) → byteOf p b < 256
+unfolding byteOf
+byte-lt p b =
+    omega (arith, bit-le (p b), bit-le (p (b + 1)), bit-le (p (b + 2)), bit-le (p (b + 3)), bit-le (p (b + 4)), bit-le (p (b + 5)), bit-le (p (b + 6)), bit-le (p (b + 7)))
+
+pub bytes-bytesOf : (p : ℕ → Bool) (b k : ℕ) → Bytes (bytesOf p b k)
+unfolding bytesOf
+bytes-bytesOf p b zero i = omega arith
+bytes-bytesOf p b (suc k) zero = byte-lt p b
+bytes-bytesOf p b (suc k) (suc i) = bytes-bytesOf p (b + 8) k i
+
+-- ---- a bit set in a list of bytes
+
+set-append-add : (xs ys : List ℕ) (i v : ℕ) → set (xs ++ ys) (length xs + i) v ≡ xs ++ set ys i v
+set-append-add [] ys i v = ap (λ (k : ℕ). set ys k v) (zero-add i)
+set-append-add (x ∷ xs) ys i v = ap (λ (k : ℕ). set (x ∷ (xs ++ ys)) k v) (suc-add (length xs) i) ∙ ap (λ (r : List ℕ). x ∷ r) (set-append-add xs ys i v)
+
+set-behind : (xs ys : List ℕ) (n i v : ℕ) → length xs ≡ n → set (xs ++ ys) (n + i) v ≡ xs ++ set ys i v
+set-behind xs ys n i v e = subst (λ (k : ℕ). set (xs ++ ys) (k + i) v ≡ xs ++ set ys i v) e (set-append-add xs ys i v)
+
+-- behind a list, and within the first of two
+pub setBit-behind : (xs ys : List ℕ) (n p b : ℕ) → length xs ≡ n → setBit (xs ++ ys) (n + p) b ≡ xs ++ setBit ys p b
+unfolding setBit
+setBit-behind xs ys n p b e =
+    let f : n + p + b / 8 ≡ n + (p + b / 8) = add-assoc n p (b / 8) in
+    let g : getD (xs ++ ys) (n + p + b / 8) 0 ≡ getD ys (p + b / 8) 0 = ap (λ (i : ℕ). getD (xs ++ ys) i 0) f ∙ getD-behind xs ys n (p + b / 8) 0 e in
+    ap (λ (v : ℕ). set (xs ++ ys) (n + p + b / 8) (bitOr v (2 ^ (7 - b % 8)))) g
+    ∙ ap (λ (i : ℕ). set (xs ++ ys) i (bitOr (getD ys (p + b / 8) 0) (2 ^ (7 - b % 8)))) f
+    ∙ set-behind xs ys n (p + b / 8) (bitOr (getD ys (p + b / 8) 0) (2 ^ (7 - b % 8))) e
+
+pub setBit-within : (xs ys : List ℕ) (p b : ℕ) → p + b / 8 < length xs → setBit (xs ++ ys) p b ≡ setBit xs p b ++ ys
+unfolding setBit
+setBit-within xs ys p b h =
+    ap (λ (v : ℕ). set (xs ++ ys) (p + b / 8) (bitOr v (2 ^ (7 - b % 8)))) (List·getD-append xs ys 0 (p + b / 8) h)
+    ∙ set-append-left xs ys (p + b / 8) (bitOr (getD xs (p + b / 8) 0) (2 ^ (7 - b % 8))) h
+
+pub length-setBit : (xs : List ℕ) (p b : ℕ) → length (setBit xs p b) ≡ length xs
+unfolding setBit
+length-setBit xs p b = length-set xs (p + b / 8) (bitOr (getD xs (p + b / 8) 0) (2 ^ (7 - b % 8)))
+
+setBit-head : (x : ℕ) (xs : List ℕ) (b : ℕ) → b < 8 → setBit (x ∷ xs) 0 b ≡ bitOr x (2 ^ (7 - b)) ∷ xs
+unfolding setBit
+setBit-head x xs b h =
+    let e : 0 + b / 8 ≡ 0 = omega arith in
+    let f : b % 8 ≡ b = omega arith in
+    ap (λ (i : ℕ). set (x ∷ xs) i (bitOr (getD (x ∷ xs) i 0) (2 ^ (7 - b % 8)))) e ∙ ap (λ (t : ℕ). bitOr x (2 ^ (7 - t)) ∷ xs) f
+
+setBit-tail : (x : ℕ) (xs : List ℕ) (b : ℕ) → 8 ≤ b → setBit (x ∷ xs) 0 b ≡ x ∷ setBit xs 0 (b - 8)
+unfolding setBit
+setBit-tail x xs b h =
+    let e : 0 + b / 8 ≡ suc (0 + (b - 8) / 8) = omega arith in
+    let f : b % 8 ≡ (b - 8) % 8 = omega arith in
+    ap (λ (i : ℕ). set (x ∷ xs) i (bitOr (getD (x ∷ xs) i 0) (2 ^ (7 - b % 8)))) e
+    ∙ ap (λ (t : ℕ). x ∷ set xs (0 + (b - 8) / 8) (bitOr (getD xs (0 + (b - 8) / 8) 0) (2 ^ (7 - t)))) f
+
+or-false : (a b : Bool) → b ≡ false → a ≡ (a || b)
+or-false true b e = refl
+or-false false b e = sym e
+
+pub not-bit : (p : ℕ → Bool) (i j : ℕ) → (j ≡ i → ⊥) → p j ≡ (p j || eqb j i)
+not-bit p i j h = or-false (p j) (eqb j i) (ne-eqb j i h)
+
+low-or-high : (b : ℕ) → (b < 8) ⊎ (8 ≤ b)
+low-or-high b = ⊎-elim (λ e. inl (ltb-true b 8 e)) (λ e. inr (ltb-false b 8 e)) (cases (ltb b 8))
+
+-- one law: setting bit number b of the bytes of p gives the bytes of "p, or that bit"
+pub setBit-bytesOf : (p : ℕ → Bool) (s k b : ℕ) → b < 8 * k → setBit (bytesOf p s k) 0 b ≡ bytesOf (λ j. p j || eqb j (s + b)) s k
+unfolding bytesOf
+setBit-bytesOf p s zero b h = absurd (none b h)
+  where
+    none : (b : ℕ) → b < 8 * zero → ⊥
+    none b h = omega arith
+setBit-bytesOf p s (suc k) b h =
+    ⊎-elim
+    (λ l. setBit-head (byteOf p s) (bytesOf p (s + 8) k) b l
+    ∙ ap (λ (x : ℕ). x ∷ bytesOf p (s + 8) k) (or-of p s b l)
+    ∙ ap (λ (r : List ℕ). byteOf (λ j. p j || eqb j (s + b)) s ∷ r)
+    (bytesOf-ext p (λ j. p j || eqb j (s + b)) (s + 8) k (λ j m n. not-bit p (s + b) j (λ z. omega arith))))
+    (λ l.
+    let e : s + 8 + (b - 8) ≡ s + b = omega arith in
+    setBit-tail (byteOf p s) (bytesOf p (s + 8) k) b l
+    ∙ ap (λ (r : List ℕ). byteOf p s ∷ r) (setBit-bytesOf p (s + 8) k (b - 8) (omega arith) ∙ ap (λ (t : ℕ). bytesOf (λ j. p j || eqb j t) (s + 8) k) e)
+    ∙ ap (λ (x : ℕ). x ∷ bytesOf (λ j. p j || eqb j (s + b)) (s + 8) k) (byte-ext p (λ j. p j || eqb j (s + b)) s (λ j m n. not-bit p (s + b) j (λ z. omega arith))))
+    (low-or-high b)

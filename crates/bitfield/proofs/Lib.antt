@@ -1,0 +1,6 @@
+-- Laws of the bitfield.
+pub mod TreeFacts
+pub mod Bits
+pub mod Levels
+pub mod Image
+pub mod Append

@@ -1,0 +1,52 @@
+-- The Index of the part, put behind the tree bytes.
+use borrow.Author.Needs.{needs}
+use native.Mathlib.Omega.{arith}
+use mathlib.Core.Path.{_≡_, ap, _∙_}
+use mathlib.Core.List.{List}
+use Prim.Native.Nat.{ℕ, _+_, _-_, _*_}
+use lib.ListN.{length, take, drop}
+use Rattle.sequences.specs.Lists.{part, put}
+use Rattle.bitfield.specs.Index.{indexBytes}
+use Rattle.bitfield.specs.Append.{regenerated, entryPlace}
+use Rattle.bitfield.proofs.Levels.{length-index}
+use Rattle.bitfield.proofs.regenerate.Statement.{statement}
+use Rattle.bitfield.proofs.regenerate.Tie as tie
+
+mul-at : tie.Need-mul-at
+unfolding entryPlace
+mul-at c = omega arith
+
+add-at : tie.Need-add-at
+unfolding entryPlace
+add-at c = omega arith
+
+add-end : tie.Need-add-end
+unfolding entryPlace
+add-end c = omega arith
+
+part-index-of-end : tie.Need-part-index-of-end
+unfolding entryPlace
+part-index-of-end c = omega arith
+
+add-copy-to : tie.Need-add-copy-to
+unfolding entryPlace
+add-copy-to c = omega arith
+
+copy-to-requires : tie.Need-copy-to-requires
+unfolding entryPlace
+copy-to-requires c κs = omega (arith, ap length (c .before .before .index-of .ensures) ∙ length-index _)
+
+together : (xs zs bs : List ℕ) (e : ℕ) → zs ≡ put xs (32 + 3328 * e + 3072) bs
+    → bs ≡ indexBytes (take (32 + 3328 * e + 1024 - (32 + 3328 * e)) (drop (32 + 3328 * e) xs)) → zs ≡ regenerated xs e
+unfolding regenerated entryPlace part
+together xs zs bs e p q =
+    let r : 32 + 3328 * e + 1024 - (32 + 3328 * e) ≡ 1024 = omega arith in
+    p ∙ ap (put xs (32 + 3328 * e + 3072)) (q ∙ ap (λ (k : ℕ). indexBytes (take k (drop (32 + 3328 * e) xs))) r)
+
+returns : tie.Need-returns
+returns c = together _ _ _ _ (c .before .before .copy-to .ensures) (c .before .before .before .before .before .index-of .ensures)
+
+pub regenerate-spec : {M : Type 1} → statement M
+regenerate-spec =
+    tie.close (tie.spec mul-at add-at add-end (λ c. search needs) (λ c. search needs) part-index-of-end (λ c κs. search needs)
+    add-copy-to (λ c. search needs) copy-to-requires (λ c. search needs) returns)

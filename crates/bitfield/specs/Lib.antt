@@ -1,0 +1,6 @@
+-- The bitfield file: bits, tuples, the Index, and its image.
+pub mod Bits
+pub mod Index
+pub mod Image
+pub mod Append
+pub mod Levels

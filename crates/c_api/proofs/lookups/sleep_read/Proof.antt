@@ -1,0 +1,34 @@
+-- `c_api::lookups::sleep_read` meets its contract, by the case of the answer.
+use mathlib.Core.Path.{sym, ap, _∙_}
+use borrow.Author.Needs.{needs}
+use Rattle.files.specs.Belongs.{Register}
+use Rattle.checks.specs.Given.{registerOf}
+use Rattle.lookup.specs.Said.{verifiedOf}
+use Rattle.c_api.proofs.Laws.{forwards, read-part, read-refused}
+use Rattle.c_api.proofs.lookups.sleep_read.Statement.{statement}
+use Rattle.c_api.proofs.lookups.sleep_read.Tie as tie
+
+abbrev given : (c : tie.Start) → Register
+given c =
+    registerOf (c .args .tree .now) (c .args .signatures .now) (c .args .bitfield .now) (c .args .content .now) (c .args .n) (c .args .s)
+    (c .args .size)
+
+sub-t17 : tie.Need-sub-t17
+sub-t17 c =
+    let k = c .before .found2 .given in
+    forwards (given (c .before .before .before .before .before .before .before .before)) (c .before .before .before .before .before .before .before .before .args .chunk) (k .0 .0) (k .0 .1 .0) (sym (ap verifiedOf (k .1)) ∙ c .before .before .before .verify .ensures)
+
+returns : tie.Need-returns
+returns c =
+    let k = c .before .before .found .given in
+    read-refused _ (k .0 .0) (given (c .before .before .before .before .before .before .before .before .before)) (c .before .before .before .before .before .before .before .before .before .args .chunk) _ (c .refused .ensures) (sym (ap verifiedOf (k .1)) ∙ c .before .before .before .before .verify .ensures)
+
+returns-2 : tie.Need-returns-2
+returns-2 c =
+    let k = c .before .before .before .found2 .given in
+    read-part _ (given (c .before .before .before .before .before .before .before .before .before .before)) (c .before .before .before .before .before .before .before .before .before .before .args .chunk) (k .0 .0) (k .0 .1 .0) _ (c .encode .ensures)
+    (sym (ap verifiedOf (k .1)) ∙ c .before .before .before .before .before .verify .ensures)
+
+pub sleep-read-spec : {M : Type 1} → statement M
+sleep-read-spec =
+    tie.close (tie.spec (λ c κs. search needs) (λ c. search needs) (λ c κs. search needs) (λ c. search needs) sub-t17 (λ c κs. search needs) returns returns-2)

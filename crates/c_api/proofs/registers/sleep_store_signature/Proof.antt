@@ -1,0 +1,12 @@
+-- `c_api::registers::sleep_store_signature` meets its contract.
+use borrow.Author.Needs.{needs}
+use Rattle.c_api.proofs.Laws.{coded}
+use Rattle.c_api.proofs.registers.sleep_store_signature.Statement.{statement}
+use Rattle.c_api.proofs.registers.sleep_store_signature.Tie as tie
+
+returns : tie.Need-returns
+returns c = (coded _ _ _ (c .encode .ensures) (c .before .before .before .store-signature .ensures .answer), c .before .before .before .store-signature .ensures .buffers)
+
+pub sleep-store-signature-spec : {M : Type 1} → statement M
+sleep-store-signature-spec =
+    tie.close (tie.spec (λ c κs. search needs) (λ c κs. search needs) (λ c. search needs) returns)

@@ -1,0 +1,120 @@
+// The lookups and the verified read. Each gives two numbers, in `out`, which is as it was after a refusal.
+use super::answers::SleepAnswer;
+use counts::ByteOffset;
+use counts::ChunkNumber;
+use lookup::lookup::Located;
+use lookup::lookup::Placed;
+use lookup::read::Verified;
+ghost use mathlib.Core.Path.{_≡_};
+ghost use Rattle.blake2b.specs.Hash.{nodeHash};
+ghost use Rattle.checks.specs.Given.{registerOf};
+ghost use Rattle.lookup.specs.Lookup.{placeOf, byteAt};
+ghost use Rattle.lookup.specs.Read.{readVerdict};
+ghost use Rattle.c_api.specs.Number.{unlessRefused};
+ghost use Rattle.c_api.specs.Encoding.{encoded, verdictOf, numbersUnless, partNumbers};
+
+// Where the bytes of a chunk begin in `content`, and how many they are.
+#[no_mangle]
+pub extern "C" fn sleep_place(
+    tree: &[u8],
+    signatures: &[u8],
+    bitfield: &[u8],
+    content: &[u8],
+    n: u64,
+    s: u64,
+    size: u64,
+    chunk: u64,
+    out: &mut [u64; 2],
+) -> SleepAnswer
+    ensures answers { λ r. ⌜ r ≡ encoded (verdictOf (placeOf (registerOf (now (tree .entry)) (now (signatures .entry)) (now (bitfield .entry)) (now (content .entry)) n s size) chunk)) ⌝ }
+    ensures gives { λ _. ⌜ now (out .exit) ≡ numbersUnless (placeOf (registerOf (now (tree .entry)) (now (signatures .entry)) (now (bitfield .entry)) (now (content .entry)) n s size) chunk) (now (out .entry)) ⌝ }
+{
+    let found = lookup::lookup::place(
+        tree,
+        signatures,
+        bitfield,
+        content,
+        n,
+        s,
+        size,
+        ChunkNumber(chunk),
+    );
+    match found {
+        Placed::Refused(refusal) => super::answers::refused(refusal),
+        Placed::At(start, length) => {
+            *out = [start.0, length];
+            super::answers::encode(counts::Answer::Done)
+        }
+    }
+}
+
+// The chunk whose bytes contain an offset, and the offset less its start; never an empty chunk.
+#[no_mangle]
+pub extern "C" fn sleep_byte(
+    tree: &[u8],
+    signatures: &[u8],
+    bitfield: &[u8],
+    content: &[u8],
+    n: u64,
+    s: u64,
+    size: u64,
+    offset: u64,
+    out: &mut [u64; 2],
+) -> SleepAnswer
+    ensures answers { λ r. ⌜ r ≡ encoded (verdictOf (byteAt (registerOf (now (tree .entry)) (now (signatures .entry)) (now (bitfield .entry)) (now (content .entry)) n s size) offset)) ⌝ }
+    ensures gives { λ _. ⌜ now (out .exit) ≡ numbersUnless (byteAt (registerOf (now (tree .entry)) (now (signatures .entry)) (now (bitfield .entry)) (now (content .entry)) n s size) offset) (now (out .entry)) ⌝ }
+{
+    let found = lookup::lookup::locate(
+        tree,
+        signatures,
+        bitfield,
+        content,
+        n,
+        s,
+        size,
+        ByteOffset(offset),
+    );
+    match found {
+        Located::Refused(refusal) => super::answers::refused(refusal),
+        Located::In(chunk, rest) => {
+            *out = [chunk.0, rest];
+            super::answers::encode(counts::Answer::Done)
+        }
+    }
+}
+
+// A verified read: where the bytes of a chunk begin in `content` and how many they are, after its leaf hash was compared. The caller names
+// the register by lending it.
+#[no_mangle]
+pub extern "C" fn sleep_read(
+    tree: &[u8],
+    signatures: &[u8],
+    bitfield: &[u8],
+    content: &[u8],
+    n: u64,
+    s: u64,
+    size: u64,
+    chunk: u64,
+    out: &mut [u64; 2],
+) -> SleepAnswer
+    ensures answers { λ r. ⌜ r ≡ encoded (readVerdict nodeHash (registerOf (now (tree .entry)) (now (signatures .entry)) (now (bitfield .entry)) (now (content .entry)) n s size) chunk) ⌝ }
+    ensures gives { λ _. ⌜ now (out .exit) ≡ unlessRefused (readVerdict nodeHash (registerOf (now (tree .entry)) (now (signatures .entry)) (now (bitfield .entry)) (now (content .entry)) n s size) chunk) (partNumbers (registerOf (now (tree .entry)) (now (signatures .entry)) (now (bitfield .entry)) (now (content .entry)) n s size) chunk) (now (out .entry)) ⌝ }
+{
+    let found = lookup::read::verify(
+        tree,
+        signatures,
+        bitfield,
+        content,
+        n,
+        s,
+        size,
+        ChunkNumber(chunk),
+    );
+    match found {
+        Verified::Refused(refusal) => super::answers::refused(refusal),
+        Verified::Part(from, end) => {
+            *out = [from as u64, (end - from) as u64];
+            super::answers::encode(counts::Answer::Done)
+        }
+    }
+}

@@ -1,0 +1,115 @@
+// The calls that start, write and audit a register, and its root hash. A register is lent as its four images `tree`, `signatures`,
+// `bitfield` and `content` (the data), and told the chunk count `n`, the signature count `s` and the data size `size`.
+use super::answers::SleepAnswer;
+ghost use mathlib.Core.Path.{_≡_};
+ghost use Rattle.blake2b.specs.Hash.{nodeHash};
+ghost use Rattle.checks.specs.Given.{registerOf};
+ghost use Rattle.audit.specs.Audit as Audit;
+ghost use Rattle.writing.specs.Start.{startVerdict, afterStart};
+ghost use Rattle.writing.specs.Append.{appendVerdict, appendRoot, afterAppend};
+ghost use Rattle.writing.specs.Sign.{signVerdict, afterSign};
+ghost use Rattle.writing.specs.RootHash.{rootVerdict, rootAnswer};
+ghost use Rattle.writing.specs.Post.{lent};
+ghost use Rattle.c_api.specs.Number.{unlessRefused};
+ghost use Rattle.c_api.specs.Encoding.{encoded};
+
+// A register without chunks in four buffers.
+#[no_mangle]
+pub extern "C" fn sleep_start(
+    tree: &mut [u8],
+    signatures: &mut [u8],
+    bitfield: &mut [u8],
+    content: &[u8],
+) -> SleepAnswer
+    ensures answers { λ r. ⌜ r ≡ encoded (startVerdict (lent (now (tree .entry)) (now (signatures .entry)) (now (bitfield .entry)) (now (content .entry)))) ⌝ }
+    ensures buffers { λ _. ⌜ lent (now (tree .exit)) (now (signatures .exit)) (now (bitfield .exit)) (now (content .exit)) ≡ afterStart (lent (now (tree .entry)) (now (signatures .entry)) (now (bitfield .entry)) (now (content .entry))) ⌝ }
+{
+    super::answers::encode(writing::start(tree, signatures, bitfield, content))
+}
+
+// One more chunk, whose predecessor's signature is stored; the new root hash in `root`.
+#[no_mangle]
+pub extern "C" fn sleep_append(
+    tree: &mut [u8],
+    signatures: &[u8],
+    bitfield: &mut [u8],
+    content: &mut [u8],
+    n: u64,
+    s: u64,
+    size: u64,
+    chunk: &[u8],
+    root: &mut [u8; 32],
+) -> SleepAnswer
+    ensures answers { λ r. ⌜ r ≡ encoded (appendVerdict (registerOf (now (tree .entry)) (now (signatures .entry)) (now (bitfield .entry)) (now (content .entry)) n s size) (now (chunk .entry))) ⌝ }
+    ensures gives { λ _. ⌜ now (root .exit) ≡ unlessRefused (appendVerdict (registerOf (now (tree .entry)) (now (signatures .entry)) (now (bitfield .entry)) (now (content .entry)) n s size) (now (chunk .entry))) (appendRoot nodeHash (registerOf (now (tree .entry)) (now (signatures .entry)) (now (bitfield .entry)) (now (content .entry)) n s size) (now (chunk .entry))) (now (root .entry)) ⌝ }
+    ensures buffers { λ _. ⌜ lent (now (tree .exit)) (now (signatures .exit)) (now (bitfield .exit)) (now (content .exit)) ≡ afterAppend nodeHash (registerOf (now (tree .entry)) (now (signatures .entry)) (now (bitfield .entry)) (now (content .entry)) n s size) (now (chunk .entry)) ⌝ }
+{
+    let appended = writing::append(tree, signatures, bitfield, content, n, s, size, chunk);
+    let hash = appended.root;
+    let answer = appended.answer;
+    super::answers::give_hash(answer, hash, root)
+}
+
+// The signature of the newest chunk, which is owed where `s` is `n` - 1.
+#[no_mangle]
+pub extern "C" fn sleep_store_signature(
+    tree: &[u8],
+    signatures: &mut [u8],
+    bitfield: &[u8],
+    content: &[u8],
+    n: u64,
+    s: u64,
+    size: u64,
+    signature: &[u8; 64],
+) -> SleepAnswer
+    ensures answers { λ r. ⌜ r ≡ encoded (signVerdict (registerOf (now (tree .entry)) (now (signatures .entry)) (now (bitfield .entry)) (now (content .entry)) n s size)) ⌝ }
+    ensures buffers { λ _. ⌜ lent (now (tree .exit)) (now (signatures .exit)) (now (bitfield .exit)) (now (content .exit)) ≡ afterSign (registerOf (now (tree .entry)) (now (signatures .entry)) (now (bitfield .entry)) (now (content .entry)) n s size) (now (signature .entry)) ⌝ }
+{
+    super::answers::encode(writing::store_signature(
+        tree,
+        signatures,
+        bitfield,
+        content,
+        n,
+        s,
+        size,
+        signature,
+    ))
+}
+
+// The root hash that the stored roots give, in `root`.
+#[no_mangle]
+pub extern "C" fn sleep_root_hash(
+    tree: &[u8],
+    signatures: &[u8],
+    bitfield: &[u8],
+    content: &[u8],
+    n: u64,
+    s: u64,
+    size: u64,
+    root: &mut [u8; 32],
+) -> SleepAnswer
+    ensures answers { λ r. ⌜ r ≡ encoded (rootVerdict (registerOf (now (tree .entry)) (now (signatures .entry)) (now (bitfield .entry)) (now (content .entry)) n s size)) ⌝ }
+    ensures gives { λ _. ⌜ now (root .exit) ≡ unlessRefused (rootVerdict (registerOf (now (tree .entry)) (now (signatures .entry)) (now (bitfield .entry)) (now (content .entry)) n s size)) (rootAnswer nodeHash (registerOf (now (tree .entry)) (now (signatures .entry)) (now (bitfield .entry)) (now (content .entry)) n s size)) (now (root .entry)) ⌝ }
+{
+    let rooted = writing::root_hash(tree, signatures, bitfield, content, n, s, size);
+    let hash = rooted.root;
+    let answer = rooted.answer;
+    super::answers::give_hash(answer, hash, root)
+}
+
+// Whether the used bytes of all four images are those of some chunk sequence and some signatures.
+#[no_mangle]
+pub extern "C" fn sleep_audit(
+    tree: &[u8],
+    signatures: &[u8],
+    bitfield: &[u8],
+    content: &[u8],
+    n: u64,
+    s: u64,
+    size: u64,
+) -> SleepAnswer
+    ensures { λ r. ⌜ r ≡ encoded (Audit.audit nodeHash (registerOf (now (tree .entry)) (now (signatures .entry)) (now (bitfield .entry)) (now (content .entry)) n s size)) ⌝ }
+{
+    super::answers::encode(audit::audit(tree, signatures, bitfield, content, n, s, size))
+}

@@ -1,0 +1,5 @@
+-- Laws of the checks, for the proofs of this crate and of the calls above it.
+pub mod Judged
+pub mod Later
+pub mod Passed
+pub mod Steps

@@ -1,0 +1,87 @@
+-- `checks::judge_later` meets its contract: each number is refused where those before it are passed. Assumes nothing.
+use borrow.Author.Tests.{not-true, not-false}
+use mathlib.Core.Bool.{true, false}
+use mathlib.Core.Path.{_≡_, refl, sym, _∙_}
+use native.Mathlib.Omega.{arith}
+use borrow.Author.Needs.{needs}
+use Rattle.files.specs.Belongs.{Register}
+use Rattle.checks.specs.Checks.{signedRight}
+use Rattle.checks.proofs.Steps.{signed-le, rooms, answered}
+use Rattle.checks.specs.Given.{registerOf, longRight, headsRight}
+use Rattle.counts.specs.Verdict.{done}
+use Rattle.counts.specs.Said.{said}
+use Rattle.checks.proofs.judge_later.Statement.{statement}
+use Rattle.checks.proofs.judge_later.Tie as tie
+
+-- what the call is given
+abbrev given : (c : tie.Start) → Register
+given c =
+    registerOf (c .args .tree .now) (c .args .signatures .now) (c .args .bitfield .now) (c .args .content .now) (c .args .n) (c .args .s)
+    (c .args .size)
+
+-- what holds once a number is passed
+signed : (c : tie.Else1) → signedRight (given (c .before .before .before .before .before .before) .n)
+    (given (c .before .before .before .before .before .before) .s) ≡ true
+signed c = sym (c .before .signed-right .ensures) ∙ not-false _ (c .if1 .left)
+
+long : (c : tie.Else2) → longRight (given (c .before .before .before .before .before .before .before .before)) ≡ true
+long c = sym (c .before .long-right .ensures) ∙ not-false _ (c .if2 .left)
+
+heads : (c : tie.Else3) → headsRight (given (c .before .before .before .before .before .before .before .before .before .before) .tree)
+    (given (c .before .before .before .before .before .before .before .before .before .before) .signatures)
+    (given (c .before .before .before .before .before .before .before .before .before .before) .bitfield) ≡ true
+heads c = sym (c .before .heads-right .ensures) ∙ not-false _ (c .if3 .left)
+
+returns : tie.Need-returns
+returns c =
+    answered (given (c .before .before .before .before .before .before .before)) (said (c .refuse .result)) false _ _ _
+    (sym (c .before .before .signed-right .ensures) ∙ not-true _ (c .before .if1 .taken)) refl refl refl (c .refuse .ensures)
+
+long-right-requires : tie.Need-long-right-requires
+long-right-requires c κs =
+    let a = c .before .before .before .before .before .before .args in (
+      c .before .before .before .before .before .before .pre,
+      omega (arith, c .before .before .before .before .before .before .pre, signed-le (a .n) (a .s) (signed c)),
+    )
+
+returns-2 : tie.Need-returns-2
+returns-2 c =
+    answered (given (c .before .before .before .before .before .before .before .before .before)) (said (c .refuse2 .result)) true false _ _
+    (signed (c .before .before .before)) (sym (c .before .before .long-right .ensures) ∙ not-true _ (c .before .if2 .taken)) refl refl
+    (c .refuse2 .ensures)
+
+heads-right-requires : tie.Need-heads-right-requires
+heads-right-requires c κs = rooms (given (c .before .before .before .before .before .before .before .before)) (long c) .heads
+
+returns-3 : tie.Need-returns-3
+returns-3 c =
+    answered (given (c .before .before .before .before .before .before .before .before .before .before .before)) (said (c .refuse3 .result))
+    true true false _ (signed (c .before .before .before .before .before)) (long (c .before .before .before))
+    (sym (c .before .before .heads-right .ensures) ∙ not-true _ (c .before .if3 .taken)) refl (c .refuse3 .ensures)
+
+adds-up-requires : tie.Need-adds-up-requires
+adds-up-requires c κs =
+    record {
+      count = c .before .before .before .before .before .before .before .before .before .before .pre;
+      inside = rooms (given (c .before .before .before .before .before .before .before .before .before .before)) (long (c .before .before))
+          .tree;
+    }
+
+returns-4 : tie.Need-returns-4
+returns-4 c =
+    answered (given (c .before .before .before .before .before .before .before .before .before .before .before .before .before))
+    (said (c .refuse4 .result)) true true true false (signed (c .before .before .before .before .before .before .before))
+    (long (c .before .before .before .before .before)) (heads (c .before .before .before))
+    (sym (c .before .before .adds-up .ensures) ∙ not-true _ (c .before .if4 .taken)) (c .refuse4 .ensures)
+
+returns-5 : tie.Need-returns-5
+returns-5 c =
+    answered (given (c .before .before .before .before .before .before .before .before .before .before .before .before)) done true true true
+    true (signed (c .before .before .before .before .before .before)) (long (c .before .before .before .before)) (heads (c .before .before))
+    (sym (c .before .adds-up .ensures) ∙ not-false _ (c .if4 .left)) refl
+
+pub judge-later-spec : {M : Type 1} → statement M
+judge-later-spec =
+    tie.close
+    (tie.spec (λ c κs. search needs) (λ c κs. search needs) returns long-right-requires (λ c κs. search needs) returns-2 heads-right-requires
+    (λ c κs. search needs) returns-3 adds-up-requires (λ c κs. search needs) returns-4 returns-5)

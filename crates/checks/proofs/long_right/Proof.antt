@@ -1,0 +1,43 @@
+-- `checks::long_right` meets its contract: each buffer is the first that is too short, or none is. Assumes nothing.
+use mathlib.Core.Path.{refl}
+use borrow.Author.Needs.{needs}
+use Rattle.checks.proofs.Steps.{and-stop, and-pass, short-of, long-of}
+use Rattle.checks.specs.Given.{longRight}
+use Rattle.checks.proofs.long_right.Statement.{statement}
+use Rattle.checks.proofs.long_right.Tie as tie
+
+returns : tie.Need-returns
+unfolding longRight
+returns c =
+    and-stop _ _
+    (short-of (c .before .before .before .before .before .before .args .tree .now) (c .before .used-tree .ensures) (c .if1 .taken))
+
+returns-2 : tie.Need-returns-2
+unfolding longRight
+returns-2 c =
+    let a = c .before .before .before .before .before .before .before .before .args in
+    and-pass _ _ _ (long-of (a .tree .now) (c .before .before .before .used-tree .ensures) (c .before .before .if1 .left))
+    (and-stop _ _ (short-of (a .signatures .now) (c .before .used-signatures .ensures) (c .if2 .taken)))
+
+returns-3 : tie.Need-returns-3
+unfolding longRight
+returns-3 c =
+    let a = c .before .before .before .before .before .before .before .before .before .before .args in
+    and-pass _ _ _
+    (long-of (a .tree .now) (c .before .before .before .before .before .used-tree .ensures) (c .before .before .before .before .if1 .left))
+    (and-pass _ _ _ (long-of (a .signatures .now) (c .before .before .before .used-signatures .ensures) (c .before .before .if2 .left))
+    (and-stop _ _ (short-of (a .bitfield .now) (c .before .used-bitfield .ensures) (c .if3 .taken))))
+
+returns-4 : tie.Need-returns-4
+unfolding longRight
+returns-4 c =
+    let a = c .before .before .before .before .before .before .before .before .before .before .args in
+    and-pass _ _ _
+    (long-of (a .tree .now) (c .before .before .before .before .before .used-tree .ensures) (c .before .before .before .before .if1 .left))
+    (and-pass _ _ _ (long-of (a .signatures .now) (c .before .before .before .used-signatures .ensures) (c .before .before .if2 .left))
+    (and-pass _ _ _ (long-of (a .bitfield .now) (c .before .used-bitfield .ensures) (c .if3 .left)) refl))
+
+pub long-right-spec : {M : Type 1} → statement M
+long-right-spec =
+    tie.close
+    (tie.spec (λ c κs. search needs) returns (λ c κs. search needs) returns-2 (λ c κs. search needs) returns-3 returns-4)

@@ -1,0 +1,130 @@
+// The checks 2 to 6 of a call on a register: "Checks apply to what the call is given, in this order; images as tree, signatures,
+// bitfield, data." They only read, so that a refused call has changed nothing.
+use counts::Answer;
+ghost use mathlib.Core.Path.{_≡_};
+ghost use Prim.Native.Nat.{_≤_};
+ghost use lib.ListN.{length};
+ghost use Rattle.counts.specs.Verdict.{done};
+ghost use Rattle.counts.specs.Said.{said};
+ghost use Rattle.checks.specs.Checks.{signedRight, judged, laterChecks, registerChecks};
+ghost use Rattle.checks.specs.Given.{registerOf, longRight, headsRight};
+
+// "3. s is neither n nor n − 1, or is not 0 when n is 0." No sum wraps, whatever n and s are.
+fn signed_right(n: u64, s: u64) -> bool
+    ensures { λ r. ⌜ r ≡ signedRight n s ⌝ }
+{
+    if s == n {
+        return true;
+    }
+    if n < s {
+        return false;
+    }
+    s + 1 == n
+}
+
+// "4. A buffer is shorter than its used size." Inner: n and s are no larger than the checks 2 and 3 let pass.
+fn long_right(
+    tree: &[u8],
+    signatures: &[u8],
+    bitfield: &[u8],
+    content: &[u8],
+    n: u64,
+    s: u64,
+    size: u64,
+) -> bool
+    requires { ⌜ (n ≤ 1048576) × (s ≤ 1048576) ⌝ }
+    ensures { λ r.
+        ⌜
+        r ≡
+        longRight
+        (registerOf (now (tree .entry)) (now (signatures .entry)) (now (bitfield .entry)) (now (content .entry)) n s size)
+        ⌝ }
+{
+    if tree.len() < files::sizes::used_tree(n) {
+        return false;
+    }
+    if signatures.len() < files::sizes::used_signatures(s) {
+        return false;
+    }
+    if bitfield.len() < files::sizes::used_bitfield(n) {
+        return false;
+    }
+    size <= (content.len() as u64)
+}
+
+// "5. A header differs from its 32 bytes." Inner: each file has room for its header.
+fn heads_right(tree: &[u8], signatures: &[u8], bitfield: &[u8]) -> bool
+    requires { ⌜ (32 ≤ length (now tree)) × (32 ≤ length (now signatures)) × (32 ≤ length (now bitfield)) ⌝ }
+    ensures { λ r. ⌜ r ≡ headsRight (now (tree .entry)) (now (signatures .entry)) (now (bitfield .entry)) ⌝ }
+{
+    let first = files::headers::tree_header();
+    if !files::headers::has_header(tree, &first) {
+        return false;
+    }
+    let second = files::headers::signatures_header();
+    if !files::headers::has_header(signatures, &second) {
+        return false;
+    }
+    let third = files::headers::bitfield_header();
+    files::headers::has_header(bitfield, &third)
+}
+
+// Inner: the checks 3 to 6, of a register that passes 2. An append has a check 2 of its own before them.
+pub fn judge_later(
+    tree: &[u8],
+    signatures: &[u8],
+    bitfield: &[u8],
+    content: &[u8],
+    n: u64,
+    s: u64,
+    size: u64,
+) -> Answer
+    requires { ⌜ n ≤ 1048576 ⌝ }
+    ensures { λ r.
+        ⌜
+        said r ≡
+        judged
+        (laterChecks
+        (registerOf (now (tree .entry)) (now (signatures .entry)) (now (bitfield .entry)) (now (content .entry)) n s size))
+        done
+        ⌝ }
+{
+    if !signed_right(n, s) {
+        return counts::refuse(3);
+    }
+    if !long_right(tree, signatures, bitfield, content, n, s, size) {
+        return counts::refuse(4);
+    }
+    if !heads_right(tree, signatures, bitfield) {
+        return counts::refuse(5);
+    }
+    if !files::roots::adds_up(tree, n, size) {
+        return counts::refuse(6);
+    }
+    Answer::Done
+}
+
+// The checks 2 to 6: done, or the first number that holds.
+pub fn judge(
+    tree: &[u8],
+    signatures: &[u8],
+    bitfield: &[u8],
+    content: &[u8],
+    n: u64,
+    s: u64,
+    size: u64,
+) -> Answer
+    ensures { λ r.
+        ⌜
+        said r ≡
+        judged
+        (registerChecks
+        (registerOf (now (tree .entry)) (now (signatures .entry)) (now (bitfield .entry)) (now (content .entry)) n s size))
+        done
+        ⌝ }
+{
+    if 1048576 < n {
+        return counts::refuse(2);
+    }
+    judge_later(tree, signatures, bitfield, content, n, s, size)
+}

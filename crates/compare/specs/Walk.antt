@@ -1,0 +1,51 @@
+-- The comparing walk on two registers.
+use Prim.Native.Nat.{ℕ, zero, suc}
+use mathlib.Core.Bool.{Bool, true, false, cond, not, _&&_, _||_}
+use mathlib.Core.List.{List}
+use Rattle.counts.specs.Verdict.{Spot, Verdict, done, refused}
+use Rattle.sequences.specs.Lists.{sameList}
+use Rattle.tree_index.specs.Tree.{filled, entries}
+use Rattle.files.specs.Stored.{storedHash, storedMessage, storedRootMessage}
+use Rattle.files.specs.Belongs.{Register}
+use Rattle.audit.specs.Audit.{Lowest, nowhere, first, lowest, audit}
+
+-- what the walk answers: a refusal that says which register, or "equal", "roots differ", or a collision "at the roots" or at a tree index
+pub data Comparison : Type 0 where
+  firstRefused : ℕ → Spot → Comparison
+  secondRefused : ℕ → Spot → Comparison
+  rootsDiffer : Comparison
+  atRoots : Comparison
+  atIndex : ℕ → Comparison
+  equal : Comparison
+
+-- "unequal messages and equal hashes": a collision
+abbrev pub collides : List ℕ → List ℕ → List ℕ → List ℕ → Bool
+collides m₁ m₂ h₁ h₂ = not (sameList m₁ m₂) && sameList h₁ h₂
+
+-- "at the lowest filled tree index with unequal messages and equal hashes; or "equal""
+abbrev pub found : Lowest → Comparison
+found nowhere = equal
+found (first i) = atIndex i
+
+-- the walk over messages and hashes, wherever these come from: "roots differ" if the root hashes do; or the collision, as "at the
+-- roots" if the root messages differ, else at the lowest of the k tree indexes from 0 on
+unfoldable pub walk : (rh₁ rh₂ rm₁ rm₂ : List ℕ) (m₁ m₂ h₁ h₂ : ℕ → List ℕ) (is : ℕ → Bool) (k : ℕ) → Comparison
+walk rh₁ rh₂ rm₁ rm₂ m₁ m₂ h₁ h₂ is k =
+    cond (sameList rh₁ rh₂)
+    (cond (sameList rm₁ rm₂) (found (lowest (λ i. not (is i && collides (m₁ i) (m₂ i) (h₁ i) (h₂ i))) 0 k)) atRoots)
+    rootsDiffer
+
+-- a refusal of the first register, then of the second, then what comes next
+abbrev pub unlessRefused : Verdict → Verdict → Comparison → Comparison
+unlessRefused (refused m at) v next = firstRefused m at
+unlessRefused done (refused m at) next = secondRefused m at
+unlessRefused done done next = next
+
+module _ (F : List ℕ → List ℕ) where
+  -- "The comparing walk audits the first register, then the second, and a refusal says which. Then" the walk, over what the two store
+  unfoldable pub compare : Register → Register → Comparison
+  compare a b =
+      unlessRefused (audit F a) (audit F b)
+      (walk (F (storedRootMessage (a .tree) (a .n))) (F (storedRootMessage (b .tree) (b .n)))
+      (storedRootMessage (a .tree) (a .n)) (storedRootMessage (b .tree) (b .n)) (storedMessage (a .tree) (a .content))
+      (storedMessage (b .tree) (b .content)) (storedHash (a .tree)) (storedHash (b .tree)) (filled (a .n)) (entries (a .n)))

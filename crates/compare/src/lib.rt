@@ -1,0 +1,133 @@
+// The comparing walk on two registers. It reads the lent bytes and changes nothing.
+pub mod messages;
+
+use counts::Answer;
+use counts::Refusal;
+use counts::TreeIndex;
+ghost use mathlib.Core.Path.{_≡_};
+ghost use mathlib.Core.Bool.{not};
+ghost use Rattle.tree_index.specs.Tree.{filled, entries};
+ghost use Rattle.blake2b.specs.Hash.{nodeHash};
+ghost use Rattle.files.specs.Stored.{storedHash, storedMessage, storedRootMessage};
+ghost use Rattle.checks.specs.Given.{registerOf};
+ghost use Rattle.audit.specs.Audit.{lowest};
+ghost use Rattle.compare.specs.Walk as spec;
+ghost use Rattle.compare.specs.Answered.{compared};
+ghost use Rattle.compare.specs.Inner.{Readable, collidesAt};
+
+// What the walk answers: a refusal and which register it is of, "roots differ", a collision at the roots or at a tree index, or "equal".
+pub enum Compared {
+    FirstRefused(Refusal),
+    SecondRefused(Refusal),
+    RootsDiffer,
+    AtRoots,
+    AtIndex(TreeIndex),
+    Equal,
+}
+
+// Inner: the lowest collision of two registers of n chunks, found by one walk from the left that carries the start of the next leaf of
+// both.
+fn lowest_collision(tree: &[u8], content: &[u8], tree2: &[u8], content2: &[u8], n: u64) -> Compared
+    requires { ⌜ Readable (now tree) (now content) n × Readable (now tree2) (now content2) n ⌝ }
+    ensures { λ r.
+        ⌜
+        compared r ≡
+        spec.found
+        (lowest
+        (λ i. not (collidesAt (now (tree .entry)) (now (content .entry)) (now (tree2 .entry)) (now (content2 .entry)) n i))
+        0
+        (entries n))
+        ⌝ }
+{
+    let count = audit::tree::entries(n);
+    let mut i: u64 = 0;
+    let mut start: u64 = 0;
+    let mut start2: u64 = 0;
+    while i < count {
+        if messages::collides_at(
+            tree,
+            content,
+            start,
+            tree2,
+            content2,
+            start2,
+            n,
+            TreeIndex(i),
+        ) {
+            return Compared::AtIndex(TreeIndex(i));
+        }
+        let next = audit::tree::start_behind(tree, TreeIndex(i), start);
+        start = next;
+        let next2 = audit::tree::start_behind(tree2, TreeIndex(i), start2);
+        start2 = next2;
+        i += 1;
+    }
+    Compared::Equal
+}
+
+// Inner: the walk on two audited registers: the root hashes first, then the root messages, then index by index.
+fn walk(tree: &[u8], content: &[u8], n: u64, tree2: &[u8], content2: &[u8], n2: u64) -> Compared
+    requires { ⌜ Readable (now tree) (now content) n × Readable (now tree2) (now content2) n2 ⌝ }
+    ensures { λ r.
+        ⌜
+        compared r ≡
+        spec.walk
+        (nodeHash (storedRootMessage (now (tree .entry)) n))
+        (nodeHash (storedRootMessage (now (tree2 .entry)) n2))
+        (storedRootMessage (now (tree .entry)) n)
+        (storedRootMessage (now (tree2 .entry)) n2)
+        (storedMessage (now (tree .entry)) (now (content .entry)))
+        (storedMessage (now (tree2 .entry)) (now (content2 .entry)))
+        (storedHash (now (tree .entry)))
+        (storedHash (now (tree2 .entry)))
+        (filled n)
+        (entries n)
+        ⌝ }
+{
+    let hash = files::roots::stored_root_hash(tree, n);
+    let hash2 = files::roots::stored_root_hash(tree2, n2);
+    if !sequences::same(&hash, &hash2) {
+        return Compared::RootsDiffer;
+    }
+    if !messages::same_roots(tree, n, tree2, n2) {
+        return Compared::AtRoots;
+    }
+    lowest_collision(tree, content, tree2, content2, n)
+}
+
+// The audit of the first register, then of the second, then the walk.
+pub fn compare(
+    tree: &[u8],
+    signatures: &[u8],
+    bitfield: &[u8],
+    content: &[u8],
+    n: u64,
+    s: u64,
+    size: u64,
+    tree2: &[u8],
+    signatures2: &[u8],
+    bitfield2: &[u8],
+    content2: &[u8],
+    n2: u64,
+    s2: u64,
+    size2: u64,
+) -> Compared
+    ensures { λ r.
+        ⌜
+        compared r ≡
+        spec.compare
+        nodeHash
+        (registerOf (now (tree .entry)) (now (signatures .entry)) (now (bitfield .entry)) (now (content .entry)) n s size)
+        (registerOf (now (tree2 .entry)) (now (signatures2 .entry)) (now (bitfield2 .entry)) (now (content2 .entry)) n2 s2 size2)
+        ⌝ }
+{
+    let first = audit::audit(tree, signatures, bitfield, content, n, s, size);
+    if let Answer::Refused(refusal) = first {
+        return Compared::FirstRefused(refusal);
+    }
+    let second = audit::audit(tree2, signatures2, bitfield2, content2, n2, s2, size2);
+    if let Answer::Refused(refusal) = second {
+        return Compared::SecondRefused(refusal);
+    }
+    walk(tree, content, n, tree2, content2, n2)
+}

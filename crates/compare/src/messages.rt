@@ -1,0 +1,137 @@
+// Messages compared from the lent bytes, none of them copied but those of the roots. All of these are inner.
+use counts::TreeIndex;
+ghost use mathlib.Core.Path.{_≡_};
+ghost use mathlib.Core.Bool.{true};
+ghost use Rattle.sequences.specs.Lists.{sameList, part};
+ghost use Rattle.files.specs.Stored.{storedHash, storedSize, storedMessage, storedRootMessage};
+ghost use Rattle.files.specs.Within.{EntryIn, RootsIn};
+ghost use Rattle.tree_index.specs.Tree.{filled};
+ghost use Rattle.audit.specs.Walked.{AtParent};
+ghost use Rattle.compare.specs.Inner.{ReadAt, ChunkIn, sameParent, collidesAt};
+
+// Whether two chunks are the same, where they lie.
+fn same_chunk(
+    tree: &[u8],
+    content: &[u8],
+    start: u64,
+    tree2: &[u8],
+    content2: &[u8],
+    start2: u64,
+    i: TreeIndex,
+) -> bool
+    requires { ⌜ ChunkIn (now tree) (now content) (i .0) start × ChunkIn (now tree2) (now content2) (i .0) start2 ⌝ }
+    ensures { λ r.
+        ⌜
+        r ≡
+        sameList
+        (part (now (content .entry)) start (storedSize (now (tree .entry)) (i .0)))
+        (part (now (content2 .entry)) start2 (storedSize (now (tree2 .entry)) (i .0)))
+        ⌝ }
+{
+    let size = files::entries::stored_size(tree, i);
+    let size2 = files::entries::stored_size(tree2, i);
+    let from = start as usize;
+    let end = from + (size as usize);
+    let from2 = start2 as usize;
+    let end2 = from2 + (size2 as usize);
+    sequences::same(&content[from..end], &content2[from2..end2])
+}
+
+// Whether two hashes stored at an index are the same.
+fn same_hash(tree: &[u8], tree2: &[u8], i: TreeIndex) -> bool
+    requires { ⌜ EntryIn (now tree) (i .0) × EntryIn (now tree2) (i .0) ⌝ }
+    ensures { λ r. ⌜ r ≡ sameList (storedHash (now (tree .entry)) (i .0)) (storedHash (now (tree2 .entry)) (i .0)) ⌝ }
+{
+    let hash = files::entries::stored_hash(tree, i);
+    let hash2 = files::entries::stored_hash(tree2, i);
+    sequences::same(&hash, &hash2)
+}
+
+// Whether two parents have one length and the same child hashes.
+fn same_parent(tree: &[u8], tree2: &[u8], i: TreeIndex) -> bool
+    requires { ⌜ AtParent (now tree) (i .0) × AtParent (now tree2) (i .0) ⌝ }
+    ensures { λ r. ⌜ r ≡ sameParent (now (tree .entry)) (now (tree2 .entry)) (i .0) ⌝ }
+{
+    if files::entries::stored_size(tree, i) != files::entries::stored_size(tree2, i) {
+        return false;
+    }
+    if !same_hash(tree, tree2, tree_index::left_child(i)) {
+        return false;
+    }
+    same_hash(tree, tree2, tree_index::right_child(i))
+}
+
+// Whether two registers have the same message at an index that is filled in both.
+fn same_message(
+    tree: &[u8],
+    content: &[u8],
+    start: u64,
+    tree2: &[u8],
+    content2: &[u8],
+    start2: u64,
+    n: u64,
+    i: TreeIndex,
+) -> bool
+    requires { ⌜
+        (filled n (i .0) ≡ true)
+        × ReadAt (now tree) (now content) n (i .0) start
+        × ReadAt (now tree2) (now content2) n (i .0) start2
+        ⌝ }
+    ensures { λ r.
+        ⌜
+        r ≡
+        sameList
+        (storedMessage (now (tree .entry)) (now (content .entry)) (i .0))
+        (storedMessage (now (tree2 .entry)) (now (content2 .entry)) (i .0))
+        ⌝ }
+{
+    if i.0 % 2 == 0 {
+        return same_chunk(tree, content, start, tree2, content2, start2, i);
+    }
+    same_parent(tree, tree2, i)
+}
+
+// Whether two registers of n chunks have different messages with one hash at an entry.
+pub fn collides_at(
+    tree: &[u8],
+    content: &[u8],
+    start: u64,
+    tree2: &[u8],
+    content2: &[u8],
+    start2: u64,
+    n: u64,
+    i: TreeIndex,
+) -> bool
+    requires { ⌜ ReadAt (now tree) (now content) n (i .0) start × ReadAt (now tree2) (now content2) n (i .0) start2 ⌝ }
+    ensures { λ r.
+        ⌜
+        r ≡
+        collidesAt
+        (now (tree .entry))
+        (now (content .entry))
+        (now (tree2 .entry))
+        (now (content2 .entry))
+        n
+        (i .0)
+        ⌝ }
+{
+    if !tree_index::is_filled(n, i) {
+        return false;
+    }
+    if !same_hash(tree, tree2, i) {
+        return false;
+    }
+    !same_message(tree, content, start, tree2, content2, start2, n, i)
+}
+
+// Whether the root messages of two registers are the same. They are short, and made in buffers of their own.
+pub fn same_roots(tree: &[u8], n: u64, tree2: &[u8], n2: u64) -> bool
+    requires { ⌜ RootsIn (now tree) n × RootsIn (now tree2) n2 ⌝ }
+    ensures { λ r. ⌜ r ≡ sameList (storedRootMessage (now (tree .entry)) n) (storedRootMessage (now (tree2 .entry)) n2) ⌝ }
+{
+    let message = files::roots::stored_root_message(tree, n);
+    let message2 = files::roots::stored_root_message(tree2, n2);
+    let end = 1 + 48 * tree_index::root_count(n);
+    let end2 = 1 + 48 * tree_index::root_count(n2);
+    sequences::same(&message[0..end], &message2[0..end2])
+}

@@ -1,0 +1,117 @@
+-- Demand 2: every image that is written from a start or on an accepted register is, byte for byte, the one for the chunk sequence and
+-- the signatures handed in; on an accepted register an append or a stored signature leaves an accepted register; and the audit
+-- accepts buffers exactly when their used bytes are such images.
+--
+-- The notions in it: `HashFunction` (files, Messages), `Register`, `Buffers`, `Lent`, `Within` and `Belongs` (files, Belongs), the used
+-- sizes (files, Sizes), `rootHashFor` (files, Images), `Imaged` and `AuditExact` (audit, Exact), `Accepted` (audit, Audit), the calls'
+-- verdicts, answers and buffers (writing, Start, Append, Sign and RootHash) and what they ask for (writing, Fits).
+use Prim.Native.Nat.{ℕ}
+use mathlib.Core.Path.{_≡_}
+use mathlib.Core.Logic.{_↔_}
+use mathlib.Core.List.{List, [], _∷_, _++_}
+use lib.ListN.{length, drop}
+use Rattle.counts.specs.Verdict.{Spot, none, done, refused}
+use Rattle.sequences.specs.Lists.{Bytes, zeros}
+use Rattle.files.specs.Sizes.{usedTree, usedSignatures, usedBitfield}
+use Rattle.files.specs.Messages.{HashFunction}
+use Rattle.files.specs.Images.{rootHashFor}
+use Rattle.files.specs.Belongs.{Buffers, Register, buffersOf, Lent, Within, Belongs}
+use Rattle.audit.specs.Audit.{Accepted}
+use Rattle.audit.specs.Exact.{Imaged, AuditExact}
+use Rattle.writing.specs.Start.{startVerdict, startedRegister, afterStart}
+use Rattle.writing.specs.Append.{appendVerdict, appendedRegister, appendRoot, afterAppend}
+use Rattle.writing.specs.Sign.{signVerdict, signedRegister, afterSign}
+use Rattle.writing.specs.RootHash.{rootVerdict, rootAnswer}
+use Rattle.writing.specs.Fits.{StartFits, AppendFits, SignFits}
+
+-- beyond the used sizes of a register the bytes are as they were in the buffers `before`
+pub record Beyond (before : Buffers) (r : Register) : Type 0 where
+  pub tree : drop (usedTree (r .n)) (r .tree) ≡ drop (usedTree (r .n)) (before .tree)
+  pub signatures : drop (usedSignatures (r .s)) (r .signatures) ≡ drop (usedSignatures (r .s)) (before .signatures)
+  pub bitfield : drop (usedBitfield (r .n)) (r .bitfield) ≡ drop (usedBitfield (r .n)) (before .bitfield)
+  pub content : drop (r .size) (r .content) ≡ drop (r .size) (before .content)
+
+-- "Start is only lent four buffers and writes the three headers; its one refusal is 14."
+pub record StartWrites (F : List ℕ → List ℕ) : Type 0 where
+  -- done with room for the headers, and refused with 14 otherwise
+  pub takes : (b : Buffers) → StartFits b → startVerdict b ≡ done
+  pub refuses : (b : Buffers) → (StartFits b → ⊥) → startVerdict b ≡ refused 14 none
+  -- done, the buffers are those of a register
+  pub buffers : (b : Buffers) → startVerdict b ≡ done → afterStart b ≡ buffersOf (startedRegister b)
+  -- whose used bytes are the images of no chunks and no signatures
+  pub images : (b : Buffers) → startVerdict b ≡ done → Imaged F (startedRegister b) [] []
+  pub accepted : (b : Buffers) → startVerdict b ≡ done → Accepted F (startedRegister b)
+  pub beyond : (b : Buffers) → startVerdict b ≡ done → Beyond b (startedRegister b)
+  -- buffers that hold bytes go on to
+  pub lent : (b : Buffers) → Bytes (b .tree) → Bytes (b .signatures) → Bytes (b .bitfield) → Bytes (b .content) → Lent (startedRegister b)
+  -- "No lent byte changes."
+  pub unchanged : (b : Buffers) (m : ℕ) (at : Spot) → startVerdict b ≡ refused m at → afterStart b ≡ b
+
+-- An append "adds one chunk .. and answers the new root hash".
+pub record AppendWrites (F : List ℕ → List ℕ) : Type 0 where
+  -- on an accepted register it is done exactly when 2, 7, 8 and 14 are passed
+  pub takes : (r : Register) (chunk : List ℕ) → Accepted F r → (appendVerdict r chunk ≡ done) ↔ AppendFits r chunk
+  -- done, the buffers are those of a register
+  pub buffers : (r : Register) (chunk : List ℕ) → appendVerdict r chunk ≡ done → afterAppend F r chunk ≡ buffersOf (appendedRegister F r chunk)
+  -- which belongs to the chunk sequence with the chunk at its end, where the first one belonged to the sequence
+  pub belongs : (r : Register) (cs : List (List ℕ)) (chunk : List ℕ) → Within cs → Belongs F r cs → Bytes chunk → appendVerdict r chunk ≡ done
+      → Within (cs ++ (chunk ∷ [])) × Belongs F (appendedRegister F r chunk) (cs ++ (chunk ∷ []))
+  -- whose root hash is the answer
+  pub answers : (r : Register) (cs : List (List ℕ)) (chunk : List ℕ) → Within cs → Belongs F r cs → Bytes chunk → appendVerdict r chunk ≡ done
+      → appendRoot F r chunk ≡ rootHashFor F (cs ++ (chunk ∷ []))
+  -- with the signatures: all used bytes are the images of the longer sequence and of the same signatures
+  pub images : (r : Register) (cs sigs : List (List ℕ)) (chunk : List ℕ) → Imaged F r cs sigs → Bytes chunk → appendVerdict r chunk ≡ done
+      → Imaged F (appendedRegister F r chunk) (cs ++ (chunk ∷ [])) sigs
+  -- an append to an accepted register leaves an accepted register, in buffers that hold bytes again
+  pub accepted : (r : Register) (chunk : List ℕ) → Lent r → Accepted F r → Bytes chunk → appendVerdict r chunk ≡ done
+      → Accepted F (appendedRegister F r chunk) × Lent (appendedRegister F r chunk)
+  pub beyond : (r : Register) (cs : List (List ℕ)) (chunk : List ℕ) → Within cs → Belongs F r cs → Bytes chunk → appendVerdict r chunk ≡ done
+      → Beyond (buffersOf r) (appendedRegister F r chunk)
+  -- "No lent byte changes.", and the answer beside a refusal is zeros
+  pub unchanged : (r : Register) (chunk : List ℕ) (m : ℕ) (at : Spot) → appendVerdict r chunk ≡ refused m at
+      → (afterAppend F r chunk ≡ buffersOf r) × (appendRoot F r chunk ≡ zeros 32)
+
+-- "Then its signature is stored, one for each chunk."
+pub record SignWrites (F : List ℕ → List ℕ) : Type 0 where
+  -- on an accepted register it is done exactly when 8 and 14 are passed
+  pub takes : (r : Register) → Accepted F r → (signVerdict r ≡ done) ↔ SignFits r
+  pub buffers : (r : Register) (signature : List ℕ) → signVerdict r ≡ done → afterSign r signature ≡ buffersOf (signedRegister r signature)
+  -- the register belongs to the same chunk sequence
+  pub belongs : (r : Register) (cs : List (List ℕ)) (signature : List ℕ) → Belongs F r cs → Belongs F (signedRegister r signature) cs
+  -- all used bytes are the images of the same chunk sequence and of the signatures with the new one at their end
+  pub images : (r : Register) (cs sigs : List (List ℕ)) (signature : List ℕ) → Imaged F r cs sigs → length signature ≡ 64 → signVerdict r ≡ done
+      → Imaged F (signedRegister r signature) cs (sigs ++ (signature ∷ []))
+  pub accepted : (r : Register) (signature : List ℕ) → Lent r → Accepted F r → Bytes signature → length signature ≡ 64 → signVerdict r ≡ done
+      → Accepted F (signedRegister r signature) × Lent (signedRegister r signature)
+  pub beyond : (r : Register) (signature : List ℕ) → length signature ≡ 64 → signVerdict r ≡ done → Beyond (buffersOf r) (signedRegister r signature)
+  pub unchanged : (r : Register) (signature : List ℕ) (m : ℕ) (at : Spot) → signVerdict r ≡ refused m at → afterSign r signature ≡ buffersOf r
+
+-- the root hash of a register is that of the chunk sequence which it belongs to
+pub record RootAnswers (F : List ℕ → List ℕ) : Type 0 where
+  -- an accepted register is not refused
+  pub takes : (r : Register) → Accepted F r → rootVerdict r ≡ done
+  pub answers : (r : Register) (cs : List (List ℕ)) → Within cs → Belongs F r cs → rootVerdict r ≡ done → rootAnswer F r ≡ rootHashFor F cs
+
+-- a register that calls which were not refused wrote, from a start or on a register that is the images of some chunks and signatures,
+-- with the chunks and the signatures that it holds by then
+pub data Written (F : List ℕ → List ℕ) : Register → List (List ℕ) → List (List ℕ) → Type 0 where
+  fromStart : (b : Buffers) → startVerdict b ≡ done → Written F (startedRegister b) [] []
+  fromImages : {r : Register} {cs sigs : List (List ℕ)} → Imaged F r cs sigs → Written F r cs sigs
+  andAppended : {r : Register} {cs sigs : List (List ℕ)} (chunk : List ℕ) → Written F r cs sigs → Bytes chunk → appendVerdict r chunk ≡ done
+      → Written F (appendedRegister F r chunk) (cs ++ (chunk ∷ [])) sigs
+  andSigned : {r : Register} {cs sigs : List (List ℕ)} (signature : List ℕ) → Written F r cs sigs → length signature ≡ 64 → signVerdict r ≡ done
+      → Written F (signedRegister r signature) cs (sigs ++ (signature ∷ []))
+
+pub record Demand2 (F : List ℕ → List ℕ) : Type 0 where
+  pub start : StartWrites F
+  pub append : AppendWrites F
+  pub sign : SignWrites F
+  pub root : RootAnswers F
+  -- whatever calls wrote it, a register's used bytes are the images of the chunks and the signatures handed in
+  pub written : (r : Register) (cs sigs : List (List ℕ)) → Written F r cs sigs → Imaged F r cs sigs
+  -- the audit accepts exactly such images
+  pub audit : AuditExact F
+
+-- for every function F from byte strings to 32 bytes
+abbrev pub Demand2ForAll : Type 0
+Demand2ForAll = (F : List ℕ → List ℕ) → HashFunction F → Demand2 F

@@ -1,0 +1,3 @@
+-- The customer's demands, as statements.
+pub mod Demand3
+pub mod Demand2

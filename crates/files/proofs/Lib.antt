@@ -1,0 +1,8 @@
+-- Laws of the files: of their images, of written entries, and of the roots by value.
+pub mod Spans
+pub mod Nodes
+pub mod OfImage
+pub mod ToImage
+pub mod Places
+pub mod ByValue
+pub mod Written

@@ -1,0 +1,205 @@
+-- What the bytes of a register say that belongs to a chunk sequence: at every place what the image has there.
+-- Assumes nothing.
+use Prim.Native.Nat.{ℕ, zero, suc, _+_, _*_, _^_, _≤_, _<_}
+use mathlib.Core.Path.{_≡_, refl, sym, ap, ap₂, _∙_, subst}
+use mathlib.Core.Bool.{Bool, true}
+use mathlib.Core.List.{List, [], _∷_, _++_, map}
+use native.Mathlib.Nat.{mul-one, mul-comm, zero-add, add-zero}
+use native.Mathlib.Omega.{arith}
+use lib.ListN.{length, getD, take, length-append}
+use lib.Seq.{take-all}
+use Rattle.sequences.specs.Lists.{part, run, total}
+use Rattle.sequences.specs.Numbers.{be, number}
+use Rattle.sequences.proofs.Lists.{part-part, part-behind, part-front, part-joined, length-joined, run-ext}
+use Rattle.sequences.proofs.Numbers.{length-be, number-be}
+use Rattle.tree_index.specs.Tree.{index, block, filled, leftChild, rightChild, roots, entries}
+use Rattle.tree_index.proofs.Index.{depth-index, block-index, by-coordinates, leftChild-index, rightChild-index}
+use Rattle.tree_index.proofs.Filled.{filled-below, filled-end, end-filled, filled-left, filled-right}
+use Rattle.tree_index.proofs.Roots.{root-filled}
+use Rattle.bitfield.specs.Bits.{bytesOf}
+use Rattle.bitfield.specs.Index.{indexBytes}
+use Rattle.bitfield.specs.Image.{dataBytes, treeBytes, entry, entriesOf, entryCount, heldBelow}
+use Rattle.bitfield.proofs.Levels.{length-index}
+use Rattle.files.specs.Headers.{front, header, treeHeader, signaturesHeader, bitfieldHeader}
+use Rattle.files.specs.Sizes.{entryPlace, usedTree, usedBitfield}
+use Rattle.files.specs.Messages.{HashFunction, leafMessage, parentMessage, rootItem, rootMessage}
+use Rattle.files.specs.Nodes.{Entry, entryBytes, node, nodeAt, entryAt, treeEntries, rootMessageOf}
+use Rattle.files.specs.Images.{dataImage, bitfieldImage, treeImage, leaves, messageFor, rootMessageFor}
+use Rattle.files.specs.Stored.{storedHash, storedSize, storedRootSizes, storedRootMessage, storedStart, storedChunk, storedMessage}
+use Rattle.files.specs.Belongs.{Register, Within, Belongs}
+use Rattle.files.proofs.Spans.{span, map-ext, chunk-inside, span-all, span-one, part-chunk, cover}
+use Rattle.files.proofs.Nodes.{Proper, byDepth, leaves-length, nodeAt-index, entryAt-filled, entryAt-proper, entry-length, node-size, message-leaf, message-parent}
+
+-- ---- lengths
+
+pub treeHeader-length : length treeHeader ≡ 32
+unfolding treeHeader header front be
+treeHeader-length = refl
+
+pub signaturesHeader-length : length signaturesHeader ≡ 32
+unfolding signaturesHeader header front be
+signaturesHeader-length = refl
+
+pub bitfieldHeader-length : length bitfieldHeader ≡ 32
+unfolding bitfieldHeader header front be
+bitfieldHeader-length = refl
+
+bytesOf-length : (p : ℕ → Bool) (b k : ℕ) → length (bytesOf p b k) ≡ k
+unfolding bytesOf
+bytesOf-length p b zero = refl
+bytesOf-length p b (suc k) = ap suc (bytesOf-length p (b + 8) k)
+
+bitfieldEntry-length : (held known : ℕ → Bool) (e : ℕ) → length (entry held known e) ≡ 3328
+unfolding entry dataBytes treeBytes
+bitfieldEntry-length held known e =
+    length-append (dataBytes held e) (treeBytes known e ++ indexBytes (dataBytes held e))
+    ∙ ap₂ _+_ (bytesOf-length held (8192 * e) 1024)
+    (length-append (treeBytes known e) (indexBytes (dataBytes held e)) ∙ ap₂ _+_ (bytesOf-length known (16384 * e) 2048) (length-index (dataBytes held e)))
+
+pub bitfieldImage-length : (n : ℕ) → length (bitfieldImage n) ≡ usedBitfield n
+unfolding bitfieldImage entriesOf usedBitfield
+bitfieldImage-length n =
+    length-append bitfieldHeader (entriesOf n)
+    ∙ ap₂ _+_ bitfieldHeader-length
+    (length-joined (entry (heldBelow n) (filled n)) 3328 (bitfieldEntry-length (heldBelow n) (filled n)) 0 (entryCount n) ∙ mul-comm (entryCount n) 3328)
+
+-- a part that lies within the front of a list
+part-take : (xs : List ℕ) (m a k : ℕ) → a + k ≤ m → part (take m xs) a k ≡ part xs a k
+unfolding part
+part-take xs m a k h = part-part xs 0 m a k h ∙ ap (λ (p : ℕ). part xs p k) (zero-add a)
+
+pub entry-inside : (i n : ℕ) → i < entries n → entryPlace i + 40 ≤ usedTree n
+unfolding entryPlace usedTree
+entry-inside i n h = omega arith
+
+-- an entry's hash and length out of its 40 bytes
+pub entry-hash : (xs : List ℕ) (i : ℕ) (e : Entry) → Proper e → part xs (entryPlace i) 40 ≡ entryBytes e → storedHash xs i ≡ e .hash
+unfolding storedHash entryBytes
+entry-hash xs i e p h =
+    ap (λ (a : ℕ). part xs a 32) (sym (add-zero (entryPlace i))) ∙ sym (part-part xs (entryPlace i) 40 0 32 (omega arith))
+    ∙ ap (λ (l : List ℕ). part l 0 32) h ∙ part-front (e .hash) (be 8 (e .size)) 32 (p .long)
+
+pub entry-size : (xs : List ℕ) (i : ℕ) (e : Entry) → Proper e → part xs (entryPlace i) 40 ≡ entryBytes e → storedSize xs i ≡ e .size
+unfolding storedSize entryBytes part
+entry-size xs i e p h =
+    ap number (sym (part-part xs (entryPlace i) 40 32 8 (omega arith)) ∙ ap (λ (l : List ℕ). part l 32 8) h
+    ∙ part-behind (e .hash) (be 8 (e .size)) 32 0 8 (p .long) ∙ take-all 8 (be 8 (e .size)) (omega (arith, length-be 8 (e .size))))
+    ∙ number-be 8 (e .size) (p .fits)
+
+-- the stored message, by coordinates
+pub stored-leaf : (t content : List ℕ) (k : ℕ) → storedMessage t content (index zero k) ≡ leafMessage (storedChunk t content k)
+unfolding storedMessage
+stored-leaf t content k =
+    let i : ℕ = index zero k in
+    ap (λ (x : ℕ). byDepth x (leafMessage (storedChunk t content (block i))) (parentMessage (storedSize t (leftChild i) + storedSize t (rightChild i)) (storedHash t (leftChild i)) (storedHash t (rightChild i))))
+    (depth-index zero k)
+    ∙ ap (λ (b : ℕ). leafMessage (storedChunk t content b)) (block-index zero k)
+
+pub stored-parent : (t content : List ℕ) (d k : ℕ) → storedMessage t content (index (suc d) k)
+    ≡ parentMessage (storedSize t (index d (2 * k)) + storedSize t (index d (2 * k + 1))) (storedHash t (index d (2 * k))) (storedHash t (index d (2 * k + 1)))
+unfolding storedMessage
+stored-parent t content d k =
+    let i : ℕ = index (suc d) k in
+    ap (λ (x : ℕ). byDepth x (leafMessage (storedChunk t content (block i))) (parentMessage (storedSize t (leftChild i) + storedSize t (rightChild i)) (storedHash t (leftChild i)) (storedHash t (rightChild i))))
+    (depth-index (suc d) k)
+    ∙ ap₂ (λ (a b : ℕ). parentMessage (storedSize t a + storedSize t b) (storedHash t a) (storedHash t b)) (leftChild-index d k) (rightChild-index d k)
+
+pub overs : {a b x y : ℕ} {l m u v : List ℕ} → a ≡ x → b ≡ y → l ≡ u → m ≡ v → parentMessage (a + b) l m ≡ parentMessage (x + y) u v
+overs p q s t = λ i. parentMessage (p i + q i) (s i) (t i)
+
+module _ (F : List ℕ → List ℕ) (hf : HashFunction F) (cs : List (List ℕ)) (w : Within cs) where
+  pub treeImage-length : length (treeImage F cs) ≡ usedTree (length cs)
+  unfolding treeImage treeEntries usedTree
+  treeImage-length =
+      length-append treeHeader (treeEntries F (leaves F cs))
+      ∙ ap₂ _+_ treeHeader-length
+      (length-joined (λ i. entryBytes (entryAt F (leaves F cs) i)) 40 (entry-length F hf cs w) 0 (entries (length (leaves F cs)))
+      ∙ mul-comm (entries (length (leaves F cs))) 40 ∙ ap (λ (n : ℕ). 40 * entries n) (leaves-length F cs))
+
+  pub image-entry : (i : ℕ) → i < entries (length cs) → part (treeImage F cs) (entryPlace i) 40 ≡ entryBytes (entryAt F (leaves F cs) i)
+  unfolding treeImage treeEntries entryPlace
+  image-entry i h =
+      part-behind treeHeader (treeEntries F (leaves F cs)) 32 (40 * i) 40 treeHeader-length
+      ∙ ap (λ (a : ℕ). part (treeEntries F (leaves F cs)) a 40) (mul-comm 40 i)
+      ∙ part-joined (λ i. entryBytes (entryAt F (leaves F cs) i)) 40 (entry-length F hf cs w) 0 (entries (length (leaves F cs))) i
+      (subst (λ (n : ℕ). i < entries n) (sym (leaves-length F cs)) h)
+      ∙ ap (λ (j : ℕ). entryBytes (entryAt F (leaves F cs) j)) (zero-add i)
+
+  module _ (r : Register) (b : Belongs F r cs) where
+    pub stored-entry : (i : ℕ) → i < entries (r .n) → part (r .tree) (entryPlace i) 40 ≡ entryBytes (entryAt F (leaves F cs) i)
+    stored-entry i h =
+        sym (part-take (r .tree) (usedTree (r .n)) (entryPlace i) 40 (entry-inside i (r .n) h))
+        ∙ ap (λ (l : List ℕ). part l (entryPlace i) 40) (b .tree)
+        ∙ image-entry i (subst (λ (n : ℕ). i < entries n) (b .count) h)
+
+    pub stored-hash : (i : ℕ) → i < entries (r .n) → storedHash (r .tree) i ≡ entryAt F (leaves F cs) i .hash
+    stored-hash i h = entry-hash (r .tree) i (entryAt F (leaves F cs) i) (entryAt-proper F hf cs w i) (stored-entry i h)
+
+    pub stored-size : (i : ℕ) → i < entries (r .n) → storedSize (r .tree) i ≡ entryAt F (leaves F cs) i .size
+    stored-size i h = entry-size (r .tree) i (entryAt F (leaves F cs) i) (entryAt-proper F hf cs w i) (stored-entry i h)
+
+    -- at a filled index they are the node's
+    as-node : (i : ℕ) → filled (r .n) i ≡ true → entryAt F (leaves F cs) i ≡ nodeAt F (leaves F cs) i
+    as-node i h = entryAt-filled F (leaves F cs) i (ap (λ (n : ℕ). filled n i) (leaves-length F cs ∙ sym (b .count)) ∙ h)
+
+    pub stored-node-hash : (i : ℕ) → filled (r .n) i ≡ true → storedHash (r .tree) i ≡ nodeAt F (leaves F cs) i .hash
+    stored-node-hash i h = stored-hash i (filled-below (r .n) i h) ∙ ap (λ (e : Entry). e .hash) (as-node i h)
+
+    pub stored-node-size : (i : ℕ) → filled (r .n) i ≡ true → storedSize (r .tree) i ≡ nodeAt F (leaves F cs) i .size
+    stored-node-size i h = stored-size i (filled-below (r .n) i h) ∙ ap (λ (e : Entry). e .size) (as-node i h)
+
+    -- by coordinates, a length is that of the chunks of the block
+    pub stored-span : (d k : ℕ) → (k + 1) * 2 ^ d ≤ r .n → storedSize (r .tree) (index d k) ≡ span cs (k * 2 ^ d) (2 ^ d)
+    stored-span d k h =
+        stored-node-size (index d k) (end-filled (r .n) d k h) ∙ ap (λ (e : Entry). e .size) (nodeAt-index F (leaves F cs) d k) ∙ node-size F cs d k
+
+    pub stored-leaf-size : (k : ℕ) → k < r .n → storedSize (r .tree) (2 * k) ≡ length (getD cs k [])
+    unfolding index
+    stored-leaf-size k h = stored-span 0 k (omega (arith, mul-one (k + 1))) ∙ ap (λ (a : ℕ). span cs a 1) (mul-one k) ∙ span-one cs k
+
+    -- "a leaf starts at the sum of the leaf lengths before it"
+    pub stored-start : (k : ℕ) → k ≤ r .n → storedStart (r .tree) k ≡ span cs 0 k
+    unfolding storedStart span
+    stored-start k h =
+        ap total (run-ext (λ j. storedSize (r .tree) (2 * j)) (λ j. length (getD cs j [])) 0 k (λ j p q. stored-leaf-size j (omega arith)))
+
+    pub stored-chunk : (k : ℕ) → k < r .n → storedChunk (r .tree) (r .content) k ≡ getD cs k []
+    unfolding storedChunk dataImage
+    stored-chunk k h =
+        let l : k < length cs = subst (λ (n : ℕ). k < n) (b .count) h in
+        ap₂ (part (r .content)) (stored-start k (omega arith)) (stored-leaf-size k h)
+        ∙ sym (part-take (r .content) (r .size) (span cs 0 k) (length (getD cs k []))
+        (subst (λ (t : ℕ). span cs 0 k + length (getD cs k []) ≤ t) (sym (b .total)) (chunk-inside cs k l)))
+        ∙ ap (λ (l : List ℕ). part l (span cs 0 k) (length (getD cs k []))) (b .content) ∙ part-chunk cs k l
+
+    pub stored-message : (i : ℕ) → filled (r .n) i ≡ true → storedMessage (r .tree) (r .content) i ≡ messageFor F cs i
+    stored-message = by-coordinates (λ i. filled (r .n) i ≡ true → storedMessage (r .tree) (r .content) i ≡ messageFor F cs i) go
+      where
+        sizes : (d k : ℕ) → filled (r .n) (index d k) ≡ true → storedSize (r .tree) (index d k) ≡ node F (leaves F cs) d k .size
+        sizes d k h = stored-node-size (index d k) h ∙ ap (λ (e : Entry). e .size) (nodeAt-index F (leaves F cs) d k)
+
+        hashes : (d k : ℕ) → filled (r .n) (index d k) ≡ true → storedHash (r .tree) (index d k) ≡ node F (leaves F cs) d k .hash
+        hashes d k h = stored-node-hash (index d k) h ∙ ap (λ (e : Entry). e .hash) (nodeAt-index F (leaves F cs) d k)
+
+        go : (d k : ℕ) → filled (r .n) (index d k) ≡ true → storedMessage (r .tree) (r .content) (index d k) ≡ messageFor F cs (index d k)
+        go zero k h =
+            stored-leaf (r .tree) (r .content) k
+            ∙ ap leafMessage (stored-chunk k (omega (arith, filled-end (r .n) zero k h, mul-one (k + 1)))) ∙ sym (message-leaf F cs k)
+        go (suc d) k h =
+            let f : filled (r .n) (index d (2 * k)) ≡ true = filled-left (r .n) d k h in
+            let g : filled (r .n) (index d (2 * k + 1)) ≡ true = filled-right (r .n) d k h in
+            stored-parent (r .tree) (r .content) d k
+            ∙ overs (sizes d (2 * k) f) (sizes d (2 * k + 1) g) (hashes d (2 * k) f) (hashes d (2 * k + 1) g)
+            ∙ sym (message-parent F cs d k)
+
+    pub stored-root-message : storedRootMessage (r .tree) (r .n) ≡ rootMessageFor F cs
+    unfolding storedRootMessage rootMessageFor rootMessageOf
+    stored-root-message =
+        ap rootMessage (map-ext (λ i. rootItem (storedHash (r .tree) i) i (storedSize (r .tree) i)) (λ i. rootItem (nodeAt F (leaves F cs) i .hash) i (nodeAt F (leaves F cs) i .size)) (roots (r .n))
+        (λ j l. ap₂ (λ (h : List ℕ) (z : ℕ). rootItem h (getD (roots (r .n)) j 0) z) (stored-node-hash (getD (roots (r .n)) j 0) (root-filled (r .n) j l)) (stored-node-size (getD (roots (r .n)) j 0) (root-filled (r .n) j l)))
+        ∙ ap (λ (n : ℕ). map (λ i. rootItem (nodeAt F (leaves F cs) i .hash) i (nodeAt F (leaves F cs) i .size)) (roots n)) (b .count ∙ sym (leaves-length F cs)))
+
+    -- "The stored root lengths .. add up to the data size"
+    pub stored-total : total (storedRootSizes (r .tree) (r .n)) ≡ r .size
+    unfolding storedRootSizes
+    stored-total = cover cs (storedSize (r .tree)) (r .n) stored-span (subst (λ (n : ℕ). n ≤ 2 ^ 20) (sym (b .count)) (w .count)) ∙ ap (span cs 0) (b .count) ∙ span-all cs ∙ sym (b .total)

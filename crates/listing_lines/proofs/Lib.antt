@@ -1,0 +1,4 @@
+pub mod Put
+pub mod Entries
+pub mod Grown
+pub mod Stands

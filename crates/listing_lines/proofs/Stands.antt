@@ -1,0 +1,40 @@
+-- Whether a chunk stands at a place of the input.
+-- Assumes nothing.
+use Prim.Native.Nat.{ℕ, _+_, _-_, _≤_, _<_}
+use mathlib.Core.Path.{_≡_, refl, sym, ap, _∙_}
+use mathlib.Core.Bool.{Bool, true, false, _&&_}
+use mathlib.Core.List.{List}
+use native.Mathlib.Omega.{arith}
+use borrow.Author.Tests.{le-leb, lt-leb}
+use lib.Dec.{leb}
+use lib.ListN.{length, drop, length-drop}
+use Rattle.sequences.specs.Lists.{part}
+use Rattle.sequences.specs.Numbers.{number}
+use Rattle.listing_lines.specs.Input.{nextLength, chunkStands}
+
+module _ (input : List ℕ) (at room : ℕ) (h : at ≤ length input) where
+  stood : chunkStands (drop at input) room
+      ≡ (leb 4 (length input - at) && (leb (number (part input at 4)) room && leb (4 + number (part input at 4)) (length input - at)))
+  unfolding chunkStands nextLength part
+  stood =
+      ap (λ (k : ℕ). leb 4 k && (leb (number (part input at 4)) room && leb (4 + number (part input at 4)) k)) (length-drop at input)
+
+  pub stands-short : length input - at < 4 → false ≡ chunkStands (drop at input) room
+  stands-short l =
+      sym (stood
+      ∙ ap (λ (b : Bool). b && (leb (number (part input at 4)) room && leb (4 + number (part input at 4)) (length input - at))) (lt-leb 4 (length input - at) l))
+
+  long : 4 ≤ length input - at → chunkStands (drop at input) room
+      ≡ (leb (number (part input at 4)) room && leb (4 + number (part input at 4)) (length input - at))
+  long l =
+      stood ∙ ap (λ (b : Bool). b && (leb (number (part input at 4)) room && leb (4 + number (part input at 4)) (length input - at))) (le-leb 4 (length input - at) l)
+
+  pub stands-large : (len : ℕ) → 4 ≤ length input - at → len ≡ number (part input at 4) → room < len → false ≡ chunkStands (drop at input) room
+  stands-large len l e g =
+      sym (long l ∙ ap (λ (b : Bool). b && leb (4 + number (part input at 4)) (length input - at)) (lt-leb (number (part input at 4)) room (omega arith)))
+
+  pub stands-last : (len : ℕ) → 4 ≤ length input - at → len ≡ number (part input at 4) → len ≤ room
+      → leb (4 + len) (length input - at) ≡ chunkStands (drop at input) room
+  stands-last len l e g =
+      ap (λ (k : ℕ). leb (4 + k) (length input - at)) e
+      ∙ sym (long l ∙ ap (λ (b : Bool). b && leb (4 + number (part input at 4)) (length input - at)) (le-leb (number (part input at 4)) room (omega arith)))

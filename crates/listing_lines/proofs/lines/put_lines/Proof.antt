@@ -1,0 +1,15 @@
+-- `listing_lines::lines::put_lines` meets its contract. Assumes nothing.
+use Rattle.listing_lines.proofs.Put.{both-put}
+use Rattle.listing_lines.specs.Inner.{storedLines}
+use borrow.Author.Needs.{needs}
+use Rattle.listing_lines.proofs.lines.put_lines.Statement.{statement}
+use Rattle.listing_lines.proofs.lines.put_lines.Tie as tie
+use Rattle.listing_lines.proofs.lines.put_lines.Reads as reads
+use Rattle.listing_lines.proofs.lines.put_lines.Lts as lts
+
+returns : tie.Need-returns
+unfolding storedLines
+returns c = both-put (c .before .before .before .before .before .before .put-first .ensures) (c .before .before .put-entries .ensures)
+
+pub put-lines-spec : {M : Type 1} → statement M
+put-lines-spec = tie.close (tie.spec (λ c κs. search needs) (λ c κs. search needs) (λ c. search needs) returns)

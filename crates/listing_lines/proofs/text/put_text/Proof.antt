@@ -1,0 +1,15 @@
+-- `listing_lines::text::put_text` meets its contract. Assumes nothing.
+use borrow.Author.Needs.{needs}
+use Rattle.listing_lines.proofs.Put.{text-put}
+use Rattle.listing_lines.proofs.text.put_text.Statement.{statement}
+use Rattle.listing_lines.proofs.text.put_text.Tie as tie
+use Rattle.listing_lines.proofs.text.put_text.Reads as reads
+use Rattle.listing_lines.proofs.text.put_text.Lts as lts
+
+returns : tie.Need-returns
+returns c =
+    let s = c .before .before .before .before .before .before in
+    text-put (s .args .out .now) (s .args .at) (s .args .text .now) _ (s .pre) (c .before .before .copy-to .ensures)
+
+pub put-text-spec : {M : Type 1} → statement M
+put-text-spec = tie.close (tie.spec (λ c κs. search needs) (λ c. search needs) (λ c. search needs) returns)

@@ -1,0 +1,4 @@
+-- The listing: what is read, and the lines that are printed.
+pub mod Input
+pub mod Lines
+pub mod Inner

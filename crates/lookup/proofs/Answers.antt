@@ -1,0 +1,274 @@
+-- What lookups and reads answer: on a register that belongs to a chunk sequence, and on every one that passes the checks 2 to 6.
+-- Assumes nothing.
+use Prim.Native.Nat.{ℕ, suc, _+_, _-_, _*_, _^_, _≤_, _<_}
+use mathlib.Core.Path.{_≡_, refl, sym, ap, ap₂, _∙_, subst}
+use mathlib.Core.Bool.{Bool, true, cond}
+use mathlib.Core.List.{List, [], _∷_, _++_, map}
+use native.Mathlib.Nat.{mul-one, le-antisymm, le-dest, lt-of-not-le, le-of-suc-le-suc, lt-irrefl, zero-add}
+use native.Mathlib.Omega.{arith}
+use borrow.Author.Tests.{lt-ltb, le-ltb}
+use lib.Dec.{ltb}
+use lib.ListN.{length, getD, take, length-take}
+use lib.Seq.{getD-take}
+use Rattle.counts.specs.Verdict.{Verdict, none, tree, done, refused}
+use Rattle.sequences.specs.Lists.{part, total, sameList}
+use Rattle.sequences.proofs.Lists.{length-part, run-ext}
+use Rattle.tree_index.specs.Tree.{index, filled, roots}
+use Rattle.tree_index.proofs.Index.{index-leaf}
+use Rattle.tree_index.proofs.Filled.{block-end, end-filled}
+use Rattle.files.specs.Sizes.{mostChunks, longestChunk}
+use Rattle.files.specs.Messages.{HashFunction, leafMessage}
+use Rattle.files.specs.Images.{dataSize}
+use Rattle.files.specs.Nodes.{leaf}
+use Rattle.files.specs.Stored.{storedSize, storedHash, storedRootSizes, storedChunk}
+use Rattle.files.specs.Belongs.{Register, Within, Belongs}
+use Rattle.files.proofs.Spans.{span, span-add, span-none, span-one, span-all, chunk-inside}
+use Rattle.files.proofs.Nodes.{nodeAt-hash, message-leaf}
+use Rattle.files.proofs.OfImage.{stored-span, stored-leaf-size, stored-start, stored-chunk, stored-node-hash}
+use Rattle.checks.specs.Checks.{Check, judged, registerChecks}
+use Rattle.checks.proofs.Judged.{judged-append}
+use Rattle.checks.proofs.Passed.{Passed, passes, passed, same-of}
+use Rattle.lookup.specs.Descent.{Ending, stopped, reached, chunkWithin, byteWithin, descent}
+use Rattle.lookup.specs.Lookup.{refusal, found, stopRefused, foundUnless, chunkOf, startOf, toChunk, toByte, placeVerdict, byteVerdict, placeOf, byteAt}
+use Rattle.lookup.specs.Read.{chunkBytes, andThen, partUnless, readVerdict, readPart}
+use Rattle.lookup.specs.Answers.{startIn, HasByte, Answers, AnswersForAll, Lies, LookupsStayInside, LookupsStayInsideForAll}
+use Rattle.lookup.proofs.Descents.{Ground, Ends, ends, chunk-order, byte-order, left-first, right-end, left-inside, twice}
+
+-- ---- the verdicts
+
+-- a register's checks, and one more behind them
+one-more : (r : Register) (c : Check) (next : Verdict) → Passed r → judged (registerChecks r ++ (c ∷ [])) next ≡ cond (c .right) next (refused (c .number) none)
+unfolding judged
+one-more r c next p = judged-append (registerChecks r) (c ∷ []) next ∙ passes r (judged (c ∷ []) next) p
+
+pub place-verdict : (r : Register) (c : ℕ) → Passed r → c < r .n → placeVerdict r c ≡ stopRefused (toChunk r c)
+unfolding placeVerdict
+place-verdict r c p h =
+    one-more r (record { number = 9; right = ltb c (r .n) }) (stopRefused (toChunk r c)) p
+    ∙ ap (λ (b : Bool). cond b (stopRefused (toChunk r c)) (refused 9 none)) (lt-ltb c (r .n) h)
+
+pub no-place : (r : Register) (c : ℕ) → Passed r → r .n ≤ c → placeVerdict r c ≡ refused 9 none
+unfolding placeVerdict
+no-place r c p h =
+    one-more r (record { number = 9; right = ltb c (r .n) }) (stopRefused (toChunk r c)) p
+    ∙ ap (λ (b : Bool). cond b (stopRefused (toChunk r c)) (refused 9 none)) (le-ltb c (r .n) h)
+
+pub byte-verdict : (r : Register) (b : ℕ) → Passed r → b < r .size → byteVerdict r b ≡ stopRefused (toByte r b)
+unfolding byteVerdict
+byte-verdict r b p h =
+    one-more r (record { number = 9; right = ltb b (r .size) }) (stopRefused (toByte r b)) p
+    ∙ ap (λ (x : Bool). cond x (stopRefused (toByte r b)) (refused 9 none)) (lt-ltb b (r .size) h)
+
+pub no-byte : (r : Register) (b : ℕ) → Passed r → r .size ≤ b → byteVerdict r b ≡ refused 9 none
+unfolding byteVerdict
+no-byte r b p h =
+    one-more r (record { number = 9; right = ltb b (r .size) }) (stopRefused (toByte r b)) p
+    ∙ ap (λ (x : Bool). cond x (stopRefused (toByte r b)) (refused 9 none)) (le-ltb b (r .size) h)
+
+-- ---- every register that passes the checks
+
+-- nothing is known of starts, and nothing of where a descent stops
+pub any-ground : (t : List ℕ) (n : ℕ) → Ground t n (λ p s. Unit {0}) (λ i. Unit {0})
+any-ground t n = record { step = λ d k s h a. tt; leaf = λ k h l. tt; parent = λ d k h l. tt }
+
+few : (n : ℕ) → n ≤ mostChunks → n < 2 ^ 21
+few n h = omega arith
+
+module _ (r : Register) (p : Passed r) where
+  sums : total (map (storedSize (r .tree)) (roots (r .n))) ≡ r .size
+  unfolding storedRootSizes
+  sums = p .adds
+
+  pub chunk-lands : (At : ℕ → ℕ → Type 0) (Stop : ℕ → Type 0) → Ground (r .tree) (r .n) At Stop → At 0 0 → (c : ℕ) → c < r .n
+      → Ends (r .tree) (r .n) (λ p s. p ≤ c) (λ p s. c < p) At Stop 0 (r .size) (toChunk r c)
+  unfolding toChunk
+  chunk-lands At Stop g a c h =
+      subst (λ (e : ℕ). Ends (r .tree) (r .n) (λ p s. p ≤ c) (λ p s. c < p) At Stop 0 e (descent (chunkWithin c) (r .tree) (r .n))) sums
+      (ends (chunkWithin c) (r .tree) (r .n) (λ p s. p ≤ c) (λ p s. c < p) At Stop (chunk-order c) g (few (r .n) (p .count)) a (omega arith) h)
+
+  pub byte-lands : (At : ℕ → ℕ → Type 0) (Stop : ℕ → Type 0) → Ground (r .tree) (r .n) At Stop → At 0 0 → (b : ℕ) → b < r .size
+      → Ends (r .tree) (r .n) (λ p s. s ≤ b) (λ p s. b < s) At Stop 0 (r .size) (toByte r b)
+  unfolding toByte
+  byte-lands At Stop g a b h =
+      subst (λ (e : ℕ). Ends (r .tree) (r .n) (λ p s. s ≤ b) (λ p s. b < s) At Stop 0 e (descent (byteWithin b) (r .tree) (r .n))) sums
+      (ends (byteWithin b) (r .tree) (r .n) (λ p s. s ≤ b) (λ p s. b < s) At Stop (byte-order b) g (few (r .n) (p .count)) a (omega arith)
+      (subst (λ (e : ℕ). b < e) (sym sums) h))
+
+  pub stays-inside : LookupsStayInside r
+  unfolding chunkBytes
+  stays-inside = record { chunk = at-chunk; byte = at-byte; read = in-read }
+    where
+      at-chunk : (c : ℕ) → c < r .n → (k start : ℕ) → toChunk r c ≡ reached k start → (k ≡ c) × Lies r k start
+      at-chunk c h k start e =
+          let l = subst (Ends (r .tree) (r .n) (λ p s. p ≤ c) (λ p s. c < p) (λ p s. Unit {0}) (λ i. Unit {0}) 0 (r .size)) e (chunk-lands (λ p s. Unit {0}) (λ i. Unit {0}) (any-ground (r .tree) (r .n)) tt c h) in
+          (omega (arith, l .low, l .high), record { below = l .below; inside = l .to })
+
+      at-byte : (b : ℕ) → b < r .size → (k start : ℕ) → toByte r b ≡ reached k start → (start ≤ b) × (b < start + storedSize (r .tree) (index 0 k)) × Lies r k start
+      at-byte b h k start e =
+          let l = subst (Ends (r .tree) (r .n) (λ p s. s ≤ b) (λ p s. b < s) (λ p s. Unit {0}) (λ i. Unit {0}) 0 (r .size)) e (byte-lands (λ p s. Unit {0}) (λ i. Unit {0}) (any-ground (r .tree) (r .n)) tt b h) in
+          (l .low, l .high, record { below = l .below; inside = l .to })
+
+      in-read : (c : ℕ) → c < r .n → (k start : ℕ) → toChunk r c ≡ reached k start → length (chunkBytes r c) ≡ storedSize (r .tree) (index 0 c)
+      in-read c h k start e =
+          let l = at-chunk c h k start e in
+          let at : startOf (toChunk r c) ≡ start = ap startOf e in
+          let inside : start + storedSize (r .tree) (index 0 c) ≤ r .size =
+          subst (λ (x : ℕ). start + storedSize (r .tree) (index 0 x) ≤ r .size) (l .0) (l .1 .inside)
+          in
+          length-part (r .content) (startOf (toChunk r c)) (storedSize (r .tree) (index 0 c)) (omega (arith, p .content))
+
+pub lookups-stay-inside : LookupsStayInsideForAll
+lookups-stay-inside r e = stays-inside r (passed r done e .0)
+
+-- ---- a register that belongs to a chunk sequence
+
+-- where a chunk starts, as a sum over the chunks before it
+start-span : (cs : List (List ℕ)) (i : ℕ) → i ≤ length cs → startIn cs i ≡ span cs 0 i
+unfolding startIn span
+start-span cs i h =
+    let n : length (take i cs) ≡ i = simp length-take (omega arith) in
+    sym (span-all (take i cs))
+    ∙ ap (span (take i cs) 0) n
+    ∙ ap total (run-ext (λ j. length (getD (take i cs) j [])) (λ j. length (getD cs j [])) 0 i (λ j a b. ap length (getD-take i cs j [] (omega arith))))
+
+span-next : (cs : List (List ℕ)) (k : ℕ) → span cs 0 (k + 1) ≡ span cs 0 k + length (getD cs k [])
+span-next cs k = span-add cs 0 k 1 ∙ ap (λ (x : ℕ). span cs 0 k + x) (ap (λ (a : ℕ). span cs a 1) (zero-add k) ∙ span-one cs k)
+
+span-mono : (cs : List (List ℕ)) (a b : ℕ) → a ≤ b → span cs 0 a ≤ span cs 0 b
+span-mono cs a b h = let c = le-dest h in omega (arith, span-add cs 0 a (c .0), ap (span cs 0) (c .1))
+
+-- of two chunks that have the byte at b neither is before the other
+not-before : (cs : List (List ℕ)) (b k l : ℕ) → HasByte cs b k → HasByte cs b l → l ≤ k
+not-before cs b k l p q =
+    le-of-suc-le-suc
+    (lt-of-not-le (λ (h : k < l).
+    lt-irrefl b
+    (omega (arith, start-span cs k (omega (arith, p .below)), start-span cs l (omega (arith, q .below)), p .to, q .from, span-next cs k, span-mono cs (k + 1) l (omega arith)))))
+
+module _ (F : List ℕ → List ℕ) (hf : HashFunction F) (cs : List (List ℕ)) (w : Within cs) (r : Register) (b : Belongs F r cs) (p : Passed r) where
+  span-of : (d k : ℕ) → (k + 1) * 2 ^ d ≤ r .n → storedSize (r .tree) (index d k) ≡ span cs (k * 2 ^ d) (2 ^ d)
+  span-of = stored-span F hf cs w r b
+
+  leaf-of : (k : ℕ) → k < r .n → storedSize (r .tree) (index 0 k) ≡ length (getD cs k [])
+  leaf-of k h = ap (storedSize (r .tree)) (index-leaf k) ∙ stored-leaf-size F hf cs w r b k h
+
+  ground : Ground (r .tree) (r .n) (λ k s. s ≡ span cs 0 k) (λ i. ⊥)
+  ground = record { step = step; leaf = leaf-fits; parent = parent-fits }
+    where
+      step : (d k s : ℕ) → (k + 1) * 2 ^ d ≤ r .n → s ≡ span cs 0 (k * 2 ^ d) → s + storedSize (r .tree) (index d k) ≡ span cs 0 ((k + 1) * 2 ^ d)
+      step d k s h e =
+          ap₂ _+_ e (span-of d k h ∙ ap (λ (a : ℕ). span cs a (2 ^ d)) (sym (zero-add (k * 2 ^ d))))
+          ∙ sym (ap (span cs 0) (block-end d k) ∙ span-add cs 0 (k * 2 ^ d) (2 ^ d))
+
+      leaf-fits : (k : ℕ) → k < r .n → longestChunk < storedSize (r .tree) (index 0 k) → ⊥
+      leaf-fits k h l = omega (arith, leaf-of k h, w .short k)
+
+      parent-fits : (d k : ℕ) → (k + 1) * 2 ^ suc d ≤ r .n
+          → (storedSize (r .tree) (index (suc d) k) ≡ storedSize (r .tree) (index d (2 * k)) + storedSize (r .tree) (index d (2 * k + 1)) → ⊥) → ⊥
+      parent-fits d k h f =
+          f
+          (span-of (suc d) k h
+          ∙ ap (span cs (k * 2 ^ suc d)) (twice d)
+          ∙ span-add cs (k * 2 ^ suc d) (2 ^ d) (2 ^ d)
+          ∙ sym
+          (ap₂ _+_
+          (span-of d (2 * k) (left-inside d k (r .n) h) ∙ ap (λ (a : ℕ). span cs a (2 ^ d)) (left-first d k))
+          (span-of d (2 * k + 1) (subst (λ (x : ℕ). x ≤ r .n) (sym (right-end d k)) h) ∙ ap (λ (a : ℕ). span cs a (2 ^ d)) (block-end d (2 * k) ∙ ap (λ (x : ℕ). x + 2 ^ d) (left-first d k)))))
+
+  -- the descent to a chunk
+  to-chunk : (c : ℕ) → c < r .n → toChunk r c ≡ reached c (span cs 0 c)
+  to-chunk c h = must (toChunk r c) (chunk-lands r p (λ k s. s ≡ span cs 0 k) (λ i. ⊥) ground (sym (span-none cs 0)) c h)
+    where
+      must : (x : Ending) → Ends (r .tree) (r .n) (λ p s. p ≤ c) (λ p s. c < p) (λ k s. s ≡ span cs 0 k) (λ i. ⊥) 0 (r .size) x → x ≡ reached c (span cs 0 c)
+      must (stopped i) l = absurd l
+      must (reached k s) l =
+          let e : k ≡ c = omega (arith, l .low, l .high) in
+          ap₂ reached e (l .at ∙ ap (span cs 0) e)
+
+  -- the descent to a byte
+  to-byte : (x : ℕ) → x < r .size → (k : ℕ) × HasByte cs x k × (toByte r x ≡ reached k (startIn cs k))
+  to-byte x h = must (toByte r x) (byte-lands r p (λ k s. s ≡ span cs 0 k) (λ i. ⊥) ground (sym (span-none cs 0)) x h)
+    where
+      must : (y : Ending) → Ends (r .tree) (r .n) (λ p s. s ≤ x) (λ p s. x < s) (λ k s. s ≡ span cs 0 k) (λ i. ⊥) 0 (r .size) y
+          → (k : ℕ) × HasByte cs x k × (y ≡ reached k (startIn cs k))
+      must (stopped i) l = absurd l
+      must (reached k s) l =
+          let below : k < length cs = subst (λ (n : ℕ). k < n) (b .count) (l .below) in
+          let e : startIn cs k ≡ s = start-span cs k (omega arith) ∙ sym (l .at) in
+          (k, record { below = below; from = omega (arith, l .low); to = omega (arith, l .high, leaf-of k (l .below)) }, ap (reached k) (sym e))
+
+  chunk-bytes : (c : ℕ) → c < r .n → chunkBytes r c ≡ getD cs c []
+  unfolding chunkBytes storedChunk
+  chunk-bytes c h =
+      ap₂ (part (r .content)) (ap startOf (to-chunk c h) ∙ sym (stored-start F hf cs w r b c (omega arith))) (ap (storedSize (r .tree)) (index-leaf c))
+      ∙ stored-chunk F hf cs w r b c h
+
+  leaf-hash : (c : ℕ) → c < r .n → storedHash (r .tree) (index 0 c) ≡ F (leafMessage (chunkBytes r c))
+  leaf-hash c h =
+      let f : (n : ℕ) → n ≡ r .n → filled n (index 0 c) ≡ true = λ n e. end-filled n 0 c (omega (arith, mul-one (c + 1))) in
+      stored-node-hash F hf cs w r b (index 0 c) (f (r .n) refl)
+      ∙ nodeAt-hash F cs (index 0 c) (f (length cs) (sym (b .count)))
+      ∙ ap F (message-leaf F cs c ∙ ap leafMessage (sym (chunk-bytes c h)))
+
+  below-n : (c : ℕ) → c < length cs → c < r .n
+  below-n c h = subst (λ (n : ℕ). c < n) (sym (b .count)) h
+
+  above-n : (c : ℕ) → length cs ≤ c → r .n ≤ c
+  above-n c h = subst (λ (n : ℕ). n ≤ c) (sym (b .count)) h
+
+  place-done : (c : ℕ) → c < r .n → placeVerdict r c ≡ done
+  unfolding stopRefused
+  place-done c h = place-verdict r c p h ∙ ap stopRefused (to-chunk c h)
+
+  read-done : (c : ℕ) → c < r .n → readVerdict F r c ≡ done
+  unfolding readVerdict
+  read-done c h =
+      ap (λ (v : Verdict). andThen v (cond (sameList (storedHash (r .tree) (index 0 c)) (F (leafMessage (chunkBytes r c)))) done (refused 10 (tree (index 0 c))))) (place-done c h)
+      ∙ ap (λ (x : Bool). cond x done (refused 10 (tree (index 0 c)))) (same-of (storedHash (r .tree) (index 0 c)) (F (leafMessage (chunkBytes r c))) (leaf-hash c h))
+
+  has-size : (x k : ℕ) → HasByte cs x k → x < r .size
+  has-size x k q = subst (λ (s : ℕ). x < s) (sym (b .total)) (omega (arith, q .to, start-span cs k (omega (arith, q .below)), chunk-inside cs k (q .below)))
+
+  pub answered : Answers F r cs
+  unfolding placeOf byteAt readVerdict readPart stopRefused
+  answered = record { place = at-place; noPlace = no-place-at; byte = at-byte; one = one-chunk; noOther = no-other; noByte = no-byte-at; readDone = done-at; read = read-at; noRead = no-read-at }
+    where
+      at-place : (i : ℕ) → i < length cs → placeOf r i ≡ found (startIn cs i) (length (getD cs i []))
+      at-place i h =
+          ap (λ (v : Verdict). foundUnless v (startOf (toChunk r i)) (storedSize (r .tree) (index 0 i))) (place-done i (below-n i h))
+          ∙ ap₂ found (ap startOf (to-chunk i (below-n i h)) ∙ sym (start-span cs i (omega arith))) (leaf-of i (below-n i h))
+
+      no-place-at : (i : ℕ) → length cs ≤ i → placeOf r i ≡ refusal 9 none
+      no-place-at i h = ap (λ (v : Verdict). foundUnless v (startOf (toChunk r i)) (storedSize (r .tree) (index 0 i))) (no-place r i p (above-n i h))
+
+      no-other : (x k l : ℕ) → HasByte cs x k → HasByte cs x l → k ≡ l
+      no-other x k l m q = le-antisymm (not-before cs x l k q m) (not-before cs x k l m q)
+
+      at-byte : (x k : ℕ) → HasByte cs x k → byteAt r x ≡ found k (x - startIn cs k)
+      at-byte x k q =
+          let h : x < r .size = has-size x k q in
+          let g = to-byte x h in
+          let e : g .0 ≡ k = no-other x (g .0) k (g .1) q in
+          ap (λ (v : Verdict). foundUnless v (chunkOf (toByte r x)) (x - startOf (toByte r x))) (byte-verdict r x p h ∙ ap stopRefused (g .2))
+          ∙ ap (λ (y : Ending). found (chunkOf y) (x - startOf y)) (g .2)
+          ∙ ap (λ (j : ℕ). found j (x - startIn cs j)) e
+
+      one-chunk : (x : ℕ) → x < dataSize cs → (k : ℕ) × HasByte cs x k
+      one-chunk x h = let g = to-byte x (subst (λ (s : ℕ). x < s) (sym (b .total)) h) in (g .0, g .1)
+
+      no-byte-at : (x : ℕ) → dataSize cs ≤ x → byteAt r x ≡ refusal 9 none
+      no-byte-at x h =
+          ap (λ (v : Verdict). foundUnless v (chunkOf (toByte r x)) (x - startOf (toByte r x))) (no-byte r x p (subst (λ (s : ℕ). s ≤ x) (sym (b .total)) h))
+
+      done-at : (i : ℕ) → i < length cs → readVerdict F r i ≡ done
+      done-at i h = read-done i (below-n i h)
+
+      read-at : (i : ℕ) → i < length cs → readPart F r i ≡ getD cs i []
+      read-at i h = ap (λ (v : Verdict). partUnless F v (chunkBytes r i)) (read-done i (below-n i h)) ∙ chunk-bytes i (below-n i h)
+
+      no-read-at : (i : ℕ) → length cs ≤ i → readVerdict F r i ≡ refused 9 none
+      no-read-at i h =
+          ap (λ (v : Verdict). andThen v (cond (sameList (storedHash (r .tree) (index 0 i)) (F (leafMessage (chunkBytes r i)))) done (refused 10 (tree (index 0 i))))) (no-place r i p (above-n i h))
+
+pub answers : AnswersForAll
+answers F hf cs w r b e = answered F hf cs w r b (passed r done e .0)

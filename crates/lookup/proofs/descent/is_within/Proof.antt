@@ -1,0 +1,47 @@
+-- `lookup::descent::is_within` meets its contract: each arm knows which variant is sought. Assumes nothing.
+use mathlib.Core.Path.{sym, ap, _∙_}
+use mathlib.Core.Bool.{not}
+use Rattle.tree_index.specs.Tree.{depth, block}
+use Rattle.lookup.specs.Descent.{byteWithin}
+use Rattle.lookup.specs.Steps.{withinOf}
+use Rattle.lookup.proofs.Visits.{chunk-within}
+use borrow.Author.Needs.{needs}
+use Rattle.lookup.proofs.descent.is_within.Statement.{statement}
+use Rattle.lookup.proofs.descent.is_within.Tie as tie
+
+enum-known-sought : tie.Need-enum-known-sought
+enum-known-sought c = search needs
+
+is-filled-requires : tie.Need-is-filled-requires
+is-filled-requires c κs = search needs
+
+enum-known-sought-2 : tie.Need-enum-known-sought-2
+enum-known-sought-2 c = search needs
+
+add-result : tie.Need-add-result
+add-result c = search needs
+
+returns : tie.Need-returns
+returns c =
+    let a = c .before .before .before .before .args in
+    let k = c .before .before .sought .given in
+    ap not (c .is-filled .ensures)
+    ∙ chunk-within (k .0 .0 .0) (a .i .0) (a .start .0) (a .size)
+    ∙ sym (ap (λ s. withinOf s (depth (a .i .0)) (block (a .i .0)) (a .start .0) (a .size)) (k .1))
+
+returns-2 : tie.Need-returns-2
+unfolding byteWithin
+returns-2 c =
+    let a = c .before .before .before .before .before .args in
+    sym (ap (λ s. withinOf s (depth (a .i .0)) (block (a .i .0)) (a .start .0) (a .size)) (c .before .before .before .sought2 .given .1))
+
+pub is-within-spec : {M : Type 1} → statement M
+is-within-spec =
+    tie.close
+    (tie.spec
+    enum-known-sought
+    is-filled-requires
+    enum-known-sought-2
+    add-result
+    returns
+    returns-2)

@@ -1,0 +1,157 @@
+-- `lookup::descent::visit` meets its contract: at each return the laws of one step, given what was read. Assumes nothing.
+use Prim.Native.Nat.{ℕ, _≤_, _<_}
+use mathlib.Core.Path.{sym, ap, _∙_, subst}
+use Rattle.lookup.specs.Descent.{reached}
+use Rattle.lookup.specs.Steps.{withinOf}
+use Rattle.lookup.proofs.Visits.{deeper, stands-entry, leaf-even, at-leaf, at-long-leaf, seen-children, seen-less, seen-other, seen-left, seen-right, seen-fits}
+use borrow.Author.Needs.{needs}
+use Rattle.lookup.proofs.descent.visit.Statement.{statement}
+use Rattle.lookup.proofs.descent.visit.Tie as tie
+
+stored-size-requires : tie.Need-stored-size-requires
+stored-size-requires c κs = let a = c .before .args in stands-entry (a .tree .now) (a .i .0) (a .start .0) (c .before .pre)
+
+depth-requires : tie.Need-depth-requires
+depth-requires c κs = let a = c .before .before .args in stands-entry (a .tree .now) (a .i .0) (a .start .0) (c .before .before .pre) .small
+
+returns : tie.Need-returns
+returns c =
+    let a = c .before .before .before .before .before .args in
+    record {
+      same =
+          sym
+          (at-long-leaf (withinOf (a .sought)) (a .tree .now) (a .start .0) (a .i .0) (sym (c .before .before .depth .ensures) ∙ c .before .if1 .taken)
+          (subst (λ (x : ℕ). 65536 < x) (c .before .before .before .stored-size .ensures) (c .if2 .taken)));
+      lower = tt;
+    }
+
+chunk-of-leaf-requires : tie.Need-chunk-of-leaf-requires
+chunk-of-leaf-requires c κs = leaf-even (c .before .before .before .before .before .args .i .0) (sym (c .before .before .depth .ensures) ∙ c .before .if1 .taken)
+
+returns-2 : tie.Need-returns-2
+returns-2 c =
+    let a = c .before .before .before .before .before .before .args in
+    record {
+      same =
+          ap (λ (k : ℕ). reached k (a .start .0)) (c .chunk-of-leaf .ensures)
+          ∙ sym
+          (at-leaf (withinOf (a .sought)) (a .tree .now) (a .start .0) (a .i .0) (sym (c .before .before .before .depth .ensures) ∙ c .before .before .if1 .taken)
+          (subst (λ (x : ℕ). x ≤ 65536) (c .before .before .before .before .stored-size .ensures) (c .before .if2 .left)));
+      lower = tt;
+    }
+
+left-child-requires : tie.Need-left-child-requires
+left-child-requires c κs =
+    let a = c .before .before .before .before .args in
+    (stands-entry (a .tree .now) (a .i .0) (a .start .0) (c .before .before .before .before .pre) .small, deeper (c .before .before .before .before .args .i .0) (c .before .depth .ensures) (c .if1 .left))
+
+right-child-requires : tie.Need-right-child-requires
+right-child-requires c κs =
+    let a = c .before .before .before .before .before .args in
+    (stands-entry (a .tree .now) (a .i .0) (a .start .0) (c .before .before .before .before .before .pre) .small, deeper (c .before .before .before .before .before .args .i .0) (c .before .before .depth .ensures) (c .before .if1 .left))
+
+stored-size-requires-2 : tie.Need-stored-size-requires-2
+stored-size-requires-2 c κs =
+    seen-children {r = 0} (c .before .before .before .before .before .before .pre) (deeper (c .before .before .before .before .before .before .args .i .0) (c .before .before .before .depth .ensures) (c .before .before .if1 .left)) .0 (c .before .left-child .ensures)
+
+stored-size-requires-3 : tie.Need-stored-size-requires-3
+stored-size-requires-3 c κs =
+    seen-children {l = 0} (c .before .before .before .before .before .before .before .pre) (deeper (c .before .before .before .before .before .before .before .args .i .0) (c .before .before .before .before .depth .ensures) (c .before .before .before .if1 .left)) .1 (c .before .right-child .ensures)
+
+returns-3 : tie.Need-returns-3
+returns-3 c =
+    record {
+      same =
+          seen-less (withinOf (c .before .before .before .before .before .before .before .before .before .args .sought)) (c .before .before .before .before .before .before .before .before .before .pre) (record {
+            deep = deeper (c .before .before .before .before .before .before .before .before .before .args .i .0) (c .before .before .before .before .before .before .depth .ensures) (c .before .before .before .before .before .if1 .left);
+            left = c .before .before .before .before .left-child .ensures;
+            right = c .before .before .before .right-child .ensures;
+            here = c .before .before .before .before .before .before .before .stored-size .ensures;
+            one = c .before .before .stored-size2 .ensures;
+            two = c .before .stored-size3 .ensures;
+          })
+          (c .if3 .taken);
+      lower = tt;
+    }
+
+returns-4 : tie.Need-returns-4
+returns-4 c =
+    record {
+      same =
+          seen-other (withinOf (c .before .before .before .before .before .before .before .before .before .before .args .sought)) (c .before .before .before .before .before .before .before .before .before .before .pre) (record {
+            deep = deeper (c .before .before .before .before .before .before .before .before .before .before .args .i .0) (c .before .before .before .before .before .before .before .depth .ensures) (c .before .before .before .before .before .before .if1 .left);
+            left = c .before .before .before .before .before .left-child .ensures;
+            right = c .before .before .before .before .right-child .ensures;
+            here = c .before .before .before .before .before .before .before .before .stored-size .ensures;
+            one = c .before .before .before .stored-size2 .ensures;
+            two = c .before .before .stored-size3 .ensures;
+          })
+          (c .if4 .taken);
+      lower = tt;
+    }
+
+is-within-requires : tie.Need-is-within-requires
+is-within-requires c κs =
+    let a = c .before .before .before .before .before .before .before .before .before .before .args in
+    let v = seen-children {r = 0} (c .before .before .before .before .before .before .before .before .before .before .pre) (deeper (c .before .before .before .before .before .before .before .before .before .before .args .i .0) (c .before .before .before .before .before .before .before .depth .ensures) (c .before .before .before .before .before .before .if1 .left)) .0 (c .before .before .before .before .before .left-child .ensures) in (
+      v .small,
+      seen-fits (withinOf (a .sought)) (c .before .before .before .before .before .before .before .before .before .before .pre) (record {
+        deep = deeper (c .before .before .before .before .before .before .before .before .before .before .args .i .0) (c .before .before .before .before .before .before .before .depth .ensures) (c .before .before .before .before .before .before .if1 .left);
+        left = c .before .before .before .before .before .left-child .ensures;
+        right = c .before .before .before .before .right-child .ensures;
+        here = c .before .before .before .before .before .before .before .before .stored-size .ensures;
+        one = c .before .before .before .stored-size2 .ensures;
+        two = c .before .before .stored-size3 .ensures;
+      }) (c .before .if3 .left) (c .if4 .left),
+    )
+
+returns-5 : tie.Need-returns-5
+returns-5 c =
+    let v = seen-left (withinOf (c .before .before .before .before .before .before .before .before .before .before .before .before .args .sought)) (c .before .before .before .before .before .before .before .before .before .before .before .before .pre) (record {
+      deep = deeper (c .before .before .before .before .before .before .before .before .before .before .before .before .args .i .0) (c .before .before .before .before .before .before .before .before .before .depth .ensures) (c .before .before .before .before .before .before .before .before .if1 .left);
+      left = c .before .before .before .before .before .before .before .left-child .ensures;
+      right = c .before .before .before .before .before .before .right-child .ensures;
+      here = c .before .before .before .before .before .before .before .before .before .before .stored-size .ensures;
+      one = c .before .before .before .before .before .stored-size2 .ensures;
+      two = c .before .before .before .before .stored-size3 .ensures;
+    })
+    (c .before .before .before .if3 .left) (c .before .before .if4 .left) (sym (c .before .is-within .ensures) ∙ c .if5 .taken)
+    in
+    record { same = v .0; lower = v .1 }
+
+add-t17 : tie.Need-add-t17
+add-t17 c = search needs
+
+returns-6 : tie.Need-returns-6
+returns-6 c =
+    let v = seen-right (withinOf (c .before .before .before .before .before .before .before .before .before .before .before .before .before .args .sought)) (c .before .before .before .before .before .before .before .before .before .before .before .before .before .pre) (record {
+      deep = deeper (c .before .before .before .before .before .before .before .before .before .before .before .before .before .args .i .0) (c .before .before .before .before .before .before .before .before .before .before .depth .ensures) (c .before .before .before .before .before .before .before .before .before .if1 .left);
+      left = c .before .before .before .before .before .before .before .before .left-child .ensures;
+      right = c .before .before .before .before .before .before .before .right-child .ensures;
+      here = c .before .before .before .before .before .before .before .before .before .before .before .stored-size .ensures;
+      one = c .before .before .before .before .before .before .stored-size2 .ensures;
+      two = c .before .before .before .before .before .stored-size3 .ensures;
+    })
+    (c .before .before .before .before .if3 .left) (c .before .before .before .if4 .left) (sym (c .before .before .is-within .ensures) ∙ c .before .if5 .left)
+    in
+    record { same = v .0; lower = v .1 }
+
+pub visit-spec : {M : Type 1} → statement M
+visit-spec =
+    tie.close
+    (tie.spec
+    stored-size-requires
+    depth-requires
+    returns
+    chunk-of-leaf-requires
+    returns-2
+    left-child-requires
+    right-child-requires
+    stored-size-requires-2
+    stored-size-requires-3
+    returns-3
+    returns-4
+    is-within-requires
+    returns-5
+    add-t17
+    returns-6)

@@ -1,0 +1,45 @@
+-- The verified read: "names the metadata or the content register, checks only the one named, and hands back that register's own bytes, after
+-- comparing the leaf hash".
+use Prim.Native.Nat.{ℕ}
+use mathlib.Core.Bool.{cond}
+use mathlib.Core.List.{List, []}
+use Rattle.counts.specs.Verdict.{Verdict, tree, done, refused}
+use Rattle.sequences.specs.Lists.{part, sameList}
+use Rattle.tree_index.specs.Tree.{index}
+use Rattle.files.specs.Messages.{leafMessage}
+use Rattle.files.specs.Stored.{storedHash, storedSize}
+use Rattle.files.specs.Belongs.{Register}
+use Rattle.lookup.specs.Lookup.{startOf, toChunk, placeVerdict}
+
+-- the bytes of chunk c, by its place
+unfoldable pub chunkBytes : Register → ℕ → List ℕ
+chunkBytes r c = part (r .content) (startOf (toChunk r c)) (storedSize (r .tree) (index 0 c))
+
+-- what comes next where a verdict is done
+abbrev pub andThen : Verdict → Verdict → Verdict
+andThen done next = next
+andThen (refused m at) next = refused m at
+
+module _ (F : List ℕ → List ℕ) where
+  -- "10. .. a read finds another leaf hash"
+  unfoldable pub readVerdict : Register → ℕ → Verdict
+  readVerdict r c =
+      andThen (placeVerdict r c)
+      (cond (sameList (storedHash (r .tree) (index 0 c)) (F (leafMessage (chunkBytes r c)))) done (refused 10 (tree (index 0 c))))
+
+  abbrev pub partUnless : Verdict → List ℕ → List ℕ
+  partUnless done part = part
+  partUnless (refused m at) part = []
+
+  -- the chunk; nothing after a refusal
+  unfoldable pub readPart : Register → ℕ → List ℕ
+  readPart r c = partUnless (readVerdict r c) (chunkBytes r c)
+
+-- which of the two registers a read names
+pub data Name : Type 0 where
+  metadata : Name
+  contents : Name
+
+abbrev pub named : Name → Register → Register → Register
+named metadata m c = m
+named contents m c = c

@@ -1,0 +1,4 @@
+// Lookups and verified reads.
+pub mod descent;
+pub mod lookup;
+pub mod read;

@@ -1,0 +1,118 @@
+// The place lookup and the byte lookup.
+use super::descent::Ending;
+use super::descent::Sought;
+use counts::Answer;
+use counts::ByteOffset;
+use counts::ChunkNumber;
+use counts::Place;
+use counts::Refusal;
+ghost use mathlib.Core.Path.{_≡_};
+ghost use Rattle.checks.specs.Given.{registerOf};
+ghost use Rattle.lookup.specs.Lookup.{placeOf, byteAt};
+ghost use Rattle.lookup.specs.Steps.{Searched, SearchedFor, placeIn, byteIn};
+ghost use Rattle.lookup.specs.Said.{placedOf, locatedOf};
+
+// What a place lookup answers: where the chunk's bytes begin, and how many they are.
+pub enum Placed {
+    Refused(Refusal),
+    At(ByteOffset, u64),
+}
+
+// What a byte lookup answers: the chunk whose bytes contain the offset, and the offset less its start.
+pub enum Located {
+    Refused(Refusal),
+    In(ChunkNumber, u64),
+}
+
+// Inner: the place of a chunk, in a register that passes the checks 2 to 6.
+fn place_in(tree: &[u8], n: u64, chunk: ChunkNumber) -> Placed
+    requires { ⌜ Searched (now tree) n ⌝ }
+    ensures { λ r. ⌜ placedOf r ≡ placeIn (now (tree .entry)) n (chunk .0) ⌝ }
+{
+    if n <= chunk.0 {
+        return Placed::Refused(Refusal {
+            number: 9,
+            place: Place::Nowhere,
+        });
+    }
+    match super::descent::from_roots(tree, n, Sought::Chunk(chunk)) {
+        Ending::Stopped(i) => Placed::Refused(Refusal {
+            number: 10,
+            place: Place::Tree(i),
+        }),
+        Ending::Reached(_, start) => Placed::At(
+            start,
+            files::entries::stored_size(tree, tree_index::leaf_index(chunk)),
+        ),
+    }
+}
+
+// Start and length of a chunk.
+pub fn place(
+    tree: &[u8],
+    signatures: &[u8],
+    bitfield: &[u8],
+    content: &[u8],
+    n: u64,
+    s: u64,
+    size: u64,
+    chunk: ChunkNumber,
+) -> Placed
+    ensures { λ r.
+        ⌜
+        placedOf r ≡
+        placeOf
+        (registerOf (now (tree .entry)) (now (signatures .entry)) (now (bitfield .entry)) (now (content .entry)) n s size)
+        (chunk .0)
+        ⌝ }
+{
+    match checks::judge(tree, signatures, bitfield, content, n, s, size) {
+        Answer::Refused(refusal) => Placed::Refused(refusal),
+        Answer::Done => place_in(tree, n, chunk),
+    }
+}
+
+// Inner: the chunk of a byte, in a register that passes the checks 2 to 6.
+fn locate_in(tree: &[u8], n: u64, size: u64, offset: ByteOffset) -> Located
+    requires { ⌜ SearchedFor (now tree) n size ⌝ }
+    ensures { λ r. ⌜ locatedOf r ≡ byteIn (now (tree .entry)) n size (offset .0) ⌝ }
+{
+    if size <= offset.0 {
+        return Located::Refused(Refusal {
+            number: 9,
+            place: Place::Nowhere,
+        });
+    }
+    match super::descent::from_roots(tree, n, Sought::Byte(offset)) {
+        Ending::Stopped(i) => Located::Refused(Refusal {
+            number: 10,
+            place: Place::Tree(i),
+        }),
+        Ending::Reached(chunk, start) => Located::In(chunk, offset.0 - start.0),
+    }
+}
+
+// The chunk whose bytes contain an offset, and the offset less its start; never an empty chunk.
+pub fn locate(
+    tree: &[u8],
+    signatures: &[u8],
+    bitfield: &[u8],
+    content: &[u8],
+    n: u64,
+    s: u64,
+    size: u64,
+    offset: ByteOffset,
+) -> Located
+    ensures { λ r.
+        ⌜
+        locatedOf r ≡
+        byteAt
+        (registerOf (now (tree .entry)) (now (signatures .entry)) (now (bitfield .entry)) (now (content .entry)) n s size)
+        (offset .0)
+        ⌝ }
+{
+    match checks::judge(tree, signatures, bitfield, content, n, s, size) {
+        Answer::Refused(refusal) => Located::Refused(refusal),
+        Answer::Done => locate_in(tree, n, size, offset),
+    }
+}

@@ -1,0 +1,9 @@
+-- Laws of packets.
+pub mod Above
+pub mod Sums
+pub mod Shape
+pub mod Climb
+pub mod InTurn
+pub mod Right
+pub mod Rows
+pub mod Making

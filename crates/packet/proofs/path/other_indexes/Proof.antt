@@ -1,0 +1,95 @@
+-- `packet::path::other_indexes` meets its contract. Assumes nothing.
+use Prim.Native.Nat.{ℕ, zero-le, _+_, _-_, _≤_, _<_}
+use mathlib.Core.Path.{_≡_, sym, ap, _∙_, subst}
+use native.Mathlib.Omega.{arith}
+use lib.ListN.{length, getD}
+use Rattle.tree_index.specs.Tree.{roots}
+use Rattle.tree_index.specs.Numbers.{numbers}
+use Rattle.tree_index.proofs.Numbers.{numbers-set}
+use Rattle.tree_index.proofs.Roots.{length-roots-le}
+use Rattle.files.specs.ByValue.{padded}
+use Rattle.packet.specs.Parts.{skipped, otherRow}
+use Rattle.packet.proofs.Above.{root-in}
+use Rattle.packet.proofs.Rows.{skipped-below, other-none, other-turn}
+use borrow.Author.Needs.{needs}
+use Rattle.packet.proofs.path.other_indexes.Statement.{statement}
+use Rattle.packet.proofs.path.other_indexes.Tie as tie
+
+abbrev Inv-loop : tie.InvT-loop
+Inv-loop n place indexes count found₀ j₀ found j = (j ≤ count) × (numbers found ≡ padded 0 j (otherRow (roots n) place j))
+
+abbrev μ-loop : tie.MeasureT-loop
+μ-loop n place indexes count found₀ j₀ found j = count - j
+
+-- the place that is read lies in the array
+place : (c : tie.After-skipping Inv-loop μ-loop) → c .skipping .result < 20
+place c =
+    let a = c .before .before .before .before .before .args in
+    let m = c .before .before .before .root-count in
+    let g : c .before .before .loop .j < length (roots (a .n)) - 1 = subst (λ (x : ℕ). c .before .before .loop .j < x - 1) (m .ensures) (c .before .loop-test .taken) in
+    omega (arith, c .skipping .ensures, skipped-below (a .place) (c .before .before .loop .j) (length (roots (a .n))) g (c .before .before .before .before .before .pre .1), length-roots-le (a .n) (c .before .before .before .before .before .pre .0))
+
+sub-count : tie.Need-sub-count Inv-loop μ-loop
+sub-count c = omega (arith, c .root-count .ensures)
+
+loop-holds : tie.Need-loop-holds Inv-loop μ-loop
+unfolding numbers
+loop-holds c = let a = c .before .before .args in (zero-le, other-none (roots (a .n)) (a .place))
+
+skipping-requires : tie.Need-skipping-requires Inv-loop μ-loop
+skipping-requires c κs = omega (arith, c .before .before .root-count .ensures, length-roots-le (c .before .before .before .before .args .n) (c .before .before .before .before .pre .0))
+
+mul-found : tie.Need-mul-found Inv-loop μ-loop
+mul-found c = omega (arith, place c)
+
+array-copy-out-found : tie.Need-array-copy-out-found Inv-loop μ-loop
+array-copy-out-found c = place c
+
+mul-found-2 : tie.Need-mul-found-2 Inv-loop μ-loop
+mul-found-2 c = omega (arith, c .before .before .before .before .root-count .ensures, length-roots-le (c .before .before .before .before .before .before .args .n) (c .before .before .before .before .before .before .pre .0))
+
+array-set-from-found : tie.Need-array-set-from-found Inv-loop μ-loop
+array-set-from-found c = omega (arith, c .before .before .before .before .root-count .ensures, length-roots-le (c .before .before .before .before .before .before .args .n) (c .before .before .before .before .before .before .pre .0))
+
+loop-again : tie.Need-loop-again Inv-loop μ-loop
+loop-again c =
+    let a = c .before .before .before .before .before .before .args in
+    let l = c .before .before .before .loop in
+    let is = c .before .before .before .before .before .root-indexes in
+    let q = c .before .skipping in
+    let m = c .before .before .before .before .root-count in
+    let g : l .j < length (roots (a .n)) - 1 = subst (λ (x : ℕ). l .j < x - 1) (m .ensures) (c .before .before .loop-test .taken) in
+    let s : q .result < length (roots (a .n)) =
+    subst (λ (x : ℕ). x < length (roots (a .n))) (sym (q .ensures)) (skipped-below (a .place) (l .j) (length (roots (a .n))) g (c .before .before .before .before .before .before .pre .1)) in
+    let k : l .j < 20 = omega (arith, length-roots-le (a .n) (c .before .before .before .before .before .before .pre .0)) in (
+      omega arith,
+      numbers-set (l .found) (l .j) (getD (is .result) (q .result) (record { 0 = 0 }))
+          ∙ other-turn (roots (a .n)) (a .place) (l .j) (getD (is .result) (q .result) (record { 0 = 0 }) .0) (numbers (l .found)) k (l .inv .1)
+          (root-in (is .result) (a .n) (q .result) (is .ensures) s ∙ ap (λ (i : ℕ). getD (roots (a .n)) i 0) (q .ensures)),
+    )
+
+returns : tie.Need-returns Inv-loop μ-loop
+returns c =
+    let a = c .before .before .before .before .args in
+    let e : c .before .loop .j ≡ length (roots (a .n)) - 1 = omega (arith, c .before .before .root-count .ensures) in
+    c .before .loop .inv .1 ∙ ap (λ (i : ℕ). padded 0 i (otherRow (roots (a .n)) (a .place) i)) e
+
+pub other-indexes-spec : {M : Type 1} → statement M
+other-indexes-spec =
+    tie.close
+    (tie.spec
+    Inv-loop
+    μ-loop
+    (λ c κs. search needs)
+    (λ c κs. search needs)
+    sub-count
+    loop-holds
+    skipping-requires
+    mul-found
+    array-copy-out-found
+    mul-found-2
+    array-set-from-found
+    (λ c. search needs)
+    (λ c. search needs)
+    loop-again
+    returns)

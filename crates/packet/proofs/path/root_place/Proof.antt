@@ -1,0 +1,77 @@
+-- `packet::path::root_place` meets its contract. Assumes nothing.
+use Prim.Native.Nat.{ℕ, _-_, _≤_, _<_}
+use mathlib.Core.Path.{_≡_, sym, ap, _∙_, subst}
+use native.Mathlib.Omega.{arith}
+use lib.ListN.{length}
+use borrow.Author.Tests.{not-true, not-false}
+use Rattle.tree_index.specs.Tree.{filled, roots}
+use Rattle.tree_index.proofs.Roots.{length-roots-le}
+use Rattle.packet.specs.Parts.{placeAbove}
+use Rattle.packet.proofs.Above.{Seeking, seeking-none, seeking-found, seeking-next, seeking-end, root-in, root-small}
+use borrow.Author.Needs.{needs}
+use Rattle.packet.proofs.path.root_place.Statement.{statement}
+use Rattle.packet.proofs.path.root_place.Tie as tie
+
+abbrev Inv-loop : tie.InvT-loop
+Inv-loop n chunk count indexes j₀ j = Seeking (roots n) (chunk .0) j (placeAbove (roots n) (chunk .0))
+
+abbrev μ-loop : tie.MeasureT-loop
+μ-loop n chunk count indexes j₀ j = count - j
+
+loop-holds : tie.Need-loop-holds Inv-loop μ-loop
+loop-holds c = let a = c .before .before .args in seeking-none (roots (a .n)) (a .chunk .0)
+
+mul-is-filled : tie.Need-mul-is-filled Inv-loop μ-loop
+mul-is-filled c = omega (arith, c .before .before .before .root-count .ensures, length-roots-le (c .before .before .before .before .args .n) (c .before .before .before .before .pre))
+
+array-copy-out-is-filled : tie.Need-array-copy-out-is-filled Inv-loop μ-loop
+array-copy-out-is-filled c = omega (arith, c .before .before .before .root-count .ensures, length-roots-le (c .before .before .before .before .args .n) (c .before .before .before .before .pre))
+
+is-filled-requires : tie.Need-is-filled-requires Inv-loop μ-loop
+is-filled-requires c κs =
+    let a = c .before .before .before .before .before .args in
+    let is = c .before .before .before .root-indexes in
+    root-small (is .result) (a .n) (c .before .before .loop .j) (c .before .before .before .before .before .pre) (is .ensures)
+    (subst (λ (x : ℕ). c .before .before .loop .j < x) (c .before .before .before .before .root-count .ensures) (c .before .loop-test .taken))
+
+returns : tie.Need-returns Inv-loop μ-loop
+returns c =
+    let a = c .before .before .before .before .before .before .before .args in
+    let is = c .before .before .before .before .before .root-indexes in
+    let j = c .before .before .before .before .loop .j in
+    let h : j < length (roots (a .n)) = subst (λ (x : ℕ). j < x) (c .before .before .before .before .before .before .root-count .ensures) (c .before .before .before .loop-test .taken) in
+    seeking-found (roots (a .n)) (a .chunk .0) j (placeAbove (roots (a .n)) (a .chunk .0)) (c .before .before .before .before .loop .inv) h
+    (ap (filled (a .chunk .0)) (sym (root-in (is .result) (a .n) j (is .ensures) h)) ∙ sym (c .before .is-filled .ensures) ∙ not-true _ (c .if1 .taken))
+
+loop-again : tie.Need-loop-again Inv-loop μ-loop
+loop-again c =
+    let a = c .before .before .before .before .before .before .before .args in
+    let is = c .before .before .before .before .before .root-indexes in
+    let j = c .before .before .before .before .loop .j in
+    let h : j < length (roots (a .n)) = subst (λ (x : ℕ). j < x) (c .before .before .before .before .before .before .root-count .ensures) (c .before .before .before .loop-test .taken) in
+    seeking-next (roots (a .n)) (a .chunk .0) j (placeAbove (roots (a .n)) (a .chunk .0)) (c .before .before .before .before .loop .inv) h
+    (ap (filled (a .chunk .0)) (sym (root-in (is .result) (a .n) j (is .ensures) h)) ∙ sym (c .before .is-filled .ensures) ∙ not-false _ (c .if1 .left))
+
+returns-2 : tie.Need-returns-2 Inv-loop μ-loop
+returns-2 c =
+    let a = c .before .before .before .before .args in
+    seeking-end (roots (a .n)) (a .chunk .0) (c .before .loop .j) (placeAbove (roots (a .n)) (a .chunk .0)) (c .before .loop .inv)
+    (subst (λ (x : ℕ). x ≤ c .before .loop .j) (c .before .before .before .root-count .ensures) (c .loop-test .left))
+
+pub root-place-spec : {M : Type 1} → statement M
+root-place-spec =
+    tie.close
+    (tie.spec
+    Inv-loop
+    μ-loop
+    (λ c κs. search needs)
+    (λ c κs. search needs)
+    loop-holds
+    mul-is-filled
+    array-copy-out-is-filled
+    is-filled-requires
+    returns
+    (λ c. search needs)
+    (λ c. search needs)
+    loop-again
+    returns-2)

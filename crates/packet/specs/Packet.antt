@@ -1,0 +1,72 @@
+-- The packet: "a 4-byte chunk length and the chunk; a 1-byte sibling count and siblings from the leaf upward; a 1-byte count of other roots,
+-- these from the left. Items are 40-byte entries."
+use Prim.Native.Nat.{ℕ, zero, suc, _+_, _-_, _*_, _/_, _%_, _^_}
+use mathlib.Core.Bool.{Bool, true, false, not}
+use mathlib.Core.List.{List, [], _∷_, _++_, map}
+use lib.ListN.{length}
+use lib.Dec.{ltb, eqb}
+use Rattle.counts.specs.Verdict.{Verdict, none, done, refused}
+use Rattle.sequences.specs.Lists.{part, put, run, joined}
+use Rattle.sequences.specs.Numbers.{be}
+use Rattle.tree_index.specs.Tree.{index, depth, block, roots}
+use Rattle.files.specs.Sizes.{entryPlace}
+use Rattle.files.specs.Belongs.{Register}
+use Rattle.checks.specs.Checks.{holds}
+use Rattle.lookup.specs.Read.{chunkBytes, andThen, readVerdict}
+
+-- the root above chunk c: the first of the roots whose block ends behind it. There is one where c is below n
+unfoldable pub rootAbove : List ℕ → ℕ → ℕ
+rootAbove [] c = 0
+rootAbove (i ∷ is) c = elim (ltb c ((block i + 1) * 2 ^ depth i)) [ true ↦ i | false ↦ rootAbove is c ]
+
+-- the block beside the block k under one parent
+unfoldable pub beside : ℕ → ℕ
+beside k = elim (k % 2) [ zero ↦ k + 1 | suc b ↦ k - 1 ]
+
+-- the siblings on the way from the leaf of chunk c up to its root, "from the leaf upward"
+unfoldable pub siblings : ℕ → ℕ → List ℕ
+siblings n c = run (λ h. index h (beside (c / 2 ^ h))) 0 (depth (rootAbove (roots n) c))
+
+-- the numbers of a list but x
+unfoldable pub without : ℕ → List ℕ → List ℕ
+without x [] = []
+without x (i ∷ is) = elim (eqb i x) [ true ↦ without x is | false ↦ i ∷ without x is ]
+
+-- the other roots, "from the left"
+unfoldable pub otherRoots : ℕ → ℕ → List ℕ
+otherRoots n c = without (rootAbove (roots n) c) (roots n)
+
+-- a count and the stored entries at tree indexes
+unfoldable pub section : List ℕ → List ℕ → List ℕ
+section t is = length is ∷ joined (map (λ i. part t (entryPlace i) 40) is)
+
+-- the packet of chunk c
+unfoldable pub packetOf : Register → ℕ → List ℕ
+packetOf r c =
+    be 4 (length (chunkBytes r c))
+    ++ (chunkBytes r c ++ (section (r .tree) (siblings (r .n) c) ++ section (r .tree) (otherRoots (r .n) c)))
+
+abbrev pub roomOr14 : Bool → Verdict
+roomOr14 true = done
+roomOr14 false = refused 14 none
+
+abbrev pub outUnless : Verdict → List ℕ → List ℕ → List ℕ
+outUnless done packet out = put out 0 packet
+outUnless (refused m at) packet out = out
+
+abbrev pub lengthUnless : Verdict → List ℕ → ℕ
+lengthUnless done packet = length packet
+lengthUnless (refused m at) packet = 0
+
+module _ (F : List ℕ → List ℕ) where
+  -- "Making one does the read of chunk i first, with its refusals", and then 14
+  unfoldable pub makeVerdict : Register → ℕ → List ℕ → Verdict
+  makeVerdict r c out = andThen (readVerdict F r c) (roomOr14 (holds out (length (packetOf r c))))
+
+  -- the packet stands at the front of the lent buffer, the rest as it was
+  unfoldable pub afterMake : Register → ℕ → List ℕ → List ℕ
+  afterMake r c out = outUnless (makeVerdict r c out) (packetOf r c) out
+
+  -- its length is the answer
+  unfoldable pub madeLength : Register → ℕ → List ℕ → ℕ
+  madeLength r c out = lengthUnless (makeVerdict r c out) (packetOf r c)

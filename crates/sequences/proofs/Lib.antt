@@ -1,0 +1,3 @@
+-- Laws of parts, places, runs and big-endian numbers.
+pub mod Lists
+pub mod Numbers

@@ -1,0 +1,549 @@
+-- Laws of parts, places, runs and lists one behind the other. Assumes nothing.
+use mathlib.Core.Path.{_≡_, refl, sym, ap, _∙_, subst}
+use Prim.Native.Nat.{ℕ, zero, suc, _+_, _-_, _*_, _<_, _≤_}
+use native.Mathlib.Nat.{add-zero, zero-add, add-suc, suc-add, add-assoc, le-refl, le-of-suc-le-suc, not-suc-le-zero, suc-mul, zero-mul}
+use native.Mathlib.Omega.{arith}
+use mathlib.Core.Bool.{Bool, true, false, _&&_}
+use mathlib.Core.List.{List, [], _∷_, _++_, append-assoc, append-nil}
+use lib.ListN.{length, getD, set, take, drop, length-append, length-drop, length-replicate, take-append-drop, List·getD-append, drop-of-length-le}
+use lib.Seq.{length-take-le, take-at, drop-at, take-append-le, drop-append-le, getD-take, getD-drop, getD-append-add, drop-append-add, take-append-add, take-take, drop-drop, take-add, set-split, ext-getD, take-all, take-nil, take-suc, drop-cons, sets, sets-eq, paste}
+use native.Mathlib.Numerals.{add-one}
+use lib.Dec.{eqb}
+use borrow.Author.Tests.{eqb-true, eq-eqb, ne-eqb}
+use Rattle.sequences.specs.Lists.{part, put, run, joined, Bytes, zeros, sameList, allZero}
+
+module _ {A : Type 0} where
+  -- ---- behind a list whose length is known by an equation
+
+  pub getD-behind : (p q : List A) (n j : ℕ) (d : A) → length p ≡ n → getD (p ++ q) (n + j) d ≡ getD q j d
+  getD-behind p q n j d e = subst (λ (k : ℕ). getD (p ++ q) (k + j) d ≡ getD q j d) e (getD-append-add p q j d)
+
+  pub drop-behind : (p q : List A) (n j : ℕ) → length p ≡ n → drop (n + j) (p ++ q) ≡ drop j q
+  drop-behind p q n j e = subst (λ (k : ℕ). drop (k + j) (p ++ q) ≡ drop j q) e (drop-append-add p q j)
+
+  pub take-behind : (p q : List A) (n j : ℕ) → length p ≡ n → take (n + j) (p ++ q) ≡ p ++ take j q
+  take-behind p q n j e = subst (λ (k : ℕ). take (k + j) (p ++ q) ≡ p ++ take j q) e (take-append-add p q j)
+
+  drop-take : (a n : ℕ) (xs : List A) → drop a (take (a + n) xs) ≡ take n (drop a xs)
+  drop-take zero n xs = ap (λ (k : ℕ). take k xs) (zero-add n)
+  drop-take (suc a) n [] = ap (λ (k : ℕ). drop (suc a) (take {A = A} k [])) (suc-add a n) ∙ sym (take-nil n)
+  drop-take (suc a) n (x ∷ xs) = ap (λ (k : ℕ). drop (suc a) (take k (x ∷ xs))) (suc-add a n) ∙ drop-take a n xs
+
+  -- ---- parts
+
+  pub length-part : (xs : List A) (at k : ℕ) → at + k ≤ length xs → length (part xs at k) ≡ k
+  unfolding part
+  length-part xs at k h = length-take-le k (drop at xs) (rw length-drop (omega arith))
+
+  pub getD-part : (xs : List A) (at k j : ℕ) (d : A) → j < k → getD (part xs at k) j d ≡ getD xs (at + j) d
+  unfolding part
+  getD-part xs at k j d h = getD-take k (drop at xs) j d h ∙ getD-drop at xs j d
+
+  pub part-whole : (xs : List A) → part xs 0 (length xs) ≡ xs
+  unfolding part
+  part-whole xs = take-all (length xs) xs (le-refl (length xs))
+
+  pub part-part : (xs : List A) (p m a k : ℕ) → a + k ≤ m → part (part xs p m) a k ≡ part xs (p + a) k
+  unfolding part
+  part-part xs p m a k h =
+      let n : ℕ = m - a in
+      let e : m ≡ a + n = omega arith in
+      ap (λ (i : ℕ). take k (drop a (take i (drop p xs)))) e ∙ ap (take k) (drop-take a n (drop p xs))
+      ∙ take-take k n (drop a (drop p xs)) (omega arith) ∙ ap (take k) (drop-drop a p xs)
+
+  pub part-add : (xs : List A) (p a b : ℕ) → part xs p (a + b) ≡ part xs p a ++ part xs (p + a) b
+  unfolding part
+  part-add xs p a b =
+      take-add a b (drop p xs) ∙ ap (λ (r : List A). take a (drop p xs) ++ take b r) (drop-drop a p xs)
+
+  pub part-left : (xs ys : List A) (a k : ℕ) → a + k ≤ length xs → part (xs ++ ys) a k ≡ part xs a k
+  unfolding part
+  part-left xs ys a k h =
+      ap (take k) (drop-append-le a xs ys (omega arith))
+      ∙ take-append-le k (drop a xs) ys (rw length-drop (omega arith))
+
+  pub part-behind : (xs ys : List A) (n a k : ℕ) → length xs ≡ n → part (xs ++ ys) (n + a) k ≡ part ys a k
+  unfolding part
+  part-behind xs ys n a k e = ap (take k) (drop-behind xs ys n a e)
+
+  -- the part at the front, and the part right behind a list
+  pub part-front : (xs ys : List A) (k : ℕ) → length xs ≡ k → part (xs ++ ys) 0 k ≡ xs
+  unfolding part
+  part-front xs ys k e = take-at xs ys k e
+
+  pub part-at : (xs ys zs : List A) (n k : ℕ) → length xs ≡ n → length ys ≡ k → part (xs ++ (ys ++ zs)) n k ≡ ys
+  unfolding part
+  part-at xs ys zs n k e f = ap (take k) (drop-at xs (ys ++ zs) n e) ∙ take-at ys zs k f
+
+  -- a list cut around a part
+  pub around : (xs : List A) (p k : ℕ) → take p xs ++ (part xs p k ++ drop (p + k) xs) ≡ xs
+  unfolding part
+  around xs p k =
+      ap (λ (r : List A). take p xs ++ (take k (drop p xs) ++ r)) (sym (drop-drop k p xs))
+      ∙ ap (λ (r : List A). take p xs ++ r) (take-append-drop k (drop p xs)) ∙ take-append-drop p xs
+
+  -- ---- places
+
+  pub length-put : (xs : List A) (at : ℕ) (ys : List A) → at + length ys ≤ length xs → length (put xs at ys) ≡ length xs
+  unfolding put
+  length-put xs at ys h =
+      simp (length-append, length-drop, length-take-le at xs (omega arith)) (omega arith)
+
+  -- what a lent part gives back
+  pub put-part : (xs : List A) (at k : ℕ) (ys : List A) → length ys ≡ k → take at xs ++ (ys ++ drop k (drop at xs)) ≡ put xs at ys
+  unfolding put
+  put-part xs at k ys e =
+      ap (λ (r : List A). take at xs ++ (ys ++ r)) (drop-drop k at xs ∙ ap (λ (i : ℕ). drop (at + i) xs) (sym e))
+
+  pub getD-put-before : (xs : List A) (at : ℕ) (ys : List A) (j : ℕ) (d : A) → at ≤ length xs → j < at → getD (put xs at ys) j d ≡ getD xs j d
+  unfolding put
+  getD-put-before xs at ys j d h l =
+      List·getD-append (take at xs) (ys ++ drop (at + length ys) xs) d j
+      (subst (λ (k : ℕ). j < k) (sym (length-take-le at xs h)) l)
+      ∙ getD-take at xs j d l
+
+  pub getD-put-in : (xs : List A) (at : ℕ) (ys : List A) (j : ℕ) (d : A) → at ≤ length xs → j < length ys → getD (put xs at ys) (at + j) d ≡ getD ys j d
+  unfolding put
+  getD-put-in xs at ys j d h l =
+      getD-behind (take at xs) (ys ++ drop (at + length ys) xs) at j d (length-take-le at xs h)
+      ∙ List·getD-append ys (drop (at + length ys) xs) d j l
+
+  pub getD-put-behind : (xs : List A) (at : ℕ) (ys : List A) (j : ℕ) (d : A) → at ≤ length xs → at + length ys ≤ j → getD (put xs at ys) j d ≡ getD xs j d
+  unfolding put
+  getD-put-behind xs at ys j d h l =
+      let i : ℕ = j - (at + length ys) in
+      let e : j ≡ at + (length ys + i) = omega arith in
+      let f : at + length ys + i ≡ j = omega arith in
+      ap (λ (k : ℕ). getD (take at xs ++ (ys ++ drop (at + length ys) xs)) k d) e
+      ∙ getD-behind (take at xs) (ys ++ drop (at + length ys) xs) at (length ys + i) d (length-take-le at xs h)
+      ∙ getD-append-add ys (drop (at + length ys) xs) i d ∙ getD-drop (at + length ys) xs i d
+      ∙ ap (λ (k : ℕ). getD xs k d) f
+
+  pub take-put : (n : ℕ) (xs : List A) (at : ℕ) (ys : List A) → n ≤ at → at ≤ length xs → take n (put xs at ys) ≡ take n xs
+  unfolding put
+  take-put n xs at ys h l =
+      take-append-le n (take at xs) (ys ++ drop (at + length ys) xs)
+      (subst (λ (k : ℕ). n ≤ k) (sym (length-take-le at xs l)) h)
+      ∙ take-take n at xs h
+
+  pub drop-put : (n : ℕ) (xs : List A) (at : ℕ) (ys : List A) → at + length ys ≤ n → at ≤ length xs → drop n (put xs at ys) ≡ drop n xs
+  unfolding put
+  drop-put n xs at ys h l =
+      let i : ℕ = n - (at + length ys) in
+      let e : n ≡ at + (length ys + i) = omega arith in
+      let f : at + length ys + i ≡ n = omega arith in
+      ap (λ (k : ℕ). drop k (take at xs ++ (ys ++ drop (at + length ys) xs))) e
+      ∙ drop-behind (take at xs) (ys ++ drop (at + length ys) xs) at (length ys + i) (length-take-le at xs l)
+      ∙ drop-append-add ys (drop (at + length ys) xs) i ∙ drop-drop i (at + length ys) xs
+      ∙ ap (λ (k : ℕ). drop k xs) f
+
+  pub part-put : (xs : List A) (at k : ℕ) (ys : List A) → length ys ≡ k → at ≤ length xs → part (put xs at ys) at k ≡ ys
+  unfolding put
+  part-put xs at k ys e l = part-at (take at xs) ys (drop (at + length ys) xs) at k (length-take-le at xs l) e
+
+  part-of-take : (zs : List A) (a n : ℕ) → drop a (take (a + n) zs) ≡ part zs a n
+  unfolding part
+  part-of-take zs a n = drop-take a n zs
+
+  pub part-put-before : (xs : List A) (at : ℕ) (ys : List A) (p k : ℕ) → p + k ≤ at → at ≤ length xs → part (put xs at ys) p k ≡ part xs p k
+  part-put-before xs at ys p k h l =
+      sym (part-of-take (put xs at ys) p k) ∙ ap (λ (r : List A). drop p r) (take-put (p + k) xs at ys h l) ∙ part-of-take xs p k
+
+  pub part-put-behind : (xs : List A) (at : ℕ) (ys : List A) (p k : ℕ) → at + length ys ≤ p → at ≤ length xs → part (put xs at ys) p k ≡ part xs p k
+  unfolding part
+  part-put-behind xs at ys p k h l = ap (take k) (drop-put p xs at ys h l)
+
+  -- the same front and the same rest, and so the same list once zs stands there
+  put-ext : (xs us : List A) (at : ℕ) (zs : List A) → take at us ≡ take at xs → drop (at + length zs) us ≡ drop (at + length zs) xs → put us at zs ≡ put xs at zs
+  unfolding put
+  put-ext xs us at zs p q =
+      ap (λ (r : List A). r ++ (zs ++ drop (at + length zs) us)) p ∙ ap (λ (r : List A). take at xs ++ (zs ++ r)) q
+
+  pub put-put : (xs : List A) (at : ℕ) (ys zs : List A) → length ys ≡ length zs → at ≤ length xs → put (put xs at ys) at zs ≡ put xs at zs
+  put-put xs at ys zs e l =
+      put-ext xs (put xs at ys) at zs (take-put at xs at ys (le-refl at) l) (drop-put (at + length zs) xs at ys (omega arith) l)
+
+  -- the part that is there put where it is
+  pub put-same : (xs : List A) (at k : ℕ) → at + k ≤ length xs → put xs at (part xs at k) ≡ xs
+  unfolding put
+  put-same xs at k h =
+      ap (λ (i : ℕ). take at xs ++ (part xs at k ++ drop (at + i) xs)) (length-part xs at k h) ∙ around xs at k
+
+  pub put-nil : (xs : List A) (at : ℕ) → put xs at [] ≡ xs
+  unfolding put
+  put-nil xs at = ap (λ (i : ℕ). take at xs ++ drop i xs) (add-zero at) ∙ take-append-drop at xs
+
+  -- one list behind another
+  pub put-append : (xs : List A) (at : ℕ) (ys zs : List A) → at ≤ length xs → put (put xs at ys) (at + length ys) zs ≡ put xs at (ys ++ zs)
+  unfolding put
+  put-append xs at ys zs l =
+      ap (λ (r : List A). r ++ (zs ++ drop (at + length ys + length zs) (take at xs ++ (ys ++ drop (at + length ys) xs))))
+      (take-behind (take at xs) (ys ++ drop (at + length ys) xs) at (length ys) (length-take-le at xs l)
+      ∙ ap (λ (r : List A). take at xs ++ r) (take-at ys (drop (at + length ys) xs) (length ys) refl))
+      ∙ ap (λ (r : List A). take at xs ++ ys ++ (zs ++ r))
+      (ap (λ (i : ℕ). drop i (take at xs ++ (ys ++ drop (at + length ys) xs))) (add-assoc at (length ys) (length zs))
+      ∙ drop-behind (take at xs) (ys ++ drop (at + length ys) xs) at (length ys + length zs) (length-take-le at xs l)
+      ∙ drop-append-add ys (drop (at + length ys) xs) (length zs) ∙ drop-drop (length zs) (at + length ys) xs
+      ∙ ap (λ (i : ℕ). drop i xs) (add-assoc at (length ys) (length zs) ∙ ap (λ (i : ℕ). at + i) (sym (length-append ys zs))))
+      ∙ simp append-assoc
+
+  pub put-one : (xs : List A) (at : ℕ) (a : A) → at < length xs → set xs at a ≡ put xs at (a ∷ [])
+  unfolding put
+  put-one xs at a h = set-split xs at a h ∙ ap (λ (i : ℕ). take at xs ++ (a ∷ drop i xs)) (sym (add-suc at 0 ∙ ap suc (add-zero at)))
+
+  -- a turn of a loop that stores: one element more behind those that stand there
+  pub put-snoc : (xs : List A) (at : ℕ) (ys : List A) (a : A) → at + length ys < length xs
+      → set (put xs at ys) (at + length ys) a ≡ put xs at (ys ++ (a ∷ []))
+  put-snoc xs at ys a h =
+      put-one (put xs at ys) (at + length ys) a (subst (λ (k : ℕ). at + length ys < k) (sym (length-put xs at ys (omega arith))) h)
+      ∙ put-append xs at ys (a ∷ []) (omega arith)
+
+  -- the same, where the elements come from another list
+  pub put-take : (xs : List A) (at : ℕ) (ys : List A) (i : ℕ) (d : A) → at + length ys ≤ length xs → i < length ys
+      → set (put xs at (take i ys)) (at + i) (getD ys i d) ≡ put xs at (take (i + 1) ys)
+  put-take xs at ys i d h l =
+      let e : length (take i ys) ≡ i = length-take-le i ys (omega arith) in
+      ap (λ (k : ℕ). set (put xs at (take i ys)) (at + k) (getD ys i d)) (sym e)
+      ∙ put-snoc xs at (take i ys) (getD ys i d) (omega (arith, e))
+      ∙ ap (put xs at) (sym (take-suc ys i d l) ∙ ap (λ (k : ℕ). take k ys) (sym (add-one i)))
+
+  -- a list is what it was, but for one part, which is ys: then it is the list with ys there
+  pub is-put : (xs zs : List A) (at k : ℕ) (ys : List A) → length ys ≡ k → take at zs ≡ take at xs → part zs at k ≡ ys → drop (at + k) zs ≡ drop (at + k) xs → zs ≡ put xs at ys
+  unfolding put
+  is-put xs zs at k ys e p q r =
+      sym (around zs at k) ∙ ap (λ (s : List A). s ++ (part zs at k ++ drop (at + k) zs)) p
+      ∙ ap (λ (s : List A). take at xs ++ (s ++ drop (at + k) zs)) q ∙ ap (λ (s : List A). take at xs ++ (ys ++ s)) r
+      ∙ ap (λ (i : ℕ). take at xs ++ (ys ++ drop (at + i) xs)) (sym e)
+
+  part-first : (zs : List A) (p m a : ℕ) → a ≤ m → part zs p a ≡ take a (part zs p m)
+  unfolding part
+  part-first zs p m a h = sym (take-take a m (drop p zs) h)
+
+  part-rest : (zs : List A) (p m b : ℕ) → b ≤ m → drop b (part zs p m) ≡ part zs (p + b) (m - b)
+  unfolding part
+  part-rest zs p m b h =
+      let e : m ≡ b + (m - b) = omega arith in
+      ap (λ (i : ℕ). drop b (take i (drop p zs))) e ∙ drop-take b (m - b) (drop p zs)
+      ∙ ap (take (m - b)) (drop-drop b p zs)
+
+  -- a place inside a part
+  pub part-put-inside : (xs : List A) (p m a : ℕ) (ys : List A) → a + length ys ≤ m → p + m ≤ length xs
+      → part (put xs (p + a) ys) p m ≡ put (part xs p m) a ys
+  part-put-inside xs p m a ys h l =
+      let zs : List A = put xs (p + a) ys in
+      let b : ℕ = a + length ys in
+      is-put (part xs p m) (part zs p m) a (length ys) ys refl
+      (sym (part-first zs p m a (omega arith)) ∙ part-put-before xs (p + a) ys p a (le-refl (p + a)) (omega arith) ∙ part-first xs p m a (omega arith))
+      (part-part zs p m a (length ys) h ∙ part-put xs (p + a) (length ys) ys refl (omega arith))
+      (part-rest zs p m b h ∙ part-put-behind xs (p + a) ys (p + b) (m - b) (omega arith) (omega arith) ∙ sym (part-rest xs p m b h))
+
+  -- a place as single stores, and as a copy
+  pub put-sets : (xs : List A) (at : ℕ) (ys : List A) → at + length ys ≤ length xs → sets xs at ys ≡ put xs at ys
+  unfolding put
+  put-sets xs at ys h = sets-eq ys xs at h ∙ append-assoc (take at xs) ys (drop (at + length ys) xs)
+
+  pub put-paste : (xs : List A) (at : ℕ) (ys : List A) (n : ℕ) → n ≤ length ys → paste xs at ys n ≡ put xs at (take n ys)
+  unfolding put
+  put-paste xs at ys n h =
+      append-assoc (take at xs) (take n ys) (drop (at + n) xs)
+      ∙ ap (λ (k : ℕ). take at xs ++ (take n ys ++ drop (at + k) xs)) (sym (length-take-le n ys h))
+
+  -- a place within the first n, and a place behind them
+  pub take-put-above : (n : ℕ) (xs : List A) (at : ℕ) (ys : List A) → at + length ys ≤ n → n ≤ length xs → take n (put xs at ys) ≡ put (take n xs) at ys
+  unfolding part
+  take-put-above n xs at ys h l =
+      ap (λ (k : ℕ). take n (put xs k ys)) (sym (zero-add at)) ∙ part-put-inside xs 0 n at ys h (omega arith)
+
+  pub drop-put-below : (n : ℕ) (xs : List A) (a : ℕ) (ys : List A) → n ≤ length xs → drop n (put xs (n + a) ys) ≡ put (drop n xs) a ys
+  unfolding put
+  drop-put-below n xs a ys h =
+      ap (λ (r : List A). drop n (r ++ (ys ++ drop (n + a + length ys) xs))) (take-add n a xs)
+      ∙ ap (drop n) (append-assoc (take n xs) (take a (drop n xs)) (ys ++ drop (n + a + length ys) xs))
+      ∙ drop-at (take n xs) (take a (drop n xs) ++ (ys ++ drop (n + a + length ys) xs)) n (length-take-le n xs h)
+      ∙ ap (λ (r : List A). take a (drop n xs) ++ (ys ++ r))
+      (ap (λ (k : ℕ). drop k xs) (add-assoc n a (length ys)) ∙ sym (drop-drop (a + length ys) n xs))
+
+  -- two places that don't meet
+  pub put-comm : (xs : List A) (a b : ℕ) (ys zs : List A) → a + length ys ≤ b → b + length zs ≤ length xs → put (put xs a ys) b zs ≡ put (put xs b zs) a ys
+  put-comm xs a b ys zs h l =
+      let m : length (put xs a ys) ≡ length xs = length-put xs a ys (omega arith) in
+      let n : ℕ = a + length ys in
+      let c : ℕ = b - n in
+      let e : b ≡ n + c = omega arith in
+      is-put (put xs b zs) (put (put xs a ys) b zs) a (length ys) ys refl
+      (take-put a (put xs a ys) b zs (omega arith) (omega (arith, m)) ∙ take-put a xs a ys (le-refl a) (omega arith)
+      ∙ sym (take-put a xs b zs (omega arith) (omega arith)))
+      (part-put-before (put xs a ys) b zs a (length ys) h (omega (arith, m)) ∙ part-put xs a (length ys) ys refl (omega arith))
+      (ap (λ (k : ℕ). drop n (put (put xs a ys) k zs)) e ∙ drop-put-below n (put xs a ys) c zs (omega (arith, m))
+      ∙ ap (λ (r : List A). put r c zs) (drop-put n xs a ys (le-refl n) (omega arith))
+      ∙ sym (ap (λ (k : ℕ). drop n (put xs k zs)) e ∙ drop-put-below n xs c zs (omega arith)))
+
+  -- ---- runs
+
+  pub length-run : (f : ℕ → A) (i k : ℕ) → length (run f i k) ≡ k
+  unfolding run
+  length-run f i zero = refl
+  length-run f i (suc k) = ap suc (length-run f (suc i) k)
+
+  pub getD-run : (f : ℕ → A) (i k j : ℕ) (d : A) → j < k → getD (run f i k) j d ≡ f (i + j)
+  unfolding run
+  getD-run f i zero j d h = absurd (not-suc-le-zero h)
+  getD-run f i (suc k) zero d h = ap f (sym (add-zero i))
+  getD-run f i (suc k) (suc j) d h = getD-run f (suc i) k j d (le-of-suc-le-suc h) ∙ ap f (suc-add i j ∙ sym (add-suc i j))
+
+  pub run-add : (f : ℕ → A) (i a b : ℕ) → run f i (a + b) ≡ run f i a ++ run f (i + a) b
+  unfolding run
+  run-add f i zero b = ap (run f i) (zero-add b) ∙ ap (λ (k : ℕ). run f k b) (sym (add-zero i))
+  run-add f i (suc a) b =
+      ap (run f i) (suc-add a b) ∙ ap (λ (r : List A). f i ∷ r)
+      (run-add f (suc i) a b ∙ ap (λ (k : ℕ). run f (suc i) a ++ run f k b) (suc-add i a ∙ sym (add-suc i a)))
+
+  pub run-suc : (f : ℕ → A) (i k : ℕ) → run f i (suc k) ≡ run f i k ++ (f (i + k) ∷ [])
+  unfolding run
+  run-suc f i k = ap (run f i) (sym (add-suc k 0 ∙ ap suc (add-zero k))) ∙ run-add f i k 1
+
+  pub run-ext : (f g : ℕ → A) (i k : ℕ) → ((j : ℕ) → i ≤ j → j < i + k → f j ≡ g j) → run f i k ≡ run g i k
+  unfolding run
+  run-ext f g i zero h = refl
+  run-ext f g i (suc k) h =
+      ap (λ (a : A). a ∷ run f (suc i) k) (h i (le-refl i) (omega arith))
+      ∙ ap (λ (r : List A). g i ∷ r) (run-ext f g (suc i) k (λ j l m. h j (omega arith) (omega arith)))
+
+  -- a run from i is the run from zero of what lies i further
+  shifted : (f : ℕ → A) (i m n k : ℕ) → i + n ≡ m → run f m k ≡ run (λ l. f (i + l)) n k
+  unfolding run
+  shifted f i m n zero e = refl
+  shifted f i m n (suc k) e =
+      ap (λ (q : ℕ). f q ∷ run f (suc m) k) (sym e)
+      ∙ ap (λ (r : List A). f (i + n) ∷ r) (shifted f i (suc m) (suc n) k (add-suc i n ∙ ap suc e))
+
+  pub run-from : (f : ℕ → A) (i k : ℕ) → run f i k ≡ run (λ l. f (i + l)) 0 k
+  run-from f i k = shifted f i i 0 k (add-zero i)
+
+  -- a list is the run of its elements
+  pub run-getD : (xs : List A) (k : ℕ) (d : A) → length xs ≡ k → run (λ j. getD xs j d) 0 k ≡ xs
+  run-getD xs k d e =
+      ext-getD d (run (λ j. getD xs j d) 0 k) xs (length-run (λ j. getD xs j d) 0 k ∙ sym e)
+      (λ i h. getD-run (λ j. getD xs j d) 0 k i d (subst (λ (n : ℕ). i < n) (length-run (λ j. getD xs j d) 0 k) h) ∙ ap (λ (n : ℕ). getD xs n d) (zero-add i))
+
+  pub part-run : (xs : List A) (at k : ℕ) (d : A) → at + k ≤ length xs → part xs at k ≡ run (λ j. getD xs j d) at k
+  part-run xs at k d h =
+      let e : length (part xs at k) ≡ k = length-part xs at k h in
+      ext-getD d (part xs at k) (run (λ j. getD xs j d) at k) (e ∙ sym (length-run (λ j. getD xs j d) at k))
+      (λ i l. getD-part xs at k i d (omega arith) ∙ sym (getD-run (λ j. getD xs j d) at k i d (omega arith)))
+
+-- ---- one behind the other
+
+module _ {A : Type 0} where
+  pub joined-append : (xss yss : List (List A)) → joined (xss ++ yss) ≡ joined xss ++ joined yss
+  unfolding joined
+  joined-append [] yss = refl
+  joined-append (xs ∷ xss) yss = ap (λ (r : List A). xs ++ r) (joined-append xss yss) ∙ sym (append-assoc xs (joined xss) (joined yss))
+
+  pub joined-run-add : (f : ℕ → List A) (i a b : ℕ) → joined (run f i (a + b)) ≡ joined (run f i a) ++ joined (run f (i + a) b)
+  joined-run-add f i a b = ap joined (run-add f i a b) ∙ joined-append (run f i a) (run f (i + a) b)
+
+  pub joined-run-suc : (f : ℕ → List A) (i k : ℕ) → joined (run f i (suc k)) ≡ joined (run f i k) ++ f (i + k)
+  unfolding joined
+  joined-run-suc f i k = ap joined (run-suc f i k) ∙ joined-append (run f i k) (f (i + k) ∷ []) ∙ ap (λ (r : List A). joined (run f i k) ++ r) (append-nil (f (i + k)))
+
+  -- lists of m elements each, from number i on
+  module _ (f : ℕ → List A) (m : ℕ) (same : (j : ℕ) → length (f j) ≡ m) where
+    pub length-joined : (i k : ℕ) → length (joined (run f i k)) ≡ k * m
+    unfolding run joined
+    length-joined i zero = sym (zero-mul m)
+    length-joined i (suc k) =
+        length-append (f i) (joined (run f (suc i) k)) ∙ ap (λ (n : ℕ). n + length (joined (run f (suc i) k))) (same i)
+        ∙ ap (λ (n : ℕ). m + n) (length-joined (suc i) k) ∙ omega (arith, suc-mul k m)
+
+    part-joined-split : (i e b : ℕ) → part (joined (run f i e) ++ joined (run f (i + e) (suc b))) (e * m) m ≡ f (i + e)
+    unfolding run joined
+    part-joined-split i e b =
+        part-at (joined (run f i e)) (f (i + e)) (joined (run f (suc (i + e)) b)) (e * m) m (length-joined i e) (same (i + e))
+
+    pub part-joined : (i k e : ℕ) → e < k → part (joined (run f i k)) (e * m) m ≡ f (i + e)
+    part-joined i k e h =
+        let b : ℕ = k - suc e in
+        let s : k ≡ e + suc b = omega arith in
+        ap (λ (n : ℕ). part (joined (run f i n)) (e * m) m) s
+        ∙ ap (λ (r : List A). part r (e * m) m) (joined-run-add f i e (suc b)) ∙ part-joined-split i e b
+
+  -- one of equally long lists put anew
+  module _ (f g : ℕ → List A) (m : ℕ) (same : (j : ℕ) → length (f j) ≡ m) (i e : ℕ) (l : length (g (i + e)) ≡ m)
+      (other : (j : ℕ) → (j ≡ i + e → ⊥) → f j ≡ g j) where
+    put-joined-split : (b : ℕ) → put (joined (run f i e) ++ joined (run f (i + e) (suc b))) (e * m) (g (i + e)) ≡ joined (run g i e) ++ joined (run g (i + e) (suc b))
+    unfolding run joined put
+    put-joined-split b =
+        let rest : List A = f (i + e) ++ joined (run f (suc (i + e)) b) in
+        ap (λ (r : List A). r ++ (g (i + e) ++ drop (e * m + length (g (i + e))) (joined (run f i e) ++ rest)))
+        (take-at (joined (run f i e)) rest (e * m) (length-joined f m same i e)
+        ∙ ap joined (run-ext f g i e (λ j p q. other j (λ z. omega arith))))
+        ∙ ap (λ (r : List A). joined (run g i e) ++ (g (i + e) ++ r))
+        (drop-behind (joined (run f i e)) rest (e * m) (length (g (i + e))) (length-joined f m same i e)
+        ∙ drop-at (f (i + e)) (joined (run f (suc (i + e)) b)) (length (g (i + e))) (same (i + e) ∙ sym l)
+        ∙ ap joined (run-ext f g (suc (i + e)) b (λ j p q. other j (λ z. omega arith))))
+
+    pub put-joined : (k : ℕ) → e < k → put (joined (run f i k)) (e * m) (g (i + e)) ≡ joined (run g i k)
+    put-joined k h =
+        let b : ℕ = k - suc e in
+        let s : k ≡ e + suc b = omega arith in
+        ap (λ (n : ℕ). put (joined (run f i n)) (e * m) (g (i + e))) s
+        ∙ ap (λ (r : List A). put r (e * m) (g (i + e))) (joined-run-add f i e (suc b)) ∙ put-joined-split b
+        ∙ sym (ap (λ (n : ℕ). joined (run g i n)) s ∙ joined-run-add g i e (suc b))
+
+-- ---- bytes
+
+pub bytes-append : (xs ys : List ℕ) → Bytes xs → Bytes ys → Bytes (xs ++ ys)
+bytes-append [] ys p q i = q i
+bytes-append (x ∷ xs) ys p q zero = p zero
+bytes-append (x ∷ xs) ys p q (suc i) = bytes-append xs ys (λ j. p (suc j)) q i
+
+pub bytes-take : (n : ℕ) (xs : List ℕ) → Bytes xs → Bytes (take n xs)
+bytes-take zero xs p i = omega arith
+bytes-take (suc n) [] p i = omega arith
+bytes-take (suc n) (x ∷ xs) p zero = p zero
+bytes-take (suc n) (x ∷ xs) p (suc i) = bytes-take n xs (λ j. p (suc j)) i
+
+pub bytes-drop : (n : ℕ) (xs : List ℕ) → Bytes xs → Bytes (drop n xs)
+bytes-drop n xs p i = rw getD-drop (p (n + i))
+
+pub bytes-part : (xs : List ℕ) (at k : ℕ) → Bytes xs → Bytes (part xs at k)
+unfolding part
+bytes-part xs at k p = bytes-take k (drop at xs) (bytes-drop at xs p)
+
+pub bytes-put : (xs : List ℕ) (at : ℕ) (ys : List ℕ) → Bytes xs → Bytes ys → Bytes (put xs at ys)
+unfolding put
+bytes-put xs at ys p q =
+    bytes-append (take at xs) (ys ++ drop (at + length ys) xs) (bytes-take at xs p)
+    (bytes-append ys (drop (at + length ys) xs) q (bytes-drop (at + length ys) xs p))
+
+pub bytes-zeros : (k : ℕ) → Bytes (zeros k)
+bytes-zeros zero i = omega arith
+bytes-zeros (suc k) zero = omega arith
+bytes-zeros (suc k) (suc i) = bytes-zeros k i
+
+pub bytes-run : (f : ℕ → ℕ) (i k : ℕ) → ((j : ℕ) → f j < 256) → Bytes (run f i k)
+unfolding run
+bytes-run f i zero h j = omega arith
+bytes-run f i (suc k) h zero = h i
+bytes-run f i (suc k) h (suc j) = bytes-run f (suc i) k h j
+
+pub bytes-joined : (f : ℕ → List ℕ) (i k : ℕ) → ((j : ℕ) → Bytes (f j)) → Bytes (joined (run f i k))
+unfolding run joined
+bytes-joined f i zero h j = omega arith
+bytes-joined f i (suc k) h j = bytes-append (f i) (joined (run f (suc i) k)) (h i) (bytes-joined f (suc i) k h) j
+
+pub bytes-set : (xs : List ℕ) (i v : ℕ) → Bytes xs → v < 256 → Bytes (set xs i v)
+bytes-set [] i v p h j = p j
+bytes-set (x ∷ xs) zero v p h zero = h
+bytes-set (x ∷ xs) zero v p h (suc j) = p (suc j)
+bytes-set (x ∷ xs) (suc i) v p h zero = p zero
+bytes-set (x ∷ xs) (suc i) v p h (suc j) = bytes-set xs i v (λ l. p (suc l)) h j
+
+pub getD-zeros : (k j : ℕ) → getD (zeros k) j 0 ≡ 0
+getD-zeros zero j = refl
+getD-zeros (suc k) zero = refl
+getD-zeros (suc k) (suc j) = getD-zeros k j
+
+pub zeros-suc : (k : ℕ) → zeros k ++ (0 ∷ []) ≡ zeros (suc k)
+zeros-suc zero = refl
+zeros-suc (suc k) = ap {B = List ℕ} (λ r. 0 ∷ r) (zeros-suc k)
+
+-- a turn of a loop that clears
+pub put-zeros : (xs : List ℕ) (at i : ℕ) → at + i < length xs → set (put xs at (zeros i)) (at + i) 0 ≡ put xs at (zeros (i + 1))
+put-zeros xs at i h =
+    let e : length (zeros i) ≡ i = length-replicate i 0 in
+    ap (λ (k : ℕ). set (put xs at (zeros i)) (at + k) 0) (sym e) ∙ put-snoc xs at (zeros i) 0 (omega (arith, e))
+    ∙ ap (put xs at) (zeros-suc i ∙ ap zeros (sym (add-one i)))
+
+-- ---- the same list, and all zeros
+
+pub same-refl : (xs : List ℕ) → sameList xs xs ≡ true
+unfolding sameList
+same-refl [] = refl
+same-refl (x ∷ xs) = rw (eq-eqb x x refl) (same-refl xs)
+
+both-true : (a b : Bool) → a && b ≡ true → (a ≡ true) × (b ≡ true)
+both-true true b e = (refl, e)
+both-true false b e = (e, absurd (false-true e))
+  where
+    false-true : false ≡ true → ⊥
+    false-true p = let z : _≡_ {A = ℕ} 0 1 = cc in omega arith
+
+pub same-eq : (xs ys : List ℕ) → sameList xs ys ≡ true → xs ≡ ys
+unfolding sameList
+same-eq [] [] e = refl
+same-eq [] (y ∷ ys) e = cc
+same-eq (x ∷ xs) [] e = cc
+same-eq (x ∷ xs) (y ∷ ys) e =
+    let h = both-true (eqb x y) (sameList xs ys) e in
+    ap (λ (t : ℕ). t ∷ xs) (eqb-true x y (h .0)) ∙ ap (λ (r : List ℕ). y ∷ r) (same-eq xs ys (h .1))
+
+pub same-length : (xs ys : List ℕ) → (length xs ≡ length ys → ⊥) → sameList xs ys ≡ false
+unfolding sameList
+same-length [] [] h = absurd (h refl)
+same-length [] (y ∷ ys) h = refl
+same-length (x ∷ xs) [] h = refl
+same-length (x ∷ xs) (y ∷ ys) h = rw (same-length xs ys (λ e. h (ap suc e))) (and-false (eqb x y))
+  where
+    and-false : (b : Bool) → b && false ≡ false
+    and-false true = refl
+    and-false false = refl
+
+-- a turn of the loop that compares: what is left decides
+same-step : (x y : ℕ) (xs ys : List ℕ) → x ≡ y → sameList (x ∷ xs) (y ∷ ys) ≡ sameList xs ys
+unfolding sameList
+same-step x y xs ys e = rw (eq-eqb x y e)
+
+same-stop : (x y : ℕ) (xs ys : List ℕ) → (x ≡ y → ⊥) → sameList (x ∷ xs) (y ∷ ys) ≡ false
+unfolding sameList
+same-stop x y xs ys e = rw (ne-eqb x y e)
+
+pub same-on : (xs ys : List ℕ) (i : ℕ) → i < length xs → i < length ys → getD xs i 0 ≡ getD ys i 0
+    → sameList (drop i xs) (drop i ys) ≡ sameList (drop (i + 1) xs) (drop (i + 1) ys)
+same-on xs ys i h l e =
+    ap (λ (r : List ℕ). sameList r (drop i ys)) (drop-cons xs i 0 h) ∙ ap (sameList (getD xs i 0 ∷ drop (suc i) xs)) (drop-cons ys i 0 l)
+    ∙ same-step (getD xs i 0) (getD ys i 0) (drop (suc i) xs) (drop (suc i) ys) e
+    ∙ ap (λ (k : ℕ). sameList (drop k xs) (drop k ys)) (sym (add-one i))
+
+pub same-off : (xs ys : List ℕ) (i : ℕ) → i < length xs → i < length ys → (getD xs i 0 ≡ getD ys i 0 → ⊥)
+    → sameList (drop i xs) (drop i ys) ≡ false
+same-off xs ys i h l e =
+    ap (λ (r : List ℕ). sameList r (drop i ys)) (drop-cons xs i 0 h) ∙ ap (sameList (getD xs i 0 ∷ drop (suc i) xs)) (drop-cons ys i 0 l)
+    ∙ same-stop (getD xs i 0) (getD ys i 0) (drop (suc i) xs) (drop (suc i) ys) e
+
+pub same-end : (xs ys : List ℕ) (i : ℕ) → length xs ≤ i → length xs ≡ length ys → sameList (drop i xs) (drop i ys) ≡ true
+same-end xs ys i h e =
+    ap (λ (r : List ℕ). sameList r (drop i ys)) (drop-of-length-le xs h) ∙ ap (sameList []) (drop-of-length-le ys {i = i} (omega arith)) ∙ same-refl []
+
+zero-step : (x : ℕ) (xs : List ℕ) → x ≡ 0 → allZero (x ∷ xs) ≡ allZero xs
+unfolding allZero
+zero-step x xs e = rw (eq-eqb x 0 e)
+
+zero-stop : (x : ℕ) (xs : List ℕ) → (x ≡ 0 → ⊥) → allZero (x ∷ xs) ≡ false
+unfolding allZero
+zero-stop x xs e = rw (ne-eqb x 0 e)
+
+pub zero-on : (xs : List ℕ) (i : ℕ) → i < length xs → getD xs i 0 ≡ 0 → allZero (drop i xs) ≡ allZero (drop (i + 1) xs)
+zero-on xs i h e =
+    ap allZero (drop-cons xs i 0 h) ∙ zero-step (getD xs i 0) (drop (suc i) xs) e ∙ ap (λ (k : ℕ). allZero (drop k xs)) (sym (add-one i))
+
+pub zero-off : (xs : List ℕ) (i : ℕ) → i < length xs → (getD xs i 0 ≡ 0 → ⊥) → allZero (drop i xs) ≡ false
+zero-off xs i h e = ap allZero (drop-cons xs i 0 h) ∙ zero-stop (getD xs i 0) (drop (suc i) xs) e
+
+pub zero-end : (xs : List ℕ) (i : ℕ) → length xs ≤ i → allZero (drop i xs) ≡ true
+unfolding allZero
+zero-end xs i h = ap allZero (drop-of-length-le xs h)
+
+-- all zero: these zeros
+pub zero-eq : (xs : List ℕ) → allZero xs ≡ true → xs ≡ zeros (length xs)
+unfolding allZero
+zero-eq [] e = refl
+zero-eq (x ∷ xs) e =
+    let h = both-true (eqb x 0) (allZero xs) e in
+    ap (λ (t : ℕ). t ∷ xs) (eqb-true x 0 (h .0)) ∙ ap {B = List ℕ} (λ r. 0 ∷ r) (zero-eq xs (h .1))
+
+pub zero-zeros : (k : ℕ) → allZero (zeros k) ≡ true
+unfolding allZero
+zero-zeros zero = refl
+zero-zeros (suc k) = zero-zeros k

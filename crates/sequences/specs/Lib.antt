@@ -1,0 +1,3 @@
+-- Lists of bytes: parts, places, runs and big-endian numbers.
+pub mod Lists
+pub mod Numbers

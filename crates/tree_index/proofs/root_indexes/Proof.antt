@@ -1,0 +1,84 @@
+-- `tree_index::root_indexes` meets its contract. The loop's invariant: of the bits from d upward the roots are there, and zeros behind them.
+-- The measure is d. Assumes nothing.
+use Prim.Native.Nat.{ℕ, _-_, _+_, _<_}
+use mathlib.Core.Path.{sym, subst}
+use mathlib.Core.List.{List}
+use native.Mathlib.Omega.{arith}
+use borrow.Author.Needs.{needs}
+use lib.Pow.{shr-le}
+use Rattle.tree_index.specs.Numbers.{numbers}
+use Rattle.tree_index.proofs.Numbers.{numbers-set}
+use Rattle.tree_index.proofs.Gathered.{Gathered, gathered-none, gathered-skip, gathered-room, gathered-root, gathered-all}
+use Rattle.tree_index.proofs.root_indexes.Statement.{statement}
+use Rattle.tree_index.proofs.root_indexes.Tie as tie
+
+abbrev Inv-loop : tie.InvT-loop
+Inv-loop n found₀ count₀ d₀ found count d = Gathered n d count (numbers found)
+
+abbrev μ-loop : tie.MeasureT-loop
+μ-loop n found₀ count₀ d₀ found count d = d
+
+loop-holds : tie.Need-loop-holds Inv-loop μ-loop
+unfolding numbers
+loop-holds c = gathered-none (c .args .n)
+
+sub-node-index : tie.Need-sub-node-index Inv-loop μ-loop
+sub-node-index c = omega arith
+
+node-index-requires : tie.Need-node-index-requires Inv-loop μ-loop
+node-index-requires c κs = omega (arith, shr-le (c .before .before .before .args .n) (c .before .before .loop .d - 1))
+
+room : (c : tie.After-node-index Inv-loop μ-loop) → c .before .before .before .loop .count < 20
+room c =
+    gathered-room (c .before .before .before .before .args .n) (c .before .before .before .loop .d) (c .before .before .before .loop .count)
+    (numbers (c .before .before .before .loop .found)) (c .before .before .before .loop .inv) (c .before .before .before .before .pre)
+    (c .before .before .loop-test .taken) (c .before .if1 .taken)
+
+mul-found : tie.Need-mul-found Inv-loop μ-loop
+mul-found c = omega (arith, room c)
+
+array-set-from-found : tie.Need-array-set-from-found Inv-loop μ-loop
+array-set-from-found c = room c
+
+add-count : tie.Need-add-count Inv-loop μ-loop
+add-count c = omega (arith, room c)
+
+loop-again : tie.Need-loop-again Inv-loop μ-loop
+loop-again c =
+    subst
+    (λ (l : List ℕ). Gathered (c .before .before .before .before .args .n) (c .before .before .before .loop .d - 1) (c .before .before .before .loop .count + 1) l)
+    (sym (numbers-set (c .before .before .before .loop .found) (c .before .before .before .loop .count) (c .node-index .result)))
+    (gathered-root (c .before .before .before .before .args .n) (c .before .before .before .loop .d) (c .before .before .before .loop .count)
+    (c .node-index .result .0) (numbers (c .before .before .before .loop .found)) (c .before .before .before .loop .inv) (c .before .before .before .before .pre)
+    (c .before .before .loop-test .taken) (c .before .if1 .taken) (c .node-index .ensures))
+
+loop-again-2 : tie.Need-loop-again-2 Inv-loop μ-loop
+loop-again-2 c =
+    gathered-skip (c .before .before .before .args .n) (c .before .before .loop .d) (c .before .before .loop .count)
+    (numbers (c .before .before .loop .found)) (c .before .before .loop .inv) (c .before .loop-test .taken) (omega arith)
+
+returns : tie.Need-returns Inv-loop μ-loop
+returns c =
+    gathered-all (c .before .before .args .n) (c .before .loop .d) (c .before .loop .count) (numbers (c .before .loop .found)) (c .before .loop .inv)
+    (c .loop-test .left)
+
+pub root-indexes-spec : {M : Type 1} → statement M
+root-indexes-spec =
+    tie.close
+    (tie.spec
+    Inv-loop
+    μ-loop
+    loop-holds
+    (λ c. search needs)
+    (λ c. search needs)
+    (λ c. search needs)
+    sub-node-index
+    node-index-requires
+    mul-found
+    array-set-from-found
+    add-count
+    (λ c. search needs)
+    loop-again
+    (λ c. search needs)
+    loop-again-2
+    returns)

@@ -1,0 +1,2 @@
+-- The proof of the worked cases.
+pub mod Table

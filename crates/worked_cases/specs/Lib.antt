@@ -1,0 +1,2 @@
+-- The scope's worked cases, marked [T].
+pub mod Table

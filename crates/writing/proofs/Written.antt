@@ -1,0 +1,78 @@
+-- Bytes written behind the used bytes of a buffer, and chunks behind a chunk sequence.
+-- Assumes nothing.
+use Prim.Native.Nat.{ℕ, zero, suc, _+_, _≤_, _<_}
+use mathlib.Core.Path.{_≡_, ap, _∙_}
+use mathlib.Core.List.{List, [], _∷_, _++_, append-nil, map, map-append}
+use native.Mathlib.Nat.{add-zero}
+use native.Mathlib.Omega.{arith}
+use lib.ListN.{length, getD, take, drop, length-append}
+use lib.Seq.{length-take-le, take-at}
+use Rattle.sequences.specs.Lists.{put, joined, total, Bytes}
+use Rattle.sequences.proofs.Lists.{take-behind, joined-append, drop-put}
+use Rattle.files.specs.Sizes.{mostChunks, longestChunk}
+use Rattle.files.specs.Images.{dataSize, dataImage}
+use Rattle.files.specs.Belongs.{Within}
+use Rattle.files.proofs.Spans.{total-append}
+
+-- ---- bytes
+
+-- what stands before a place and what is put there
+pub take-put-end : (xs : List ℕ) (at m : ℕ) (ys : List ℕ) → length ys ≡ m → at ≤ length xs → take (at + m) (put xs at ys) ≡ take at xs ++ ys
+unfolding put
+take-put-end xs at m ys e l =
+    take-behind (take at xs) (ys ++ drop (at + length ys) xs) at m (length-take-le at xs l)
+    ∙ ap (λ (r : List ℕ). take at xs ++ r) (take-at ys (drop (at + length ys) xs) m e)
+
+-- a header of m bytes put at the front
+pub take-header : (xs hs : List ℕ) (m : ℕ) → length hs ≡ m → take m (put xs 0 hs) ≡ hs
+unfolding put
+take-header xs hs m e = take-at hs (drop (0 + length hs) xs) m e
+
+pub drop-header : (xs hs : List ℕ) (m : ℕ) → length hs ≡ m → drop m (put xs 0 hs) ≡ drop m xs
+drop-header xs hs m e = drop-put m xs 0 hs (omega arith) (omega arith)
+
+-- lists one behind the other, with one more
+pub joined-snoc : (xss : List (List ℕ)) (xs : List ℕ) → joined (xss ++ (xs ∷ [])) ≡ joined xss ++ xs
+unfolding joined
+joined-snoc xss xs = joined-append xss (xs ∷ []) ∙ ap (λ (r : List ℕ). joined xss ++ r) (append-nil xs)
+
+-- ---- chunks
+
+pub length-snoc : (cs : List (List ℕ)) (c : List ℕ) → length (cs ++ (c ∷ [])) ≡ length cs + 1
+length-snoc cs c = length-append cs (c ∷ [])
+
+pub dataSize-snoc : (cs : List (List ℕ)) (c : List ℕ) → dataSize (cs ++ (c ∷ [])) ≡ dataSize cs + length c
+unfolding dataSize total
+dataSize-snoc cs c =
+    ap total (map-append length cs (c ∷ [])) ∙ total-append (map length cs) (length c ∷ [])
+    ∙ ap (λ (t : ℕ). total (map length cs) + t) (add-zero (length c))
+
+pub dataImage-snoc : (cs : List (List ℕ)) (c : List ℕ) → dataImage (cs ++ (c ∷ [])) ≡ dataImage cs ++ c
+unfolding dataImage
+dataImage-snoc cs c = joined-snoc cs c
+
+-- what holds of each chunk of a sequence and of one more
+pub each-snoc : (P : List ℕ → Type 0) (cs : List (List ℕ)) (c : List ℕ) → ((k : ℕ) → P (getD cs k [])) → P c → (k : ℕ) → P (getD (cs ++ (c ∷ [])) k [])
+each-snoc P [] c h p zero = p
+each-snoc P [] c h p (suc k) = h k
+each-snoc P (x ∷ cs) c h p zero = h 0
+each-snoc P (x ∷ cs) c h p (suc k) = each-snoc P cs c (λ j. h (suc j)) p k
+
+-- the same of those below its length
+pub each-below-snoc : (P : List ℕ → Type 0) (cs : List (List ℕ)) (c : List ℕ) → ((k : ℕ) → k < length cs → P (getD cs k [])) → P c
+    → (k : ℕ) → k < length (cs ++ (c ∷ [])) → P (getD (cs ++ (c ∷ [])) k [])
+each-below-snoc P [] c h p zero l = p
+each-below-snoc P [] c h p (suc k) l = absurd (omega arith)
+each-below-snoc P (x ∷ cs) c h p zero l = h 0 (omega arith)
+each-below-snoc P (x ∷ cs) c h p (suc k) l = each-below-snoc P cs c (λ j g. h (suc j) (omega arith)) p k (omega arith)
+
+pub within-snoc : (cs : List (List ℕ)) (c : List ℕ) → Within cs → length cs < mostChunks → length c ≤ longestChunk → Bytes c → Within (cs ++ (c ∷ []))
+within-snoc cs c w h l p =
+    record {
+      count = omega (arith, length-snoc cs c);
+      short = each-snoc (λ (x : List ℕ). length x ≤ longestChunk) cs c (w .short) l;
+      bytes = each-snoc Bytes cs c (w .bytes) p;
+    }
+
+pub within-nil : Within []
+within-nil = record { count = omega arith; short = λ k. omega arith; bytes = λ k i. omega arith }

@@ -1,0 +1,34 @@
+-- `writing::appending::judge` meets its contract. Assumes nothing.
+use borrow.Author.Needs.{needs}
+use Rattle.counts.specs.Verdict.{done}
+use Rattle.counts.specs.Said.{said}
+use Rattle.files.specs.Belongs.{Register}
+use Rattle.checks.specs.Checks.{judged, laterChecks}
+use Rattle.checks.specs.Given.{registerOf}
+use Rattle.writing.specs.Inner.{ownChecks}
+use Rattle.writing.proofs.Answers.{data-inside}
+use Rattle.writing.proofs.Orders.{append-over, append-within, refused-before, passed-before}
+use Rattle.writing.proofs.appending.judge.Statement.{statement}
+use Rattle.writing.proofs.appending.judge.Tie as tie
+
+abbrev given : (c : tie.Start) → Register
+given c =
+    registerOf (c .args .tree .now) (c .args .signatures .now) (c .args .bitfield .now) (c .args .content .now) (c .args .n) (c .args .s)
+    (c .args .size)
+
+returns : tie.Need-returns
+returns c = append-over (given (c .before .before .before .before .before .before .before)) (c .before .before .before .before .before .before .before .args .chunk .now) (said (c .refuse .result)) (c .before .if1 .taken) (c .refuse .ensures)
+
+judge-own-requires : tie.Need-judge-own-requires
+judge-own-requires c κs = (c .before .before .before .if1 .left, data-inside (given (c .before .before .before .before .before .before .before .before .before)) (c .before .before .judge-later .result) (c .enum-told .given .1) (c .before .before .judge-later .ensures))
+
+returns-2 : tie.Need-returns-2
+returns-2 c = append-within (given (c .before .before .before .before .before .before .before .before .before .before)) (c .before .before .before .before .before .before .before .before .before .before .args .chunk .now) _ (c .before .before .before .before .if1 .left) (refused-before (laterChecks (given (c .before .before .before .before .before .before .before .before .before .before))) (judged (ownChecks (given (c .before .before .before .before .before .before .before .before .before .before)) (c .before .before .before .before .before .before .before .before .before .before .args .chunk .now)) done) (c .before .before .before .judge-later .result) (c .before .found .given .0 .0) (c .before .found .given .1) (c .before .before .before .judge-later .ensures))
+
+returns-3 : tie.Need-returns-3
+returns-3 c = append-within (given (c .before .before .before .before .before .before .before .before .before .before)) (c .before .before .before .before .before .before .before .before .before .before .args .chunk .now) _ (c .before .before .before .before .if1 .left) (passed-before (laterChecks (given (c .before .before .before .before .before .before .before .before .before .before))) (said (c .judge-own .result)) (judged (ownChecks (given (c .before .before .before .before .before .before .before .before .before .before)) (c .before .before .before .before .before .before .before .before .before .before .args .chunk .now)) done) (c .before .before .before .judge-later .result) (c .before .enum-told .given .1) (c .before .before .before .judge-later .ensures) (c .judge-own .ensures))
+
+pub judge-spec : {M : Type 1} → statement M
+judge-spec =
+    tie.close
+    (tie.spec (λ c κs. search needs) returns (λ c κs. search needs) (λ c. search needs) (λ c. search needs) judge-own-requires returns-2 returns-3)

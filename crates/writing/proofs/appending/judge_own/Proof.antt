@@ -1,0 +1,41 @@
+-- `writing::appending::judge_own` meets its contract: each number is refused where those before it are passed. Assumes nothing.
+use mathlib.Core.Bool.{true, false}
+use mathlib.Core.Path.{refl}
+use borrow.Author.Needs.{needs}
+use borrow.Author.Tests.{le-leb, lt-leb, eq-eqb, ne-eqb}
+use Rattle.counts.specs.Verdict.{done}
+use Rattle.counts.specs.Said.{said}
+use Rattle.files.specs.Belongs.{Register}
+use Rattle.checks.specs.Given.{registerOf}
+use Rattle.checks.proofs.Steps.{short-of, long-of}
+use Rattle.writing.proofs.Orders.{own-answered}
+use Rattle.writing.proofs.appending.judge_own.Statement.{statement}
+use Rattle.writing.proofs.appending.judge_own.Tie as tie
+
+abbrev given : (c : tie.Start) → Register
+given c =
+    registerOf (c .args .tree .now) (c .args .signatures .now) (c .args .bitfield .now) (c .args .content .now) (c .args .n) (c .args .s)
+    (c .args .size)
+
+returns : tie.Need-returns
+returns c = own-answered (given (c .before .before .before .before .before .before .before)) (c .before .before .before .before .before .before .before .args .chunk .now) (said (c .refuse .result)) false _ _ _ _ (lt-leb _ _ (c .before .if1 .taken)) refl refl refl refl (c .refuse .ensures)
+
+returns-2 : tie.Need-returns-2
+returns-2 c = own-answered (given (c .before .before .before .before .before .before .before .before)) (c .before .before .before .before .before .before .before .before .args .chunk .now) (said (c .refuse2 .result)) true false _ _ _ (le-leb _ _ (c .before .before .if1 .left)) (ne-eqb _ _ (c .before .if2 .taken)) refl refl refl (c .refuse2 .ensures)
+
+returns-3 : tie.Need-returns-3
+returns-3 c = let a = c .before .before .before .before .before .before .before .before .before .before .args in own-answered (given (c .before .before .before .before .before .before .before .before .before .before)) (a .chunk .now) (said (c .refuse3 .result)) true true false _ _ (le-leb _ _ (c .before .before .before .before .if1 .left)) (eq-eqb _ _ (c .before .before .before .if2 .left)) (short-of (a .tree .now) (c .before .before .used-tree .ensures) (c .before .if3 .taken)) refl refl (c .refuse3 .ensures)
+
+returns-4 : tie.Need-returns-4
+returns-4 c = let a = c .before .before .before .before .before .before .before .before .before .before .before .before .args in own-answered (given (c .before .before .before .before .before .before .before .before .before .before .before .before)) (a .chunk .now) (said (c .refuse4 .result)) true true true false _ (le-leb _ _ (c .before .before .before .before .before .before .if1 .left)) (eq-eqb _ _ (c .before .before .before .before .before .if2 .left)) (long-of (a .tree .now) (c .before .before .before .before .used-tree .ensures) (c .before .before .before .if3 .left)) (short-of (a .bitfield .now) (c .before .before .used-bitfield .ensures) (c .before .if4 .taken)) refl (c .refuse4 .ensures)
+
+returns-5 : tie.Need-returns-5
+returns-5 c = let a = c .before .before .before .before .before .before .before .before .before .before .before .before .before .args in own-answered (given (c .before .before .before .before .before .before .before .before .before .before .before .before .before)) (a .chunk .now) (said (c .refuse5 .result)) true true true true false (le-leb _ _ (c .before .before .before .before .before .before .before .if1 .left)) (eq-eqb _ _ (c .before .before .before .before .before .before .if2 .left)) (long-of (a .tree .now) (c .before .before .before .before .before .used-tree .ensures) (c .before .before .before .before .if3 .left)) (long-of (a .bitfield .now) (c .before .before .before .used-bitfield .ensures) (c .before .before .if4 .left)) (lt-leb _ _ (c .before .if5 .taken)) (c .refuse5 .ensures)
+
+returns-6 : tie.Need-returns-6
+returns-6 c = let a = c .before .before .before .before .before .before .before .before .before .before .before .before .args in own-answered (given (c .before .before .before .before .before .before .before .before .before .before .before .before)) (a .chunk .now) done true true true true true (le-leb _ _ (c .before .before .before .before .before .before .if1 .left)) (eq-eqb _ _ (c .before .before .before .before .before .if2 .left)) (long-of (a .tree .now) (c .before .before .before .before .used-tree .ensures) (c .before .before .before .if3 .left)) (long-of (a .bitfield .now) (c .before .before .used-bitfield .ensures) (c .before .if4 .left)) (le-leb _ _ (c .if5 .left)) refl
+
+pub judge-own-spec : {M : Type 1} → statement M
+judge-own-spec =
+    tie.close
+    (tie.spec (λ c κs. search needs) returns (λ c κs. search needs) returns-2 (λ c. search needs) (λ c κs. search needs) (λ c κs. search needs) returns-3 (λ c. search needs) (λ c κs. search needs) (λ c κs. search needs) returns-4 (λ c. search needs) (λ c κs. search needs) returns-5 returns-6)

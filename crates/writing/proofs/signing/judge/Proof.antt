@@ -1,0 +1,31 @@
+-- `writing::signing::judge` meets its contract. Assumes nothing.
+use borrow.Author.Needs.{needs}
+use Rattle.counts.specs.Verdict.{done}
+use Rattle.counts.specs.Said.{said}
+use Rattle.files.specs.Belongs.{Register}
+use Rattle.checks.specs.Checks.{judged, registerChecks}
+use Rattle.checks.specs.Given.{registerOf}
+use Rattle.writing.specs.Inner.{ownSignChecks}
+use Rattle.writing.proofs.Answers.{counts-right}
+use Rattle.writing.proofs.Orders.{sign-by, refused-before, passed-before}
+use Rattle.writing.proofs.signing.judge.Statement.{statement}
+use Rattle.writing.proofs.signing.judge.Tie as tie
+
+abbrev given : (c : tie.Start) → Register
+given c =
+    registerOf (c .args .tree .now) (c .args .signatures .now) (c .args .bitfield .now) (c .args .content .now) (c .args .n) (c .args .s)
+    (c .args .size)
+
+judge-own-requires : tie.Need-judge-own-requires
+judge-own-requires c κs = counts-right (given (c .before .before .before .before .before .before .before)) (c .before .before .judge .result) (c .enum-told .given .1) (c .before .before .judge .ensures)
+
+returns : tie.Need-returns
+returns c = let a = c .before .before .before .before .before .before .before .before .args in sign-by (given (c .before .before .before .before .before .before .before .before)) _ (refused-before (registerChecks (given (c .before .before .before .before .before .before .before .before))) (judged (ownSignChecks (a .signatures .now) (a .n) (a .s)) done) (c .before .before .before .judge .result) (c .before .found .given .0 .0) (c .before .found .given .1) (c .before .before .before .judge .ensures))
+
+returns-2 : tie.Need-returns-2
+returns-2 c = let a = c .before .before .before .before .before .before .before .before .args in sign-by (given (c .before .before .before .before .before .before .before .before)) _ (passed-before (registerChecks (given (c .before .before .before .before .before .before .before .before))) (said (c .judge-own .result)) (judged (ownSignChecks (a .signatures .now) (a .n) (a .s)) done) (c .before .before .before .judge .result) (c .before .enum-told .given .1) (c .before .before .before .judge .ensures) (c .judge-own .ensures))
+
+pub judge-spec : {M : Type 1} → statement M
+judge-spec =
+    tie.close
+    (tie.spec (λ c κs. search needs) (λ c. search needs) (λ c. search needs) judge-own-requires returns returns-2)

@@ -1,0 +1,31 @@
+-- `writing::signing::store_signature` meets its contract. Assumes nothing.
+use native.Mathlib.Omega.{arith}
+use borrow.Author.Needs.{needs}
+use Rattle.files.specs.Belongs.{Register}
+use Rattle.checks.specs.Given.{registerOf}
+use Rattle.writing.proofs.Answers.{sign-fits, sign-not, sign-done}
+use Rattle.writing.proofs.signing.store_signature.Statement.{statement}
+use Rattle.writing.proofs.signing.store_signature.Tie as tie
+
+abbrev given : (c : tie.Start) → Register
+given c =
+    registerOf (c .args .tree .now) (c .args .signatures .now) (c .args .bitfield .now) (c .args .content .now) (c .args .n) (c .args .s)
+    (c .args .size)
+
+used-signatures-requires : tie.Need-used-signatures-requires
+used-signatures-requires c κs = sign-fits (given (c .before .before .before .before .before .before .before .before)) (c .before .before .judge .result) (c .enum-told .given .1) (c .before .before .judge .ensures) .0
+
+copy-to-requires : tie.Need-copy-to-requires
+copy-to-requires c κs =
+    omega (arith, c .before .before .used-signatures .ensures, sign-fits (given (c .before .before .before .before .before .before .before .before .before .before .before)) (c .before .before .before .before .before .judge .result) (c .before .before .before .enum-told .given .1) (c .before .before .before .before .before .judge .ensures) .1)
+
+returns : tie.Need-returns
+returns c = sign-not (given (c .before .before .before .before .before .before .before .before .before)) (c .before .before .before .before .before .before .before .before .before .args .signature .now) (c .before .before .before .judge .result) (c .before .found .given .0 .0) (c .before .found .given .1) (c .before .before .before .judge .ensures)
+
+returns-2 : tie.Need-returns-2
+returns-2 c = sign-done (given (c .before .before .before .before .before .before .before .before .before .before .before .before .before .before)) (c .before .before .before .before .before .before .before .before .before .before .before .before .before .before .args .signature .now) _ _ (c .before .before .before .before .before .before .before .before .judge .result) (c .before .before .before .before .before .before .enum-told .given .1) (c .before .before .before .before .before .before .before .before .judge .ensures) (c .before .before .before .before .before .used-signatures .ensures) (c .before .before .copy-to .ensures)
+
+pub store-signature-spec : {M : Type 1} → statement M
+store-signature-spec =
+    tie.close
+    (tie.spec (λ c κs. search needs) (λ c. search needs) (λ c. search needs) used-signatures-requires copy-to-requires (λ c. search needs) returns (λ c. search needs) returns-2)

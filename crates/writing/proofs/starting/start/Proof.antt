@@ -1,0 +1,29 @@
+-- `writing::starting::start` meets its contract. Assumes nothing.
+use native.Mathlib.Omega.{arith}
+use borrow.Author.Needs.{needs}
+use Rattle.files.specs.Belongs.{Buffers}
+use Rattle.counts.specs.Said.{said}
+use Rattle.writing.specs.Post.{lent}
+use Rattle.writing.proofs.Answers.{start-not, start-done}
+use Rattle.writing.proofs.starting.start.Statement.{statement}
+use Rattle.writing.proofs.starting.start.Tie as tie
+
+abbrev given : (c : tie.Start) → Buffers
+given c = lent (c .args .tree .now) (c .args .signatures .now) (c .args .bitfield .now) (c .args .content .now)
+
+returns : tie.Need-returns
+returns c = start-not (given (c .before .before .before .before .before .before)) (said (c .refuse .result)) (λ f. omega (arith, f .tree, c .before .if1 .taken)) (c .refuse .ensures)
+
+returns-2 : tie.Need-returns-2
+returns-2 c = start-not (given (c .before .before .before .before .before .before .before)) (said (c .refuse2 .result)) (λ f. omega (arith, f .signatures, c .before .if2 .taken)) (c .refuse2 .ensures)
+
+returns-3 : tie.Need-returns-3
+returns-3 c = start-not (given (c .before .before .before .before .before .before .before .before)) (said (c .refuse3 .result)) (λ f. omega (arith, f .bitfield, c .before .if3 .taken)) (c .refuse3 .ensures)
+
+returns-4 : tie.Need-returns-4
+returns-4 c = let a = c .before .before .before .before .before .before .before .before .before .before .before .before .before .before .before .before .before .args in start-done (a .tree .now) (a .signatures .now) (a .bitfield .now) (a .content .now) _ _ _ (record { tree = c .before .before .before .before .before .before .before .before .before .before .before .before .if1 .left; signatures = c .before .before .before .before .before .before .before .before .before .before .before .if2 .left; bitfield = c .before .before .before .before .before .before .before .before .before .before .if3 .left }) (c .before .before .before .before .before .before .write-headers .ensures)
+
+pub start-spec : {M : Type 1} → statement M
+start-spec =
+    tie.close
+    (tie.spec (λ c κs. search needs) returns (λ c κs. search needs) returns-2 (λ c κs. search needs) returns-3 (λ c κs. search needs) (λ c. search needs) (λ c. search needs) (λ c. search needs) returns-4)

@@ -1,0 +1,87 @@
+-- What the inner functions require and ensure.
+use Prim.Native.Nat.{ℕ, _+_, _-_, _/_, _^_, _≤_, _<_}
+use mathlib.Core.Path.{_≡_}
+use mathlib.Core.Bool.{not}
+use mathlib.Core.List.{List, [], _∷_}
+use lib.ListN.{length}
+use lib.Dec.{leb, eqb}
+use Rattle.sequences.specs.Lists.{put, total}
+use Rattle.tree_index.specs.Tree.{index, completed}
+use Rattle.bitfield.specs.Append.{appended}
+use Rattle.blake2b.specs.Hash.{nodeHash}
+use Rattle.files.specs.Headers.{treeHeader, signaturesHeader, bitfieldHeader}
+use Rattle.files.specs.Sizes.{mostChunks, longestChunk, usedTree, usedSignatures, usedBitfield}
+use Rattle.files.specs.Nodes.{Entry}
+use Rattle.files.specs.Stored.{storedSize, storedRootSizes, storedRootMessage}
+use Rattle.files.specs.Belongs.{Register}
+use Rattle.checks.specs.Checks.{Check, holds}
+use Rattle.writing.specs.Append.{sibling, appendedTree}
+use Rattle.writing.specs.declared.appending.Node.{Node}
+
+-- ---- the numbers behind 6
+
+-- 7, 8 and 14 of an append
+unfoldable pub ownChecks : Register → List ℕ → List Check
+ownChecks r chunk =
+    record { number = 7; right = leb (length chunk) longestChunk }
+    ∷ record { number = 8; right = eqb (r .s) (r .n) }
+    ∷ record { number = 14; right = holds (r .tree) (usedTree (r .n + 1)) }
+    ∷ record { number = 14; right = holds (r .bitfield) (usedBitfield (r .n + 1)) }
+    ∷ record { number = 14; right = holds (r .content) (r .size + length chunk) } ∷ []
+
+-- 8 and 14 of a signature that is stored
+unfoldable pub ownSignChecks : List ℕ → ℕ → ℕ → List Check
+ownSignChecks signatures n s =
+    record { number = 8; right = not (eqb s n) } ∷ record { number = 14; right = holds signatures (usedSignatures (s + 1)) } ∷ []
+
+-- ---- a start
+
+-- the tree, the signatures and the bitfield before, and the same three after
+pub record HeadersPut (t g b t' g' b' : List ℕ) : Type 0 where
+  pub tree : t' ≡ put t 0 treeHeader
+  pub signatures : g' ≡ put g 0 signaturesHeader
+  pub bitfield : b' ≡ put b 0 bitfieldHeader
+
+-- ---- an append
+
+-- the node of the 2^d chunks that end with the chunk n
+unfoldable pub place : ℕ → ℕ → ℕ
+place n d = index d ((n + 1) / 2 ^ d - 1)
+
+-- what a node by value holds
+abbrev pub entryOf : Node → Entry
+entryOf e = record { hash = e .hash; size = e .size }
+
+-- the chunk n completes a node at the depth d, and the tree file has room for the entries of n + 1 chunks
+pub record NodeFits (tree : List ℕ) (n d : ℕ) : Type 0 where
+  pub few : n < mostChunks
+  pub depth : d ≤ completed n
+  pub room : usedTree (n + 1) ≤ length tree
+
+-- it completes one at the depth above too, and the length of that one fits
+pub record AboveFits (tree : List ℕ) (n d size : ℕ) : Type 0 where
+  pub few : n < mostChunks
+  pub depth : d < completed n
+  pub room : usedTree (n + 1) ≤ length tree
+  pub sum : storedSize tree (sibling n d) + size < 2 ^ 64
+
+-- the lengths of the stored roots and of a leaf fit together
+pub record FilledFits (tree : List ℕ) (n size : ℕ) : Type 0 where
+  pub few : n < mostChunks
+  pub room : usedTree (n + 1) ≤ length tree
+  pub sum : total (storedRootSizes tree n) + size < 2 ^ 64
+
+-- what the checks of an append found of the tree t, the bitfield b and the data c
+pub record StoreFits (t b c : List ℕ) (n size : ℕ) (chunk : List ℕ) : Type 0 where
+  pub few : n < mostChunks
+  pub tree : usedTree (n + 1) ≤ length t
+  pub bitfield : usedBitfield (n + 1) ≤ length b
+  pub content : size + length chunk ≤ length c
+  pub sum : total (storedRootSizes t n) ≡ size
+
+-- what it leaves of the three then, and the root hash h that it answers
+pub record StorePost (t b c : List ℕ) (n size : ℕ) (chunk h t' b' c' : List ℕ) : Type 0 where
+  pub tree : t' ≡ appendedTree nodeHash t n chunk
+  pub bitfield : b' ≡ appended b n
+  pub content : c' ≡ put c size chunk
+  pub root : h ≡ nodeHash (storedRootMessage (appendedTree nodeHash t n chunk) (n + 1))

@@ -1,0 +1,37 @@
+-- Storing a signature: 64 bytes, unread, behind the s signatures that are there.
+use Prim.Native.Nat.{ℕ, _+_}
+use mathlib.Core.Bool.{not}
+use mathlib.Core.List.{List, [], _∷_, _++_}
+use lib.Dec.{eqb}
+use Rattle.counts.specs.Verdict.{Verdict, done}
+use Rattle.sequences.specs.Lists.{put}
+use Rattle.files.specs.Sizes.{usedSignatures}
+use Rattle.files.specs.Belongs.{Buffers, Register, buffersOf}
+use Rattle.checks.specs.Checks.{Check, judged, registerChecks, holds}
+use Rattle.writing.specs.Start.{unlessRefused}
+
+-- numbers 2 to 6; "8. .. a signature is offered while s = n"; 14 for the signatures
+unfoldable pub signChecks : Register → List Check
+signChecks r =
+    registerChecks r
+    ++ (record { number = 8; right = not (eqb (r .s) (r .n)) }
+    ∷ record { number = 14; right = holds (r .signatures) (usedSignatures (r .s + 1)) } ∷ [])
+
+unfoldable pub signVerdict : Register → Verdict
+signVerdict r = judged (signChecks r) done
+
+-- the register after one stored signature
+unfoldable pub signedRegister : Register → List ℕ → Register
+signedRegister r signature =
+    record {
+      tree = r .tree;
+      signatures = put (r .signatures) (usedSignatures (r .s)) signature;
+      bitfield = r .bitfield;
+      content = r .content;
+      n = r .n;
+      s = r .s + 1;
+      size = r .size;
+    }
+
+unfoldable pub afterSign : Register → List ℕ → Buffers
+afterSign r signature = unlessRefused (signVerdict r) (buffersOf (signedRegister r signature)) (buffersOf r)

@@ -1,0 +1,79 @@
+// Storing a signature: 64 bytes from a signing device, unread, behind the signatures that are there.
+use counts::Answer;
+ghost use mathlib.Core.Path.{_≡_};
+ghost use Prim.Native.Nat.{_+_, _≤_};
+ghost use Rattle.counts.specs.Verdict.{done};
+ghost use Rattle.counts.specs.Said.{said};
+ghost use Rattle.checks.specs.Checks.{judged};
+ghost use Rattle.checks.specs.Given.{registerOf};
+ghost use Rattle.writing.specs.Sign.{signVerdict};
+ghost use Rattle.writing.specs.Inner.{ownSignChecks};
+ghost use Rattle.writing.specs.Post.{lent, SignPost};
+
+// Inner: the numbers 8 and 14, of counts that pass 2 and 3.
+fn judge_own(signatures: &[u8], n: u64, s: u64) -> Answer
+    requires { ⌜ (n ≤ 1048576) × (s ≤ n) ⌝ }
+    ensures { λ r. ⌜ said r ≡ judged (ownSignChecks (now (signatures .entry)) n s) done ⌝ }
+{
+    if s == n {
+        return counts::refuse(8);
+    }
+    if signatures.len() < files::sizes::used_signatures(s + 1) {
+        return counts::refuse(14);
+    }
+    Answer::Done
+}
+
+// All checks of a signature that is offered. They only read.
+fn judge(
+    tree: &[u8],
+    signatures: &[u8],
+    bitfield: &[u8],
+    content: &[u8],
+    n: u64,
+    s: u64,
+    size: u64,
+) -> Answer
+    ensures { λ r.
+        ⌜
+        said r ≡
+        signVerdict
+        (registerOf (now (tree .entry)) (now (signatures .entry)) (now (bitfield .entry)) (now (content .entry)) n s size)
+        ⌝ }
+{
+    let found = checks::judge(tree, signatures, bitfield, content, n, s, size);
+    match found {
+        Answer::Refused(refusal) => Answer::Refused(refusal),
+        Answer::Done => judge_own(signatures, n, s),
+    }
+}
+
+// The signature of the newest chunk, which is owed where s is n - 1.
+pub fn store_signature(
+    tree: &[u8],
+    signatures: &mut [u8],
+    bitfield: &[u8],
+    content: &[u8],
+    n: u64,
+    s: u64,
+    size: u64,
+    signature: &[u8; 64],
+) -> Answer
+    ensures { λ r.
+        ⌜
+        SignPost
+        (registerOf (now (tree .entry)) (now (signatures .entry)) (now (bitfield .entry)) (now (content .entry)) n s size)
+        (now (signature .entry)) (said r)
+        (lent (now (tree .exit)) (now (signatures .exit)) (now (bitfield .exit)) (now (content .exit)))
+        ⌝ }
+{
+    let found = judge(tree, signatures, bitfield, content, n, s, size);
+    match found {
+        Answer::Refused(refusal) => Answer::Refused(refusal),
+        Answer::Done => {
+            let at = files::sizes::used_signatures(s);
+            sequences::copy_to(signatures, at, signature);
+            Answer::Done
+        }
+    }
+}

@@ -17,6 +17,20 @@ pub struct Refusal {
     pub place: Place,
 }
 
+/// What the comparing walk answers. `Equal` says that both registers hold the same chunks in the same order.
+#[derive(Clone, Copy, Debug, PartialEq, Eq)]
+pub enum Comparison {
+    Equal,
+    RootsDiffer,
+    CollisionAtRoots,
+    CollisionAtIndex(u64),
+    FirstRefused(Refusal),
+    SecondRefused(Refusal),
+}
+
+/// What a packet has beside its chunk's bytes, at most.
+pub const PACKET_EXTRA: usize = 1526;
+
 /// Two numbers that a lookup gives: start and length, or chunk number and offset within the chunk.
 pub type Pair = (u64, u64);
 
@@ -51,11 +65,18 @@ struct Answer {
     place: u64,
 }
 
+#[repr(C)]
+struct Compared {
+    outcome: u64,
+    answer: Answer,
+}
+
 type In = *const u8;
 type Out = *mut u8;
 
 extern "C" {
     fn sleep_hash(length: u64, message: In, message_length: usize, digest: Out) -> u64;
+    fn sleep_hash_parts(prefix: In, prefix_length: usize, body: In, body_length: usize, out: Out);
     fn sleep_start(t: Out, tl: usize, g: Out, gl: usize, b: Out, bl: usize, d: In, dl: usize) -> Answer;
     #[rustfmt::skip]
     fn sleep_append(t: Out, tl: usize, g: In, gl: usize, b: Out, bl: usize, d: Out, dl: usize, n: u64, s: u64, size: u64,
@@ -77,19 +98,30 @@ extern "C" {
     #[rustfmt::skip]
     fn sleep_read(t: In, tl: usize, g: In, gl: usize, b: In, bl: usize, d: In, dl: usize, n: u64, s: u64, size: u64,
         chunk: u64, out: *mut u64) -> Answer;
+    #[rustfmt::skip]
+    fn sleep_make_packet(t: In, tl: usize, g: In, gl: usize, b: In, bl: usize, d: In, dl: usize, n: u64, s: u64, size: u64,
+        chunk: u64, out: Out, out_length: usize, length: *mut u64) -> Answer;
+    fn sleep_check_packet(packet: In, packet_length: usize, n: u64, chunk: u64, root: In, out: *mut u64) -> Answer;
+    #[rustfmt::skip]
+    fn sleep_compare(t: In, tl: usize, g: In, gl: usize, b: In, bl: usize, d: In, dl: usize, n: u64, s: u64, size: u64,
+        t2: In, tl2: usize, g2: In, gl2: usize, b2: In, bl2: usize, d2: In, dl2: usize, n2: u64, s2: u64, size2: u64) -> Compared;
 }
 
 impl Answer {
-    fn result<T>(self, given: T) -> Result<T, Refusal> {
-        if self.number == 0 {
-            return Ok(given);
-        }
+    fn refusal(self) -> Refusal {
         let place = match self.place_kind {
             1 => Place::TreeIndex(self.place),
             2 => Place::BitfieldByte(self.place),
             _ => Place::None,
         };
-        Err(Refusal { number: self.number, place })
+        Refusal { number: self.number, place }
+    }
+
+    fn result<T>(self, given: T) -> Result<T, Refusal> {
+        match self.number {
+            0 => Ok(given),
+            _ => Err(self.refusal()),
+        }
     }
 }
 
@@ -99,6 +131,27 @@ pub fn hash(length: u64, message: &[u8]) -> Result<[u8; 64], Refusal> {
     // The pointers are of slices with these lengths, as in every call below.
     let number = unsafe { sleep_hash(length, message.as_ptr(), message.len(), digest.as_mut_ptr()) };
     Answer { number, place_kind: 0, place: 0 }.result(digest)
+}
+
+/// BLAKE2b with 32 bytes of output, of a message in two parts.
+pub fn hash_parts(prefix: &[u8], body: &[u8]) -> [u8; 32] {
+    let mut out = [0; 32];
+    unsafe { sleep_hash_parts(prefix.as_ptr(), prefix.len(), body.as_ptr(), body.len(), out.as_mut_ptr()) };
+    out
+}
+
+/// The chunk in a packet that shows it to be chunk number `chunk` of the `n` chunks under a root hash.
+pub fn check_packet<'a>(packet: &'a [u8], n: u64, chunk: u64, root: &[u8; 32]) -> Result<&'a [u8], Refusal> {
+    let mut out = [0; 2];
+    let answer = unsafe { sleep_check_packet(packet.as_ptr(), packet.len(), n, chunk, root.as_ptr(), out.as_mut_ptr()) };
+    answer.result(())?;
+    Ok(part(packet, out))
+}
+
+/// A part of a slice, by its offset and its length.
+fn part(whole: &[u8], out: [u64; 2]) -> &[u8] {
+    let (start, length) = (out[0] as usize, out[1] as usize);
+    &whole[start..start + length]
 }
 
 /// A call on a register that is only read: the four slices and the three numbers come first.
@@ -143,8 +196,31 @@ impl<'a> Register<'a> {
         let mut out = [0; 2];
         let answer = reading!(sleep_read, self, chunk, out.as_mut_ptr());
         answer.result(())?;
-        let (start, length) = (out[0] as usize, out[1] as usize);
-        Ok(&self.data[start..start + length])
+        Ok(part(self.data, out))
+    }
+
+    /// The packet of a chunk at the front of `out`; its length.
+    pub fn make_packet(&self, chunk: u64, out: &mut [u8]) -> Result<usize, Refusal> {
+        let mut length = 0;
+        let answer = reading!(sleep_make_packet, self, chunk, out.as_mut_ptr(), out.len(), &mut length);
+        answer.result(())?;
+        Ok(length as usize)
+    }
+
+    /// The audit of both registers, and then the comparing walk.
+    pub fn compare(&self, second: &Register) -> Comparison {
+        let b = second;
+        #[rustfmt::skip]
+        let said = reading!(sleep_compare, self, b.tree.as_ptr(), b.tree.len(), b.signatures.as_ptr(), b.signatures.len(),
+            b.bitfield.as_ptr(), b.bitfield.len(), b.data.as_ptr(), b.data.len(), b.n, b.s, b.size);
+        match said.outcome {
+            0 => Comparison::Equal,
+            1 => Comparison::RootsDiffer,
+            2 => Comparison::CollisionAtRoots,
+            3 => Comparison::CollisionAtIndex(said.answer.place),
+            4 => Comparison::FirstRefused(said.answer.refusal()),
+            _ => Comparison::SecondRefused(said.answer.refusal()),
+        }
     }
 }
 

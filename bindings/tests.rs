@@ -1,7 +1,7 @@
 //! The wrapper over the proved library, called as a program would. `tests/run` builds and runs it.
 mod sleep_register;
 
-use sleep_register::{hash, Place, Refusal, Store};
+use sleep_register::{check_packet, hash, hash_parts, Comparison, Place, Refusal, Store, PACKET_EXTRA};
 
 fn refused<T>(number: u64, place: Place) -> Result<T, Refusal> {
     Err(Refusal { number, place })
@@ -65,4 +65,55 @@ fn hash_lengths() {
     assert_eq!(hash(65, b"abc"), refused(1, Place::None));
     assert_eq!(hash(64, b"abc").unwrap()[..4], [0xba, 0x80, 0xa5, 0x3f]);
     assert_eq!(hash(32, b"abc").unwrap()[32..], [0; 32]);
+}
+
+#[test]
+fn a_message_in_two_parts() {
+    let whole = hash(32, b"abcdef").unwrap();
+    for cut in 0..=6 {
+        let (prefix, body) = b"abcdef".split_at(cut);
+        assert_eq!(hash_parts(prefix, body), whole[..32]);
+    }
+}
+
+#[test]
+fn packets_show_every_chunk() {
+    let chunks: Vec<Vec<u8>> = (0..7u8).map(|k| vec![k; k as usize]).collect();
+    let store = filled(&chunks.iter().map(|chunk| &chunk[..]).collect::<Vec<_>>());
+    let root = store.register().root_hash().unwrap();
+    let mut packet = vec![0; 6 + PACKET_EXTRA];
+    for (i, chunk) in (0..).zip(&chunks) {
+        let length = store.register().make_packet(i, &mut packet).unwrap();
+        assert_eq!(check_packet(&packet[..length], 7, i, &root), Ok(&chunk[..]));
+        assert_eq!(check_packet(&packet[..length - 1], 7, i, &root), refused(12, Place::None));
+        assert_eq!(check_packet(&packet[..length], 7, i, &[0; 32]), refused(13, Place::None));
+        assert_eq!(check_packet(&packet[..length], 7, 7, &root), refused(9, Place::None));
+    }
+    assert_eq!(check_packet(&[], 1048577, 0, &root), refused(2, Place::None));
+}
+
+#[test]
+fn a_refused_packet_is_not_written() {
+    let mut store = filled(&[b"AB", b"", b"CDE"]);
+    let mut out = [9; 54];
+    assert_eq!(store.register().make_packet(3, &mut out), refused(9, Place::None));
+    assert_eq!(store.register().make_packet(1, &mut out), refused(14, Place::None));
+    store.data[2] ^= 1;
+    assert_eq!(store.register().make_packet(2, &mut out), refused(10, Place::TreeIndex(4)));
+    assert_eq!(out, [9; 54]);
+}
+
+#[test]
+fn comparisons() {
+    let first = filled(&[b"AB", b"", b"CDE"]);
+    let mut second = filled(&[b"AB", b"", b"CDE"]);
+    assert_eq!(first.register().compare(&first.register()), Comparison::Equal);
+    assert_eq!(first.register().compare(&second.register()), Comparison::Equal);
+    for other in [filled(&[b"A", b"B", b"CDE"]), filled(&[b"AB", b"", b"CDE", b""])] {
+        assert_eq!(first.register().compare(&other.register()), Comparison::RootsDiffer);
+    }
+    second.bitfield[32] ^= 1;
+    let refusal = Refusal { number: 11, place: Place::BitfieldByte(32) };
+    assert_eq!(first.register().compare(&second.register()), Comparison::SecondRefused(refusal));
+    assert_eq!(second.register().compare(&first.register()), Comparison::FirstRefused(refusal));
 }

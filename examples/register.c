@@ -1,5 +1,5 @@
-/* A register in fixed buffers: three pieces, their signatures, an audit, a verified read, and a copy that is damaged and found out.
- * Build and run: make -C examples */
+/* A register in fixed buffers: three pieces, their signatures, an audit, a verified read, a packet made and checked, and two registers
+ * compared. Build and run: make -C examples */
 #include <inttypes.h>
 #include <stdio.h>
 #include <stdlib.h>
@@ -7,11 +7,11 @@
 
 #include "sleep_register.h"
 
-enum { MOST = 8 };
+enum { MOST = 8, LONGEST = 64 };
 
-/* Room for MOST chunks of up to 64 bytes. */
+/* Room for MOST chunks of up to LONGEST bytes. */
 typedef struct {
-    uint8_t tree[32 + 40 * (2 * MOST - 1)], signatures[32 + 64 * MOST], bitfield[32 + 3328], data[64 * MOST];
+    uint8_t tree[32 + 40 * (2 * MOST - 1)], signatures[32 + 64 * MOST], bitfield[32 + 3328], data[LONGEST * MOST];
     uint64_t n, s, size;
 } store;
 
@@ -20,9 +20,9 @@ typedef struct {
         sizeof (r)->data
 #define COUNTS(r) (r)->n, (r)->s, (r)->size
 
-static void expect(const char *what, sleep_answer a, uint64_t number) {
-    if (a.number != number) {
-        fprintf(stderr, "%s: answered %" PRIu64 ", expected %" PRIu64 "\n", what, a.number, number);
+static void expect(const char *what, uint64_t answered, uint64_t expected) {
+    if (answered != expected) {
+        fprintf(stderr, "%s: answered %" PRIu64 ", expected %" PRIu64 "\n", what, answered, expected);
         exit(1);
     }
 }
@@ -30,40 +30,62 @@ static void expect(const char *what, sleep_answer a, uint64_t number) {
 static void add(store *r, const char *piece, uint8_t root[32]) {
     uint8_t signature[64];
     size_t length = strlen(piece);
-    expect("append", sleep_append(LENT(r), COUNTS(r), (const uint8_t *)piece, length, root), 0);
+    expect("append", sleep_append(LENT(r), COUNTS(r), (const uint8_t *)piece, length, root).number, 0);
     r->n += 1;
     r->size += length;
     memset(signature, (int)r->n, sizeof signature); /* a signing device would sign the root hash here */
-    expect("signature", sleep_store_signature(LENT(r), COUNTS(r), signature), 0);
+    expect("signature", sleep_store_signature(LENT(r), COUNTS(r), signature).number, 0);
     r->s += 1;
+}
+
+static void read_back(const store *r, uint64_t chunk) {
+    uint64_t part[2];
+    expect("read", sleep_read(LENT(r), COUNTS(r), chunk, part).number, 0);
+    printf("chunk %" PRIu64 ": %" PRIu64 " bytes from %" PRIu64 ": %.*s\n", chunk, part[1], part[0], (int)part[1], r->data + part[0]);
+    expect("byte", sleep_byte(LENT(r), COUNTS(r), 9, part).number, 0);
+    printf("byte 9: chunk %" PRIu64 ", its byte %" PRIu64 "\n", part[0], part[1]);
+    expect("a chunk that isn't there", sleep_read(LENT(r), COUNTS(r), r->n, part).number, 9);
+}
+
+/* A machine that knows n and the root hash alone takes a chunk from someone it does not trust. */
+static void pass_on(const store *r, uint64_t chunk, const uint8_t root[32]) {
+    static uint8_t packet[LONGEST + SLEEP_PACKET_EXTRA];
+    uint64_t length, part[2];
+    expect("packet", sleep_make_packet(LENT(r), COUNTS(r), chunk, packet, sizeof packet, &length).number, 0);
+    expect("check", sleep_check_packet(packet, length, r->n, chunk, root, part).number, 0);
+    printf("packet of %" PRIu64 " bytes shows chunk %" PRIu64 ": %.*s\n", length, chunk, (int)part[1], packet + part[0]);
+    packet[part[0]] ^= 1;
+    expect("a changed packet", sleep_check_packet(packet, length, r->n, chunk, root, part).number, 13);
+    expect("a cut packet", sleep_check_packet(packet, length - 1, r->n, chunk, root, part).number, 12);
+}
+
+static sleep_comparison compared(const store *first, const store *second) {
+    return sleep_compare(LENT(first), COUNTS(first), LENT(second), COUNTS(second));
 }
 
 int main(void) {
     static store first, second;
     uint8_t root[32], again[32];
-    uint64_t part[2];
-    sleep_answer a;
+    sleep_comparison c;
 
-    expect("start", sleep_start(LENT(&first)), 0);
+    expect("start", sleep_start(LENT(&first)).number, 0);
     add(&first, "twill 2/2", root);
     add(&first, "", root);
     add(&first, "satin 5/3", root);
-    expect("audit", sleep_audit(LENT(&first), COUNTS(&first)), 0);
+    expect("audit", sleep_audit(LENT(&first), COUNTS(&first)).number, 0);
+    expect("root hash", sleep_root_hash(LENT(&first), COUNTS(&first), again).number, 0);
+    expect("the root hash again", (uint64_t)memcmp(root, again, 32), 0);
 
-    expect("read", sleep_read(LENT(&first), COUNTS(&first), 2, part), 0);
-    printf("chunk 2: %" PRIu64 " bytes from %" PRIu64 ": %.*s\n", part[1], part[0], (int)part[1], first.data + part[0]);
-    expect("byte", sleep_byte(LENT(&first), COUNTS(&first), 9, part), 0);
-    printf("byte 9: chunk %" PRIu64 ", its byte %" PRIu64 "\n", part[0], part[1]);
-    expect("a chunk that isn't there", sleep_read(LENT(&first), COUNTS(&first), 3, part), 9);
+    read_back(&first, 2);
+    pass_on(&first, 2, root);
 
     second = first;
-    expect("root hash", sleep_root_hash(LENT(&first), COUNTS(&first), root), 0);
-    expect("root hash", sleep_root_hash(LENT(&second), COUNTS(&second), again), 0);
-    printf("root hashes %s\n", memcmp(root, again, 32) == 0 ? "equal" : "differ");
-
+    expect("a copy", compared(&first, &second).outcome, SLEEP_EQUAL);
+    add(&second, "", again);
+    expect("one empty chunk more", compared(&first, &second).outcome, SLEEP_ROOTS_DIFFER);
     second.data[10] ^= 1;
-    a = sleep_audit(LENT(&second), COUNTS(&second));
-    expect("audit of a damaged copy", a, 10);
-    printf("damaged copy: refusal %" PRIu64 " at tree index %" PRIu64 "\n", a.number, a.place);
-    return a.place_kind == SLEEP_PLACE_TREE_INDEX && a.place == 4 ? 0 : 1;
+    c = compared(&first, &second);
+    expect("a damaged copy", c.outcome, SLEEP_SECOND_REFUSED);
+    printf("damaged copy: refusal %" PRIu64 " at tree index %" PRIu64 "\n", c.answer.number, c.answer.place);
+    return c.answer.place_kind == SLEEP_PLACE_TREE_INDEX && c.answer.place == 4 ? 0 : 1;
 }

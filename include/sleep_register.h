@@ -1,27 +1,39 @@
 /* SLEEP registers: the C interface of the proved library target/staticlib/libc_api.a (x86-64, System V calls).
- * Packets and the comparing walk have no C call yet; the numbers 12 and 13 are theirs.
  *
  * THE REGISTER
  *   A register is four images, which the caller keeps in buffers of its own, and three numbers, which the caller keeps too:
  *     n     the count of chunks, at most 1,048,576
  *     s     the count of stored signatures: n, or n - 1 while the newest chunk's signature is owed
  *     size  the count of data bytes
- *   No call keeps memory of its own, and none changes n, s or size: after a done append the caller adds 1 to n and the chunk's length
- *   to size, after a done signature 1 to s.
+ *   No call changes n, s or size: after a done append the caller adds 1 to n and the chunk's length to size, after a done signature
+ *   1 to s. No call keeps memory of its own, allocates, reads or writes a file, or waits: each ends, on every input.
  *
  * THE BUFFERS
- *   Each is a pointer and a length in bytes. A length may be larger than what is used. A pointer must not be NULL, even where the
- *   length is 0. Buffers of one call must not overlap each other. Used sizes, for n chunks, s signatures and size data bytes:
+ *   Each is a pointer and a length in bytes, and may hold anything: what it holds is checked before it is used. The length may be larger
+ *   than what is used; no byte behind the used size is looked at. Used sizes, for n chunks, s signatures and size data bytes:
  *     tree        32 + 40 (2n - 1) bytes, 32 for n = 0     header, then an entry (32-byte hash, 8-byte length) for each tree index
  *     signatures  32 + 64 s bytes                          header, then the signatures
  *     bitfield    32 + 3328 (n / 8192, rounded up) bytes   header, then an entry for every 8,192 chunks
  *     data        size bytes                               the chunks one behind another, without a header
- *   An append needs room for n + 1 chunks in tree and bitfield and for the new chunk in data; a signature needs room for s + 1.
+ *   An append needs room for n + 1 chunks in tree and bitfield and for the new chunk in data; a signature needs room for s + 1. They
+ *   may lend buffers that hold anything behind the used sizes.
  *   All numbers in the images are big-endian. All numbers of this interface are plain uint64_t or size_t.
  *
+ *   What the caller owes, since no callee can check it:
+ *     - a pointer is not NULL, even where its length is 0, and its length is what may be read (and, where it is not const, written);
+ *     - a buffer or a result that a call writes (every parameter that is not const) overlaps no other buffer and no other result of
+ *       that call. So a chunk to append doesn't lie in the data buffer, and a packet isn't made in an image. Buffers that are only read
+ *       may overlap: one register may be compared with itself.
+ *
+ * PARTS
+ *   No call hands out a pointer. A part of a lent buffer is given as two numbers, out[0] and out[1]: the offset of its first byte, counted
+ *   from the start of that buffer, and its length in bytes. It is buffer[out[0]] up to, and without, buffer[out[0] + out[1]], which always
+ *   lies within the buffer. A part of length 0 is an empty chunk, which is no refusal. Of sleep_place and sleep_read the buffer is data, so
+ *   the offset is the count of bytes of all chunks before it; of sleep_check_packet it is the packet.
+ *
  * ANSWERS AND REFUSALS
- *   A call is done (number 0) or refused. A refused call changes no byte of any buffer, and no result that is lent to it. Checks
- *   are made in the order of their numbers.
+ *   A call is done (number 0) or refused. A refused call changes no byte of any buffer, and no result that is lent to it. Checks are
+ *   made in the order of their numbers, and the first that fails is the answer.
  *
  *     number  meaning                                                                      place
  *     0       done                                                                         none
@@ -41,6 +53,9 @@
  *             over 65,536 bytes, or bytes lack or remain                                   none
  *     13      a packet's lengths add up to over 68,719,476,736, or its root hash differs   none
  *     14      a buffer to be written is shorter than the result needs                      none
+ *
+ *   2 to 6, 9 and 14 mean that the numbers or the buffers lent are not those of one register, or too small: look at the call. 10 and 11
+ *   mean that the archive is damaged where the place says. 12 and 13 mean that a packet is no proof of this chunk under this root hash.
  */
 #ifndef SLEEP_REGISTER_H
 #define SLEEP_REGISTER_H
@@ -55,6 +70,9 @@ extern "C" {
 #define SLEEP_MOST_CHUNKS 1048576u
 #define SLEEP_LONGEST_CHUNK 65536u
 
+/* What a packet has beside its chunk's bytes, at most: a buffer of the chunk's length and this many bytes never lacks room for it. */
+#define SLEEP_PACKET_EXTRA 1526u
+
 enum { SLEEP_PLACE_NONE = 0, SLEEP_PLACE_TREE_INDEX = 1, SLEEP_PLACE_BITFIELD_BYTE = 2 };
 
 typedef struct {
@@ -62,6 +80,20 @@ typedef struct {
     uint64_t place_kind; /* one of SLEEP_PLACE_.. */
     uint64_t place;      /* a tree index or a byte offset, as place_kind says; else 0 */
 } sleep_answer;
+
+enum {
+    SLEEP_EQUAL = 0,              /* the same chunks in the same order */
+    SLEEP_ROOTS_DIFFER = 1,       /* the root hashes differ, and so do the chunks */
+    SLEEP_COLLISION_AT_ROOTS = 2, /* equal root hashes of different root messages */
+    SLEEP_COLLISION_AT_INDEX = 3, /* equal hashes of different messages at the tree index answer.place, the lowest */
+    SLEEP_FIRST_REFUSED = 4,      /* answer is the refusal of the first register's audit */
+    SLEEP_SECOND_REFUSED = 5      /* answer is the refusal of the second register's audit */
+};
+
+typedef struct {
+    uint64_t outcome;    /* one of the six above */
+    sleep_answer answer; /* its number is 0 unless a register is refused */
+} sleep_comparison;
 
 /* The four images, read only, and the three numbers. */
 #define SLEEP_REGISTER_READ                                                                                                     \
@@ -71,14 +103,14 @@ typedef struct {
 /* BLAKE2b (RFC 7693) without a key: length bytes of output, then zeros up to 64. Answers 0, or 1 for a wrong length. */
 uint64_t sleep_hash(uint64_t length, const uint8_t *message, size_t message_length, uint8_t digest[64]);
 
-/* BLAKE2b with 32 bytes of output, of prefix and then body. */
+/* BLAKE2b with 32 bytes of output, of prefix and then body. It refuses nothing. */
 void sleep_hash_parts(const uint8_t *prefix, size_t prefix_length, const uint8_t *body, size_t body_length, uint8_t out[32]);
 
-/* A register without chunks: writes the three headers, 32 bytes each. Refusal: 14. Go on with n = s = size = 0. */
+/* A register without chunks: writes the three headers, 32 bytes each, and no other byte. Refusal: 14. Go on with n = s = size = 0. */
 sleep_answer sleep_start(uint8_t *tree, size_t tree_length, uint8_t *signatures, size_t signatures_length, uint8_t *bitfield,
                          size_t bitfield_length, const uint8_t *data, size_t data_length);
 
-/* Adds one chunk, which may be empty, and gives the new root hash. Refusals: 2 to 8, 14. */
+/* Adds one chunk, which may be empty, and gives the new root hash, for the signing device. Refusals: 2 to 8, 14. */
 sleep_answer sleep_append(uint8_t *tree, size_t tree_length, const uint8_t *signatures, size_t signatures_length,
                           uint8_t *bitfield, size_t bitfield_length, uint8_t *data, size_t data_length, uint64_t n, uint64_t s,
                           uint64_t size, const uint8_t *chunk, size_t chunk_length, uint8_t root[32]);
@@ -94,15 +126,31 @@ sleep_answer sleep_root_hash(SLEEP_REGISTER_READ, uint8_t root[32]);
 /* Whether the images are those of some chunks: hashes every chunk again. Refusals: 2 to 6, 10, 11. */
 sleep_answer sleep_audit(SLEEP_REGISTER_READ);
 
-/* out[0]: where the bytes of a chunk begin in data; out[1]: how many they are. Refusals: 2 to 6, 9, 10. */
+/* Where a chunk lies in data, as a part: out[0] its offset, out[1] its length. Nothing is hashed. Refusals: 2 to 6, 9, 10. */
 sleep_answer sleep_place(SLEEP_REGISTER_READ, uint64_t chunk, uint64_t out[2]);
 
-/* out[0]: the chunk that has the byte at an offset of data; out[1]: the offset less that chunk's start. Refusals: 2 to 6, 9, 10. */
+/* out[0]: the number of the chunk that has the byte at an offset of data, never of an empty chunk; out[1]: which byte of that chunk it is,
+ * from 0. Nothing is hashed. Refusals: 2 to 6, 9, 10. */
 sleep_answer sleep_byte(SLEEP_REGISTER_READ, uint64_t offset, uint64_t out[2]);
 
-/* A verified read. Of two registers, lend the one that is meant. After done the chunk is data[out[0]] to data[out[0] + out[1] - 1]: its
- * bytes were hashed there and their hash is the stored one. Refusals: 2 to 6, 9, 10. */
+/* A verified read: the chunk's part of data, as sleep_place gives it, after its bytes were hashed where they lie and their hash was found to
+ * be the stored one. Of two registers, lend the one that is meant. Refusals: 2 to 6, 9, 10. */
 sleep_answer sleep_read(SLEEP_REGISTER_READ, uint64_t chunk, uint64_t out[2]);
+
+/* The packet of a chunk: its bytes with the entries that show it to stand under the register's root hash. It reads the chunk as sleep_read
+ * does, writes the packet at the front of out, leaves the rest of out as it was, and gives the packet's length. out needs room for the
+ * chunk's length and at most SLEEP_PACKET_EXTRA bytes more. Refusals: 2 to 6, 9, 10, 14. */
+sleep_answer sleep_make_packet(SLEEP_REGISTER_READ, uint64_t chunk, uint8_t *out, size_t out_length, uint64_t *length);
+
+/* Whether a packet, of exactly packet_length bytes, shows its bytes to be chunk number chunk of the n chunks whose root hash is root. After
+ * done the chunk is the part out of packet. No register is needed. Refusals: 2, 9, 12, 13. */
+sleep_answer sleep_check_packet(const uint8_t *packet, size_t packet_length, uint64_t n, uint64_t chunk, const uint8_t root[32],
+                                uint64_t out[2]);
+
+/* The comparing walk: audits the first register, then the second, then compares them. A refusal (2 to 6, 10, 11) says which register. */
+sleep_comparison sleep_compare(SLEEP_REGISTER_READ, const uint8_t *tree2, size_t tree2_length, const uint8_t *signatures2,
+                               size_t signatures2_length, const uint8_t *bitfield2, size_t bitfield2_length, const uint8_t *data2,
+                               size_t data2_length, uint64_t n2, uint64_t s2, uint64_t size2);
 
 #ifdef __cplusplus
 }

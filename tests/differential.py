@@ -1,170 +1,262 @@
-"""Random calls, on the compiled library and on the model: every answer, refusal, place and buffer is compared.
+"""Random calls, on the compiled library and on the model: every answer, refusal, place and lent buffer is compared.
 
 usage: python3 tests/differential.py LIBRARY [CALLS [SEED]]
 
 LIBRARY is the archive linked as a shared object. Registers grow by valid calls; between those, calls are made on damaged copies: bytes
-changed in a buffer, wrong n, s or size, shortened buffers, numbers out of range.
+changed in a buffer, wrong n, s or size, shortened buffers, numbers out of range. Packets are made and checked, whole and damaged, and
+registers compared with copies, with other cuts of the same bytes, with one more empty chunk and with damaged ones. One in fifty calls
+is on registers of 16,383 to 16,386 chunks, where the third bitfield entry begins and the tree gets its deepest hole. No pair of chunk
+sequences that collide under BLAKE2b is known, so those two answers of the comparing walk stand in no call here.
 """
 
 import copy
-import ctypes
 import os
 import random
 import sys
 
+sys.dont_write_bytecode = True  # nothing generated lies beside the sources
 sys.path.insert(0, os.path.join(os.path.dirname(os.path.abspath(__file__)), 'model'))
 import sleep_model as model
+from lent import NUMBER, Answer, Buffer, Comparison, Library, answer_of, comparison_of, numbers
 
 IMAGES = ('tree', 'signatures', 'bitfield', 'data')
-KINDS = {0: None, 1: 'tree', 2: 'bitfield'}
-NUMBER = ctypes.c_uint64
+EXPECTED = {Answer: answer_of, Comparison: comparison_of, NUMBER: lambda answer: answer_of(answer)[:8], None: lambda answer: b''}
 
 
-class Answer(ctypes.Structure):
-    _fields_ = [('number', NUMBER), ('place_kind', NUMBER), ('place', NUMBER)]
+def chunks_of(r):
+    """The chunks of a register that belongs to some."""
+    chunks, start = [], 0
+    for k in range(r.n):
+        chunks.append(r.part(start, r.node(2 * k)[1]))
+        start += len(chunks[-1])
+    return chunks
 
 
-class Buffer:
-    """Bytes lent to C, between two guards that no call may touch."""
-    GUARD = b'\xa5' * 16
-
-    def __init__(self, content):
-        self.length = len(content)
-        self.memory = ctypes.create_string_buffer(self.GUARD + bytes(content) + self.GUARD, self.length + 32)
-        self.pointer = ctypes.c_void_p(ctypes.addressof(self.memory) + 16)
-
-    def content(self):
-        held = self.memory.raw
-        if held[:16] != self.GUARD or held[16 + self.length:] != self.GUARD:
-            raise SystemExit('a call wrote outside its buffer')
-        return held[16:16 + self.length]
-
-    def slice(self):
-        return self.pointer, ctypes.c_size_t(self.length)
+def root_shown(packet, n, chunk):
+    """The root hash that a packet of the right shape gives, whatever its lengths add up to."""
+    hashed = [bytes(32)]
+    def F(message):
+        hashed.append(model.node_hash(message))
+        return hashed[-1]
+    most, model.MOST_BYTES = model.MOST_BYTES, 2 ** 64
+    try:
+        model.check_packet(packet, n, chunk, b'', F)
+    finally:
+        model.MOST_BYTES = most
+    return hashed[-1]
 
 
-class Library:
-    """The calls of include/sleep_register.h, answering as the model does. Each gives (answer, lent buffers after the call)."""
+class Calls:
+    """Each call of the library beside the model's."""
 
-    def __init__(self, path):
-        self.c = ctypes.CDLL(path)
-
-    def call(self, name, *words):
-        function = getattr(self.c, name)
-        function.restype = Answer
-        said = function(*words)
-        if said.number == 0:
-            if (said.place_kind, said.place) != (0, 0):
-                raise SystemExit('%s: done at a place' % name)
-            return None
-        kind = KINDS[said.place_kind]
-        return model.refused(said.number, (kind, said.place) if kind else None)
-
-    def on(self, name, r, *others, numbers=True):
-        """A call on a register; its refusal or None, and the four images after it."""
-        lent = [Buffer(getattr(r, image)) for image in IMAGES]
-        words = [word for buffer in lent for word in buffer.slice()]
-        if numbers:
-            words += [NUMBER(r.n), NUMBER(r.s), NUMBER(r.size)]
-        refusal = self.call(name, *words, *others)
-        return refusal, [buffer.content() for buffer in lent]
-
-    def given(self, name, r, others, out, result):
-        """A call with one lent result: it is as it was after a refusal."""
-        before = out.content()
-        refusal, images = self.on(name, r, *others, out.pointer)
-        if refusal and out.content() != before:
-            raise SystemExit('%s: a refusal changed the result' % name)
-        return refusal or ('done',) + result(out.content()), images
-
-
-def two_numbers(held):
-    return int.from_bytes(held[:8], sys.byteorder), int.from_bytes(held[8:], sys.byteorder)
-
-
-class Run:
     def __init__(self, library, seed):
         self.library, self.random, self.calls, self.refusals = library, random.Random(seed), {}, {}
 
-    def compare(self, name, r, expected, answered, images):
+    def total(self):
+        return sum(self.calls.values())
+
+    def same(self, what, name, told, held, expected):
+        if held != expected:
+            raise SystemExit('%s of n, s, size %r: %s is %s, expected %s' % (name, told, what, held.hex(), expected.hex()))
+
+    def call(self, name, registers, others, expect, gives=Answer):
+        """`expect` calls the model, which changes the registers as the library is to change the lent copies of them."""
+        told = [(r.n, r.s, r.size) for r in registers]
+        lent = [[Buffer(getattr(r, image)) for image in IMAGES] for r in registers]
+        words = [word for images, three in zip(lent, told) for word in images + ([] if name == 'start' else list(three))]
+        answered = self.library.call(name, words + others, gives)
+        expected = expect()
         self.calls[name] = self.calls.get(name, 0) + 1
         if expected[0] == 'refused':
             self.refusals[expected[1]] = self.refusals.get(expected[1], 0) + 1
-        if answered != expected:
-            raise SystemExit('%s, n %d s %d size %d: answered %r, expected %r' % (name, r.n, r.s, r.size, answered, expected))
-        for image, held in zip(IMAGES, images):
-            if held != bytes(getattr(r, image)):
-                raise SystemExit('%s, n %d: %s differs from the model' % (name, r.n, image))
+        self.same('the answer', name, told, answered, EXPECTED[gives](expected))
+        for number, buffer in enumerate(one for one in others if isinstance(one, Buffer)):
+            self.same('buffer %d' % number, name, told, buffer.held(), buffer.expected(expected))
+        for r, images in zip(registers, lent):
+            for image, buffer in zip(IMAGES, images):
+                self.same(image, name, told, buffer.held(), bytes(getattr(r, image)))
+
+    def result(self, length, after):
+        """A lent result, which holds anything before."""
+        return Buffer(self.random.randbytes(length), array=True, after=after)
 
     def start(self, r):
-        refusal, images = self.library.on('sleep_start', r, numbers=False)
-        self.compare('start', r, model.start(r), refusal or ('done',), images)
+        self.call('start', [r], [], lambda: model.start(r))
 
     def append(self, r, chunk):
-        lent, root = Buffer(chunk), Buffer(self.random.randbytes(32))
-        answered, images = self.library.given('sleep_append', r, lent.slice(), root, lambda held: (held,))
-        self.compare('append', r, model.append(r, chunk), answered, images)
+        self.call('append', [r], [Buffer(chunk), self.result(32, lambda root: root)], lambda: model.append(r, chunk))
 
-    def sign(self, r, signature):
-        lent = Buffer(signature)
-        refusal, images = self.library.on('sleep_store_signature', r, lent.pointer)
-        self.compare('store_signature', r, model.store_signature(r, signature), refusal or ('done',), images)
+    def sign(self, r):
+        signature = self.random.randbytes(64)
+        self.call('store_signature', [r], [Buffer(signature, array=True)], lambda: model.store_signature(r, signature))
 
     def root_hash(self, r):
-        answered, images = self.library.given('sleep_root_hash', r, (), Buffer(self.random.randbytes(32)), lambda held: (held,))
-        self.compare('root_hash', r, model.root_hash(r), answered, images)
+        self.call('root_hash', [r], [self.result(32, lambda root: root)], lambda: model.root_hash(r))
 
     def audit(self, r):
-        refusal, images = self.library.on('sleep_audit', r)
-        self.compare('audit', r, model.audit(r), refusal or ('done',), images)
-
-    def numbered(self, name, expected, r, number, result=two_numbers):
-        out = Buffer(self.random.randbytes(16))
-        answered, images = self.library.given('sleep_' + name, r, (NUMBER(number),), out, result)
-        self.compare(name, r, expected, answered, images)
+        self.call('audit', [r], [], lambda: model.audit(r))
 
     def place(self, r, chunk):
-        self.numbered('place', model.place_lookup(r, chunk), r, chunk)
+        self.call('place', [r], [chunk, self.result(16, numbers)], lambda: model.place_lookup(r, chunk))
 
     def byte(self, r, offset):
-        self.numbered('byte', model.byte_lookup(r, offset), r, offset)
+        self.call('byte', [r], [offset, self.result(16, numbers)], lambda: model.byte_lookup(r, offset))
 
     def read(self, r, chunk):
-        expected = model.read(r, r, self.random.choice(('metadata', 'content')), chunk)
-        self.numbered('read', expected, r, chunk, lambda held: (r.part(*two_numbers(held)),))
+        place = lambda found: numbers(*model.place_of(r, chunk))
+        name = self.random.choice(('metadata', 'content'))
+        self.call('read', [r], [chunk, self.result(16, place)], lambda: model.read(r, r, name, chunk))
 
-    def hash(self, r):
-        length = self.random.choice((0, 1, 32, 64, 65, 2 ** 64 - 1, self.random.randrange(70)))
-        message = self.random.randbytes(self.random.choice((0, 1, 127, 128, 129, 256, self.random.randrange(600))))
-        lent, digest = Buffer(message), Buffer(self.random.randbytes(64))
-        before, function = digest.content(), self.library.c.sleep_hash
-        function.restype = NUMBER
-        number = function(NUMBER(length), *lent.slice(), digest.pointer)
-        self.compare('hash', r, model.blake2b(length, message), model.refused(number) if number else ('done', digest.content()),
-                     [getattr(r, image) for image in IMAGES])
-        if number and digest.content() != before:
-            raise SystemExit('hash: a refusal changed the digest')
+    def hash(self, length, message):
+        digest = self.result(64, lambda digest: digest)
+        self.call('hash', [], [length, Buffer(message), digest], lambda: model.blake2b(length, message), NUMBER)
 
-    # ---- what is called with what
+    def hash_parts(self, prefix, body):
+        expected = ('done', model.node_hash(prefix + body))
+        self.call('hash_parts', [], [Buffer(prefix), Buffer(body), self.result(32, lambda digest: digest)], lambda: expected, None)
+
+    def make_packet(self, r, chunk, room):
+        out = bytearray(self.random.randbytes(room))
+        others = [chunk, Buffer(out, after=lambda length: bytes(out)), self.result(8, numbers)]
+        self.call('make_packet', [r], others, lambda: model.make_packet(r, chunk, out))
+
+    def check_packet(self, packet, n, chunk, root):
+        out = self.result(16, lambda found: numbers(4, len(found)))
+        others = [Buffer(packet), n, chunk, Buffer(root, array=True), out]
+        self.call('check_packet', [], others, lambda: model.check_packet(packet, n, chunk, root))
+
+    def compare(self, first, second):
+        self.call('compare', [first, second], [], lambda: model.compare(first, second), Comparison)
+
+
+class Run(Calls):
+    """What is called with what."""
+
     def number(self, below):
         """Mostly below the bound, at it and just above it, at times anywhere."""
         pick = self.random.randrange(12)
         return (2 ** 64 - 1, self.random.getrandbits(64), below, below + 1)[pick] if pick < 4 else self.random.randrange(max(below, 1))
 
+    def chunk(self):
+        pick = self.random.randrange(400)
+        length = {0: 65536, 1: 65537}.get(pick, 0 if pick < 80 else self.random.randrange(200))
+        return self.random.randbytes(length)
+
+    def message(self):
+        return self.random.randbytes(self.random.choice((0, 1, 9, 119, 120, 127, 128, 129, 256, self.random.randrange(600))))
+
+    def hashing(self):
+        if self.random.random() < 0.5:
+            self.hash_parts(self.message(), self.message())
+        else:
+            self.hash(self.random.choice((0, 1, 32, 64, 65, 2 ** 64 - 1, self.random.randrange(70))), self.message())
+
+    # ---- packets
+    def packing(self, r):
+        """Room for the packet, a byte less or more, or any."""
+        chunk, out = self.number(r.n), bytearray(67062)
+        made = model.make_packet(r, chunk, out)
+        length = made[1] if made[0] == 'done' else 100
+        self.make_packet(r, chunk, max(0, self.random.choice((length, length, length - 1, length + 1, self.random.randrange(300), 0))))
+
+    def checking(self, r):
+        """A packet of the register, or any bytes, with the root hash and the numbers of the register, or with others."""
+        chunk, out = self.random.randrange(max(r.n, 1)), bytearray(67062)
+        made, rooted = model.make_packet(r, chunk, out), model.root_hash(r)
+        packet = bytes(out[:made[1]]) if made[0] == 'done' else self.message()
+        n, root = r.n, rooted[1] if rooted[0] == 'done' else bytes(32)
+        pick = self.random.randrange(12)
+        if pick < 3 and n > 0 and made[0] == 'done':
+            packet, root = self.other_length(packet, n, chunk, root)
+        elif pick < 5:
+            packet = self.spoilt(packet)
+        elif pick == 5:
+            n = self.random.choice((n + 1, max(n - 1, 0), 2 * n, 0, 1, 1048576, 1048577, 2 ** 64 - 1))
+        elif pick == 6:
+            chunk = self.number(n)
+        elif pick == 7:
+            root = self.random.choice((self.random.randbytes(32), root[:31] + bytes([root[31] ^ 1])))
+        self.check_packet(packet, n, chunk, root)
+
+    def spoilt(self, packet):
+        """Bytes lacking, surplus or changed."""
+        pick, packet = self.random.randrange(6), bytearray(packet)
+        if pick == 0:
+            del packet[self.random.randrange(len(packet) + 1):]
+        elif pick == 1:
+            packet += self.random.randbytes(self.random.choice((1, 40, self.random.randrange(100))))
+        elif packet:
+            at = self.random.randrange(min(len(packet), self.random.choice((4, len(packet), len(packet)))))
+            packet[at] = self.random.choice((packet[at] ^ 1 << self.random.randrange(8), self.random.randrange(256)))
+        return bytes(packet)
+
+    def other_length(self, packet, n, chunk, root):
+        """Another length in one of the entries, at times with the root hash that follows from it: at the bound it passes, above it not."""
+        siblings, others = map(len, model.packet_indexes(n, chunk))
+        if siblings + others == 0:
+            return packet, root
+        first = model.number_in(packet[:4])
+        places = [4 + first + 1 + 40 * k + (k >= siblings) + 32 for k in range(siblings + others)]
+        at = self.random.choice(places)
+        rest = first + sum(model.number_in(packet[place:place + 8]) for place in places if place != at)
+        length = self.random.choice((model.MOST_BYTES - rest, model.MOST_BYTES - rest + 1, model.MOST_BYTES, 2 ** 63, 2 ** 64 - 1, 0))
+        packet = packet[:at] + model.be(8, length) + packet[at + 8:]
+        forged = length + rest < 2 ** 64 and self.random.random() < 0.8
+        return packet, root_shown(packet, n, chunk) if forged else root
+
+    # ---- pairs
+    def recut(self, r):
+        """The same bytes in as many chunks, cut at another place, where there are two chunks to cut."""
+        chunks = chunks_of(r)
+        pairs = [k for k in range(r.n - 1) if chunks[k] or chunks[k + 1]]
+        if pairs:
+            k = self.random.choice(pairs)
+            both = chunks[k] + chunks[k + 1]
+            at = self.random.choice([at for at in range(len(both) + 1) if at != len(chunks[k])])
+            chunks[k:k + 2] = [both[:at], both[at:]]
+        return model.register_of(chunks)
+
+    def comparing(self, r, pick=None):
+        """A register that belongs to chunks, with one that is like it in some way."""
+        pick = self.random.randrange(6) if pick is None else pick
+        if pick == 0:
+            pair = [r, r]
+        elif pick == 1:
+            pair = [r, model.register_of(chunks_of(r))]
+        elif pick == 2:
+            pair = [r, self.recut(r)]
+        elif pick == 3:
+            pair = [r, model.register_of(chunks_of(r) + [b''])]
+        else:
+            pair = [r, self.damage(r)]
+        if self.random.random() < 0.5:
+            pair.reverse()
+        self.compare(*pair)
+
+    # ---- any call
+    def looking(self, r):
+        pick = self.random.randrange(100)
+        if pick < 12:
+            self.root_hash(r)
+        elif pick < 32:
+            self.place(r, self.number(r.n))
+        elif pick < 52:
+            self.byte(r, self.number(r.size))
+        elif pick < 70:
+            self.read(r, self.number(r.n))
+        elif pick < 82:
+            self.packing(r)
+        else:
+            self.checking(r)
+
     def reading(self, r):
         pick = self.random.randrange(100)
         if pick < 8:
-            self.hash(r)
-        elif pick < 22:
-            self.root_hash(r)
-        elif pick < 34:
+            self.hashing()
+        elif pick < 20:
             self.audit(r)
-        elif pick < 56:
-            self.place(r, self.number(r.n))
-        elif pick < 78:
-            self.byte(r, self.number(r.size))
         else:
-            self.read(r, self.number(r.n))
+            self.looking(r)
 
     def any_call(self, r):
         pick = self.random.randrange(20)
@@ -173,15 +265,11 @@ class Run:
         elif pick < 4:
             self.append(r, self.chunk())
         elif pick < 6:
-            self.sign(r, self.random.randbytes(64))
+            self.sign(r)
         else:
             self.reading(r)
 
-    def chunk(self):
-        pick = self.random.randrange(400)
-        length = {0: 65536, 1: 65537}.get(pick, 0 if pick < 80 else self.random.randrange(200))
-        return self.random.randbytes(length)
-
+    # ---- damage
     def damage(self, r):
         """A copy of a register with something changed."""
         r = copy.deepcopy(r)
@@ -211,6 +299,7 @@ class Run:
         if self.random.random() < 0.7:
             r.tree[at[1]:at[1] + 8] = ((model.number_in(r.tree[at[1]:at[1] + 8]) - by) % 2 ** 64).to_bytes(8, 'big')
 
+    # ---- small registers
     def register(self):
         """Dirty buffers, for up to `most` chunks, at times too short for them."""
         most = self.random.choice((0, 1, 3, 8, 17, 40))
@@ -222,29 +311,70 @@ class Run:
         r, most = self.register()
         self.start(r)
         for _ in range(6 * most + 6):
-            if sum(self.calls.values()) >= calls:
+            if self.total() >= calls:
                 return
-            pick = self.random.randrange(10)
-            owed = r.s < r.n if pick > 0 else self.random.random() < 0.5
-            if pick < 4 and owed:
-                self.sign(r, self.random.randbytes(64))
-            elif pick < 4:
+            pick = self.random.randrange(40)
+            owed = r.s < r.n if pick > 3 else self.random.random() < 0.5
+            if pick < 16 and owed:
+                self.sign(r)
+            elif pick < 16:
                 self.append(r, self.chunk())
-            elif pick < 6:
+            elif pick < 24:
                 self.reading(r)
+            elif pick < 26:
+                self.comparing(r)
             else:
                 self.any_call(self.damage(r))
+
+    # ---- large registers
+    def built(self, chunks):
+        """A register that the library builds by its own calls in dirty buffers, and that the model has to give for these chunks."""
+        n = len(chunks)
+        room = [used + 40 for used in model.used_sizes(n, n, sum(map(len, chunks)))]
+        lent = [Buffer(self.random.randbytes(length)) for length in room]
+        signatures, root, told = self.random.randbytes(64 * n), Buffer(bytes(32), array=True), 0
+        answers = [self.library.call('start', lent)]
+        for k, chunk in enumerate(chunks):
+            answers.append(self.library.call('append', lent + [k, k, told, Buffer(chunk), root]))
+            told += len(chunk)
+            answers.append(self.library.call('store_signature', lent + [k + 1, k, told, Buffer(signatures[64 * k:64 * k + 64], array=True)]))
+        self.same('an answer', 'building', n, b''.join(answers), numbers(0, 0, 0) * len(answers))
+        r = model.register_of(chunks)
+        r.signatures[32:] = signatures
+        for image, buffer in zip(IMAGES, lent):
+            used = getattr(r, image)
+            self.same(image, 'building', n, buffer.held(), bytes(used) + buffer.before[len(used):])
+        return r
+
+    def large(self, calls):
+        """Registers about the border between bitfield entries, with chunks of a few bytes."""
+        r = self.built([self.random.randbytes(self.random.randrange(4)) for _ in range(16383)])
+        for name, more in zip(IMAGES, (400, 400, 3328, 400)):
+            setattr(r, name, getattr(r, name) + self.random.randbytes(more))
+        for _ in range(4):
+            for _ in range(calls // 4):
+                damaged = self.random.random() < 0.3
+                self.looking(self.damage(r) if damaged else r)
+            for kind in range(1, 5):
+                self.comparing(r, kind)
+            for lent in [r] + [self.damage(r) for _ in range(4)]:
+                self.audit(lent)
+            for lent in [self.damage(r), r]:
+                self.append(lent, self.random.randbytes(5))
+            for lent in [self.damage(r), r]:
+                self.sign(lent)
 
 
 def main(path, calls=100000, seed=20170901):
     calls, seed = int(calls), int(seed)
     print('differential: seed %d, %d calls' % (seed, calls))
     run = Run(Library(path), seed)
-    while sum(run.calls.values()) < calls:
+    run.large(calls // 50)
+    while run.total() < calls:
         run.life(calls)
     print('calls: ' + ', '.join('%s %d' % pair for pair in sorted(run.calls.items())))
     print('refusals: ' + ', '.join('%d: %d' % pair for pair in sorted(run.refusals.items())))
-    print('differential: %d calls agree with the model' % sum(run.calls.values()))
+    print('differential: %d calls agree with the model' % run.total())
 
 
 if __name__ == '__main__':

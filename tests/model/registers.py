@@ -1,30 +1,11 @@
 """Prints, from the reference model alone, the text that the program `registers` is to print."""
 
-from sleep_model import (Register, append, bitfield_image, node_hash, root_hash, start, store_signature)
-
-
-def bytes_of(k):
-    return bytes((k % 251 + 3 * i) % 256 for i in range(64))
-
-
-def said(answer):
-    if answer[0] == 'done':
-        return 'done'
-    place = '' if answer[2] is None else ' %s %d' % answer[2]
-    return 'refused %d%s' % (answer[1], place)
+from samples import buffers, bytes_of, grow, said, told
+from sleep_model import append, bitfield_image, node_hash, root_hash, start, store_signature
 
 
 def root_of(answer):
     return (answer[1] if answer[0] == 'done' else bytes(32)).hex()
-
-
-def buffers(tree, signatures, bitfield, data):
-    filled = (bytes([byte]) * count for byte, count in zip((0xaa, 0xbb, 0xcc, 0xdd), (tree, signatures, bitfield, data)))
-    return Register(*map(bytearray, filled))
-
-
-def told(r, n, s, size):
-    return Register(r.tree, r.signatures, r.bitfield, r.data, n, s, size)
 
 
 def report(r):
@@ -42,60 +23,53 @@ def signed(r):
     print('sign', said(store_signature(r, bytes_of(r.n % 1000))))
 
 
-def grow(r, upto, span):
-    while r.n < upto:
-        append(r, bytes_of(r.n)[:r.n % span])
-        store_signature(r, bytes_of(r.n + 100))
-
-
-def small():
-    r = buffers(1024, 1024, 4096, 256)
+def begun(r, upto, span):
     print('start', said(start(r)))
+    grow(r, upto, span)
     report(r)
-    for k in range(1, 11):
-        grow(r, k, 7)
+
+
+def staged(r, first, last, span):
+    begun(r, first, span)
+    for k in range(first + 1, last + 1):
+        grow(r, k, span)
         report(r)
 
 
-def long():
-    r = buffers(1024, 1024, 4096, 65540)
-    chunk = b'\x5a' * 65537
-    start(r)
-    appended(r, chunk)
-    appended(r, chunk[:65536])
-    signed(r)
-    appended(r, chunk[:5])
-    appended(r, chunk[:4])
-    report(r)
-
-
-def refusals():
-    r = buffers(152, 160, 3360, 16)
-    print('start', said(start(Register(r.tree, r.signatures, bytearray(31), r.data))))
-    start(r)
-    grow(r, 2, 7)
-    report(r)
-    most = 2 ** 64 - 1
-    cases = [(1048577, 2, 1), (1048576, 2, 1), (2, 3, 1), (0, most, 1), (3, 2, 1), (2, 2, 2), (2, 2, 1), (2, 1, 1)]
-    for case in cases:
-        tried(r, *case)
-    r.signatures[7] = 1
-    tried(r, 2, 2, 1)
-
-
-def tried(r, *numbers):
-    appended(told(r, *numbers), b'xyz')
+def tried(r, *row):
+    *numbers, count = row
+    appended(told(r, *numbers), b'\x5a' * count)
     signed(told(r, *numbers))
     report(told(r, *numbers))
 
 
+def small():
+    staged(buffers(1024, 1024, 4096, 256), 0, 10, 7)
+
+
+def long():
+    r = buffers(1024, 1024, 4096, 65540)
+    begun(r, 0, 7)
+    for row in [(0, 0, 0, 65537), (0, 0, 0, 65536), (1, 0, 65536, 5), (1, 1, 65536, 5), (1, 1, 65536, 4), (2, 1, 65540, 4)]:
+        tried(r, *row)
+
+
+def short():
+    begun(buffers(152, 160, 31, 16), 0, 7)
+
+
+def refusals():
+    r = buffers(152, 160, 3360, 16)
+    begun(r, 2, 7)
+    most = 2 ** 64 - 1
+    for numbers in [(1048577, 2, 1), (1048576, 2, 1), (2, 3, 1), (0, most, 1), (3, 2, 1), (2, 2, 2), (2, 2, 1), (2, 1, 1)]:
+        tried(r, *numbers, 3)
+    r.signatures[7] = 1
+    tried(r, 2, 2, 1, 3)
+
+
 def borders():
-    r = buffers(655552, 524480, 6720, 8192)
-    start(r)
-    grow(r, 8190, 2)
-    for k in range(8191, 8195):
-        grow(r, k, 2)
-        report(r)
+    staged(buffers(655552, 524480, 6720, 8192), 8190, 8194, 2)
 
 
 def bitfield_alone():
@@ -108,6 +82,7 @@ def bitfield_alone():
 if __name__ == '__main__':
     small()
     long()
+    short()
     refusals()
     borders()
     bitfield_alone()

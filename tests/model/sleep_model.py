@@ -430,18 +430,21 @@ def compare(first, second, F=node_hash):
         return ('roots differ',)
     if first.root_message() != second.root_message():
         return ('collision', 'at the roots')
-    for index in range(tree_entries(first.n)):  # equal root messages have equal n
-        messages = [message_at(r, index) for r in (first, second) if filled(first.n, index)]
-        if len(set(messages)) == 2 and F(messages[0]) == F(messages[1]):
+    for index, (one, other) in enumerate(zip(messages(first), messages(second))):  # equal root messages have equal n
+        if one != other and F(one) == F(other):
             return ('collision', ('tree', index))
     return ('equal',)
 
-def message_at(r, index):
-    """The message at a filled tree index of an accepted register."""
-    if index % 2:
-        return parent_message(*map(r.node, children(index)))
-    start_of_leaf = sum(r.node(2 * chunk)[1] for chunk in range(index // 2))
-    return leaf_message(r.part(start_of_leaf, r.node(index)[1]))
+def messages(r):
+    """The messages of an accepted register in the order of its tree indexes, None at a hole."""
+    start_of_leaf = 0
+    for index in range(tree_entries(r.n)):
+        if index % 2 == 0:
+            chunk = r.part(start_of_leaf, r.node(index)[1])
+            start_of_leaf += len(chunk)
+            yield leaf_message(chunk)
+        else:
+            yield parent_message(*map(r.node, children(index))) if filled(r.n, index) else None
 
 # ---- The listing ----
 def listing(data):

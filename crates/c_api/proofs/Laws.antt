@@ -1,23 +1,26 @@
 -- What a call answers to C, from the case that its answer is.
-use Prim.Native.Nat.{ℕ, _+_, _-_, _≤_}
-use mathlib.Core.Path.{_≡_, refl, sym, ap, ap₂, _∙_}
+use Prim.Native.Nat.{ℕ}
+use mathlib.Core.Path.{_≡_, sym, ap, ap₂, _∙_}
 use mathlib.Core.List.{List, [], _∷_}
-use native.Mathlib.Omega.{arith}
 use Rattle.counts.specs.Verdict.{Verdict, done, refused}
 use Rattle.counts.specs.Said.{said, refusalOf, spotOf}
 use Rattle.counts.specs.declared.Place.{Place}
 use Rattle.counts.specs.declared.Answer.{Answer}
 use Rattle.counts.specs.declared.Answer.the-variants.{Done, Refused}
 use Rattle.counts.specs.declared.Refusal.{Refusal}
-use Rattle.c_api.specs.Number.{numberOf, unlessRefused}
 use Rattle.blake2b.specs.Hash.{nodeHash}
-use Rattle.tree_index.specs.Tree.{index}
-use Rattle.files.specs.Stored.{storedSize}
 use Rattle.files.specs.Belongs.{Register}
-use Rattle.lookup.specs.Lookup.{Found, refusal, found, foundUnless, startOf, toChunk}
-use Rattle.lookup.specs.Read.{readVerdict}
-use Rattle.lookup.specs.Said.{refusedAs, readFound}
-use Rattle.c_api.specs.Encoding.{encoded, verdictOf, numbersUnless, partNumbers}
+use Rattle.lookup.specs.Lookup.{Found, found, foundUnless}
+use Rattle.lookup.specs.Said.{refusedAs}
+use Rattle.packet.specs.Packet.{makeVerdict, madeLength}
+use Rattle.packet.specs.Check.{chunkLength, packetVerdict}
+use Rattle.packet.specs.Made.{MadeAs, madeVerdict, madeBytes}
+use Rattle.packet.specs.declared.make.Made.{Made}
+use Rattle.packet.specs.declared.make.Made.the-variants.{Refused as NotMade, Length}
+use Rattle.compare.specs.Answered.{compared}
+use Rattle.compare.specs.declared.Compared.{Compared}
+use Rattle.c_api.specs.Number.{numberOf, unlessRefused}
+use Rattle.c_api.specs.Encoding.{encoded, verdictOf, numbersUnless, Gives, packetPart, Makes, encodedComparison}
 use Rattle.c_api.specs.declared.answers.SleepAnswer.{SleepAnswer}
 
 module _ (a : Answer) (v : Verdict) (says : said a ≡ v) (written before : List ℕ) where
@@ -54,86 +57,49 @@ pub given-hash : (out : List ℕ) (a v : Verdict) (h written before : List ℕ) 
 given-hash out a v h written before e p w =
     e ∙ ap₂ (λ (u : Verdict) (x : List ℕ). unlessRefused u x before) p w
 
--- a lookup, from the case that its answer is
-pub looked-refused : (r : SleepAnswer) (x : Refusal) (f : Found) (before : List ℕ) → r ≡ encoded (refusalOf x) → refusedAs x ≡ f
-    → (r ≡ encoded (verdictOf f)) × (before ≡ numbersUnless f before)
-looked-refused r x f before e p =
-    (e ∙ ap (λ (g : Found). encoded (verdictOf g)) p, ap (λ (g : Found). numbersUnless g before) p)
+-- a call that gives two numbers, from the case that its answer is
+pub gives-refused : (r : SleepAnswer) (x : Refusal) (f : Found) (before : List ℕ) → r ≡ encoded (refusalOf x) → refusedAs x ≡ f
+    → Gives f before r before
+gives-refused r x f before e p =
+    record { answers = e ∙ ap (λ (g : Found). encoded (verdictOf g)) p; numbers = ap (λ (g : Found). numbersUnless g before) p }
 
-pub looked-found : (r : SleepAnswer) (a b : ℕ) (f : Found) (before : List ℕ) → r ≡ encoded done → found a b ≡ f
-    → (r ≡ encoded (verdictOf f)) × (a ∷ b ∷ [] ≡ numbersUnless f before)
-looked-found r a b f before e p =
-    (e ∙ ap (λ (g : Found). encoded (verdictOf g)) p, ap (λ (g : Found). numbersUnless g before) p)
+pub gives-found : (r : SleepAnswer) (a b : ℕ) (f : Found) (before : List ℕ) → r ≡ encoded done → found a b ≡ f
+    → Gives f before r (a ∷ b ∷ [])
+gives-found r a b f before e p =
+    record { answers = e ∙ ap (λ (g : Found). encoded (verdictOf g)) p; numbers = ap (λ (g : Found). numbersUnless g before) p }
 
--- a read
-same-verdict : (v : Verdict) (a b : ℕ) → verdictOf (foundUnless v a b) ≡ v
-same-verdict done a b = refl
-same-verdict (refused m at) a b = refl
+-- a packet, from the case that its check's answer is
+module _ (p : List ℕ) (n c : ℕ) (root : List ℕ) where
+  pub packet-refused : (x : Refusal) → refusalOf x ≡ packetVerdict nodeHash p n c root → refusedAs x ≡ packetPart p n c root
+  unfolding packetPart
+  packet-refused x e = ap (λ (v : Verdict). foundUnless v 4 (chunkLength p)) e
 
-unfoldable firstOf : Found → ℕ → ℕ
-firstOf (refusal m at) z = z
-firstOf (found a b) z = a
+  pub packet-found : (l : ℕ) → l ≡ chunkLength p → done ≡ packetVerdict nodeHash p n c root → found 4 l ≡ packetPart p n c root
+  unfolding packetPart
+  packet-found l a e = ap (found 4) a ∙ ap (λ (v : Verdict). foundUnless v 4 (chunkLength p)) e
 
-unfoldable secondOf : Found → ℕ → ℕ
-secondOf (refusal m at) z = z
-secondOf (found a b) z = b
+-- a packet made, from the case that the answer is
+module _ (r : Register) (c : ℕ) (out : List ℕ) (long : ℕ) (answer : SleepAnswer) (m : Made) (after : List ℕ)
+    (h : MadeAs nodeHash r c out m after) where
+  pub makes-refused : (x : Refusal) → m ≡ NotMade x → answer ≡ encoded (refusalOf x) → Makes r c out long answer after long
+  makes-refused x e a =
+      let v : refusalOf x ≡ makeVerdict nodeHash r c out = sym (ap madeVerdict e) ∙ h .verdict in
+      record {
+        answers = a ∙ ap encoded v;
+        packet = h .written;
+        length = ap (λ (u : Verdict). unlessRefused u (madeLength nodeHash r c out) long) v;
+      }
 
-first-same : (v : Verdict) (a b : ℕ) → firstOf (foundUnless v a b) a ≡ a
-unfolding firstOf
-first-same done a b = refl
-first-same (refused m at) a b = refl
+  pub makes-length : (k : ℕ) → m ≡ Length k → answer ≡ encoded done → Makes r c out long answer after k
+  makes-length k e a =
+      let v : done ≡ makeVerdict nodeHash r c out = sym (ap madeVerdict e) ∙ h .verdict in
+      record {
+        answers = a ∙ ap encoded v;
+        packet = h .written;
+        length =
+            sym (ap madeBytes e) ∙ h .long ∙ ap (λ (u : Verdict). unlessRefused u (madeLength nodeHash r c out) long) v;
+      }
 
-second-same : (v : Verdict) (a b : ℕ) → secondOf (foundUnless v a b) b ≡ b
-unfolding secondOf
-second-same done a b = refl
-second-same (refused m at) a b = refl
-
--- where the part that a read verified begins and ends
-pub record Verifies (g : Register) (c from end : ℕ) : Type 0 where
-  pub verdict : done ≡ readVerdict nodeHash g c
-  pub starts : from ≡ startOf (toChunk g c)
-  pub ends : end ≡ startOf (toChunk g c) + storedSize (g .tree) (index 0 c)
-
-pub verifies : (g : Register) (c from end : ℕ) → found from end ≡ readFound nodeHash g c → Verifies g c from end
-unfolding readFound firstOf secondOf
-verifies g c from end e =
-    let a = startOf (toChunk g c) in
-    let b = startOf (toChunk g c) + storedSize (g .tree) (index 0 c) in
-    let v = readVerdict nodeHash g c in
-    record {
-      verdict = ap verdictOf e ∙ same-verdict v a b;
-      starts = ap (λ (f : Found). firstOf f a) e ∙ first-same v a b;
-      ends = ap (λ (f : Found). secondOf f b) e ∙ second-same v a b;
-    }
-
--- so its length is no negative number
-pub forwards : (g : Register) (c from end : ℕ) → found from end ≡ readFound nodeHash g c → from ≤ end
-forwards g c from end e =
-    let p = verifies g c from end e .starts in
-    let q = verifies g c from end e .ends in
-    omega arith
-
-pub read-part : (r : SleepAnswer) (g : Register) (c from end : ℕ) (before : List ℕ) → r ≡ encoded done
-    → found from end ≡ readFound nodeHash g c
-    → (r ≡ encoded (readVerdict nodeHash g c))
-    × (from ∷ (end - from) ∷ [] ≡ unlessRefused (readVerdict nodeHash g c) (partNumbers g c) before)
-unfolding partNumbers
-read-part r g c from end before e h =
-    let k = verifies g c from end h in
-    let p = k .starts in
-    let q = k .ends in
-    let z : end - from ≡ storedSize (g .tree) (index 0 c) = omega arith in (
-      e ∙ ap encoded (k .verdict),
-      ap₂ (λ (x y : ℕ). x ∷ y ∷ []) p z ∙ ap (λ (u : Verdict). unlessRefused u (partNumbers g c) before) (k .verdict),
-    )
-
-pub read-refused : (r : SleepAnswer) (x : Refusal) (g : Register) (c : ℕ) (before : List ℕ) → r ≡ encoded (refusalOf x)
-    → refusedAs x ≡ readFound nodeHash g c
-    → (r ≡ encoded (readVerdict nodeHash g c)) × (before ≡ unlessRefused (readVerdict nodeHash g c) (partNumbers g c) before)
-unfolding readFound
-read-refused r x g c before e h =
-    let a = startOf (toChunk g c) in
-    let b = startOf (toChunk g c) + storedSize (g .tree) (index 0 c) in
-    let v = readVerdict nodeHash g c in
-    let q : refusalOf x ≡ v = ap verdictOf h ∙ same-verdict v a b in
-    (e ∙ ap encoded q, ap (λ (u : Verdict). unlessRefused u (partNumbers g c) before) q)
+-- a comparison, from the case that its answer is
+pub compared-as : (a b : Compared) → a ≡ b → encodedComparison (compared b) ≡ encodedComparison (compared a)
+compared-as a b e = ap (λ (x : Compared). encodedComparison (compared x)) (sym e)

@@ -1,12 +1,17 @@
--- The three numbers that stand for what a call says.
-use Prim.Native.Nat.{ℕ}
+-- The numbers that stand for what a call says.
+use Prim.Native.Nat.{ℕ, _-_}
+use mathlib.Core.Path.{_≡_}
 use mathlib.Core.List.{List, [], _∷_}
 use Rattle.counts.specs.Verdict.{Spot, Verdict, none, tree, bitfield, done, refused}
-use Rattle.tree_index.specs.Tree.{index}
-use Rattle.files.specs.Stored.{storedSize}
+use Rattle.blake2b.specs.Hash.{nodeHash}
 use Rattle.files.specs.Belongs.{Register}
-use Rattle.lookup.specs.Lookup.{Found, refusal, found, startOf, toChunk}
+use Rattle.lookup.specs.Lookup.{Found, refusal, found, foundUnless}
+use Rattle.packet.specs.Packet.{makeVerdict, madeLength, afterMake}
+use Rattle.packet.specs.Check.{chunkLength, packetVerdict}
+use Rattle.compare.specs.Walk.{Comparison, firstRefused, secondRefused, rootsDiffer, atRoots, atIndex, equal}
+use Rattle.c_api.specs.Number.{unlessRefused}
 use Rattle.c_api.specs.declared.answers.SleepAnswer.{SleepAnswer}
+use Rattle.c_api.specs.declared.comparing.SleepComparison.{SleepComparison}
 
 -- the number 0 where the call is done, else the refusal's; the place's kind is 0 for none, 1 for a tree index, 2 for a byte offset in the
 -- bitfield file
@@ -16,16 +21,46 @@ encoded (refused number none) = record { number = number; «place_kind» = 0; pl
 encoded (refused number (tree i)) = record { number = number; «place_kind» = 1; place = i }
 encoded (refused number (bitfield b)) = record { number = number; «place_kind» = 2; place = b }
 
--- what a lookup says: done, or its refusal
+-- what a call that gives two numbers says: done, or its refusal
 abbrev pub verdictOf : Found → Verdict
 verdictOf (refusal number at) = refused number at
 verdictOf (found a b) = done
 
--- what the two numbers lent to a lookup are after it
+-- what the two numbers lent to it are after it
 abbrev pub numbersUnless : Found → List ℕ → List ℕ
 numbersUnless (refusal number at) before = before
 numbersUnless (found a b) before = a ∷ b ∷ []
 
--- the part of the data that holds chunk c, as its start and its length: `chunkBytes` (lookup, Read) is this part
-unfoldable pub partNumbers : Register → ℕ → List ℕ
-partNumbers r c = startOf (toChunk r c) ∷ storedSize (r .tree) (index 0 c) ∷ []
+-- a call that finds f: its answer, and the two numbers lent to it before and after
+pub record Gives (f : Found) (before : List ℕ) (answer : SleepAnswer) (after : List ℕ) : Type 0 where
+  pub answers : answer ≡ encoded (verdictOf f)
+  pub numbers : after ≡ numbersUnless f before
+
+-- a part that is found by its start and its end, as its start and its length
+abbrev pub asPart : Found → Found
+asPart (refusal number at) = refusal number at
+asPart (found from end) = found from (end - from)
+
+-- the chunk's part of a packet that passes the check: `packetChunk` (packet, Check) is this part
+unfoldable pub packetPart : List ℕ → ℕ → ℕ → List ℕ → Found
+packetPart p n c root = foundUnless (packetVerdict nodeHash p n c root) 4 (chunkLength p)
+
+-- making the packet of chunk c: the answer, the buffer lent for it and the number lent for its length
+pub record Makes (r : Register) (c : ℕ) (out : List ℕ) (long : ℕ) (answer : SleepAnswer) (outAfter : List ℕ) (longAfter : ℕ) : Type 0
+  where
+    pub answers : answer ≡ encoded (makeVerdict nodeHash r c out)
+    pub packet : outAfter ≡ afterMake nodeHash r c out
+    pub length : longAfter ≡ unlessRefused (makeVerdict nodeHash r c out) (madeLength nodeHash r c out) long
+
+-- what the comparing walk says: 0 equal, 1 roots differ, 2 a collision at the roots, 3 at a tree index, which is the place; 4 and 5 where
+-- the first and the second register are refused, and then with the refusal
+abbrev pub outcomeWith : ℕ → SleepAnswer → SleepComparison
+outcomeWith outcome answer = record { outcome = outcome; answer = answer }
+
+abbrev pub encodedComparison : Comparison → SleepComparison
+encodedComparison equal = outcomeWith 0 (encoded done)
+encodedComparison rootsDiffer = outcomeWith 1 (encoded done)
+encodedComparison atRoots = outcomeWith 2 (encoded done)
+encodedComparison (atIndex i) = outcomeWith 3 (record { number = 0; «place_kind» = 1; place = i })
+encodedComparison (firstRefused number at) = outcomeWith 4 (encoded (refused number at))
+encodedComparison (secondRefused number at) = outcomeWith 5 (encoded (refused number at))

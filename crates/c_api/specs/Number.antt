@@ -1,6 +1,5 @@
 -- What C is answered.
 use Prim.Native.Nat.{ℕ}
-use mathlib.Core.List.{List}
 use Rattle.counts.specs.Verdict.{Verdict, Spot, done, refused}
 
 -- 0 where the call was done, else the number of the refusal: those begin with 1
@@ -8,7 +7,7 @@ abbrev pub numberOf : Verdict → ℕ
 numberOf done = 0
 numberOf (refused number place) = number
 
--- what a lent buffer holds after a call that writes it: "After a refusal each lent buffer holds what it held"
-abbrev pub unlessRefused : Verdict → List ℕ → List ℕ → List ℕ
+-- what a lent buffer or number holds after a call that writes it: "After a refusal each lent buffer holds what it held"
+abbrev pub unlessRefused : {A : Type 0} → Verdict → A → A → A
 unlessRefused done written before = written
 unlessRefused (refused number place) written before = before

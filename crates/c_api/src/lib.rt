@@ -1,6 +1,8 @@
 // What firmware links: the library's calls with flat numbers and slices. A slice is a pointer and a length in C, and a
 // reference to an array a pointer. include/sleep_register.h declares them.
 pub mod answers;
+pub mod comparing;
 pub mod hashing;
 pub mod lookups;
+pub mod packets;
 pub mod registers;

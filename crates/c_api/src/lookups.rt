@@ -9,9 +9,8 @@ ghost use mathlib.Core.Path.{_≡_};
 ghost use Rattle.blake2b.specs.Hash.{nodeHash};
 ghost use Rattle.checks.specs.Given.{registerOf};
 ghost use Rattle.lookup.specs.Lookup.{placeOf, byteAt};
-ghost use Rattle.lookup.specs.Read.{readVerdict};
-ghost use Rattle.c_api.specs.Number.{unlessRefused};
-ghost use Rattle.c_api.specs.Encoding.{encoded, verdictOf, numbersUnless, partNumbers};
+ghost use Rattle.lookup.specs.Said.{readFound};
+ghost use Rattle.c_api.specs.Encoding.{Gives, asPart};
 
 // Where the bytes of a chunk begin in `content`, and how many they are.
 #[no_mangle]
@@ -26,8 +25,14 @@ pub extern "C" fn sleep_place(
     chunk: u64,
     out: &mut [u64; 2],
 ) -> SleepAnswer
-    ensures answers { λ r. ⌜ r ≡ encoded (verdictOf (placeOf (registerOf (now (tree .entry)) (now (signatures .entry)) (now (bitfield .entry)) (now (content .entry)) n s size) chunk)) ⌝ }
-    ensures gives { λ _. ⌜ now (out .exit) ≡ numbersUnless (placeOf (registerOf (now (tree .entry)) (now (signatures .entry)) (now (bitfield .entry)) (now (content .entry)) n s size) chunk) (now (out .entry)) ⌝ }
+    ensures { λ r.
+        ⌜
+        Gives
+        (placeOf (registerOf (now (tree .entry)) (now (signatures .entry)) (now (bitfield .entry)) (now (content .entry)) n s size) chunk)
+        (now (out .entry))
+        r
+        (now (out .exit))
+        ⌝ }
 {
     let found = lookup::lookup::place(
         tree,
@@ -61,8 +66,14 @@ pub extern "C" fn sleep_byte(
     offset: u64,
     out: &mut [u64; 2],
 ) -> SleepAnswer
-    ensures answers { λ r. ⌜ r ≡ encoded (verdictOf (byteAt (registerOf (now (tree .entry)) (now (signatures .entry)) (now (bitfield .entry)) (now (content .entry)) n s size) offset)) ⌝ }
-    ensures gives { λ _. ⌜ now (out .exit) ≡ numbersUnless (byteAt (registerOf (now (tree .entry)) (now (signatures .entry)) (now (bitfield .entry)) (now (content .entry)) n s size) offset) (now (out .entry)) ⌝ }
+    ensures { λ r.
+        ⌜
+        Gives
+        (byteAt (registerOf (now (tree .entry)) (now (signatures .entry)) (now (bitfield .entry)) (now (content .entry)) n s size) offset)
+        (now (out .entry))
+        r
+        (now (out .exit))
+        ⌝ }
 {
     let found = lookup::lookup::locate(
         tree,
@@ -97,8 +108,14 @@ pub extern "C" fn sleep_read(
     chunk: u64,
     out: &mut [u64; 2],
 ) -> SleepAnswer
-    ensures answers { λ r. ⌜ r ≡ encoded (readVerdict nodeHash (registerOf (now (tree .entry)) (now (signatures .entry)) (now (bitfield .entry)) (now (content .entry)) n s size) chunk) ⌝ }
-    ensures gives { λ _. ⌜ now (out .exit) ≡ unlessRefused (readVerdict nodeHash (registerOf (now (tree .entry)) (now (signatures .entry)) (now (bitfield .entry)) (now (content .entry)) n s size) chunk) (partNumbers (registerOf (now (tree .entry)) (now (signatures .entry)) (now (bitfield .entry)) (now (content .entry)) n s size) chunk) (now (out .entry)) ⌝ }
+    ensures { λ r.
+        ⌜
+        Gives
+        (asPart (readFound nodeHash (registerOf (now (tree .entry)) (now (signatures .entry)) (now (bitfield .entry)) (now (content .entry)) n s size) chunk))
+        (now (out .entry))
+        r
+        (now (out .exit))
+        ⌝ }
 {
     let found = lookup::read::verify(
         tree,

@@ -4,7 +4,7 @@ pub mod Roots
 pub mod Descent
 pub mod Walk
 pub mod Agree
-pub mod Demand3
 pub mod Corollaries
+pub mod Demand3
 pub mod Demand2
 pub mod AtBlake2b

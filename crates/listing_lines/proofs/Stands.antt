@@ -2,10 +2,10 @@
 -- Assumes nothing.
 use Prim.Native.Nat.{ℕ, _+_, _-_, _≤_, _<_}
 use mathlib.Core.Path.{_≡_, refl, sym, ap, _∙_}
-use mathlib.Core.Bool.{Bool, true, false, _&&_}
+use mathlib.Core.Bool.{Bool, true, false, not, _&&_}
 use mathlib.Core.List.{List}
 use native.Mathlib.Omega.{arith}
-use borrow.Author.Tests.{le-leb, lt-leb}
+use borrow.Author.Tests.{leb-true, le-leb, lt-leb, not-false}
 use lib.Dec.{leb}
 use lib.ListN.{length, drop, length-drop}
 use Rattle.sequences.specs.Lists.{part}
@@ -38,3 +38,22 @@ module _ (input : List ℕ) (at room : ℕ) (h : at ≤ length input) where
   stands-last len l e g =
       ap (λ (k : ℕ). leb (4 + k) (length input - at)) e
       ∙ sym (long l ∙ ap (λ (b : Bool). b && leb (4 + number (part input at 4)) (length input - at)) (le-leb (number (part input at 4)) room (omega arith)))
+
+pub both-true : (a b : Bool) → (a && b) ≡ true → (a ≡ true) × (b ≡ true)
+both-true true b e = (refl, e)
+both-true false b e = absurd (let z : _≡_ {A = ℕ} 0 1 = cc in omega arith)
+
+-- what is there where a chunk stands
+pub stands-facts : (input : List ℕ) (at room : ℕ) → at ≤ length input → chunkStands (drop at input) room ≡ true
+    → (4 ≤ length input - at) × (number (part input at 4) ≤ room) × (4 + number (part input at 4) ≤ length input - at)
+stands-facts input at room h e =
+    let a = both-true _ _ (sym (stood input at room h) ∙ e) in
+    let b = both-true _ _ (a .1) in
+    (leb-true _ _ (a .0), leb-true _ _ (b .0), leb-true _ _ (b .1))
+
+-- where the test of a chunk did not fail: the chunk ends within the input, and within 4,096 bytes
+pub stood-room : (input : List ℕ) (at size len : ℕ) (r : Bool) → at ≤ length input → size ≤ 4096 → r ≡ chunkStands (drop at input) (4096 - size)
+    → not r ≡ false → len ≡ number (part input at 4) → (at + 4 + len ≤ length input) × (size + len ≤ 4096)
+stood-room input at size len r h l e f q =
+    let g = stands-facts input at (4096 - size) h (sym e ∙ not-false r f) in
+    (omega (arith, g .2), omega (arith, g .1))

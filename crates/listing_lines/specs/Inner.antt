@@ -57,6 +57,13 @@ pub record Ready (r : Register) (cs : List (List ℕ)) : Type 0 where
   pub bitfield : length (r .bitfield) ≡ 3360
   pub content : length (r .content) ≡ 4096
 
+-- the lengths of the listing's buffers: 64 chunks with 4,096 bytes and their signatures
+pub record Rooms (t s b d : List ℕ) : Type 0 where
+  pub tree : length t ≡ 5120
+  pub signatures : length s ≡ 4160
+  pub bitfield : length b ≡ 3360
+  pub content : length d ≡ 4096
+
 -- lists of chunks before what is read behind them
 unfoldable pub behind : List (List ℕ) → Input → Input
 behind [] i = i

@@ -2,3 +2,4 @@
 pub mod Input
 pub mod Lines
 pub mod Inner
+pub mod Post

@@ -3,8 +3,16 @@ ghost use Prim.Native.Nat.{_+_, _-_, _≤_, _<_};
 ghost use mathlib.Core.Path.{_≡_};
 ghost use lib.ListN.{length, drop};
 ghost use Rattle.checks.specs.Given.{registerOf};
-ghost use Rattle.listing_lines.specs.Input.{chunkStands, inputOf};
-ghost use Rattle.listing_lines.specs.Inner.{Adds};
+ghost use mathlib.Core.List.{[]};
+ghost use Rattle.listing_lines.specs.Input.{chunkStands, chunksIn, inputOf};
+ghost use Rattle.listing_lines.specs.Inner.{Adds, Ready, Read, Rooms};
+
+// Whether the input is one of chunks, and then their number and the sum of their lengths.
+pub struct Told {
+    pub read: bool,
+    pub n: u64,
+    pub size: u64,
+}
 
 // One more chunk, and 64 zero bytes as its signature.
 fn add(
@@ -54,4 +62,88 @@ fn stands(input: &[u8], at: usize, size: u64) -> bool
         return false;
     }
     4 + len <= left as u64
+}
+
+// The chunks of the input, `count` of them and nothing behind, onto a register that was just started.
+fn read_chunks(
+    input: &[u8],
+    count: u64,
+    tree: &mut [u8],
+    signatures: &mut [u8],
+    bitfield: &mut [u8],
+    content: &mut [u8],
+) -> Told
+    requires { ⌜
+        (4 ≤ length (now input)) × (count ≤ 64)
+        × Ready (registerOf (now tree) (now signatures) (now bitfield) (now content) 0 0 0) []
+        ⌝ }
+    ensures { λ r.
+        ⌜
+        Read (chunksIn count (drop 4 (now (input .entry))) 4096) (r .read)
+        (registerOf (now (tree .exit)) (now (signatures .exit)) (now (bitfield .exit)) (now (content .exit)) (r .n) (r .n) (r .size))
+        ⌝ }
+{
+    let mut at: usize = 4;
+    let mut n: u64 = 0;
+    let mut size: u64 = 0;
+    while n < count {
+        if !stands(input, at, size) {
+            return Told {
+                read: false,
+                n,
+                size,
+            };
+        }
+        let len = sequences::read_be32(input, at);
+        let start = at + 4;
+        let end = start + (len as usize);
+        add(
+            tree,
+            signatures,
+            bitfield,
+            content,
+            n,
+            size,
+            &input[start..end],
+        );
+        at = end;
+        size += len;
+        n += 1;
+    }
+    Told {
+        read: at == input.len(),
+        n,
+        size,
+    }
+}
+
+// The whole input: the count of its chunks and the chunks, onto a register that is started here.
+pub fn read(
+    input: &[u8],
+    tree: &mut [u8],
+    signatures: &mut [u8],
+    bitfield: &mut [u8],
+    content: &mut [u8],
+) -> Told
+    requires { ⌜ Rooms (now tree) (now signatures) (now bitfield) (now content) ⌝ }
+    ensures { λ r.
+        ⌜
+        Read (inputOf (now (input .entry))) (r .read)
+        (registerOf (now (tree .exit)) (now (signatures .exit)) (now (bitfield .exit)) (now (content .exit)) (r .n) (r .n) (r .size))
+        ⌝ }
+{
+    let nothing = Told {
+        read: false,
+        n: 0,
+        size: 0,
+    };
+    if input.len() < 4 {
+        return nothing;
+    }
+    let count = sequences::read_be32(input, 0);
+    if 64 < count {
+        return nothing;
+    }
+    writing::start(tree, signatures, bitfield, content);
+    read_chunks(input, count, tree, signatures, bitfield, content)
 }

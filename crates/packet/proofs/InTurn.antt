@@ -128,10 +128,10 @@ module _ (p : List ℕ) (at n c : ℕ) (x : Entry) (h : ChunkOf n c) where
   other-at i g =
       getD-run (λ m. entryIn p (at + 40 * m)) 0 (length (otherRoots n c)) i hole g ∙ ap (λ (m : ℕ). entryIn p (at + 40 * m)) (zero-add i)
 
-  abbrev all : List Entry
+  abbrev pub all : List Entry
   all = take k es ++ (x ∷ drop k es)
 
-  whole : inTurn (rootAbove (roots n) c) x (roots n) es ≡ all
+  pub whole : inTurn (rootAbove (roots n) c) x (roots n) es ≡ all
   whole =
       ap (λ (r : ℕ). inTurn r x (roots n) es) (place-root (roots n) c)
       ∙ turn-cut x (roots n) es k (roots-distinct n) (place-below n c h) count-es
@@ -139,10 +139,10 @@ module _ (p : List ℕ) (at n c : ℕ) (x : Entry) (h : ChunkOf n c) where
   inside : k ≤ length es
   inside = omega (arith, count-es, place-below n c h)
 
-  length-all : length all ≡ length (roots n)
+  pub length-all : length all ≡ length (roots n)
   length-all = length-turned hole x es k inside ∙ count-es
 
-  entry-at : (j : ℕ) → j < length (roots n) → getD all j hole ≡ turnEntry p at k x j
+  pub entry-at : (j : ℕ) → j < length (roots n) → getD all j hole ≡ turnEntry p at k x j
   unfolding turnEntry
   entry-at j l = turned-at hole x es k inside j ∙ same (ltb j k) (eqb j k) refl refl
     where

@@ -7,3 +7,6 @@ pub mod InTurn
 pub mod Right
 pub mod Rows
 pub mod Making
+pub mod Pieces
+pub mod Answers
+pub mod Inside

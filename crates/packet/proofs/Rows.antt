@@ -55,7 +55,7 @@ beside-end k = pick (bit k)
 abbrev ending : ℕ → ℕ → ℕ
 ending c d = (c / 2 ^ d + 1) * 2 ^ d
 
-half : (c d : ℕ) → c / 2 ^ d / 2 ≡ c / 2 ^ suc d
+pub half : (c d : ℕ) → c / 2 ^ d / 2 ≡ c / 2 ^ suc d
 half c d = shr-shr c d 1 ∙ ap (λ (k : ℕ). c / 2 ^ k) (add-one d)
 
 doubled : (c d x : ℕ) → x ≤ 2 * (c / 2 ^ d / 2 + 1) → x * 2 ^ d ≤ ending c (suc d)
@@ -237,7 +237,7 @@ module _ (t : List ℕ) (n c : ℕ) (bytes : List ℕ) (r : Readable t n c bytes
       (filled-long is (λ j l. f (suc j) (omega arith)))
       ∙ omega arith
 
-  section-long : (is : List ℕ) → Filled n is → length (section t is) ≡ 1 + 40 * length is
+  pub section-long : (is : List ℕ) → Filled n is → length (section t is) ≡ 1 + 40 * length is
   unfolding section
   section-long is f = ap suc (filled-long is f) ∙ sym (one-add (40 * length is))
 

@@ -3,3 +3,4 @@ pub mod Packet
 pub mod Check
 pub mod Parts
 pub mod Made
+pub mod Answers

@@ -166,7 +166,7 @@ fn parts_line(message: &[u8; 1024], prefix: usize, end: usize)
     requires { ⌜ end ≤ 1024 ⌝ }
 {
     let digest = blake2b::hash_parts(part(message, 0, prefix), part(message, prefix, end));
-    hex(&digest);
+    printing::hex(&digest);
     io::write_all(1, b"\n");
 }
 
@@ -193,30 +193,6 @@ fn hex_line(digest: &[u8; 64], count: usize)
     requires { ⌜ count ≤ 64 ⌝ }
 {
     let whole: &[u8] = digest;
-    hex(&whole[0..count]);
+    printing::hex(&whole[0..count]);
     io::write_all(1, b"\n");
-}
-
-// The bytes in hexadecimal.
-fn hex(bytes: &[u8]) {
-    let mut i = 0;
-    while i < bytes.len() {
-        hex_byte(bytes[i]);
-        i += 1;
-    }
-}
-
-fn hex_byte(byte: u8) {
-    let text = [digit(byte / 16), digit(byte % 16)];
-    io::write_all(1, &text);
-}
-
-fn digit(value: u8) -> u8
-    requires { ⌜ value < 16 ⌝ }
-{
-    if value < 10 {
-        b'0' + value
-    } else {
-        b'a' - 10 + value
-    }
 }

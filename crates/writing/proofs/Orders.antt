@@ -2,7 +2,7 @@
 use Prim.Native.Nat.{ℕ, _+_, _≤_, _<_}
 use mathlib.Core.Path.{_≡_, sym, ap, _∙_}
 use mathlib.Core.Bool.{Bool, cond, not}
-use mathlib.Core.List.{List}
+use mathlib.Core.List.{List, [], _∷_, _++_}
 use borrow.Author.Tests.{lt-ltb, le-ltb}
 use lib.Dec.{leb, ltb, eqb}
 use lib.ListN.{length}
@@ -14,10 +14,10 @@ use Rattle.counts.specs.declared.Answer.the-variants.{Done, Refused}
 use Rattle.files.specs.Sizes.{mostChunks, longestChunk, usedTree, usedSignatures, usedBitfield}
 use Rattle.files.specs.Belongs.{Register}
 use Rattle.checks.specs.Checks.{Check, judged, holds, laterChecks, registerChecks}
+use Rattle.checks.proofs.Passed.{AllRight}
 use Rattle.checks.proofs.Judged.{judged-append, judged-refused, judged-right, judged-done}
-use Rattle.writing.specs.Append.{appendChecks, appendVerdict}
-use Rattle.writing.specs.Sign.{signChecks, signVerdict}
-use Rattle.writing.specs.Inner.{ownChecks, ownSignChecks}
+use Rattle.writing.specs.Append.{ownChecks, appendChecks, appendVerdict}
+use Rattle.writing.specs.Sign.{ownSignChecks, signChecks, signVerdict}
 
 -- ---- checks behind checks
 
@@ -30,11 +30,20 @@ refused-before cs next a x p e = sym (judged-refused cs next (x .number) (spotOf
 pub passed-before : (cs : List Check) (v next : Verdict) (a : Answer) → a ≡ Done → said a ≡ judged cs done → v ≡ next → v ≡ judged cs next
 passed-before cs v next a p e q = q ∙ sym (judged-right cs next (judged-done cs done (sym e ∙ ap said p) .0))
 
+-- all checks of two lists, one behind the other, are right
+pub both-right : (xs ys : List Check) → AllRight xs → AllRight ys → AllRight (xs ++ ys)
+both-right [] ys p q = q
+both-right (x ∷ xs) ys p q = (p .0, both-right xs ys (p .1) q)
+
+pub right-both : (xs ys : List Check) → AllRight (xs ++ ys) → AllRight xs × AllRight ys
+right-both [] ys p = (tt, p)
+right-both (x ∷ xs) ys p = let r = right-both xs ys (p .1) in ((p .0, r .0), r .1)
+
 -- ---- an append
 
 append-order : (r : Register) (chunk : List ℕ)
     → appendVerdict r chunk ≡ cond (ltb (r .n) mostChunks) (judged (laterChecks r) (judged (ownChecks r chunk) done)) (refused 2 none)
-unfolding appendVerdict appendChecks judged ownChecks
+unfolding appendVerdict appendChecks judged
 append-order r chunk =
     ap (λ (v : Verdict). cond (ltb (r .n) mostChunks) v (refused 2 none)) (judged-append (laterChecks r) (ownChecks r chunk) done)
 
@@ -68,7 +77,7 @@ own-answered r chunk v a b c d e p q s t u w = rw (p, q, s, t, u) w
 -- ---- a stored signature
 
 sign-order : (r : Register) → signVerdict r ≡ judged (registerChecks r) (judged (ownSignChecks (r .signatures) (r .n) (r .s)) done)
-unfolding signVerdict signChecks ownSignChecks
+unfolding signVerdict signChecks
 sign-order r = judged-append (registerChecks r) (ownSignChecks (r .signatures) (r .n) (r .s)) done
 
 pub sign-by : (r : Register) (v : Verdict) → v ≡ judged (registerChecks r) (judged (ownSignChecks (r .signatures) (r .n) (r .s)) done) → v ≡ signVerdict r

@@ -13,20 +13,10 @@ use Rattle.files.specs.Sizes.{mostChunks, longestChunk, usedTree, usedSignature
 use Rattle.files.specs.Belongs.{Register}
 use Rattle.checks.specs.Checks.{Check, signedRight, laterChecks, registerChecks}
 use Rattle.checks.proofs.Passed.{Passed, AllRight, all-must, all-pass, passed, passes}
-use Rattle.writing.specs.Append.{appendChecks, appendVerdict}
-use Rattle.writing.specs.Sign.{signChecks, signVerdict}
+use Rattle.writing.specs.Append.{ownChecks, appendChecks, appendVerdict}
+use Rattle.writing.specs.Sign.{ownSignChecks, signChecks, signVerdict}
 use Rattle.writing.specs.Fits.{AppendFits, SignFits}
-use Rattle.writing.specs.Inner.{ownChecks, ownSignChecks}
-
--- ---- checks of two lists
-
-pub both-right : (xs ys : List Check) → AllRight xs → AllRight ys → AllRight (xs ++ ys)
-both-right [] ys p q = q
-both-right (x ∷ xs) ys p q = (p .0, both-right xs ys (p .1) q)
-
-pub right-both : (xs ys : List Check) → AllRight (xs ++ ys) → AllRight xs × AllRight ys
-right-both [] ys p = (tt, p)
-right-both (x ∷ xs) ys p = let r = right-both xs ys (p .1) in ((p .0, r .0), r .1)
+use Rattle.writing.proofs.Orders.{both-right, right-both}
 
 -- the numbers 2 to 6 as a list of checks, both ways
 checked : (r : Register) → AllRight (registerChecks r) → Passed r

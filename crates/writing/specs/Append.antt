@@ -16,16 +16,18 @@ use Rattle.files.specs.Belongs.{Buffers, Register, buffersOf}
 use Rattle.checks.specs.Checks.{Check, judged, laterChecks, holds}
 use Rattle.writing.specs.Start.{unlessRefused}
 
--- numbers 2 to 8, and 14 for the buffers that are written: the tree with the new entries, the bitfield, the data with the chunk
-unfoldable pub appendChecks : Register → List ℕ → List Check
-appendChecks r chunk =
-    record { number = 2; right = ltb (r .n) mostChunks }
-    ∷ (laterChecks r
-    ++ (record { number = 7; right = leb (length chunk) longestChunk }
+-- the numbers behind 6: 7, 8, and 14 for the buffers that are written: the tree with the new entries, the bitfield, the data with the chunk
+unfoldable pub ownChecks : Register → List ℕ → List Check
+ownChecks r chunk =
+    record { number = 7; right = leb (length chunk) longestChunk }
     ∷ record { number = 8; right = eqb (r .s) (r .n) }
     ∷ record { number = 14; right = holds (r .tree) (usedTree (r .n + 1)) }
     ∷ record { number = 14; right = holds (r .bitfield) (usedBitfield (r .n + 1)) }
-    ∷ record { number = 14; right = holds (r .content) (r .size + length chunk) } ∷ []))
+    ∷ record { number = 14; right = holds (r .content) (r .size + length chunk) } ∷ []
+
+-- "2. .. or an append finds n at 1,048,576", then 3 to 6, then its own
+unfoldable pub appendChecks : Register → List ℕ → List Check
+appendChecks r chunk = record { number = 2; right = ltb (r .n) mostChunks } ∷ (laterChecks r ++ ownChecks r chunk)
 
 unfoldable pub appendVerdict : Register → List ℕ → Verdict
 appendVerdict r chunk = judged (appendChecks r chunk) done

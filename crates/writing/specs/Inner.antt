@@ -1,10 +1,8 @@
 -- What the inner functions require and ensure.
 use Prim.Native.Nat.{ℕ, _+_, _-_, _/_, _^_, _≤_, _<_}
 use mathlib.Core.Path.{_≡_}
-use mathlib.Core.Bool.{not}
 use mathlib.Core.List.{List, [], _∷_}
 use lib.ListN.{length}
-use lib.Dec.{leb, eqb}
 use Rattle.sequences.specs.Lists.{put, total}
 use Rattle.tree_index.specs.Tree.{index, completed}
 use Rattle.bitfield.specs.Append.{appended}
@@ -14,25 +12,8 @@ use Rattle.files.specs.Sizes.{mostChunks, longestChunk, usedTree, usedSignature
 use Rattle.files.specs.Nodes.{Entry}
 use Rattle.files.specs.Stored.{storedSize, storedRootSizes, storedRootMessage}
 use Rattle.files.specs.Belongs.{Register}
-use Rattle.checks.specs.Checks.{Check, holds}
 use Rattle.writing.specs.Append.{sibling, appendedTree}
 use Rattle.writing.specs.declared.appending.Node.{Node}
-
--- ---- the numbers behind 6
-
--- 7, 8 and 14 of an append
-unfoldable pub ownChecks : Register → List ℕ → List Check
-ownChecks r chunk =
-    record { number = 7; right = leb (length chunk) longestChunk }
-    ∷ record { number = 8; right = eqb (r .s) (r .n) }
-    ∷ record { number = 14; right = holds (r .tree) (usedTree (r .n + 1)) }
-    ∷ record { number = 14; right = holds (r .bitfield) (usedBitfield (r .n + 1)) }
-    ∷ record { number = 14; right = holds (r .content) (r .size + length chunk) } ∷ []
-
--- 8 and 14 of a signature that is stored
-unfoldable pub ownSignChecks : List ℕ → ℕ → ℕ → List Check
-ownSignChecks signatures n s =
-    record { number = 8; right = not (eqb s n) } ∷ record { number = 14; right = holds signatures (usedSignatures (s + 1)) } ∷ []
 
 -- ---- a start
 

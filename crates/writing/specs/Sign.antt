@@ -10,12 +10,14 @@ use Rattle.files.specs.Belongs.{Buffers, Register, buffersOf}
 use Rattle.checks.specs.Checks.{Check, judged, registerChecks, holds}
 use Rattle.writing.specs.Start.{unlessRefused}
 
--- numbers 2 to 6; "8. .. a signature is offered while s = n"; 14 for the signatures
+-- the numbers behind 6: "8. .. a signature is offered while s = n", and 14 for the signatures
+unfoldable pub ownSignChecks : List ℕ → ℕ → ℕ → List Check
+ownSignChecks signatures n s =
+    record { number = 8; right = not (eqb s n) } ∷ record { number = 14; right = holds signatures (usedSignatures (s + 1)) } ∷ []
+
+-- numbers 2 to 6, then its own
 unfoldable pub signChecks : Register → List Check
-signChecks r =
-    registerChecks r
-    ++ (record { number = 8; right = not (eqb (r .s) (r .n)) }
-    ∷ record { number = 14; right = holds (r .signatures) (usedSignatures (r .s + 1)) } ∷ [])
+signChecks r = registerChecks r ++ ownSignChecks (r .signatures) (r .n) (r .s)
 
 unfoldable pub signVerdict : Register → Verdict
 signVerdict r = judged (signChecks r) done

@@ -14,8 +14,8 @@ ghost use Rattle.counts.specs.Verdict.{done};
 ghost use Rattle.counts.specs.Said.{said};
 ghost use Rattle.checks.specs.Checks.{judged};
 ghost use Rattle.checks.specs.Given.{registerOf};
-ghost use Rattle.writing.specs.Append.{appendVerdict, storedEntry, sibling as siblingOf, withHole, withEntries, climb};
-ghost use Rattle.writing.specs.Inner.{ownChecks, place, entryOf, NodeFits, AboveFits, FilledFits, StoreFits, StorePost};
+ghost use Rattle.writing.specs.Append.{ownChecks, appendVerdict, storedEntry, sibling as siblingOf, withHole, withEntries, climb};
+ghost use Rattle.writing.specs.Inner.{place, entryOf, NodeFits, AboveFits, FilledFits, StoreFits, StorePost};
 ghost use Rattle.writing.specs.Post.{lent, AppendPost};
 
 // An answer, and beside it the new root hash; zeros after a refusal.

@@ -6,8 +6,7 @@ ghost use Rattle.counts.specs.Verdict.{done};
 ghost use Rattle.counts.specs.Said.{said};
 ghost use Rattle.checks.specs.Checks.{judged};
 ghost use Rattle.checks.specs.Given.{registerOf};
-ghost use Rattle.writing.specs.Sign.{signVerdict};
-ghost use Rattle.writing.specs.Inner.{ownSignChecks};
+ghost use Rattle.writing.specs.Sign.{ownSignChecks, signVerdict};
 ghost use Rattle.writing.specs.Post.{lent, SignPost};
 
 // Inner: the numbers 8 and 14, of counts that pass 2 and 3.

@@ -2,19 +2,19 @@
 use mathlib.Core.Path.{sym, ap, _∙_}
 use borrow.Author.Needs.{needs}
 use Rattle.lookup.specs.Said.{locatedOf}
-use Rattle.c_api.proofs.Laws.{looked-refused, looked-found}
+use Rattle.c_api.proofs.Laws.{gives-refused, gives-found}
 use Rattle.c_api.proofs.lookups.sleep_byte.Statement.{statement}
 use Rattle.c_api.proofs.lookups.sleep_byte.Tie as tie
 
 returns : tie.Need-returns
 returns c =
     let k = c .before .before .found .given in
-    looked-refused _ (k .0 .0) _ _ (c .refused .ensures) (sym (ap locatedOf (k .1)) ∙ c .before .before .before .before .locate .ensures)
+    gives-refused _ (k .0 .0) _ _ (c .refused .ensures) (sym (ap locatedOf (k .1)) ∙ c .before .before .before .before .locate .ensures)
 
 returns-2 : tie.Need-returns-2
 returns-2 c =
     let k = c .before .before .before .found2 .given in
-    looked-found _ (k .0 .0 .0) (k .0 .1 .0) _ _ (c .encode .ensures) (sym (ap locatedOf (k .1)) ∙ c .before .before .before .before .before .locate .ensures)
+    gives-found _ (k .0 .0 .0) (k .0 .1 .0) _ _ (c .encode .ensures) (sym (ap locatedOf (k .1)) ∙ c .before .before .before .before .before .locate .ensures)
 
 pub sleep-byte-spec : {M : Type 1} → statement M
 sleep-byte-spec =

@@ -2,9 +2,12 @@
 use mathlib.Core.Path.{sym, ap, _∙_}
 use borrow.Author.Needs.{needs}
 use Rattle.files.specs.Belongs.{Register}
+use Rattle.blake2b.specs.Hash.{nodeHash}
 use Rattle.checks.specs.Given.{registerOf}
 use Rattle.lookup.specs.Said.{verifiedOf}
-use Rattle.c_api.proofs.Laws.{forwards, read-part, read-refused}
+use Rattle.lookup.proofs.Calls.{lying}
+use Rattle.c_api.specs.Encoding.{asPart}
+use Rattle.c_api.proofs.Laws.{gives-refused, gives-found}
 use Rattle.c_api.proofs.lookups.sleep_read.Statement.{statement}
 use Rattle.c_api.proofs.lookups.sleep_read.Tie as tie
 
@@ -16,18 +19,18 @@ given c =
 sub-t17 : tie.Need-sub-t17
 sub-t17 c =
     let k = c .before .found2 .given in
-    forwards (given (c .before .before .before .before .before .before .before .before)) (c .before .before .before .before .before .before .before .before .args .chunk) (k .0 .0) (k .0 .1 .0) (sym (ap verifiedOf (k .1)) ∙ c .before .before .before .verify .ensures)
+    let start = c .before .before .before .before .before .before .before .before in
+    lying nodeHash (given start) (start .args .chunk) (k .0 .0) (k .0 .1 .0) (sym (ap verifiedOf (k .1)) ∙ c .before .before .before .verify .ensures) .ordered
 
 returns : tie.Need-returns
 returns c =
     let k = c .before .before .found .given in
-    read-refused _ (k .0 .0) (given (c .before .before .before .before .before .before .before .before .before)) (c .before .before .before .before .before .before .before .before .before .args .chunk) _ (c .refused .ensures) (sym (ap verifiedOf (k .1)) ∙ c .before .before .before .before .verify .ensures)
+    gives-refused _ (k .0 .0) _ _ (c .refused .ensures) (ap asPart (sym (ap verifiedOf (k .1)) ∙ c .before .before .before .before .verify .ensures))
 
 returns-2 : tie.Need-returns-2
 returns-2 c =
     let k = c .before .before .before .found2 .given in
-    read-part _ (given (c .before .before .before .before .before .before .before .before .before .before)) (c .before .before .before .before .before .before .before .before .before .before .args .chunk) (k .0 .0) (k .0 .1 .0) _ (c .encode .ensures)
-    (sym (ap verifiedOf (k .1)) ∙ c .before .before .before .before .before .verify .ensures)
+    gives-found _ _ _ _ _ (c .encode .ensures) (ap asPart (sym (ap verifiedOf (k .1)) ∙ c .before .before .before .before .before .verify .ensures))
 
 pub sleep-read-spec : {M : Type 1} → statement M
 sleep-read-spec =

@@ -5,7 +5,7 @@ use Rattle.counts.specs.Said.{said}
 use Rattle.files.specs.Belongs.{Register}
 use Rattle.checks.specs.Checks.{judged, laterChecks}
 use Rattle.checks.specs.Given.{registerOf}
-use Rattle.writing.specs.Inner.{ownChecks}
+use Rattle.writing.specs.Append.{ownChecks}
 use Rattle.writing.proofs.Answers.{data-inside}
 use Rattle.writing.proofs.Orders.{append-over, append-within, refused-before, passed-before}
 use Rattle.writing.proofs.appending.judge.Statement.{statement}

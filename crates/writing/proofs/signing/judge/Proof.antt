@@ -5,7 +5,7 @@ use Rattle.counts.specs.Said.{said}
 use Rattle.files.specs.Belongs.{Register}
 use Rattle.checks.specs.Checks.{judged, registerChecks}
 use Rattle.checks.specs.Given.{registerOf}
-use Rattle.writing.specs.Inner.{ownSignChecks}
+use Rattle.writing.specs.Sign.{ownSignChecks}
 use Rattle.writing.proofs.Answers.{counts-right}
 use Rattle.writing.proofs.Orders.{sign-by, refused-before, passed-before}
 use Rattle.writing.proofs.signing.judge.Statement.{statement}

@@ -1,9 +1,9 @@
--- `vectors::hex` is safe and ends: the index stays within the bytes.
+-- `printing::hex` is safe and ends: the index stays within the bytes.
 use borrow.Author.Needs.{needs}
 use Prim.Native.Nat.{_≤_, _-_}
 use lib.ListN.{length}
-use Rattle.vectors.proofs.hex.Statement.{statement}
-use Rattle.vectors.proofs.hex.Tie as tie
+use Rattle.printing.proofs.hex.Statement.{statement}
+use Rattle.printing.proofs.hex.Tie as tie
 
 abbrev Inv-loop : tie.InvT-loop
 Inv-loop bytes i₀ i = i ≤ length bytes

@@ -1,0 +1,101 @@
+// The comparing walk on two registers. It writes nothing.
+use super::answers::SleepAnswer;
+use compare::Compared;
+use counts::Answer;
+ghost use mathlib.Core.Path.{_≡_};
+ghost use Rattle.counts.specs.Verdict.{done};
+ghost use Rattle.blake2b.specs.Hash.{nodeHash};
+ghost use Rattle.checks.specs.Given.{registerOf};
+ghost use Rattle.compare.specs.Walk as Walk;
+ghost use Rattle.compare.specs.Answered.{compared as Answered·compared};
+ghost use Rattle.c_api.specs.Encoding.{encoded, outcomeWith, encodedComparison};
+
+// `outcome` is 0 for equal, 1 for roots differ, 2 for a collision at the roots, 3 for one at the tree index `answer.place`, 4 where the
+// first register is refused and 5 where the second is, by `answer`.
+#[repr(C)]
+pub struct SleepComparison {
+    pub outcome: u64,
+    pub answer: SleepAnswer,
+}
+
+// An outcome that has no place.
+fn plain(outcome: u64) -> SleepComparison
+    ensures { λ r. ⌜ r ≡ outcomeWith outcome (encoded done) ⌝ }
+{
+    let answer = super::answers::encode(Answer::Done);
+    SleepComparison { outcome, answer }
+}
+
+// The numbers of a comparison.
+fn encode_comparison(compared: Compared) -> SleepComparison
+    ensures { λ r. ⌜ r ≡ encodedComparison (Answered·compared compared) ⌝ }
+{
+    match compared {
+        Compared::Equal => plain(0),
+        Compared::RootsDiffer => plain(1),
+        Compared::AtRoots => plain(2),
+        Compared::AtIndex(index) => {
+            let answer = SleepAnswer {
+                number: 0,
+                place_kind: 1,
+                place: index.0,
+            };
+            SleepComparison { outcome: 3, answer }
+        }
+        Compared::FirstRefused(refusal) => {
+            let answer = super::answers::refused(refusal);
+            SleepComparison { outcome: 4, answer }
+        }
+        Compared::SecondRefused(refusal) => {
+            let answer = super::answers::refused(refusal);
+            SleepComparison { outcome: 5, answer }
+        }
+    }
+}
+
+// The audit of the first register, then of the second, then the walk.
+#[no_mangle]
+pub extern "C" fn sleep_compare(
+    tree: &[u8],
+    signatures: &[u8],
+    bitfield: &[u8],
+    content: &[u8],
+    n: u64,
+    s: u64,
+    size: u64,
+    tree2: &[u8],
+    signatures2: &[u8],
+    bitfield2: &[u8],
+    content2: &[u8],
+    n2: u64,
+    s2: u64,
+    size2: u64,
+) -> SleepComparison
+    ensures { λ r.
+        ⌜
+        r ≡
+        encodedComparison
+        (Walk.compare
+        nodeHash
+        (registerOf (now (tree .entry)) (now (signatures .entry)) (now (bitfield .entry)) (now (content .entry)) n s size)
+        (registerOf (now (tree2 .entry)) (now (signatures2 .entry)) (now (bitfield2 .entry)) (now (content2 .entry)) n2 s2 size2))
+        ⌝ }
+{
+    let compared = compare::compare(
+        tree,
+        signatures,
+        bitfield,
+        content,
+        n,
+        s,
+        size,
+        tree2,
+        signatures2,
+        bitfield2,
+        content2,
+        n2,
+        s2,
+        size2,
+    );
+    encode_comparison(compared)
+}

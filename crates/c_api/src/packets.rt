@@ -1,0 +1,84 @@
+// Packets: made from a register, and checked against a root hash by whoever has no register.
+use super::answers::SleepAnswer;
+use counts::Answer;
+use counts::ChunkNumber;
+use packet::make::Made;
+ghost use Rattle.checks.specs.Given.{registerOf};
+ghost use Rattle.c_api.specs.Encoding.{Gives, Makes, packetPart};
+
+// The packet of a chunk at the front of `out`, the rest as it was, and the packet's length in `length`. Both are as they were after a
+// refusal.
+#[no_mangle]
+pub extern "C" fn sleep_make_packet(
+    tree: &[u8],
+    signatures: &[u8],
+    bitfield: &[u8],
+    content: &[u8],
+    n: u64,
+    s: u64,
+    size: u64,
+    chunk: u64,
+    out: &mut [u8],
+    length: &mut u64,
+) -> SleepAnswer
+    ensures { λ r.
+        ⌜
+        Makes
+        (registerOf (now (tree .entry)) (now (signatures .entry)) (now (bitfield .entry)) (now (content .entry)) n s size)
+        chunk
+        (now (out .entry))
+        (now (length .entry))
+        r
+        (now (out .exit))
+        (now (length .exit))
+        ⌝ }
+{
+    let made = packet::make::make(
+        tree,
+        signatures,
+        bitfield,
+        content,
+        n,
+        s,
+        size,
+        ChunkNumber(chunk),
+        out,
+    );
+    match made {
+        Made::Refused(refusal) => super::answers::refused(refusal),
+        Made::Length(bytes) => {
+            *length = bytes;
+            super::answers::encode(Answer::Done)
+        }
+    }
+}
+
+// The chunk's part of a packet that passes the check: where it begins in `packet` and how many bytes it has, in `out`, which is as it was
+// after a refusal.
+#[no_mangle]
+pub extern "C" fn sleep_check_packet(
+    packet: &[u8],
+    n: u64,
+    chunk: u64,
+    root: &[u8; 32],
+    out: &mut [u64; 2],
+) -> SleepAnswer
+    ensures { λ r.
+        ⌜
+        Gives
+        (packetPart (now (packet .entry)) n chunk (now (root .entry)))
+        (now (out .entry))
+        r
+        (now (out .exit))
+        ⌝ }
+{
+    let answer = packet::check::check_answer(packet, n, ChunkNumber(chunk), root);
+    match answer {
+        Answer::Refused(refusal) => super::answers::refused(refusal),
+        Answer::Done => {
+            let length = sequences::read_be32(packet, 0);
+            *out = [4, length];
+            super::answers::encode(Answer::Done)
+        }
+    }
+}

@@ -1,0 +1,156 @@
+-- The stored lines of a register that belongs to chunks are the lines of these chunks.
+-- Assumes nothing.
+use Prim.Native.Nat.{ℕ, zero, suc, _+_, _-_, _*_, _^_, _≤_, _<_}
+use mathlib.Core.Path.{_≡_, refl, sym, ap, ap₂, _∙_, subst}
+use mathlib.Core.Bool.{Bool, true, false, cond}
+use mathlib.Core.List.{List, [], _∷_, _++_}
+use native.Mathlib.Nat.{sub-zero}
+use native.Mathlib.Omega.{arith}
+use borrow.Author.Tests.{leb-true, le-leb, lt-leb}
+use lib.Dec.{leb}
+use lib.ListN.{length, getD, take, drop}
+use Rattle.blake2b.specs.Hash.{nodeHash}
+use Rattle.sequences.specs.Lists.{part, put, run, joined, total}
+use Rattle.sequences.proofs.Lists.{length-part, getD-part, run-from, run-ext}
+use Rattle.tree_index.specs.Tree.{index, depth, block, filled, entries}
+use Rattle.tree_index.proofs.Index.{index-of}
+use Rattle.tree_index.proofs.Filled.{block-end, filled-end}
+use Rattle.files.specs.Stored.{storedSize, storedStart}
+use Rattle.files.specs.Images.{dataSize}
+use Rattle.files.specs.Belongs.{Register}
+use Rattle.files.proofs.Spans.{span, span-all, span-add}
+use Rattle.files.proofs.OfImage.{stored-start, stored-span}
+use Rattle.listing_lines.specs.Input.{Input, chunks, before, inputOf}
+use Rattle.listing_lines.specs.Lines.{line, kindWord, holeWord, firstUnder, countUnder, startOf, lengthOf, firstLine, entryLine, linesOf, linesFor, refusedLine, listing}
+use Rattle.listing_lines.specs.Inner.{Put, Read, Printable, Ready, Reading, behind, firstOf, rootsOf, storedLine, storedEntries, storedLines}
+use Rattle.listing_lines.specs.Post.{fits, Listed}
+use Rattle.listing_lines.proofs.Put.{wider-put, same-put}
+use Rattle.listing_lines.proofs.Grown.{hash-function}
+use Rattle.listing_lines.proofs.Entries.{first-le}
+
+-- the lengths of a part of the chunks
+pub span-part : (cs : List (List ℕ)) (a c : ℕ) → a + c ≤ length cs → span cs a c ≡ dataSize (part cs a c)
+unfolding span
+span-part cs a c h =
+    ap total
+    (run-from (λ j. length (getD cs j [])) a c
+    ∙ run-ext (λ j. length (getD cs (a + j) [])) (λ j. length (getD (part cs a c) j [])) 0 c (λ j p q. ap length (sym (getD-part cs a c j [] (omega arith)))))
+    ∙ ap (λ (k : ℕ). total (run (λ j. length (getD (part cs a c) j [])) 0 k)) (sym (length-part cs a c h)) ∙ span-all (part cs a c)
+
+span-take : (cs : List (List ℕ)) (k : ℕ) → k ≤ length cs → span cs 0 k ≡ dataSize (take k cs)
+unfolding part
+span-take cs k h = span-part cs 0 k (omega arith)
+
+-- a filled index has its chunks among the n
+under-end : (n i : ℕ) → filled n i ≡ true → firstUnder i + countUnder i ≤ n
+unfolding firstUnder countUnder
+under-end n i h = omega (arith, block-end (depth i) (block i), filled-end n (depth i) (block i) (ap (filled n) (index-of i) ∙ h))
+
+-- the line of an entry that is filled or not
+abbrev shown : ℕ → ℕ → ℕ → Bool → List ℕ
+shown i start len f = elim f [ true ↦ line i (kindWord i) start len | false ↦ line i holeWord 0 0 ]
+
+module _ (r : Register) (cs : List (List ℕ)) (y : Ready r cs) where
+  first-start : (i : ℕ) → filled (r .n) i ≡ true → storedStart (r .tree) (firstUnder i) ≡ startOf cs i
+  unfolding startOf
+  first-start i h =
+      stored-start nodeHash hash-function cs (y .within) r (y .belongs) (firstUnder i) (first-le (r .n) i h)
+      ∙ span-take cs (firstUnder i) (subst (λ (n : ℕ). firstUnder i ≤ n) (y .belongs .count) (first-le (r .n) i h))
+
+  entry-length : (i : ℕ) → filled (r .n) i ≡ true → storedSize (r .tree) i ≡ lengthOf cs i
+  unfolding lengthOf firstUnder countUnder
+  entry-length i h =
+      ap (storedSize (r .tree)) (sym (index-of i))
+      ∙ stored-span nodeHash hash-function cs (y .within) r (y .belongs) (depth i) (block i)
+      (filled-end (r .n) (depth i) (block i) (ap (filled (r .n)) (index-of i) ∙ h))
+      ∙ span-part cs (block i * 2 ^ depth i) (2 ^ depth i) (subst (λ (n : ℕ). block i * 2 ^ depth i + 2 ^ depth i ≤ n) (y .belongs .count) (under-end (r .n) i h))
+
+  by-filled : (i : ℕ) (f : Bool) → filled (r .n) i ≡ f
+      → shown i (storedStart (r .tree) (firstUnder i)) (storedSize (r .tree) i) f ≡ shown i (startOf cs i) (lengthOf cs i) f
+  by-filled i true h = ap₂ (line i (kindWord i)) (first-start i h) (entry-length i h)
+  by-filled i false h = refl
+
+  line-same : (i : ℕ) → storedLine (r .tree) (r .n) i ≡ entryLine cs i
+  unfolding storedLine entryLine
+  line-same i =
+      by-filled i (filled (r .n) i) refl ∙ ap (λ (n : ℕ). shown i (startOf cs i) (lengthOf cs i) (filled n i)) (y .belongs .count)
+
+  pub lines-same : storedLines (r .tree) (r .n) (r .size) ≡ linesOf cs
+  unfolding storedLines storedEntries linesOf firstOf rootsOf firstLine
+  lines-same =
+      ap₂ _++_ (ap₂ firstOf (y .belongs .count) (y .belongs .total))
+      (ap joined
+      (run-ext (storedLine (r .tree) (r .n)) (entryLine cs) 0 (entries (r .n)) (λ j p q. line-same j)
+      ∙ ap (λ (n : ℕ). run (entryLine cs) 0 (entries n)) (y .belongs .count)))
+
+  starts-small : r .size ≤ 4096 → (j : ℕ) → j ≤ r .n → storedStart (r .tree) j ≤ 4096
+  starts-small s j h =
+      let e : j + (r .n - j) ≡ r .n = omega arith in
+      omega (
+        arith,
+        stored-start nodeHash hash-function cs (y .within) r (y .belongs) j h,
+        span-add cs 0 j (r .n - j),
+        ap (span cs 0) (e ∙ y .belongs .count) ∙ span-all cs ∙ sym (y .belongs .total),
+      )
+
+  pub ready-printable : r .n ≤ 64 → r .size ≤ 4096 → Printable (r .tree) (r .n)
+  ready-printable f s = record { few = f; room = omega (arith, y .tree); small = starts-small s }
+
+-- ---- the input
+
+behind-all : (cs : List (List ℕ)) → behind cs (chunks []) ≡ chunks cs
+unfolding behind
+behind-all [] = refl
+behind-all (c ∷ cs) = ap (before c) (behind-all cs)
+
+-- the stored lines of the register that the input was read into are the lines for the input
+pub read-lines : (input : Input) (r : Register) → Reading input (chunks []) r → storedLines (r .tree) (r .n) (r .size) ≡ linesFor input
+unfolding linesFor
+read-lines input r g = lines-same r (g .cs) (g .ready) ∙ sym (ap linesFor (g .same ∙ behind-all (g .cs)))
+
+-- ---- the lines in the buffers
+
+module _ (xs : List ℕ) (b : Bool) (r : Register) (g : Read (inputOf xs) b r) {t t' : List ℕ} {len : ℕ} where
+  pub refused-put : b ≡ false → Put t 0 14 refusedLine len t' → Put t 0 9371 (listing xs) len t'
+  unfolding listing linesFor
+  refused-put e p = same-put (sym (ap linesFor (g .refused e))) (wider-put 9371 (omega arith) p)
+
+  pub lines-put : b ≡ true → Put t 0 9371 (storedLines (r .tree) (r .n) (r .size)) len t' → Put t 0 9371 (listing xs) len t'
+  unfolding listing
+  lines-put e p = same-put (read-lines (inputOf xs) r (g .taken e)) p
+
+pub read-printable : (xs : List ℕ) (b : Bool) (r : Register) → Read (inputOf xs) b r → b ≡ true → Printable (r .tree) (r .n)
+read-printable xs b r g e = ready-printable r (g .taken e .cs) (g .taken e .ready) (g .few) (g .small)
+
+-- the lines copied to a lent buffer, or not
+module _ (xs out : List ℕ) {t t' : List ℕ} {len : ℕ} (p : Put t 0 9371 (listing xs) len t') where
+  pub list-short : length out < len → Listed xs out 0 out
+  unfolding fits
+  list-short h =
+      let e : leb (length (listing xs)) (length out) ≡ false = lt-leb (length (listing xs)) (length out) (omega (arith, p .next)) in
+      record {
+        count = sym (ap (λ (f : Bool). cond f (length (listing xs)) 0) e);
+        buffer = sym (ap (λ (f : Bool). cond f (put out 0 (listing xs)) out) e);
+        most = p .few;
+      }
+
+  pub list-copied : {after : List ℕ} → len ≤ length out → after ≡ put out 0 (take (len - 0) (drop 0 t')) → Listed xs out len after
+  unfolding fits
+  list-copied h q =
+      let e : leb (length (listing xs)) (length out) ≡ true = le-leb (length (listing xs)) (length out) (omega (arith, p .next)) in
+      let k : len ≡ length (listing xs) = omega (arith, p .next) in
+      record {
+        count = k ∙ sym (ap (λ (f : Bool). cond f (length (listing xs)) 0) e);
+        buffer = q ∙ ap (put out 0) (ap (λ (m : ℕ). take m t') (sub-zero len) ∙ p .front)
+            ∙ sym (ap (λ (f : Bool). cond f (put out 0 (listing xs)) out) e);
+        most = p .few;
+      }
+
+-- the count is one of bytes of the buffer
+pub listed-count : {xs out after : List ℕ} {r : ℕ} → Listed xs out r after → r ≤ length out
+unfolding fits
+listed-count {xs} {out} {after} {r} g = by-room (leb (length (listing xs)) (length out)) refl (g .count)
+  where
+    by-room : (f : Bool) → leb (length (listing xs)) (length out) ≡ f → r ≡ cond f (length (listing xs)) 0 → r ≤ length out
+    by-room true e q = omega (arith, leb-true (length (listing xs)) (length out) e)
+    by-room false e q = omega arith

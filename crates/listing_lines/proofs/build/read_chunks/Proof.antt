@@ -1,0 +1,155 @@
+-- `listing_lines::build::read_chunks` meets its contract. The loop's invariant: n chunks are read into the register, and the rest is
+-- still to be read. Assumes nothing.
+use native.Mathlib.Omega.{arith}
+use mathlib.Core.Path.{sym, _∙_}
+use Prim.Native.Nat.{_+_, _-_, _≤_}
+use borrow.Author.Tests.{not-true, not-false}
+use lib.ListN.{length, drop}
+use Rattle.checks.specs.Given.{registerOf}
+use Rattle.listing_lines.specs.Input.{chunksIn}
+use Rattle.listing_lines.specs.Inner.{Reading}
+use Rattle.listing_lines.proofs.Stands.{stands-facts, stood-room}
+use Rattle.listing_lines.proofs.Chunks.{first-reading, lent-length, next-added, stopped, read-stopped, read-all}
+use Rattle.listing_lines.proofs.build.read_chunks.Statement.{statement}
+use Rattle.listing_lines.proofs.build.read_chunks.Tie as tie
+use Rattle.listing_lines.proofs.build.read_chunks.Reads as reads
+use Rattle.listing_lines.proofs.build.read_chunks.Lts as lts
+
+abbrev Inv-loop : tie.InvT-loop
+Inv-loop input count tree₀ signatures₀ bitfield₀ content₀ at₀ n₀ size₀ tree signatures bitfield content at n size =
+    (n ≤ count) × (at ≤ length input) × (size ≤ 4096)
+    × Reading (chunksIn count (drop 4 input) 4096) (chunksIn (count - n) (drop at input) (4096 - size))
+    (registerOf tree signatures bitfield content n n size)
+
+abbrev μ-loop : tie.MeasureT-loop
+μ-loop input count tree₀ signatures₀ bitfield₀ content₀ at₀ n₀ size₀ tree signatures bitfield content at n size = count - n
+
+loop-holds : tie.Need-loop-holds Inv-loop μ-loop
+loop-holds c =
+    let s = c .before .before .before .before .before in (
+      omega arith,
+      s .pre .0,
+      omega arith,
+      first-reading (drop 4 (s .args .input .now)) (s .args .count) _ (s .pre .2),
+    )
+
+stands-requires : tie.Need-stands-requires Inv-loop μ-loop
+stands-requires c κs = (c .before .loop .inv .1, c .before .loop .inv .2)
+
+same-length : tie.Need-same-length Inv-loop μ-loop
+same-length c = omega (arith, c .before .before .before .loop .inv .3 .ready .tree, c .before .before .before .before .before .before .before .before .before .pre .2 .tree)
+
+same-length-2 : tie.Need-same-length-2 Inv-loop μ-loop
+same-length-2 c = omega (arith, c .before .before .before .loop .inv .3 .ready .signatures, c .before .before .before .before .before .before .before .before .before .pre .2 .signatures)
+
+same-length-3 : tie.Need-same-length-3 Inv-loop μ-loop
+same-length-3 c = omega (arith, c .before .before .before .loop .inv .3 .ready .bitfield, c .before .before .before .before .before .before .before .before .before .pre .2 .bitfield)
+
+same-length-4 : tie.Need-same-length-4 Inv-loop μ-loop
+same-length-4 c = omega (arith, c .before .before .before .loop .inv .3 .ready .content, c .before .before .before .before .before .before .before .before .before .pre .2 .content)
+
+returns : tie.Need-returns Inv-loop μ-loop
+returns c =
+    let s = c .before .before .before .before .before .before .before .before .before in
+    let l = c .before .before .before .loop in
+    let r = registerOf (l .tree) (l .signatures) (l .bitfield) (l .content) (l .n) (l .n) (l .size) in
+    let w = chunksIn (s .args .count) (drop 4 (s .args .input .now)) 4096 in
+    read-stopped w r
+    (stopped w (s .args .input .now) (s .args .count) (l .n) (l .at) (l .size) r (c .before .before .loop-test .taken)
+    (sym (c .before .stands .ensures) ∙ not-true (c .before .stands .result) (c .if1 .taken)) (l .inv .3))
+    (omega (arith, l .inv .0, s .pre .1)) (l .inv .2)
+
+read-be32-requires : tie.Need-read-be32-requires Inv-loop μ-loop
+read-be32-requires c κs =
+    let l = c .before .before .before .loop in
+    omega (
+      arith,
+      stands-facts (c .before .before .before .before .before .before .before .before .before .args .input .now) (l .at) (4096 - l .size) (l .inv .1)
+          (sym (c .before .stands .ensures) ∙ not-false (c .before .stands .result) (c .if1 .left)) .0,
+    )
+
+add-start : tie.Need-add-start Inv-loop μ-loop
+add-start c =
+    let l = c .before .before .before .before .loop in
+    omega (arith, stood-room (c .before .before .before .before .before .before .before .before .before .before .args .input .now) (l .at) (l .size) (c .read-be32 .result) (c .before .before .stands .result) (l .inv .1) (l .inv .2) (c .before .before .stands .ensures) (c .before .if1 .left) (c .read-be32 .ensures) .0)
+
+add-end : tie.Need-add-end Inv-loop μ-loop
+add-end c =
+    let l = c .before .before .before .before .loop in
+    omega (arith, stood-room (c .before .before .before .before .before .before .before .before .before .before .args .input .now) (l .at) (l .size) (c .read-be32 .result) (c .before .before .stands .result) (l .inv .1) (l .inv .2) (c .before .before .stands .ensures) (c .before .if1 .left) (c .read-be32 .ensures) .0)
+
+sub-add : tie.Need-sub-add Inv-loop μ-loop
+sub-add c =
+    let l = c .before .before .before .before .before .before .before .before .loop in
+    omega (arith, stood-room (c .before .before .before .before .before .before .before .before .before .before .before .before .before .before .args .input .now) (l .at) (l .size) (c .before .before .before .before .read-be32 .result) (c .before .before .before .before .before .before .stands .result) (l .inv .1) (l .inv .2) (c .before .before .before .before .before .before .stands .ensures) (c .before .before .before .before .before .if1 .left) (c .before .before .before .before .read-be32 .ensures) .0)
+
+part-add-start : tie.Need-part-add-start Inv-loop μ-loop
+part-add-start c =
+    let l = c .before .before .before .before .before .before .before .before .loop in
+    omega (arith, stood-room (c .before .before .before .before .before .before .before .before .before .before .before .before .before .before .args .input .now) (l .at) (l .size) (c .before .before .before .before .read-be32 .result) (c .before .before .before .before .before .before .stands .result) (l .inv .1) (l .inv .2) (c .before .before .before .before .before .before .stands .ensures) (c .before .before .before .before .before .if1 .left) (c .before .before .before .before .read-be32 .ensures) .0)
+
+part-add-end : tie.Need-part-add-end Inv-loop μ-loop
+part-add-end c =
+    let l = c .before .before .before .before .before .before .before .before .loop in
+    omega (arith, stood-room (c .before .before .before .before .before .before .before .before .before .before .before .before .before .before .args .input .now) (l .at) (l .size) (c .before .before .before .before .read-be32 .result) (c .before .before .before .before .before .before .stands .result) (l .inv .1) (l .inv .2) (c .before .before .before .before .before .before .stands .ensures) (c .before .before .before .before .before .if1 .left) (c .before .before .before .before .read-be32 .ensures) .0)
+
+add-requires : tie.Need-add-requires Inv-loop μ-loop
+add-requires c κs =
+    let s = c .before .before .before .before .before .before .before .before .before .before .before .before .before .before .before in
+    let l = c .before .before .before .before .before .before .before .before .before .loop in
+    let g = stood-room (c .before .before .before .before .before .before .before .before .before .before .before .before .before .before .before .args .input .now) (l .at) (l .size) (c .before .before .before .before .before .read-be32 .result) (c .before .before .before .before .before .before .before .stands .result) (l .inv .1) (l .inv .2) (c .before .before .before .before .before .before .before .stands .ensures) (c .before .before .before .before .before .before .if1 .left) (c .before .before .before .before .before .read-be32 .ensures) in (
+      omega (arith, c .before .before .before .before .before .before .before .before .loop-test .taken, s .pre .1),
+      lent-length (s .args .input .now) (l .at + 4) (c .before .before .before .before .before .read-be32 .result) (l .size) (g .0) (g .1),
+    )
+
+add-size : tie.Need-add-size Inv-loop μ-loop
+add-size c =
+    let l = c .before .before .before .before .before .before .before .before .before .before .before .before .before .before .before .before .before .before .loop in
+    omega (arith, stood-room (c .before .before .before .before .before .before .before .before .before .before .before .before .before .before .before .before .before .before .before .before .before .before .before .before .args .input .now) (l .at) (l .size) (c .before .before .before .before .before .before .before .before .before .before .before .before .before .before .read-be32 .result) (c .before .before .before .before .before .before .before .before .before .before .before .before .before .before .before .before .stands .result) (l .inv .1) (l .inv .2) (c .before .before .before .before .before .before .before .before .before .before .before .before .before .before .before .before .stands .ensures) (c .before .before .before .before .before .before .before .before .before .before .before .before .before .before .before .if1 .left) (c .before .before .before .before .before .before .before .before .before .before .before .before .before .before .read-be32 .ensures) .1)
+
+add-n : tie.Need-add-n Inv-loop μ-loop
+add-n c = omega (arith, c .before .before .before .before .before .before .before .before .before .before .before .before .before .before .before .before .before .loop-test .taken, c .before .before .before .before .before .before .before .before .before .before .before .before .before .before .before .before .before .before .before .before .before .before .before .before .pre .1)
+
+loop-less : tie.Need-loop-less Inv-loop μ-loop
+loop-less c = omega (arith, c .before .before .before .before .before .before .before .before .before .before .before .before .before .before .before .before .before .loop-test .taken)
+
+loop-again : tie.Need-loop-again Inv-loop μ-loop
+loop-again c =
+    let s = c .before .before .before .before .before .before .before .before .before .before .before .before .before .before .before .before .before .before .before .before .before .before .before .before in
+    let l = c .before .before .before .before .before .before .before .before .before .before .before .before .before .before .before .before .before .before .loop in
+    let g = stood-room (c .before .before .before .before .before .before .before .before .before .before .before .before .before .before .before .before .before .before .before .before .before .before .before .before .args .input .now) (l .at) (l .size) (c .before .before .before .before .before .before .before .before .before .before .before .before .before .before .read-be32 .result) (c .before .before .before .before .before .before .before .before .before .before .before .before .before .before .before .before .stands .result) (l .inv .1) (l .inv .2) (c .before .before .before .before .before .before .before .before .before .before .before .before .before .before .before .before .stands .ensures) (c .before .before .before .before .before .before .before .before .before .before .before .before .before .before .before .if1 .left) (c .before .before .before .before .before .before .before .before .before .before .before .before .before .before .read-be32 .ensures) in (
+      omega (arith, c .before .before .before .before .before .before .before .before .before .before .before .before .before .before .before .before .before .loop-test .taken),
+      g .0,
+      g .1,
+      next-added (chunksIn (s .args .count) (drop 4 (s .args .input .now)) 4096) (s .args .input .now) (l .tree) (l .signatures) (l .bitfield) (l .content) _ _ _ _
+          (s .args .count) (l .n) (l .at) (l .size) (c .before .before .before .before .before .before .before .before .before .before .before .before .before .before .read-be32 .result) (c .before .before .before .before .before .before .before .before .before .before .before .before .before .before .before .before .before .loop-test .taken)
+          (sym (c .before .before .before .before .before .before .before .before .before .before .before .before .before .before .before .before .stands .ensures) ∙ not-false (c .before .before .before .before .before .before .before .before .before .before .before .before .before .before .before .before .stands .result) (c .before .before .before .before .before .before .before .before .before .before .before .before .before .before .before .if1 .left)) (c .before .before .before .before .before .before .before .before .before .before .before .before .before .before .read-be32 .ensures) (g .0)
+          (λ i. omega (arith, c .before .before .before .before .before .before .before .before .before .before .before .before .before .before .before .before .before .before .before .before .before .before .before .shared-slice-known .given i)) (l .inv .3) (c .before .before .before .before .before .before .before .before .add .ensures),
+    )
+
+same-length-5 : tie.Need-same-length-5 Inv-loop μ-loop
+same-length-5 c = omega (arith, c .before .loop .inv .3 .ready .tree, c .before .before .before .before .before .before .before .pre .2 .tree)
+
+same-length-6 : tie.Need-same-length-6 Inv-loop μ-loop
+same-length-6 c = omega (arith, c .before .loop .inv .3 .ready .signatures, c .before .before .before .before .before .before .before .pre .2 .signatures)
+
+same-length-7 : tie.Need-same-length-7 Inv-loop μ-loop
+same-length-7 c = omega (arith, c .before .loop .inv .3 .ready .bitfield, c .before .before .before .before .before .before .before .pre .2 .bitfield)
+
+same-length-8 : tie.Need-same-length-8 Inv-loop μ-loop
+same-length-8 c = omega (arith, c .before .loop .inv .3 .ready .content, c .before .before .before .before .before .before .before .pre .2 .content)
+
+returns-2 : tie.Need-returns-2 Inv-loop μ-loop
+returns-2 c =
+    let s = c .before .before .before .before .before .before .before in
+    let l = c .before .loop in
+    read-all (chunksIn (s .args .count) (drop 4 (s .args .input .now)) 4096) (s .args .input .now) (s .args .count) (l .n) (l .at) (4096 - l .size)
+    (registerOf (l .tree) (l .signatures) (l .bitfield) (l .content) (l .n) (l .n) (l .size)) (c .loop-test .left) (l .inv .1)
+    (omega (arith, l .inv .0, s .pre .1)) (l .inv .2) (l .inv .3)
+
+pub read-chunks-spec : {M : Type 1} → statement M
+read-chunks-spec =
+    tie.close
+    (tie.spec Inv-loop μ-loop loop-holds stands-requires same-length same-length-2 same-length-3 same-length-4 returns read-be32-requires
+    add-start add-end sub-add part-add-start part-add-end add-requires add-size add-n loop-less loop-again same-length-5 same-length-6
+    same-length-7 same-length-8 returns-2)

@@ -1,0 +1,35 @@
+-- `listing_lines::put_listing` meets its contract. Assumes nothing.
+use native.Mathlib.Omega.{arith}
+use borrow.Author.Needs.{needs}
+use borrow.Author.Tests.{not-true, not-false}
+use Rattle.listing_lines.specs.Lines.{refusedLine}
+use Rattle.listing_lines.proofs.Listed.{refused-put, lines-put, read-printable}
+use Rattle.listing_lines.proofs.put_listing.Statement.{statement}
+use Rattle.listing_lines.proofs.put_listing.Tie as tie
+use Rattle.listing_lines.proofs.put_listing.Reads as reads
+use Rattle.listing_lines.proofs.put_listing.Lts as lts
+
+returns : tie.Need-returns
+unfolding refusedLine
+returns c =
+    let g = c .before .before .before .before .before .before .before .before .before .before .before .before .before .before .before .read in
+    refused-put (c .before .before .before .before .before .before .before .before .before .before .before .before .before .before .before .before .before .before .before .before .before .before .before .before .before .before .args .input .now) (g .result .read) _ (g .ensures) (not-true (g .result .read) (c .before .before .before .before .before .if1 .taken)) (c .before .before .put-text .ensures)
+
+put-lines-requires : tie.Need-put-lines-requires
+put-lines-requires c κs =
+    let g = c .before .before .before .before .before .before .before .before .before .before .before .before .read in (
+      omega (arith, c .before .before .before .before .before .before .before .before .before .before .before .before .before .before .before .before .before .before .before .before .before .before .before .pre .0),
+      read-printable (c .before .before .before .before .before .before .before .before .before .before .before .before .before .before .before .before .before .before .before .before .before .before .before .args .input .now) (g .result .read) _ (g .ensures) (not-false (g .result .read) (c .before .before .if1 .left)),
+    )
+
+returns-2 : tie.Need-returns-2
+returns-2 c =
+    let g = c .before .before .before .before .before .before .before .before .before .before .before .before .before .before .before .read in
+    lines-put (c .before .before .before .before .before .before .before .before .before .before .before .before .before .before .before .before .before .before .before .before .before .before .before .before .before .before .args .input .now) (g .result .read) _ (g .ensures) (not-false (g .result .read) (c .before .before .before .before .before .if1 .left)) (c .before .before .put-lines .ensures)
+
+pub put-listing-spec : {M : Type 1} → statement M
+put-listing-spec =
+    tie.close
+    (tie.spec (λ c κs. search needs) (λ c. search needs) (λ c κs. search needs) (λ c. search needs) (λ c. search needs) (λ c. search needs)
+    (λ c. search needs) (λ c. search needs) returns put-lines-requires (λ c. search needs) (λ c. search needs) (λ c. search needs)
+    (λ c. search needs) (λ c. search needs) returns-2)

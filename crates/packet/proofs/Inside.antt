@@ -1,0 +1,17 @@
+-- The part of a packet that passes the check lies within the packet. Assumes nothing.
+use Prim.Native.Nat.{ℕ, _+_, _≤_}
+use mathlib.Core.Path.{_≡_, ap, _∙_}
+use mathlib.Core.List.{List}
+use native.Mathlib.Omega.{arith}
+use lib.ListN.{length}
+use Rattle.counts.specs.Verdict.{Verdict, done}
+use Rattle.checks.proofs.Passed.{all-must}
+use Rattle.packet.specs.Check.{packetChunk, packetVerdict, checkedChunk, chunkUnless}
+use Rattle.packet.specs.Answers.{PartStaysInside, PartStaysInsideForAll}
+use Rattle.packet.proofs.Shape.{sized}
+
+pub part-stays-inside : PartStaysInsideForAll
+unfolding packetVerdict checkedChunk packetChunk
+part-stays-inside F p n i root e =
+    let s = sized p n i (all-must _ done e .0 .1 .1 .0) in
+    record { inside = omega (arith, s .whole); is = ap (λ (v : Verdict). chunkUnless v (packetChunk p)) e }

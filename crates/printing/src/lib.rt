@@ -1,0 +1,60 @@
+// What the test programs print on standard output: text, numbers, bytes in hexadecimal, and answers.
+ghost use Prim.Native.Nat.{_<_};
+
+pub fn text(t: &[u8]) {
+    io::write_all(1, t);
+}
+
+pub fn number(n: u64) {
+    io::print_decimal(1, n);
+}
+
+// The bytes in hexadecimal.
+pub fn hex(bytes: &[u8]) {
+    let mut i = 0;
+    while i < bytes.len() {
+        hex_byte(bytes[i]);
+        i += 1;
+    }
+}
+
+fn hex_byte(byte: u8) {
+    let both = [digit(byte / 16), digit(byte % 16)];
+    io::write_all(1, &both);
+}
+
+fn digit(value: u8) -> u8
+    requires { ⌜ value < 16 ⌝ }
+{
+    if value < 10 {
+        b'0' + value
+    } else {
+        b'a' - 10 + value
+    }
+}
+
+// A refusal: its number, and its place if it has one.
+pub fn refusal(r: counts::Refusal) {
+    text(b"refused ");
+    number(r.number);
+    let place = r.place;
+    match place {
+        counts::Place::Nowhere => {}
+        counts::Place::Tree(i) => {
+            text(b" tree ");
+            number(i.0);
+        }
+        counts::Place::Bitfield(b) => {
+            text(b" bitfield ");
+            number(b.0);
+        }
+    }
+}
+
+// An answer that gives nothing but its being done.
+pub fn answer(a: counts::Answer) {
+    match a {
+        counts::Answer::Done => text(b"done"),
+        counts::Answer::Refused(r) => refusal(r),
+    }
+}

@@ -1,0 +1,75 @@
+"""The calls of include/sleep_register.h, on the library linked as a shared object, with buffers that show every byte written."""
+
+import ctypes
+import sys
+
+NUMBER = ctypes.c_uint64
+PLACES = {'tree': 1, 'bitfield': 2}
+OUTCOMES = {('equal',): 0, ('roots differ',): 1, ('collision', 'at the roots'): 2}
+
+
+class Answer(ctypes.Structure):
+    _fields_ = [('number', NUMBER), ('place_kind', NUMBER), ('place', NUMBER)]
+
+
+class Comparison(ctypes.Structure):
+    _fields_ = [('outcome', NUMBER), ('answer', Answer)]
+
+
+def numbers(*values):
+    """Numbers as a C caller finds them in memory."""
+    return b''.join(value.to_bytes(8, sys.byteorder) for value in values)
+
+
+def answer_of(expected):
+    """The three numbers that stand for the model's answer."""
+    if expected[0] != 'refused':
+        return numbers(0, 0, 0)
+    number, place = expected[1:3]
+    return numbers(number, PLACES[place[0]], place[1]) if place else numbers(number, 0, 0)
+
+
+def comparison_of(expected):
+    """The four numbers that stand for the model's comparison."""
+    if expected[0] == 'refused':
+        return numbers({'first': 4, 'second': 5}[expected[3]]) + answer_of(expected)
+    if expected in OUTCOMES:
+        return numbers(OUTCOMES[expected], 0, 0, 0)
+    return numbers(3, 0, *(PLACES[expected[1][0]], expected[1][1]))
+
+
+class Buffer:
+    """Bytes lent to C, between two guards that no call may touch. Of an `array` C takes the pointer alone. `after` gives what a done call
+    is to leave there, from what the model gives; without it the buffer is only read."""
+    GUARD = b'\xa5' * 16
+
+    def __init__(self, content, array=False, after=None):
+        self.before, self.array, self.after = bytes(content), array, after
+        self.memory = ctypes.create_string_buffer(self.GUARD + self.before + self.GUARD, len(content) + 32)
+        self.pointer = ctypes.c_void_p(ctypes.addressof(self.memory) + 16)
+
+    def words(self):
+        return (self.pointer,) if self.array else (self.pointer, ctypes.c_size_t(len(self.before)))
+
+    def held(self):
+        held = self.memory.raw
+        if held[:16] != self.GUARD or held[16 + len(self.before):] != self.GUARD:
+            raise SystemExit('a call wrote outside its buffer')
+        return held[16:-16]
+
+    def expected(self, answer):
+        done = answer is None or answer[0] != 'refused'
+        return self.after(*answer[1:]) if self.after and done else self.before
+
+
+class Library:
+    def __init__(self, path):
+        self.c = ctypes.CDLL(path)
+
+    def call(self, name, given, gives=Answer):
+        """The bytes of what the call answers by value. `given` are buffers and numbers."""
+        function = getattr(self.c, 'sleep_' + name)
+        function.restype = gives
+        words = [word for one in given for word in (one.words() if isinstance(one, Buffer) else (NUMBER(one),))]
+        said = function(*words)
+        return numbers(said) if gives is NUMBER else bytes(said) if gives else b''

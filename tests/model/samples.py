@@ -1,0 +1,31 @@
+"""Registers for the model scripts to work on, and how an answer is printed."""
+
+from sleep_model import Register, append, store_signature
+
+
+def bytes_of(k):
+    return bytes((k % 251 + 3 * i) % 256 for i in range(64))
+
+
+def said(answer):
+    if answer[0] == 'done':
+        return 'done'
+    place = '' if answer[2] is None else ' %s %d' % answer[2]
+    return 'refused %d%s' % (answer[1], place)
+
+
+def buffers(tree, signatures, bitfield, data, fill=b'\xaa\xbb\xcc\xdd'):
+    """Buffers of these sizes that held other bytes before."""
+    filled = (bytes([byte]) * count for byte, count in zip(fill, (tree, signatures, bitfield, data)))
+    return Register(*map(bytearray, filled))
+
+
+def told(r, n, s, size):
+    return Register(r.tree, r.signatures, r.bitfield, r.data, n, s, size)
+
+
+def grow(r, upto, span):
+    """Chunk k is the first k % span bytes of bytes_of(k), and its signature is bytes_of(k + 101)."""
+    while r.n < upto:
+        append(r, bytes_of(r.n)[:r.n % span])
+        store_signature(r, bytes_of(r.n + 100))

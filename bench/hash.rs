@@ -3,9 +3,11 @@
 //! clock stands the processor's own, which other work on the computer disturbs less.
 
 mod simple_blake2b;
+mod timing;
 
 use simple_blake2b::Blake2b;
 use std::time::Instant;
+use timing::{cpu_seconds, Numbers};
 
 const PIECE: usize = 65_536;
 const PIECES: usize = 1024;
@@ -23,26 +25,6 @@ extern "C" {
         body_len: usize,
         out: *mut Digest,
     );
-}
-
-#[repr(C)]
-struct Timespec {
-    seconds: i64,
-    nanoseconds: i64,
-}
-
-extern "C" {
-    fn clock_gettime(clock: i32, time: *mut Timespec) -> i32;
-}
-
-const THREAD_CPU_CLOCK: i32 = 3;
-
-/// The processor's time that this thread has used, in seconds.
-fn cpu_seconds() -> f64 {
-    let mut time = Timespec { seconds: 0, nanoseconds: 0 };
-    let failed = unsafe { clock_gettime(THREAD_CPU_CLOCK, &mut time) };
-    assert_eq!(failed, 0, "no clock for the thread");
-    time.seconds as f64 + time.nanoseconds as f64 * 1e-9
 }
 
 /// The lowest times so far, in seconds.
@@ -134,19 +116,9 @@ fn compare(what: &str, proved: fn(&[u8]) -> Digest, simple: fn(&[u8]) -> Digest,
     differing == 0
 }
 
-/// Bytes of a linear congruential generator: every page is written, and no two pieces are alike.
-fn filled() -> Vec<u8> {
-    let mut state = 1u64;
-    let step = |state: &mut u64| {
-        *state = state.wrapping_mul(6364136223846793005).wrapping_add(1442695040888963407);
-        (*state >> 56) as u8
-    };
-    (0..PIECE * PIECES).map(|_| step(&mut state)).collect()
-}
-
 fn main() {
-    let rounds = std::env::args().nth(1).map_or(ROUNDS, |word| word.parse().expect("ROUNDS is a number")).max(1);
-    let data = filled();
+    let rounds = timing::rounds(ROUNDS);
+    let data = Numbers(1).bytes(PIECE * PIECES);
     println!("64 MiB in {PIECES} pieces of {PIECE} bytes, {rounds} rounds in turns");
     println!("the buffers were filled (not cleared) before");
     let whole = compare("whole messages", proved_whole, simple_whole, &data, rounds);

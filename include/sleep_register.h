@@ -54,8 +54,9 @@
  *     13      a packet's lengths add up to over 68,719,476,736, or its root hash differs   none
  *     14      a buffer to be written is shorter than the result needs                      none
  *
- *   2 to 6, 9 and 14 mean that the numbers or the buffers lent are not those of one register, or too small: look at the call. 10 and 11
- *   mean that the archive is damaged where the place says. 12 and 13 mean that a packet is no proof of this chunk under this root hash.
+ *   1 to 4, 7 to 9 and 14 point at the call: a number or a buffer that doesn't fit. 5 and 6 mean that the images are not those of a
+ *   register with these numbers: other files, other numbers, or damage. 10 and 11 mean damage where the place says. 12 and 13 mean that a
+ *   packet shows nothing of this chunk under this root hash.
  */
 #ifndef SLEEP_REGISTER_H
 #define SLEEP_REGISTER_H

@@ -294,9 +294,19 @@ def unseen_damage(files, numbers, root, lines, described):
         return "damage in the root hash isn't seen"
     return None
 
+def packets_differ(text, registers):
+    """None where each packet that is written out is the one of its register, else what differs."""
+    lines = [line.split()[1:] for line in text.split("\n") if line.startswith("    packet ")]
+    for n, i, digits in lines:
+        files = next(r["files"] for r in registers if r["numbers"][0] == int(n))
+        if make_packet(files["tree"], files["data"], int(n), int(i)) != bytes.fromhex(digits):
+            return f"the packet of chunk {i} of {n}"
+    return None if lines else "no packet is written out"
+
 def main(path):
     with open(path, encoding="utf-8") as file:
-        registers = parse(file.read())
+        text = file.read()
+    registers = parse(text)
     if len(registers) != len(DESCRIBED):
         return f"{len(registers)} registers, {len(DESCRIBED)} described"
     for register, described in zip(registers, DESCRIBED):
@@ -305,7 +315,7 @@ def main(path):
                  or unseen_damage(files, numbers, root, register["lines"], described))
         if wrong:
             return f"register of {numbers[0]} chunks: {wrong}"
-    return f"{len(registers)} registers agree"
+    return packets_differ(text, registers) or f"{len(registers)} registers agree"
 
 if __name__ == "__main__":
     answer = main(sys.argv[1])

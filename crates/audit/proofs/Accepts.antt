@@ -10,8 +10,8 @@ use borrow.Author.Tests.{eq-eqb}
 use lib.Dec.{eqb}
 use lib.ListN.{length, getD, take, length-take, length-append, length-replicate}
 use lib.Seq.{take-at, take-take, take-all, getD-take}
-use Rattle.sequences.specs.Lists.{run, joined, zeros}
-use Rattle.sequences.proofs.Lists.{length-joined}
+use Rattle.sequences.specs.Lists.{run, joined, Bytes, zeros}
+use Rattle.sequences.proofs.Lists.{length-joined, bytes-zeros}
 use Rattle.tree_index.specs.Tree.{index, filled, entries}
 use Rattle.tree_index.proofs.Index.{by-coordinates}
 use Rattle.tree_index.proofs.Filled.{filled-end, filled-left, filled-right}
@@ -22,11 +22,12 @@ use Rattle.files.specs.Messages.{HashFunction}
 use Rattle.files.specs.Nodes.{Entry, entryBytes, parentOf, node, treeEntries}
 use Rattle.files.specs.Images.{dataSize, dataImage, bitfieldImage, signaturesImage, treeImage, leaves}
 use Rattle.files.specs.Stored.{storedHash, storedSize, storedMessage}
-use Rattle.files.specs.Belongs.{Register, Within, Belongs}
+use Rattle.files.specs.Belongs.{Register, Lent, Within, Belongs}
 use Rattle.files.proofs.Spans.{span, chunk-inside, joined-length}
 use Rattle.files.proofs.Nodes.{leaves-length, nodeAt-hash, nodeAt-index, entryAt-hole}
 use Rattle.files.proofs.OfImage.{treeHeader-length, bitfieldHeader-length, signaturesHeader-length, bitfieldImage-length, treeImage-length, stored-leaf, stored-parent, stored-entry, stored-node-hash, stored-node-size, stored-leaf-size, stored-start, stored-message, stored-total}
 use Rattle.files.proofs.ToImage.{hole-zeros}
+use Rattle.files.proofs.ImageBytes.{treeImage-bytes, signaturesImage-bytes, bitfieldImage-bytes, dataImage-bytes}
 use Rattle.checks.specs.Checks.{signedRight}
 use Rattle.checks.proofs.Passed.{Passed}
 use Rattle.audit.specs.Audit.{entryRight, Accepted}
@@ -119,6 +120,12 @@ module _ (F : List ℕ → List ℕ) (hf : HashFunction F) (cs : List (List ℕ)
 
 -- ---- every chunk sequence has an accepted register: its images, and zeros for signatures
 
+zeros-each : (i m k : ℕ) → Bytes (getD (run (λ j. zeros 64) i m) k [])
+unfolding run
+zeros-each i zero k = λ j. omega arith
+zeros-each i (suc m) zero = bytes-zeros 64
+zeros-each i (suc m) (suc k) = zeros-each (suc i) m k
+
 module _ (F : List ℕ → List ℕ) (cs : List (List ℕ)) where
   unfoldable pub registerOf : Register
   registerOf =
@@ -157,5 +164,15 @@ module _ (F : List ℕ → List ℕ) (cs : List (List ℕ)) where
         front = take-at signaturesHeader (joined (run (λ i. zeros 64) 0 (length cs))) 32 signaturesHeader-length;
       }
 
-  pub has-register : HashFunction F → Within cs → (r : Register) × Accepted F r × Belongs F r cs
-  has-register hf w = (registerOf, belongs-accepted F hf cs w registerOf (of-belongs hf w) of-signed, of-belongs hf w)
+  of-lent : HashFunction F → Within cs → Lent registerOf
+  unfolding registerOf
+  of-lent hf w =
+      record {
+        tree = treeImage-bytes F hf cs w;
+        signatures = signaturesImage-bytes (run (λ i. zeros 64) 0 (length cs)) (zeros-each 0 (length cs));
+        bitfield = bitfieldImage-bytes (length cs);
+        content = dataImage-bytes cs w;
+      }
+
+  pub has-register : HashFunction F → Within cs → (r : Register) × Lent r × Accepted F r × Belongs F r cs
+  has-register hf w = (registerOf, of-lent hf w, belongs-accepted F hf cs w registerOf (of-belongs hf w) of-signed, of-belongs hf w)

@@ -1,6 +1,7 @@
 // The bitfield file, byte by byte against its image. All of these are inner.
 use counts::Answer;
 use counts::ByteOffset;
+use counts::ChunkNumber;
 use counts::TreeIndex;
 ghost use mathlib.Core.Path.{_≡_};
 ghost use Prim.Native.Nat.{_+_, _*_, _-_, _≤_, _<_};
@@ -31,11 +32,12 @@ fn byte_of(a: bool, b: bool, c: bool, d: bool, e: bool, f: bool, g: bool, h: boo
     high + 8 * bit_of(e) + 4 * bit_of(f) + 2 * bit_of(g) + bit_of(h)
 }
 
-// The byte of the data bits from chunk k on.
-fn data_byte(n: u64, k: u64) -> u8
-    requires { ⌜ k < 4194304 ⌝ }
-    ensures { λ r. ⌜ r ≡ byteOf (heldBelow n) k ⌝ }
+// The byte of the data bits from a chunk on.
+fn data_byte(n: u64, c: ChunkNumber) -> u8
+    requires { ⌜ c .0 < 4194304 ⌝ }
+    ensures { λ r. ⌜ r ≡ byteOf (heldBelow n) (c .0) ⌝ }
 {
+    let k = c.0;
     byte_of(
         k < n,
         k + 1 < n,
@@ -48,28 +50,45 @@ fn data_byte(n: u64, k: u64) -> u8
     )
 }
 
-fn filled_bit(n: u64, i: u64) -> bool
-    requires { ⌜ i < 4194304 ⌝ }
-    ensures { λ r. ⌜ r ≡ filled n i ⌝ }
+// Whether the entry k behind a tree index is filled.
+fn filled_behind(n: u64, i: TreeIndex, k: u64) -> bool
+    requires { ⌜ i .0 + k < 4194304 ⌝ }
+    ensures { λ r. ⌜ r ≡ filled n (i .0 + k) ⌝ }
 {
-    tree_index::is_filled(n, TreeIndex(i))
+    tree_index::is_filled(n, TreeIndex(i.0 + k))
 }
 
-// The byte of the tree bits from tree index i on.
-fn tree_byte(n: u64, i: u64) -> u8
-    requires { ⌜ i + 7 < 4194304 ⌝ }
-    ensures { λ r. ⌜ r ≡ byteOf (filled n) i ⌝ }
+// The byte of the tree bits from a tree index on.
+fn tree_byte(n: u64, i: TreeIndex) -> u8
+    requires { ⌜ i .0 + 7 < 4194304 ⌝ }
+    ensures { λ r. ⌜ r ≡ byteOf (filled n) (i .0) ⌝ }
 {
     byte_of(
-        filled_bit(n, i),
-        filled_bit(n, i + 1),
-        filled_bit(n, i + 2),
-        filled_bit(n, i + 3),
-        filled_bit(n, i + 4),
-        filled_bit(n, i + 5),
-        filled_bit(n, i + 6),
-        filled_bit(n, i + 7),
+        tree_index::is_filled(n, i),
+        filled_behind(n, i, 1),
+        filled_behind(n, i, 2),
+        filled_behind(n, i, 3),
+        filled_behind(n, i, 4),
+        filled_behind(n, i, 5),
+        filled_behind(n, i, 6),
+        filled_behind(n, i, 7),
     )
+}
+
+// The first chunk that the data byte j of entry e tells of.
+fn first_chunk(e: u64, j: u64) -> ChunkNumber
+    requires { ⌜ (e < 128) × (j < 1024) ⌝ }
+    ensures { λ r. ⌜ r .0 ≡ 8192 * e + 8 * j ⌝ }
+{
+    ChunkNumber(8192 * e + 8 * j)
+}
+
+// The first tree index that the tree byte j of entry e tells of.
+fn first_index(e: u64, j: u64) -> TreeIndex
+    requires { ⌜ (e < 128) × (j < 2048) ⌝ }
+    ensures { λ r. ⌜ r .0 ≡ 16384 * e + 8 * j ⌝ }
+{
+    TreeIndex(16384 * e + 8 * j)
 }
 
 // The byte j of entry e, with the Index bytes that are handed in.
@@ -78,10 +97,10 @@ fn expected_byte(n: u64, e: u64, j: u64, index: &[u8; 256]) -> u8
     ensures { λ r. ⌜ r ≡ getD (entryWith n e (now (index .entry))) j 0 ⌝ }
 {
     if j < 1024 {
-        return data_byte(n, 8192 * e + 8 * j);
+        return data_byte(n, first_chunk(e, j));
     }
     if j < 3072 {
-        return tree_byte(n, 16384 * e + 8 * (j - 1024));
+        return tree_byte(n, first_index(e, j - 1024));
     }
     let k = (j - 3072) as usize;
     index[k]

@@ -1,6 +1,7 @@
 // The tree file: "a leaf .. is wrong if it is over 65,536, runs past the data or has another hash; a parent if it doesn't follow
 // from its stored children, sums taken in whole numbers; a hole if it isn't zero." All of these are inner.
 use counts::Answer;
+use counts::ByteOffset;
 use counts::ChunkNumber;
 use counts::TreeIndex;
 ghost use mathlib.Core.Path.{_≡_};
@@ -27,19 +28,19 @@ pub fn entries(n: u64) -> u64
 }
 
 // Inner: where the next leaf starts once a walk from the left has passed the entry i.
-pub fn start_behind(tree: &[u8], i: TreeIndex, start: u64) -> u64
-    requires { ⌜ Started (now tree) (i .0) start ⌝ }
-    ensures { λ r. ⌜ r ≡ storedStart (now (tree .entry)) (leavesBefore (i .0 + 1)) ⌝ }
+pub fn start_behind(tree: &[u8], i: TreeIndex, start: ByteOffset) -> ByteOffset
+    requires { ⌜ Started (now tree) (i .0) (start .0) ⌝ }
+    ensures { λ r. ⌜ r .0 ≡ storedStart (now (tree .entry)) (leavesBefore (i .0 + 1)) ⌝ }
 {
     if i.0 % 2 == 0 {
-        return start + files::entries::stored_size(tree, i);
+        return ByteOffset(start.0 + files::entries::stored_size(tree, i));
     }
     start
 }
 
 // Whether a leaf is right. Its chunk is hashed from its place in the data.
-fn leaf_right(tree: &[u8], content: &[u8], size: u64, c: ChunkNumber, start: u64) -> bool
-    requires { ⌜ AtLeaf (now tree) (now content) size (c .0) start ⌝ }
+fn leaf_right(tree: &[u8], content: &[u8], size: u64, c: ChunkNumber, start: ByteOffset) -> bool
+    requires { ⌜ AtLeaf (now tree) (now content) size (c .0) (start .0) ⌝ }
     ensures { λ r. ⌜ r ≡ leafRight nodeHash (now (tree .entry)) (now (content .entry)) size (c .0) ⌝ }
 {
     let i = tree_index::leaf_index(c);
@@ -47,10 +48,10 @@ fn leaf_right(tree: &[u8], content: &[u8], size: u64, c: ChunkNumber, start: u64
     if 65536 < length {
         return false;
     }
-    if size - start < length {
+    if size - start.0 < length {
         return false;
     }
-    let from = start as usize;
+    let from = start.0 as usize;
     let end = from + (length as usize);
     let expected = files::hashes::leaf_hash(&content[from..end]);
     let stored = files::entries::stored_hash(tree, i);
@@ -91,8 +92,15 @@ fn hole_right(tree: &[u8], i: TreeIndex) -> bool
 }
 
 // Whether an entry is right, whichever it is.
-fn entry_right(tree: &[u8], content: &[u8], n: u64, size: u64, i: TreeIndex, start: u64) -> bool
-    requires { ⌜ AtEntry (now tree) (now content) n size (i .0) start ⌝ }
+fn entry_right(
+    tree: &[u8],
+    content: &[u8],
+    n: u64,
+    size: u64,
+    i: TreeIndex,
+    start: ByteOffset,
+) -> bool
+    requires { ⌜ AtEntry (now tree) (now content) n size (i .0) (start .0) ⌝ }
     ensures { λ r. ⌜ r ≡ entryRight nodeHash (now (tree .entry)) (now (content .entry)) n size (i .0) ⌝ }
 {
     if !tree_index::is_filled(n, i) {
@@ -118,7 +126,7 @@ pub fn wrong_entry(tree: &[u8], content: &[u8], n: u64, size: u64) -> Answer
 {
     let count = entries(n);
     let mut i: u64 = 0;
-    let mut start: u64 = 0;
+    let mut start = ByteOffset(0);
     while i < count {
         if !entry_right(tree, content, n, size, TreeIndex(i), start) {
             return counts::refuse_entry(10, TreeIndex(i));

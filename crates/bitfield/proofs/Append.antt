@@ -20,7 +20,7 @@ use Rattle.tree_index.proofs.Appended.{filled-suc}
 use Rattle.bitfield.specs.Bits.{setBit}
 use Rattle.bitfield.specs.Index.{indexBytes}
 use Rattle.bitfield.specs.Image.{dataBytes, treeBytes, entry, entryCount, heldBelow, entriesOf}
-use Rattle.bitfield.specs.Append.{entryPlace, zeroedIfNew, setDataBit, setTreeBit, setTreeBits, regenerated, appended}
+use Rattle.bitfield.specs.Append.{bitsPlace, zeroedIfNew, setDataBit, setTreeBit, setTreeBits, regenerated, appended}
 use Rattle.bitfield.proofs.Bits.{cases}
 use Rattle.bitfield.proofs.Levels.{same-or, length-index}
 use Rattle.bitfield.proofs.Image.{entryWith, entry-is, with-one, data-other, data-file, tree-file, index-file, zero-entry, entry-ext, known-ext, length-entries}
@@ -39,13 +39,13 @@ kept-at : (xs : List ℕ) (p r : ℕ) → (r ≡ 0 → ⊥) → elim r [ zero �
 kept-at xs p zero e = absurd (e refl)
 kept-at xs p (suc r) e = refl
 
-pub zeroed-new : (xs : List ℕ) (n : ℕ) → n % 8192 ≡ 0 → zeroedIfNew xs n ≡ put xs (entryPlace (n / 8192)) (zeros 3328)
+pub zeroed-new : (xs : List ℕ) (n : ℕ) → n % 8192 ≡ 0 → zeroedIfNew xs n ≡ put xs (bitsPlace (n / 8192)) (zeros 3328)
 unfolding zeroedIfNew
-zeroed-new xs n e = zeroed-at xs (entryPlace (n / 8192)) (n % 8192) e
+zeroed-new xs n e = zeroed-at xs (bitsPlace (n / 8192)) (n % 8192) e
 
 pub zeroed-old : (xs : List ℕ) (n : ℕ) → (n % 8192 ≡ 0 → ⊥) → zeroedIfNew xs n ≡ xs
 unfolding zeroedIfNew
-zeroed-old xs n e = kept-at xs (entryPlace (n / 8192)) (n % 8192) e
+zeroed-old xs n e = kept-at xs (bitsPlace (n / 8192)) (n % 8192) e
 
 -- ---- the tree bits one after the other
 
@@ -66,12 +66,11 @@ pub no-bits : (xs : List ℕ) (n : ℕ) → xs ≡ setTreeBits xs (filledFirst n
 unfolding setTreeBits filledFirst run
 no-bits xs n = refl
 
-pub next-bit : (xs : List ℕ) (n d : ℕ) → n + 1 < 2 ^ 64 → d ≤ completed n → setTreeBit (setTreeBits xs (filledFirst n d)) (2 * n + 1 - 2 ^ d) ≡ setTreeBits xs (filledFirst n (d + 1))
+pub next-bit : (xs : List ℕ) (n d : ℕ) → setTreeBit (setTreeBits xs (filledFirst n d)) (index d ((n + 1) / 2 ^ d - 1)) ≡ setTreeBits xs (filledFirst n (d + 1))
 unfolding filledFirst
-next-bit xs n d small h =
+next-bit xs n d =
     let f : ℕ → ℕ = λ h. index h ((n + 1) / 2 ^ h - 1) in
-    let e : f (0 + d) ≡ 2 * n + 1 - 2 ^ d = ap f (zero-add d) ∙ filled-place n d small h in
-    ap (setTreeBit (setTreeBits xs (run f 0 d))) (sym e) ∙ sym (one-bit (setTreeBits xs (run f 0 d)) (f (0 + d)))
+    ap (setTreeBit (setTreeBits xs (run f 0 d))) (ap f (sym (zero-add d))) ∙ sym (one-bit (setTreeBits xs (run f 0 d)) (f (0 + d)))
     ∙ sym (setTreeBits-append xs (run f 0 d) (f (0 + d) ∷ []))
     ∙ ap (setTreeBits xs) (sym (run-suc f 0 d) ∙ ap (run f 0) (sym (add-one d)))
 
@@ -119,7 +118,7 @@ module _ (held : ℕ → Bool) (ix : ℕ → List ℕ) (long : (j : ℕ) → len
   file-ext p q h = ap (λ (r : List (List ℕ)). head ++ (joined r ++ tail)) (run-ext (entryWith held p ix) (entryWith held q ix) 0 k (λ j a b. known-ext held p q ix h j))
 
   tree-bit : (known : ℕ → Bool) (i : ℕ) → i / 16384 < k → setTreeBit (file known) i ≡ file (with-one known i)
-  unfolding setTreeBit entryPlace file
+  unfolding setTreeBit bitsPlace file
   tree-bit known i h =
       let e : 32 + 3328 * (i / 16384) + 1024 ≡ 32 + (i / 16384 * 3328 + 1024) = omega arith in
       ap (λ (p : ℕ). setBit (file known) p (i % 16384)) e ∙ tree-file held known ix long head tail front k i h
@@ -180,7 +179,7 @@ ix-ext : (held known : ℕ → Bool) (ix iy : ℕ → List ℕ) (j : ℕ) → ix
 unfolding entryWith
 ix-ext held known ix iy j e = ap (λ (r : List ℕ). dataBytes held j ++ (treeBytes known j ++ r)) e
 
-module _ (xs : List ℕ) (n : ℕ) (few : n < 1048576) (room : entryPlace (n / 8192 + 1) ≤ length xs) (image : part xs 32 (3328 * entryCount n) ≡ entriesOf n) where
+module _ (xs : List ℕ) (n : ℕ) (few : n < 1048576) (room : bitsPlace (n / 8192 + 1) ≤ length xs) (image : part xs 32 (3328 * entryCount n) ≡ entriesOf n) where
   abbrev k : ℕ
   k = n / 8192 + 1
 
@@ -203,7 +202,7 @@ module _ (xs : List ℕ) (n : ℕ) (few : n < 1048576) (room : entryPlace (n / 8
       ∙ ap (λ (r : List ℕ). take 32 xs ++ (r ++ tail)) (part-run k (entries-before n e))
 
   opened-new : n % 8192 ≡ 0 → zeroedIfNew xs n ≡ take 32 xs ++ (joined (run before 0 k) ++ tail)
-  unfolding entryPlace
+  unfolding bitsPlace
   opened-new e =
       let q : ℕ = n / 8192 in
       zeroed-new xs n e
@@ -216,7 +215,7 @@ module _ (xs : List ℕ) (n : ℕ) (few : n < 1048576) (room : entryPlace (n / 8
       places q = omega arith
 
   front : length (take 32 xs) ≡ 32
-  unfolding entryPlace
+  unfolding bitsPlace
   front = length-take-le 32 xs (omega arith)
 
   -- the entry of the new chunk is there, with the bits of n chunks
@@ -236,7 +235,7 @@ module _ (xs : List ℕ) (n : ℕ) (few : n < 1048576) (room : entryPlace (n / 8
   long j = length-index (dataBytes (heldBelow n) j)
 
   data-set : setDataBit (zeroedIfNew xs n) n ≡ file held ix long (take 32 xs) tail front k (filled n)
-  unfolding setDataBit entryPlace file
+  unfolding setDataBit bitsPlace file
   data-set =
       let e : 32 + 3328 * (n / 8192) ≡ 32 + (n / 8192 * 3328 + 0) = omega arith in
       ap (λ (l : List ℕ). setBit l (32 + 3328 * (n / 8192)) (n % 8192)) opened
@@ -250,7 +249,7 @@ module _ (xs : List ℕ) (n : ℕ) (few : n < 1048576) (room : entryPlace (n / 8
 
   regenerated-is : (g : ℕ → List ℕ) → entry held known (n / 8192) ≡ g (n / 8192) → ((j : ℕ) → (j ≡ n / 8192 → ⊥) → entryWith held known ix j ≡ g j)
       → regenerated (file held ix long (take 32 xs) tail front k known) (n / 8192) ≡ take 32 xs ++ (joined (run g 0 k) ++ tail)
-  unfolding regenerated entryPlace file
+  unfolding regenerated bitsPlace file
   regenerated-is g here other =
       let q : ℕ = n / 8192 in
       let e : 32 + 3328 * q + 3072 ≡ 32 + (q * 3328 + 3072) = omega arith in
@@ -284,17 +283,17 @@ module _ (xs : List ℕ) (n : ℕ) (few : n < 1048576) (room : entryPlace (n / 8
       ∙ ap (λ (t : ℕ). take 32 xs ++ (entriesOf (n + 1) ++ drop (32 + t) xs)) (sym l)
 
   pub appended-part : part (appended xs n) 32 (3328 * entryCount (n + 1)) ≡ entriesOf (n + 1)
-  unfolding entryPlace
+  unfolding bitsPlace
   appended-part =
       ap (λ (l : List ℕ). part l 32 (3328 * entryCount (n + 1))) appended-image
       ∙ part-put xs 32 (3328 * entryCount (n + 1)) (entriesOf (n + 1)) (length-entries (n + 1)) (omega arith)
 
   pub appended-front : take 32 (appended xs n) ≡ take 32 xs
-  unfolding entryPlace
+  unfolding bitsPlace
   appended-front = ap (take 32) appended-image ∙ take-put 32 xs 32 (entriesOf (n + 1)) (le-refl 32) (omega arith)
 
   pub appended-rest : drop (32 + 3328 * entryCount (n + 1)) (appended xs n) ≡ drop (32 + 3328 * entryCount (n + 1)) xs
-  unfolding entryPlace
+  unfolding bitsPlace
   appended-rest =
       ap (drop (32 + 3328 * entryCount (n + 1))) appended-image
       ∙ drop-put (32 + 3328 * entryCount (n + 1)) xs 32 (entriesOf (n + 1)) (omega (arith, length-entries (n + 1))) (omega arith)

@@ -8,20 +8,20 @@ use Rattle.bitfield.specs.Bits.{setBit}
 use Rattle.bitfield.specs.Index.{indexBytes}
 
 -- where entry e begins: 32 header bytes and the entries before it
-unfoldable pub entryPlace : ℕ → ℕ
-entryPlace e = 32 + 3328 * e
+unfoldable pub bitsPlace : ℕ → ℕ
+bitsPlace e = 32 + 3328 * e
 
 -- the entry of the new chunk n is new where n is a multiple of 8,192: all of its bytes become zero
 unfoldable pub zeroedIfNew : List ℕ → ℕ → List ℕ
-zeroedIfNew xs n = elim (n % 8192) [ zero ↦ put xs (entryPlace (n / 8192)) (zeros 3328) | suc r ↦ xs ]
+zeroedIfNew xs n = elim (n % 8192) [ zero ↦ put xs (bitsPlace (n / 8192)) (zeros 3328) | suc r ↦ xs ]
 
 -- the data bit of chunk k
 unfoldable pub setDataBit : List ℕ → ℕ → List ℕ
-setDataBit xs k = setBit xs (entryPlace (k / 8192)) (k % 8192)
+setDataBit xs k = setBit xs (bitsPlace (k / 8192)) (k % 8192)
 
 -- the tree bit of tree index i
 unfoldable pub setTreeBit : List ℕ → ℕ → List ℕ
-setTreeBit xs i = setBit xs (entryPlace (i / 16384) + 1024) (i % 16384)
+setTreeBit xs i = setBit xs (bitsPlace (i / 16384) + 1024) (i % 16384)
 
 unfoldable pub setTreeBits : List ℕ → List ℕ → List ℕ
 setTreeBits xs [] = xs
@@ -29,7 +29,7 @@ setTreeBits xs (i ∷ is) = setTreeBits (setTreeBit xs i) is
 
 -- the Index of entry e made anew from the entry's data bytes
 unfoldable pub regenerated : List ℕ → ℕ → List ℕ
-regenerated xs e = put xs (entryPlace e + 3072) (indexBytes (part xs (entryPlace e) 1024))
+regenerated xs e = put xs (bitsPlace e + 3072) (indexBytes (part xs (bitsPlace e) 1024))
 
 -- the bitfield file after the append of chunk n
 unfoldable pub appended : List ℕ → ℕ → List ℕ

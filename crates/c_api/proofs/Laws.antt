@@ -15,8 +15,8 @@ use Rattle.lookup.specs.Said.{refusedAs}
 use Rattle.packet.specs.Packet.{makeVerdict, madeLength}
 use Rattle.packet.specs.Check.{chunkLength, packetVerdict}
 use Rattle.packet.specs.Made.{MadeAs, madeVerdict, madeBytes}
-use Rattle.packet.specs.declared.make.Made.{Made}
-use Rattle.packet.specs.declared.make.Made.the-variants.{Refused as NotMade, Length}
+use Rattle.packet.specs.declared.making.Made.{Made}
+use Rattle.packet.specs.declared.making.Made.the-variants.{Refused as NotMade, Length}
 use Rattle.compare.specs.Answered.{compared}
 use Rattle.compare.specs.declared.Compared.{Compared}
 use Rattle.c_api.specs.Number.{numberOf, unlessRefused}

@@ -73,15 +73,12 @@ pub extern "C" fn sleep_compare(
 ) -> SleepComparison
     ensures { λ r.
         ⌜
-        r ≡
-        encodedComparison
-        (Walk.compare
-        nodeHash
+        r ≡ encodedComparison (Walk.compare nodeHash
         (registerOf (now (tree .entry)) (now (signatures .entry)) (now (bitfield .entry)) (now (content .entry)) n s size)
         (registerOf (now (tree2 .entry)) (now (signatures2 .entry)) (now (bitfield2 .entry)) (now (content2 .entry)) n2 s2 size2))
         ⌝ }
 {
-    let compared = compare::compare(
+    encode_comparison(compare::compare(
         tree,
         signatures,
         bitfield,
@@ -96,6 +93,5 @@ pub extern "C" fn sleep_compare(
         n2,
         s2,
         size2,
-    );
-    encode_comparison(compared)
+    ))
 }

@@ -2,9 +2,9 @@
 use super::answers::SleepAnswer;
 use counts::ByteOffset;
 use counts::ChunkNumber;
-use lookup::lookup::Located;
-use lookup::lookup::Placed;
-use lookup::read::Verified;
+use lookup::Located;
+use lookup::Placed;
+use lookup::Verified;
 ghost use mathlib.Core.Path.{_≡_};
 ghost use Rattle.blake2b.specs.Hash.{nodeHash};
 ghost use Rattle.checks.specs.Given.{registerOf};
@@ -29,12 +29,10 @@ pub extern "C" fn sleep_place(
         ⌜
         Gives
         (placeOf (registerOf (now (tree .entry)) (now (signatures .entry)) (now (bitfield .entry)) (now (content .entry)) n s size) chunk)
-        (now (out .entry))
-        r
-        (now (out .exit))
+        (now (out .entry)) r (now (out .exit))
         ⌝ }
 {
-    let found = lookup::lookup::place(
+    let found = lookup::place(
         tree,
         signatures,
         bitfield,
@@ -70,12 +68,10 @@ pub extern "C" fn sleep_byte(
         ⌜
         Gives
         (byteAt (registerOf (now (tree .entry)) (now (signatures .entry)) (now (bitfield .entry)) (now (content .entry)) n s size) offset)
-        (now (out .entry))
-        r
-        (now (out .exit))
+        (now (out .entry)) r (now (out .exit))
         ⌝ }
 {
-    let found = lookup::lookup::locate(
+    let found = lookup::locate(
         tree,
         signatures,
         bitfield,
@@ -112,12 +108,10 @@ pub extern "C" fn sleep_read(
         ⌜
         Gives
         (asPart (readFound nodeHash (registerOf (now (tree .entry)) (now (signatures .entry)) (now (bitfield .entry)) (now (content .entry)) n s size) chunk))
-        (now (out .entry))
-        r
-        (now (out .exit))
+        (now (out .entry)) r (now (out .exit))
         ⌝ }
 {
-    let found = lookup::read::verify(
+    let found = lookup::verify(
         tree,
         signatures,
         bitfield,
@@ -129,8 +123,8 @@ pub extern "C" fn sleep_read(
     );
     match found {
         Verified::Refused(refusal) => super::answers::refused(refusal),
-        Verified::Part(from, end) => {
-            *out = [from as u64, (end - from) as u64];
+        Verified::Part(start, end) => {
+            *out = [start.0, end.0 - start.0];
             super::answers::encode(counts::Answer::Done)
         }
     }

@@ -2,7 +2,7 @@
 use super::answers::SleepAnswer;
 use counts::Answer;
 use counts::ChunkNumber;
-use packet::make::Made;
+use packet::Made;
 ghost use Rattle.checks.specs.Given.{registerOf};
 ghost use Rattle.c_api.specs.Encoding.{Gives, Makes, packetPart};
 
@@ -25,15 +25,10 @@ pub extern "C" fn sleep_make_packet(
         ⌜
         Makes
         (registerOf (now (tree .entry)) (now (signatures .entry)) (now (bitfield .entry)) (now (content .entry)) n s size)
-        chunk
-        (now (out .entry))
-        (now (length .entry))
-        r
-        (now (out .exit))
-        (now (length .exit))
+        chunk (now (out .entry)) (now (length .entry)) r (now (out .exit)) (now (length .exit))
         ⌝ }
 {
-    let made = packet::make::make(
+    let made = packet::make(
         tree,
         signatures,
         bitfield,
@@ -67,12 +62,10 @@ pub extern "C" fn sleep_check_packet(
         ⌜
         Gives
         (packetPart (now (packet .entry)) n chunk (now (root .entry)))
-        (now (out .entry))
-        r
-        (now (out .exit))
+        (now (out .entry)) r (now (out .exit))
         ⌝ }
 {
-    let answer = packet::check::check_answer(packet, n, ChunkNumber(chunk), root);
+    let answer = packet::check_answer(packet, n, ChunkNumber(chunk), root);
     match answer {
         Answer::Refused(refusal) => super::answers::refused(refusal),
         Answer::Done => {

@@ -7,10 +7,10 @@ use native.Mathlib.Omega.{arith}
 use Rattle.counts.specs.Verdict.{Verdict, Spot, none, done, refused}
 use Rattle.checks.specs.Checks.{Check, judged}
 
--- whether all checks are passed
-unfoldable pub allRight : List Check → Bool
-allRight [] = true
-allRight (c ∷ cs) = c .right && allRight cs
+-- every check of a list is passed
+abbrev pub AllRight : List Check → Type 0
+AllRight [] = Unit {0}
+AllRight (c ∷ cs) = (c .right ≡ true) × AllRight cs
 
 pub both-right : (a b : Bool) → a && b ≡ true → (a ≡ true) × (b ≡ true)
 both-right true b e = (refl, e)
@@ -19,14 +19,6 @@ both-right false b e = let z : _≡_ {A = ℕ} 0 1 = cc in absurd (omega arith)
 pub right-both : (a b : Bool) → a ≡ true → b ≡ true → a && b ≡ true
 right-both true b e f = f
 right-both false b e f = e
-
--- a call that passes them all says what comes next
-pub judged-right : (cs : List Check) (next : Verdict) → allRight cs ≡ true → judged cs next ≡ next
-unfolding judged allRight
-judged-right [] next e = refl
-judged-right (c ∷ cs) next e =
-    let w = both-right (c .right) (allRight cs) e in
-    ap (λ (b : Bool). cond b (judged cs next) (refused (c .number) none)) (w .0) ∙ judged-right cs next (w .1)
 
 -- what the first check leaves to the others
 at-right : (c : Check) (cs : List Check) (next : Verdict) → c .right ≡ true → judged (c ∷ cs) next ≡ judged cs next
@@ -37,18 +29,24 @@ at-wrong : (c : Check) (cs : List Check) (next : Verdict) → c .right ≡ false
 unfolding judged
 at-wrong c cs next e = ap (λ (b : Bool). cond b (judged cs next) (refused (c .number) none)) e
 
+-- a call that passes them all says what comes next
+pub judged-right : (cs : List Check) (next : Verdict) → AllRight cs → judged cs next ≡ next
+unfolding judged
+judged-right [] next p = refl
+judged-right (c ∷ cs) next p = at-right c cs next (p .0) ∙ judged-right cs next (p .1)
+
 -- and only such a call is done
-pub judged-done : (cs : List Check) (next : Verdict) → judged cs next ≡ done → (allRight cs ≡ true) × (next ≡ done)
-unfolding judged allRight
-judged-done [] next e = (refl, e)
-judged-done (c ∷ cs) next e = pick (c .right) refl (λ g. judged-done cs next g)
-  where
-    pick : (b : Bool) → c .right ≡ b → (judged cs next ≡ done → (allRight cs ≡ true) × (next ≡ done)) → (c .right && allRight cs ≡ true) × (next ≡ done)
-    pick true f rest = let w = rest (sym (at-right c cs next f) ∙ e) in (right-both (c .right) (allRight cs) f (w .0), w .1)
-    pick false f rest =
-        let g : refused (c .number) none ≡ done = sym (at-wrong c cs next f) ∙ e in
-        let z : _≡_ {A = ℕ} 0 1 = cc in
-        absurd (omega arith)
+one-must : (b : Bool) (m : ℕ) (rest : Verdict) → cond b rest (refused m none) ≡ done → (b ≡ true) × (rest ≡ done)
+one-must true m rest e = (refl, e)
+one-must false m rest e = let z : _≡_ {A = ℕ} 0 1 = cc in absurd (omega arith)
+
+pub judged-done : (cs : List Check) (next : Verdict) → judged cs next ≡ done → AllRight cs × (next ≡ done)
+unfolding judged
+judged-done [] next e = (tt, e)
+judged-done (c ∷ cs) next e =
+    let a = one-must (c .right) (c .number) (judged cs next) e in
+    let b = judged-done cs next (a .1) in
+    ((a .0, b .0), b .1)
 
 -- a refusal is the same whatever would have come next
 pub judged-refused : (cs : List Check) (next : Verdict) (m : ℕ) (at : Spot) → judged cs done ≡ refused m at → judged cs next ≡ refused m at

@@ -1,23 +1,19 @@
 -- What the checks 3 to 6 find, as facts. Assumes nothing.
-use mathlib.Core.Path.{_≡_, refl, sym, ap, ap₂, _∙_, subst}
-use mathlib.Core.Bool.{Bool, true, false, cond, _&&_, _||_}
-use mathlib.Core.List.{List, [], _∷_}
-use Prim.Native.Nat.{ℕ, _+_, _≤_, _<_}
-use native.Mathlib.Omega.{arith}
+use mathlib.Core.Path.{_≡_, refl, ap}
+use mathlib.Core.Bool.{Bool, true, false, cond, _&&_}
+use Prim.Native.Nat.{_≤_}
 use lib.ListN.{length, take}
-use lib.Dec.{leb, eqb}
-use borrow.Author.Tests.{leb-true, le-leb, eqb-true, eq-eqb, ne-eqb}
+use borrow.Author.Tests.{leb-true, eqb-true}
 use Rattle.counts.specs.Verdict.{Verdict, none, done, refused}
-use Rattle.sequences.specs.Lists.{sameList, total}
-use Rattle.sequences.proofs.Lists.{same-eq, same-refl}
+use Rattle.sequences.specs.Lists.{total}
+use Rattle.sequences.proofs.Lists.{same-eq}
 use Rattle.files.specs.Headers.{treeHeader, signaturesHeader, bitfieldHeader}
 use Rattle.files.specs.Sizes.{usedTree, usedSignatures, usedBitfield}
 use Rattle.files.specs.Stored.{storedRootSizes}
 use Rattle.files.specs.Belongs.{Register}
-use Rattle.files.specs.Within.{RootsIn}
-use Rattle.checks.specs.Checks.{Check, judged, signedRight, holds, headed, addsUp, laterChecks}
+use Rattle.checks.specs.Checks.{judged, signedRight, holds, headed, addsUp, laterChecks}
 use Rattle.checks.specs.Given.{longRight, headsRight}
-use Rattle.checks.proofs.Judged.{allRight, both-right, right-both, judged-right, judged-done}
+use Rattle.checks.proofs.Judged.{AllRight, judged-done}
 
 -- what 3 to 6 find
 pub record Later (r : Register) : Type 0 where
@@ -31,51 +27,24 @@ pub record Later (r : Register) : Type 0 where
   pub bitfield-head : take 32 (r .bitfield) ≡ bitfieldHeader
   pub sum : total (storedRootSizes (r .tree) (r .n)) ≡ r .size
 
-pub same-head : (xs ys : List ℕ) → xs ≡ ys → sameList xs ys ≡ true
-same-head xs ys e = subst (λ (l : List ℕ). sameList xs l ≡ true) e (same-refl xs)
-
-pub later-facts : (r : Register) → allRight (laterChecks r) ≡ true → Later r
-unfolding allRight laterChecks addsUp
-later-facts r e =
-    let a = both-right _ _ e in
-    let b = both-right _ _ (a .1) in
-    let c = both-right _ _ (b .1) in
-    let d = both-right _ _ (c .1) in
-    let f = both-right _ _ (d .1) in
-    let g = both-right _ _ (f .1) in
-    let h = both-right _ _ (g .1) in
-    let i = both-right _ _ (h .1) in
-    let j = both-right _ _ (i .1) in
+pub later-facts : (r : Register) → AllRight (laterChecks r) → Later r
+unfolding laterChecks addsUp
+later-facts r a =
     record {
       signed = a .0;
-      tree-long = leb-true _ _ (b .0);
-      signatures-long = leb-true _ _ (c .0);
-      bitfield-long = leb-true _ _ (d .0);
-      content-long = leb-true _ _ (f .0);
-      tree-head = same-eq _ _ (g .0);
-      signatures-head = same-eq _ _ (h .0);
-      bitfield-head = same-eq _ _ (i .0);
-      sum = eqb-true _ _ (j .0);
+      tree-long = leb-true _ _ (a .1 .0);
+      signatures-long = leb-true _ _ (a .1 .1 .0);
+      bitfield-long = leb-true _ _ (a .1 .1 .1 .0);
+      content-long = leb-true _ _ (a .1 .1 .1 .1 .0);
+      tree-head = same-eq _ _ (a .1 .1 .1 .1 .1 .0);
+      signatures-head = same-eq _ _ (a .1 .1 .1 .1 .1 .1 .0);
+      bitfield-head = same-eq _ _ (a .1 .1 .1 .1 .1 .1 .1 .0);
+      sum = eqb-true _ _ (a .1 .1 .1 .1 .1 .1 .1 .1 .0);
     }
 
-pub facts-later : (r : Register) → Later r → allRight (laterChecks r) ≡ true
-unfolding allRight laterChecks addsUp
-facts-later r w =
-    right-both _ _ (w .signed)
-    (right-both _ _ (le-leb _ _ (w .tree-long))
-    (right-both _ _ (le-leb _ _ (w .signatures-long))
-    (right-both _ _ (le-leb _ _ (w .bitfield-long))
-    (right-both _ _ (le-leb _ _ (w .content-long))
-    (right-both _ _ (same-head _ _ (w .tree-head))
-    (right-both _ _ (same-head _ _ (w .signatures-head))
-    (right-both _ _ (same-head _ _ (w .bitfield-head)) (right-both _ _ (eq-eqb _ _ (w .sum)) refl))))))))
-
--- a register that passes, and what comes next
+-- a register that passes them
 pub later-done : (r : Register) (next : Verdict) → judged (laterChecks r) next ≡ done → Later r
 later-done r next e = later-facts r (judged-done (laterChecks r) next e .0)
-
-pub later-next : (r : Register) (next : Verdict) → Later r → judged (laterChecks r) next ≡ next
-later-next r next w = judged-right (laterChecks r) next (facts-later r w)
 
 -- ---- number by number
 

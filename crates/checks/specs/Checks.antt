@@ -1,10 +1,10 @@
 -- "Checks apply to what the call is given, in this order."
-use Prim.Native.Nat.{ℕ, suc, _+_}
-use mathlib.Core.Bool.{Bool, true, false, cond, _&&_, _||_}
-use mathlib.Core.List.{List, [], _∷_, _++_}
+use Prim.Native.Nat.{ℕ, _+_}
+use mathlib.Core.Bool.{Bool, cond, _||_}
+use mathlib.Core.List.{List, [], _∷_}
 use lib.ListN.{length, take}
 use lib.Dec.{leb, eqb}
-use Rattle.counts.specs.Verdict.{Verdict, none, done, refused}
+use Rattle.counts.specs.Verdict.{Verdict, none, refused}
 use Rattle.sequences.specs.Lists.{sameList, total}
 use Rattle.files.specs.Headers.{treeHeader, signaturesHeader, bitfieldHeader}
 use Rattle.files.specs.Sizes.{mostChunks, usedTree, usedSignatures, usedBitfield}
@@ -41,7 +41,7 @@ headed xs header = sameList (take 32 xs) header
 unfoldable pub addsUp : List ℕ → ℕ → ℕ → Bool
 addsUp tree n size = eqb (total (storedRootSizes tree n)) size
 
--- numbers 3 to 6; what concerns the signatures stands apart
+-- numbers 3 to 6; in 4 and 5 each image has a line of its own
 unfoldable pub laterChecks : Register → List Check
 laterChecks r =
     record { number = 3; right = signedRight (r .n) (r .s) }

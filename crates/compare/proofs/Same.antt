@@ -26,7 +26,7 @@ use Rattle.checks.proofs.Steps.{and-stop, and-pass}
 use Rattle.audit.specs.Walked.{leavesBefore, Started, AtParent}
 use Rattle.audit.proofs.Entries.{entry-in, odd-depth, parent-in}
 use Rattle.compare.specs.Walk.{collides}
-use Rattle.compare.specs.Inner.{Readable, ReadAt, ChunkIn, sameParent, collidesAt}
+use Rattle.compare.specs.Inner.{Walkable, ReadAt, ChunkIn, sameParent, collidesAt}
 use Rattle.compare.proofs.Local.{Told, told, true-same}
 use Rattle.compare.proofs.Apart.{be-injective, leaf-injective, SameParent, parent-injective}
 

@@ -26,13 +26,13 @@ use Rattle.audit.proofs.Audited.{Audited, accepted-audited, leaf-says, odd-entr
 use Rattle.audit.proofs.Search.{lowest-on, lowest-off, lowest-end}
 use Rattle.audit.proofs.Whole.{says-accepted}
 use Rattle.compare.specs.Walk.{Comparison, firstRefused, secondRefused, rootsDiffer, atRoots, atIndex, equal, found, walk, unlessRefused, compare}
-use Rattle.compare.specs.Inner.{Readable, ReadAt, collidesAt}
+use Rattle.compare.specs.Inner.{Walkable, ReadAt, collidesAt}
 use Rattle.compare.proofs.RootMessages.{same-count}
 
 -- ---- an accepted register can be read
 
-pub readable : (F : List ℕ → List ℕ) (r : Register) → Accepted F r → Readable (r .tree) (r .content) (r .n)
-readable F r e =
+pub walkable : (F : List ℕ → List ℕ) (r : Register) → Accepted F r → Walkable (r .tree) (r .content) (r .n)
+walkable F r e =
     record {
       room = record { count = a .checked .count; inside = a .checked .tree };
       chunk = λ k h. omega (arith, leaf k h, a .checked .content);
@@ -71,10 +71,10 @@ module _ (t d u e : List ℕ) (n : ℕ) where
       record { end = q; below = omega arith; here = refl; there = refl; rest = ap (lowest free 0) (omega arith) }
 
   module _ (count i start begin : ℕ) (w : Meeting count i start begin) (h : i < count) where
-    pub meeting-first : Readable t d n → ReadAt t d n i start
+    pub meeting-first : Walkable t d n → ReadAt t d n i start
     meeting-first p = record { whole = p; entry = omega (arith, w .end); here = w .here }
 
-    pub meeting-second : Readable u e n → ReadAt u e n i begin
+    pub meeting-second : Walkable u e n → ReadAt u e n i begin
     meeting-second p = record { whole = p; entry = omega (arith, w .end); here = w .there }
 
     pub meeting-next : (next after : ℕ) (r : Bool) → r ≡ collidesAt t d u e n i → r ≡ false → next ≡ storedStart t (leavesBefore (i + 1))
@@ -128,10 +128,10 @@ module _ (F : List ℕ → List ℕ) (t d u e : List ℕ) (n m : ℕ) where
       walk-found f g c z = z ∙ sym (as-outcome ∙ (λ j. outcome ((hashes ∙ f) j) ((sym v ∙ g) j)))
 
   -- registers with one root message have one number of chunks
-  pub walk-count : Readable t d n → Readable u e m → (r : Bool) → r ≡ sameList (storedRootMessage t n) (storedRootMessage u m) → r ≡ true
-      → Readable u e n
+  pub walk-count : Walkable t d n → Walkable u e m → (r : Bool) → r ≡ sameList (storedRootMessage t n) (storedRootMessage u m) → r ≡ true
+      → Walkable u e n
   walk-count p q r v g =
-      subst (Readable u e) (sym (same-count t u n m (p .room) (q .room) (same-eq (storedRootMessage t n) (storedRootMessage u m) (sym v ∙ g)))) q
+      subst (Walkable u e) (sym (same-count t u n m (p .room) (q .room) (same-eq (storedRootMessage t n) (storedRootMessage u m) (sym v ∙ g)))) q
 
 -- ---- the audits, then the walk
 
@@ -151,8 +151,8 @@ module _ (F : List ℕ → List ℕ) (a b : Register) (x : Answer) (p : said x �
     second-refuses m g = sym (parts ∙ (λ j. unlessRefused (said (e j)) (sym q j) last) ∙ ap (λ (z : Answer). unlessRefused done (said z) last) g)
 
     module _ (g : y ≡ Done) where
-      pub both-readable : Readable (a .tree) (a .content) (a .n) × Readable (b .tree) (b .content) (b .n)
-      both-readable = (readable F a (says-accepted F a x p e), readable F b (says-accepted F b y q g))
+      pub both-walkable : Walkable (a .tree) (a .content) (a .n) × Walkable (b .tree) (b .content) (b .n)
+      both-walkable = (walkable F a (says-accepted F a x p e), walkable F b (says-accepted F b y q g))
 
       pub walk-says : (c : Comparison) → c ≡ last → c ≡ compare F a b
       walk-says c z = z ∙ sym (parts ∙ (λ j. unlessRefused (said (e j)) (sym q j) last) ∙ ap (λ (w : Answer). unlessRefused done (said w) last) g)

@@ -13,7 +13,7 @@ use Rattle.audit.specs.Walked.{leavesBefore}
 use Rattle.compare.specs.Walk.{collides}
 
 -- what an audited register has, as far as the walk needs it
-pub record Readable (tree content : List ℕ) (n : ℕ) : Type 0 where
+pub record Walkable (tree content : List ℕ) (n : ℕ) : Type 0 where
   pub room : RootsIn tree n
   -- every chunk lies within the data
   pub chunk : (k : ℕ) → k < n → storedStart tree k + storedSize tree (2 * k) ≤ length content
@@ -23,7 +23,7 @@ pub record Readable (tree content : List ℕ) (n : ℕ) : Type 0 where
 
 -- a register at its entry i, with the start of its next leaf
 pub record ReadAt (tree content : List ℕ) (n i start : ℕ) : Type 0 where
-  pub whole : Readable tree content n
+  pub whole : Walkable tree content n
   pub entry : i < entries n
   pub here : start ≡ storedStart tree (leavesBefore i)
 

@@ -2,6 +2,7 @@
 pub mod messages;
 
 use counts::Answer;
+use counts::ByteOffset;
 use counts::Refusal;
 use counts::TreeIndex;
 ghost use mathlib.Core.Path.{_≡_};
@@ -13,7 +14,7 @@ ghost use Rattle.checks.specs.Given.{registerOf};
 ghost use Rattle.audit.specs.Audit.{lowest};
 ghost use Rattle.compare.specs.Walk as spec;
 ghost use Rattle.compare.specs.Answered.{compared};
-ghost use Rattle.compare.specs.Inner.{Readable, collidesAt};
+ghost use Rattle.compare.specs.Inner.{Walkable, collidesAt};
 
 // What the walk answers: a refusal and which register it is of, "roots differ", a collision at the roots or at a tree index, or "equal".
 pub enum Compared {
@@ -28,7 +29,7 @@ pub enum Compared {
 // Inner: the lowest collision of two registers of n chunks, found by one walk from the left that carries the start of the next leaf of
 // both.
 fn lowest_collision(tree: &[u8], content: &[u8], tree2: &[u8], content2: &[u8], n: u64) -> Compared
-    requires { ⌜ Readable (now tree) (now content) n × Readable (now tree2) (now content2) n ⌝ }
+    requires { ⌜ Walkable (now tree) (now content) n × Walkable (now tree2) (now content2) n ⌝ }
     ensures { λ r.
         ⌜
         compared r ≡
@@ -41,8 +42,8 @@ fn lowest_collision(tree: &[u8], content: &[u8], tree2: &[u8], content2: &[u8], 
 {
     let count = audit::tree::entries(n);
     let mut i: u64 = 0;
-    let mut start: u64 = 0;
-    let mut start2: u64 = 0;
+    let mut start = ByteOffset(0);
+    let mut start2 = ByteOffset(0);
     while i < count {
         if messages::collides_at(
             tree,
@@ -67,7 +68,7 @@ fn lowest_collision(tree: &[u8], content: &[u8], tree2: &[u8], content2: &[u8], 
 
 // Inner: the walk on two audited registers: the root hashes first, then the root messages, then index by index.
 fn walk(tree: &[u8], content: &[u8], n: u64, tree2: &[u8], content2: &[u8], n2: u64) -> Compared
-    requires { ⌜ Readable (now tree) (now content) n × Readable (now tree2) (now content2) n2 ⌝ }
+    requires { ⌜ Walkable (now tree) (now content) n × Walkable (now tree2) (now content2) n2 ⌝ }
     ensures { λ r.
         ⌜
         compared r ≡

@@ -1,4 +1,5 @@
 // Messages compared from the lent bytes, none of them copied but those of the roots. All of these are inner.
+use counts::ByteOffset;
 use counts::TreeIndex;
 ghost use mathlib.Core.Path.{_≡_};
 ghost use mathlib.Core.Bool.{true};
@@ -13,26 +14,26 @@ ghost use Rattle.compare.specs.Inner.{ReadAt, ChunkIn, sameParent, colli
 fn same_chunk(
     tree: &[u8],
     content: &[u8],
-    start: u64,
+    start: ByteOffset,
     tree2: &[u8],
     content2: &[u8],
-    start2: u64,
+    start2: ByteOffset,
     i: TreeIndex,
 ) -> bool
-    requires { ⌜ ChunkIn (now tree) (now content) (i .0) start × ChunkIn (now tree2) (now content2) (i .0) start2 ⌝ }
+    requires { ⌜ ChunkIn (now tree) (now content) (i .0) (start .0) × ChunkIn (now tree2) (now content2) (i .0) (start2 .0) ⌝ }
     ensures { λ r.
         ⌜
         r ≡
         sameList
-        (part (now (content .entry)) start (storedSize (now (tree .entry)) (i .0)))
-        (part (now (content2 .entry)) start2 (storedSize (now (tree2 .entry)) (i .0)))
+        (part (now (content .entry)) (start .0) (storedSize (now (tree .entry)) (i .0)))
+        (part (now (content2 .entry)) (start2 .0) (storedSize (now (tree2 .entry)) (i .0)))
         ⌝ }
 {
     let size = files::entries::stored_size(tree, i);
     let size2 = files::entries::stored_size(tree2, i);
-    let from = start as usize;
+    let from = start.0 as usize;
     let end = from + (size as usize);
-    let from2 = start2 as usize;
+    let from2 = start2.0 as usize;
     let end2 = from2 + (size2 as usize);
     sequences::same(&content[from..end], &content2[from2..end2])
 }
@@ -65,17 +66,17 @@ fn same_parent(tree: &[u8], tree2: &[u8], i: TreeIndex) -> bool
 fn same_message(
     tree: &[u8],
     content: &[u8],
-    start: u64,
+    start: ByteOffset,
     tree2: &[u8],
     content2: &[u8],
-    start2: u64,
+    start2: ByteOffset,
     n: u64,
     i: TreeIndex,
 ) -> bool
     requires { ⌜
         (filled n (i .0) ≡ true)
-        × ReadAt (now tree) (now content) n (i .0) start
-        × ReadAt (now tree2) (now content2) n (i .0) start2
+        × ReadAt (now tree) (now content) n (i .0) (start .0)
+        × ReadAt (now tree2) (now content2) n (i .0) (start2 .0)
         ⌝ }
     ensures { λ r.
         ⌜
@@ -95,14 +96,14 @@ fn same_message(
 pub fn collides_at(
     tree: &[u8],
     content: &[u8],
-    start: u64,
+    start: ByteOffset,
     tree2: &[u8],
     content2: &[u8],
-    start2: u64,
+    start2: ByteOffset,
     n: u64,
     i: TreeIndex,
 ) -> bool
-    requires { ⌜ ReadAt (now tree) (now content) n (i .0) start × ReadAt (now tree2) (now content2) n (i .0) start2 ⌝ }
+    requires { ⌜ ReadAt (now tree) (now content) n (i .0) (start .0) × ReadAt (now tree2) (now content2) n (i .0) (start2 .0) ⌝ }
     ensures { λ r.
         ⌜
         r ≡

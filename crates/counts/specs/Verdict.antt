@@ -7,7 +7,7 @@ pub data Spot : Type 0 where
   tree : ℕ → Spot
   bitfield : ℕ → Spot
 
--- "A refusal carries its number and a place"; done is every other answer of a call that gives nothing else.
+-- "A refusal carries its number and a place"; done says that the call was not refused
 pub data Verdict : Type 0 where
   done : Verdict
   refused : ℕ → Spot → Verdict

@@ -3,8 +3,7 @@
 // A chunk number, a tree index and a byte offset count three separate things, so each is a type of its own, and one
 // becomes another only by a function that says how.
 ghost use mathlib.Core.Path.{_≡_};
-ghost use Prim.Native.Nat.{ℕ};
-ghost use Rattle.counts.specs.Verdict.{none, tree, bitfield, done, refused};
+ghost use Rattle.counts.specs.Verdict.{none, tree, bitfield, refused};
 ghost use Rattle.counts.specs.Said.{said};
 
 // The number of a chunk in its register, from 0.

@@ -4,7 +4,6 @@ use mathlib.Core.Path.{_≡_, refl, sym, _∙_}
 use mathlib.Core.Logic.{_≢_, _↔_, inl, inr}
 use mathlib.Core.List.{List}
 use Prim.Native.Nat.{ℕ}
-use Rattle.sequences.specs.Lists.{joined}
 use Rattle.files.specs.Images.{rootMessageFor, messageFor}
 use Rattle.files.specs.Belongs.{Register, Within, Belongs}
 use Rattle.audit.specs.Audit.{Accepted}
@@ -34,10 +33,6 @@ module _ (F : List ℕ → List ℕ) (demand : Demand3 F) where
       go : NamesCollision (compare F a b) → (m₁ : List ℕ) × (m₂ : List ℕ) × Collision F m₁ m₂
       go (inl e) = (rootMessageFor F cs, rootMessageFor F ds, tells p q .atRootsExactly .0 e)
       go (inr e) = (messageFor F cs (e .0), messageFor F ds (e .0), tells p q .atIndexExactly (e .0) .0 (e .1) .1 .collision)
-
-  -- sequences that differ only in where one chunk ends and the next begins are never answered "equal"
-  pub different-cuts : {a b : Register} {cs ds : List (List ℕ)} → Holds F a cs → Holds F b ds → joined cs ≡ joined ds → cs ≢ ds → compare F a b ≢ equal
-  different-cuts p q _ d e = d (equal-exactly p q .0 e)
 
   -- a register is equal to itself, and to every other of its sequence
   pub equal-own : {a b : Register} {cs : List (List ℕ)} → Holds F a cs → Holds F b cs → compare F a b ≡ equal

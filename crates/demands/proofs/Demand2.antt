@@ -13,6 +13,7 @@ use Rattle.files.specs.Stored.{storedRootMessage}
 use Rattle.files.specs.Images.{rootHashFor}
 use Rattle.files.specs.Belongs.{Buffers, Register, buffersOf, Lent, Within, Belongs}
 use Rattle.files.proofs.OfImage.{stored-root-message}
+use Rattle.checks.specs.Checks.{judged, registerChecks}
 use Rattle.checks.proofs.Passed.{Passed, passes}
 use Rattle.audit.specs.Audit.{Accepted}
 use Rattle.audit.specs.Exact.{Imaged}
@@ -29,6 +30,8 @@ use Rattle.writing.proofs.Verdicts.{append-passed, passed-append, sign-passed, 
 use Rattle.writing.proofs.Appended.{longer-within, append-belongs, append-root, append-tree-rest, append-bitfield-rest, append-content-rest}
 use Rattle.writing.proofs.Signed.{sign-image, sign-rest, sign-belongs}
 use Rattle.writing.proofs.Lent.{start-lent, append-lent, sign-lent}
+use Rattle.lookup.proofs.Answers.{answers}
+use Rattle.packet.proofs.Answers.{packet-answers}
 use Rattle.demands.specs.Demand2.{Beyond, StartWrites, AppendWrites, SignWrites, RootAnswers, Written, fromStart, fromImages, andAppended, andSigned, Demand2ForAll}
 
 -- what is left in the buffers
@@ -213,6 +216,11 @@ root-answers F hf =
       answers = λ r cs w b e. root-answered F r e ∙ root-hash F hf r cs w b;
     }
 
+-- ---- what is read from it
+
+checks-passed : (F : List ℕ → List ℕ) (r : Register) → Accepted F r → judged (registerChecks r) done ≡ done
+checks-passed F r a = passes r done (accepted-audited F r a .checked)
+
 -- ---- whatever calls wrote it
 
 written-imaged : (F : List ℕ → List ℕ) → HashFunction F → {r : Register} {cs sigs : List (List ℕ)} → Written F r cs sigs → Imaged F r cs sigs
@@ -230,4 +238,6 @@ demand-2 F hf =
       root = root-answers F hf;
       written = λ r cs sigs m. written-imaged F hf m;
       audit = audit-exact F hf;
+      reads = λ r cs w b a. answers F hf cs w r b (checks-passed F r a);
+      packets = λ r cs w b a. packet-answers F hf cs w r b (checks-passed F r a);
     }

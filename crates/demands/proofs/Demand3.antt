@@ -96,6 +96,7 @@ module _ (F : List ℕ → List ℕ) (H : HashFunction F) where
         otherwise = named F cs ds w one v;
         atRootsExactly = roots-exactly F cs ds w one v;
         atIndexExactly = index-exactly F cs ds w one v;
+        cutsTell = λ same d e. d (equal-exactly F cs ds w one v .0 e);
         sameExactly = same-exactly F cs ds w one v;
       }
     where

@@ -1,18 +1,15 @@
 -- What equal root messages say: one number of chunks, and one hash at each root.
 -- Assumes nothing.
-use Prim.Native.Nat.{ℕ, zero, suc, _^_, _<_}
-use mathlib.Core.Path.{_≡_, refl, sym, ap, _∙_}
+use Prim.Native.Nat.{ℕ}
+use mathlib.Core.Path.{_≡_, sym, ap, _∙_}
 use mathlib.Core.Bool.{true}
-use mathlib.Core.List.{List, [], _∷_, map, tail-eq-of-cons-eq}
+use mathlib.Core.List.{List, map, tail-eq-of-cons-eq}
 use native.Mathlib.Omega.{arith}
-use lib.ListN.{length, getD, length-append}
+use lib.ListN.{length, getD}
 use lib.Dec.{lit<}
-use Rattle.sequences.specs.Lists.{joined}
-use Rattle.sequences.proofs.Lists.{length-run}
 use Rattle.tree_index.specs.Tree.{filled, entries, roots}
 use Rattle.tree_index.proofs.Filled.{filled-below}
 use Rattle.tree_index.proofs.Roots.{root-filled}
-use Rattle.tree_index.proofs.Cover.{inBlock, roots-cover}
 use Rattle.files.specs.Messages.{HashFunction, rootItem, rootMessage}
 use Rattle.files.specs.Nodes.{nodeAt, rootMessageOf}
 use Rattle.files.specs.Images.{leaves, rootMessageFor}

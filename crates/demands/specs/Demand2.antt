@@ -1,11 +1,13 @@
 -- Demand 2: every image that is written from a start or on an accepted register is, byte for byte, the one for the chunk sequence and
 -- the signatures handed in; on an accepted register an append or a stored signature leaves an accepted register; and the audit
--- accepts buffers exactly when their used bytes are such images.
+-- accepts buffers exactly when their used bytes are such images. Reading gives back the very chunks, and lookups and packets answer as the
+-- scope defines them.
 --
 -- The notions in it: `HashFunction` (files, Messages), `Register`, `Buffers`, `Lent`, `Within` and `Belongs` (files, Belongs), the used
 -- sizes (files, Sizes), `rootHashFor` (files, Images), `Imaged` and `AuditExact` (audit, Exact), `Accepted` (audit, Audit), the calls'
--- verdicts, answers and buffers (writing, Start, Append, Sign and RootHash) and what they ask for (writing, Fits).
-use Prim.Native.Nat.{ℕ}
+-- verdicts, answers and buffers (writing, Start, Append, Sign and RootHash) and what they ask for (writing, Fits), `Answers` (lookup, Answers),
+-- `PacketAnswers` (packet, Answers).
+use Prim.Native.Nat.{ℕ, _<_}
 use mathlib.Core.Path.{_≡_}
 use mathlib.Core.Logic.{_↔_}
 use mathlib.Core.List.{List, [], _∷_, _++_}
@@ -23,6 +25,8 @@ use Rattle.writing.specs.Append.{appendVerdict, appendedRegister, appendRoot, a
 use Rattle.writing.specs.Sign.{signVerdict, signedRegister, afterSign}
 use Rattle.writing.specs.RootHash.{rootVerdict, rootAnswer}
 use Rattle.writing.specs.Fits.{StartFits, AppendFits, SignFits}
+use Rattle.lookup.specs.Answers.{Answers}
+use Rattle.packet.specs.Answers.{PacketAnswers}
 
 -- beyond the used sizes of a register the bytes are as they were in the buffers `before`
 pub record Beyond (before : Buffers) (r : Register) : Type 0 where
@@ -111,6 +115,9 @@ pub record Demand2 (F : List ℕ → List ℕ) : Type 0 where
   pub written : (r : Register) (cs sigs : List (List ℕ)) → Written F r cs sigs → Imaged F r cs sigs
   -- the audit accepts exactly such images
   pub audit : AuditExact F
+  -- "reading gives back the very chunks; lookups and packets answer as 01 defines": of an accepted register that belongs to cs
+  pub reads : (r : Register) (cs : List (List ℕ)) → Within cs → Belongs F r cs → Accepted F r → Answers F r cs
+  pub packets : (r : Register) (cs : List (List ℕ)) → Within cs → Belongs F r cs → Accepted F r → (i : ℕ) → i < length cs → PacketAnswers F r cs i
 
 -- for every function F from byte strings to 32 bytes
 abbrev pub Demand2ForAll : Type 0

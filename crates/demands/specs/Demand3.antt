@@ -1,6 +1,6 @@
 -- Demand 3: the comparing walk tells two chunk sequences apart, or names a collision of the hash function.
 --
--- The notions in it: `HashFunction` (files, Messages), `Register`, `Within` and `Belongs` (files, Belongs), `rootHashFor`,
+-- The notions in it: `HashFunction` (files, Messages), `Register`, `Lent`, `Within` and `Belongs` (files, Belongs), `rootHashFor`,
 -- `rootMessageFor` and `messageFor` (files, Images), `filled` (tree_index, Tree), `Accepted` (audit, Audit), `compare` and the
 -- answers of a comparison (compare, Walk).
 use Prim.Native.Nat.{ℕ, _<_}
@@ -9,10 +9,11 @@ use mathlib.Core.Logic.{_⊎_, _↔_, _≢_}
 use mathlib.Core.Bool.{true}
 use mathlib.Core.List.{List}
 use lib.ListN.{length}
+use Rattle.sequences.specs.Lists.{joined}
 use Rattle.tree_index.specs.Tree.{filled}
 use Rattle.files.specs.Messages.{HashFunction}
 use Rattle.files.specs.Images.{rootHashFor, rootMessageFor, messageFor}
-use Rattle.files.specs.Belongs.{Register, Within, Belongs}
+use Rattle.files.specs.Belongs.{Register, Lent, Within, Belongs}
 use Rattle.audit.specs.Audit.{Accepted}
 use Rattle.compare.specs.Walk.{Comparison, rootsDiffer, atRoots, atIndex, equal, compare}
 
@@ -45,6 +46,8 @@ pub record Tells (F : List ℕ → List ℕ) (a b : Register) (cs ds : List (Lis
   pub atIndexExactly : (i : ℕ)
       → (compare F a b ≡ atIndex i)
       ↔ ((rootMessageFor F cs ≡ rootMessageFor F ds) × CollisionAt F cs ds i × ((j : ℕ) → j < i → CollisionAt F cs ds j → ⊥))
+  -- equal drawings with different cuts are not one record: the same bytes, cut into other chunks, are never answered "equal"
+  pub cutsTell : joined cs ≡ joined ds → cs ≢ ds → compare F a b ≢ equal
   -- two sequences are equal exactly when their root hashes are equal and the walk names no collision
   pub sameExactly : (cs ≡ ds) ↔ ((rootHashFor F cs ≡ rootHashFor F ds) × (NamesCollision (compare F a b) → ⊥))
 
@@ -53,8 +56,8 @@ pub record Demand3 (F : List ℕ → List ℕ) : Type 0 where
   -- of every two chunk sequences within the limits and every two accepted registers that belong to them
   pub tells : (cs ds : List (List ℕ)) → Within cs → Within ds → (a b : Register) → Accepted F a → Accepted F b → Belongs F a cs
       → Belongs F b ds → Tells F a b cs ds
-  -- each sequence has an accepted register that belongs to it
-  pub has : (cs : List (List ℕ)) → Within cs → (r : Register) × Accepted F r × Belongs F r cs
+  -- each sequence has an accepted register that belongs to it, in buffers of bytes
+  pub has : (cs : List (List ℕ)) → Within cs → (r : Register) × Lent r × Accepted F r × Belongs F r cs
 
 -- demand 3 whole
 abbrev pub Demand3ForAll : Type 0

@@ -3,7 +3,7 @@ use mathlib.Core.Path.{_≡_, refl, sym, ap, ap₂, _∙_, subst}
 use mathlib.Core.Bool.{false}
 use mathlib.Core.Logic.{_⊎_, inl, inr}
 use Prim.Native.Nat.{ℕ, zero, suc, _+_, _-_, _*_, _≤_, _<_, zero-le}
-use native.Mathlib.Nat.{zero-add, add-assoc, le-of-suc-le-suc, eq-zero-or-pos}
+use native.Mathlib.Nat.{zero-add, le-of-suc-le-suc, eq-zero-or-pos}
 use native.Mathlib.Numerals.{add-one}
 use native.Mathlib.Omega.{arith}
 use mathlib.Core.List.{List, [], _∷_, _++_, append-assoc, map}
@@ -13,7 +13,7 @@ use lib.Dec.{eqb}
 use borrow.Author.Tests.{eq-eqb, ne-eqb}
 use Rattle.sequences.specs.Lists.{put, run, joined, total, zeros}
 use Rattle.sequences.specs.Numbers.{be}
-use Rattle.sequences.proofs.Lists.{length-run, run-suc, run-ext, joined-run-suc}
+use Rattle.sequences.proofs.Lists.{length-run, run-suc, run-ext, joined-run-suc, total-append}
 use Rattle.sequences.proofs.Numbers.{length-be}
 use Rattle.tree_index.specs.Tree.{roots, entries}
 use Rattle.tree_index.specs.Numbers.{numbers}
@@ -204,11 +204,6 @@ front-hashed k message front r e f =
     e ∙ ap nodeHash (ap (λ (i : ℕ). take i message) n ∙ f)
 
 -- ---- sums as whole numbers
-
-total-append : (xs ys : List ℕ) → total (xs ++ ys) ≡ total xs + total ys
-unfolding total
-total-append [] ys = omega arith
-total-append (x ∷ xs) ys = ap (λ (s : ℕ). x + s) (total-append xs ys) ∙ sym (add-assoc x (total xs) (total ys))
 
 pub total-next : (xs : List ℕ) (j : ℕ) → j < length xs → total (take (j + 1) xs) ≡ total (take j xs) + getD xs j 0
 unfolding total

@@ -6,3 +6,4 @@ pub mod ToImage
 pub mod Places
 pub mod ByValue
 pub mod Written
+pub mod ImageBytes

@@ -3,22 +3,21 @@
 use Prim.Native.Nat.{ℕ, zero, suc, _+_, _*_, _^_, _≤_, _<_}
 use mathlib.Core.Path.{_≡_, refl, sym, ap, ap₂, _∙_, subst}
 use mathlib.Core.Bool.{Bool, true, false, cond}
-use mathlib.Core.List.{List, [], _∷_, _++_, map}
+use mathlib.Core.List.{List, [], _∷_, _++_}
 use native.Mathlib.Nat.{mul-one}
 use native.Mathlib.Omega.{arith}
 use lib.ListN.{length, getD, length-append, length-map, length-replicate}
-use Rattle.sequences.specs.Lists.{joined, Bytes}
+use Rattle.sequences.specs.Lists.{Bytes}
 use Rattle.sequences.specs.Numbers.{be}
 use Rattle.sequences.proofs.Lists.{bytes-append, bytes-zeros}
 use Rattle.sequences.proofs.Numbers.{length-be, bytes-be}
-use Rattle.tree_index.specs.Tree.{index, block, filled, leftChild, rightChild, roots}
+use Rattle.tree_index.specs.Tree.{index, block, filled, leftChild, rightChild}
 use Rattle.tree_index.proofs.Index.{depth-index, block-index, by-coordinates, leftChild-index, rightChild-index}
 use Rattle.tree_index.proofs.Filled.{block-end, filled-end, end-filled, filled-left, filled-right}
-use Rattle.tree_index.proofs.Roots.{root-filled}
 use Rattle.tree_index.proofs.Cover.{sizeAt, size-run}
-use Rattle.files.specs.Messages.{HashFunction, leafMessage, parentMessage, rootItem, rootMessage}
-use Rattle.files.specs.Nodes.{Entry, hole, entryBytes, leaf, parentOf, node, nodeAt, entryAt, rootMessageOf}
-use Rattle.files.specs.Images.{leaves, messageFor, rootMessageFor}
+use Rattle.files.specs.Messages.{HashFunction, leafMessage, parentMessage}
+use Rattle.files.specs.Nodes.{Entry, hole, entryBytes, leaf, parentOf, node, nodeAt, entryAt}
+use Rattle.files.specs.Images.{leaves, messageFor}
 use Rattle.files.specs.Belongs.{Within}
 use Rattle.files.proofs.Spans.{span, span-le}
 
@@ -36,16 +35,6 @@ pub parentMessage-bytes : (sum : ℕ) (l r : List ℕ) → Bytes l → Bytes r �
 unfolding parentMessage
 parentMessage-bytes sum l r p q =
     bytes-cons 1 (be 8 sum ++ (l ++ r)) (omega arith) (bytes-append (be 8 sum) (l ++ r) (bytes-be 8 sum) (bytes-append l r p q))
-
-pub rootItem-bytes : (hash : List ℕ) (i size : ℕ) → Bytes hash → Bytes (rootItem hash i size)
-unfolding rootItem
-rootItem-bytes hash i size p =
-    bytes-append hash (be 8 i ++ be 8 size) p (bytes-append (be 8 i) (be 8 size) (bytes-be 8 i) (bytes-be 8 size))
-
-bytes-joined-map : (f : ℕ → List ℕ) (xs : List ℕ) → ((j : ℕ) → j < length xs → Bytes (f (getD xs j 0))) → Bytes (joined (map f xs))
-unfolding joined
-bytes-joined-map f [] h = λ i. omega arith
-bytes-joined-map f (x ∷ xs) h = bytes-append (f x) (joined (map f xs)) (h 0 (omega arith)) (bytes-joined-map f xs (λ j l. h (suc j) (omega arith)))
 
 -- ---- entries that a file can hold
 
@@ -187,28 +176,3 @@ module _ (F : List ℕ → List ℕ) where
 
     pub entry-length : (i : ℕ) → length (entryBytes (entryAt F (leaves F cs) i)) ≡ 40
     entry-length i = entryBytes-length (entryAt F (leaves F cs) i) (entryAt-proper i .long)
-
-    -- what is hashed is bytes
-    pub messageFor-bytes : (i : ℕ) → filled (length cs) i ≡ true → Bytes (messageFor F cs i)
-    messageFor-bytes = by-coordinates (λ i. filled (length cs) i ≡ true → Bytes (messageFor F cs i)) go
-      where
-        go : (d k : ℕ) → filled (length cs) (index d k) ≡ true → Bytes (messageFor F cs (index d k))
-        go zero k h = subst Bytes (sym (message-leaf cs k)) (leafMessage-bytes (getD cs k []) (w .bytes k))
-        go (suc d) k h =
-            subst Bytes (sym (message-parent cs d k))
-            (over-bytes (node F (leaves F cs) d (2 * k)) (node F (leaves F cs) d (2 * k + 1))
-            (node-proper d (2 * k) (filled-end (length cs) d (2 * k) (filled-left (length cs) d k h)))
-            (node-proper d (2 * k + 1) (filled-end (length cs) d (2 * k + 1) (filled-right (length cs) d k h))))
-
-    -- the root message too is bytes
-    pub rootMessageFor-bytes : Bytes (rootMessageFor F cs)
-    unfolding rootMessageFor rootMessageOf rootMessage
-    rootMessageFor-bytes =
-        bytes-cons 2 (joined (map item (roots (length (leaves F cs))))) (omega arith)
-        (bytes-joined-map item (roots (length (leaves F cs)))
-        (λ j l. let i : ℕ = getD (roots (length (leaves F cs))) j 0 in
-        rootItem-bytes (nodeAt F (leaves F cs) i .hash) i (nodeAt F (leaves F cs) i .size)
-        (nodeAt-proper i (ap (λ (m : ℕ). filled m i) (sym (leaves-length cs)) ∙ root-filled (length (leaves F cs)) j l) .bytes)))
-      where
-        item : ℕ → List ℕ
-        item i = rootItem (nodeAt F (leaves F cs) i .hash) i (nodeAt F (leaves F cs) i .size)

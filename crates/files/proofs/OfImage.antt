@@ -2,13 +2,13 @@
 -- Assumes nothing.
 use Prim.Native.Nat.{ℕ, zero, suc, _+_, _*_, _^_, _≤_, _<_}
 use mathlib.Core.Path.{_≡_, refl, sym, ap, ap₂, _∙_, subst}
-use mathlib.Core.Bool.{Bool, true}
-use mathlib.Core.List.{List, [], _∷_, _++_, map}
+use mathlib.Core.Bool.{true}
+use mathlib.Core.List.{List, [], map}
 use native.Mathlib.Nat.{mul-one, mul-comm, zero-add, add-zero}
 use native.Mathlib.Omega.{arith}
 use lib.ListN.{length, getD, take, length-append}
 use lib.Seq.{take-all}
-use Rattle.sequences.specs.Lists.{part, run, total}
+use Rattle.sequences.specs.Lists.{part, total}
 use Rattle.sequences.specs.Numbers.{be, number}
 use Rattle.sequences.proofs.Lists.{part-part, part-behind, part-front, part-joined, length-joined, run-ext}
 use Rattle.sequences.proofs.Numbers.{length-be, number-be}
@@ -16,10 +16,8 @@ use Rattle.tree_index.specs.Tree.{index, block, filled, leftChild, rightChild, 
 use Rattle.tree_index.proofs.Index.{depth-index, block-index, by-coordinates, leftChild-index, rightChild-index}
 use Rattle.tree_index.proofs.Filled.{filled-below, filled-end, end-filled, filled-left, filled-right}
 use Rattle.tree_index.proofs.Roots.{root-filled}
-use Rattle.bitfield.specs.Bits.{bytesOf}
-use Rattle.bitfield.specs.Index.{indexBytes}
-use Rattle.bitfield.specs.Image.{dataBytes, treeBytes, entry, entriesOf, entryCount, heldBelow}
-use Rattle.bitfield.proofs.Levels.{length-index}
+use Rattle.bitfield.specs.Image.{entriesOf}
+use Rattle.bitfield.proofs.Image.{length-entries}
 use Rattle.files.specs.Headers.{front, header, treeHeader, signaturesHeader, bitfieldHeader}
 use Rattle.files.specs.Sizes.{entryPlace, usedTree, usedBitfield}
 use Rattle.files.specs.Messages.{HashFunction, leafMessage, parentMessage, rootItem, rootMessage}
@@ -44,24 +42,9 @@ pub bitfieldHeader-length : length bitfieldHeader ≡ 32
 unfolding bitfieldHeader header front be
 bitfieldHeader-length = refl
 
-bytesOf-length : (p : ℕ → Bool) (b k : ℕ) → length (bytesOf p b k) ≡ k
-unfolding bytesOf
-bytesOf-length p b zero = refl
-bytesOf-length p b (suc k) = ap suc (bytesOf-length p (b + 8) k)
-
-bitfieldEntry-length : (held known : ℕ → Bool) (e : ℕ) → length (entry held known e) ≡ 3328
-unfolding entry dataBytes treeBytes
-bitfieldEntry-length held known e =
-    length-append (dataBytes held e) (treeBytes known e ++ indexBytes (dataBytes held e))
-    ∙ ap₂ _+_ (bytesOf-length held (8192 * e) 1024)
-    (length-append (treeBytes known e) (indexBytes (dataBytes held e)) ∙ ap₂ _+_ (bytesOf-length known (16384 * e) 2048) (length-index (dataBytes held e)))
-
 pub bitfieldImage-length : (n : ℕ) → length (bitfieldImage n) ≡ usedBitfield n
-unfolding bitfieldImage entriesOf usedBitfield
-bitfieldImage-length n =
-    length-append bitfieldHeader (entriesOf n)
-    ∙ ap₂ _+_ bitfieldHeader-length
-    (length-joined (entry (heldBelow n) (filled n)) 3328 (bitfieldEntry-length (heldBelow n) (filled n)) 0 (entryCount n) ∙ mul-comm (entryCount n) 3328)
+unfolding bitfieldImage usedBitfield
+bitfieldImage-length n = length-append bitfieldHeader (entriesOf n) ∙ ap₂ _+_ bitfieldHeader-length (length-entries n)
 
 -- a part that lies within the front of a list
 part-take : (xs : List ℕ) (m a k : ℕ) → a + k ≤ m → part (take m xs) a k ≡ part xs a k

@@ -4,11 +4,12 @@ use Prim.Native.Nat.{ℕ, zero, suc, _+_, _-_, _*_, _^_, _≤_, _<_}
 use mathlib.Core.Path.{_≡_, refl, sym, ap, ap₂, _∙_}
 use mathlib.Core.Bool.{true}
 use mathlib.Core.List.{List, [], _∷_, _++_, map}
-use native.Mathlib.Nat.{add-zero, zero-add, add-assoc, suc-mul, zero-mul}
+use native.Mathlib.Nat.{add-zero, zero-add, suc-mul, zero-mul}
 use native.Mathlib.Omega.{arith}
 use lib.ListN.{length, getD, length-append, List·getD-map, length-map}
 use Rattle.sequences.specs.Lists.{part, run, joined, total}
 use Rattle.sequences.proofs.Lists.{run-add, run-ext, run-getD, part-behind, part-front}
+pub use Rattle.sequences.proofs.Lists.{total-append}
 use Rattle.tree_index.specs.Tree.{index, depth, block, filled, roots}
 use Rattle.tree_index.proofs.Index.{depth-index, block-index, by-coordinates}
 use Rattle.tree_index.proofs.Filled.{filled-end}
@@ -17,11 +18,6 @@ use Rattle.tree_index.proofs.Cover.{sizeAt, size-run, roots-size}
 use Rattle.files.specs.Images.{dataSize, dataImage}
 
 -- ---- sums
-
-pub total-append : (xs ys : List ℕ) → total (xs ++ ys) ≡ total xs + total ys
-unfolding total
-total-append [] ys = sym (zero-add (total ys))
-total-append (x ∷ xs) ys = ap (λ (t : ℕ). x + t) (total-append xs ys) ∙ sym (add-assoc x (total xs) (total ys))
 
 pub total-run-add : (f : ℕ → ℕ) (i a b : ℕ) → total (run f i (a + b)) ≡ total (run f i a) + total (run f (i + a) b)
 total-run-add f i a b = ap total (run-add f i a b) ∙ total-append (run f i a) (run f (i + a) b)

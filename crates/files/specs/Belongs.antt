@@ -1,7 +1,7 @@
 -- A register, and the chunk sequences that it belongs to.
-use Prim.Native.Nat.{ℕ, _≤_, _<_}
+use Prim.Native.Nat.{ℕ, _≤_}
 use mathlib.Core.Path.{_≡_}
-use mathlib.Core.List.{List, [], _∷_}
+use mathlib.Core.List.{List, []}
 use lib.ListN.{length, getD, take}
 use Rattle.sequences.specs.Lists.{Bytes}
 use Rattle.files.specs.Sizes.{mostChunks, longestChunk, usedTree, usedBitfield}

@@ -1,9 +1,9 @@
 -- The roots as the code holds them: arrays of 20, with zeros behind the last root.
-use Prim.Native.Nat.{ℕ, _+_, _-_}
+use Prim.Native.Nat.{ℕ, _-_}
 use mathlib.Core.Path.{_≡_}
 use mathlib.Core.List.{List, [], _++_}
 use lib.ListN.{length, getD, replicate}
-use Rattle.sequences.specs.Lists.{run, zeros}
+use Rattle.sequences.specs.Lists.{run}
 use Rattle.tree_index.specs.Tree.{roots}
 use Rattle.tree_index.specs.Numbers.{numbers}
 use Rattle.files.specs.Messages.{rootItem}

@@ -1,13 +1,13 @@
 -- The four images of a chunk sequence, and its root hash, with F for every leaf, parent and root message.
-use Prim.Native.Nat.{ℕ, zero, suc, _+_, _*_}
-use mathlib.Core.List.{List, [], _∷_, _++_, map}
+use Prim.Native.Nat.{ℕ, zero, suc, _+_}
+use mathlib.Core.List.{List, [], _++_, map}
 use lib.ListN.{length, getD}
 use Rattle.sequences.specs.Lists.{joined, total}
 use Rattle.tree_index.specs.Tree.{depth, block, leftChild, rightChild}
 use Rattle.bitfield.specs.Image.{entriesOf}
 use Rattle.files.specs.Headers.{treeHeader, signaturesHeader, bitfieldHeader}
 use Rattle.files.specs.Messages.{leafMessage, parentMessage}
-use Rattle.files.specs.Nodes.{Entry, leaf, node, nodeAt, rootMessageOf, treeEntries}
+use Rattle.files.specs.Nodes.{Entry, leaf, nodeAt, rootMessageOf, treeEntries}
 
 -- the data size of a chunk sequence: the sum of the chunks' lengths
 unfoldable pub dataSize : List (List ℕ) → ℕ

@@ -1,7 +1,7 @@
 -- The messages that are hashed, and what a tree entry holds.
-use Prim.Native.Nat.{ℕ, _+_}
+use Prim.Native.Nat.{ℕ}
 use mathlib.Core.Path.{_≡_}
-use mathlib.Core.List.{List, [], _∷_, _++_, map}
+use mathlib.Core.List.{List, _∷_, _++_}
 use lib.ListN.{length}
 use Rattle.sequences.specs.Lists.{joined, Bytes}
 use Rattle.sequences.specs.Numbers.{be}

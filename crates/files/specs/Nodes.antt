@@ -1,11 +1,11 @@
 -- The tree's nodes, over the list of the leaf entries.
 use Prim.Native.Nat.{ℕ, zero, suc, _+_, _*_}
-use mathlib.Core.Bool.{Bool, cond}
-use mathlib.Core.List.{List, [], _∷_, _++_, map}
+use mathlib.Core.Bool.{cond}
+use mathlib.Core.List.{List, _++_, map}
 use lib.ListN.{length, getD}
 use Rattle.sequences.specs.Lists.{zeros, joined, run}
 use Rattle.sequences.specs.Numbers.{be}
-use Rattle.tree_index.specs.Tree.{depth, block, filled, roots, entries, leftChild, rightChild}
+use Rattle.tree_index.specs.Tree.{depth, block, filled, roots, entries}
 use Rattle.files.specs.Messages.{leafMessage, parentMessage, rootItem, rootMessage}
 
 -- "each a 32-byte hash and an 8-byte length"

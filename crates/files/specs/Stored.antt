@@ -1,6 +1,6 @@
 -- What the bytes of a register's files say, whatever they are.
 use Prim.Native.Nat.{ℕ, zero, suc, _+_, _*_}
-use mathlib.Core.List.{List, [], _∷_, _++_, map}
+use mathlib.Core.List.{List, map}
 use Rattle.sequences.specs.Lists.{part, run, total}
 use Rattle.sequences.specs.Numbers.{number}
 use Rattle.tree_index.specs.Tree.{depth, block, leftChild, rightChild, roots}

@@ -4,7 +4,6 @@ use counts::TreeIndex;
 ghost use mathlib.Core.Path.{_≡_};
 ghost use mathlib.Core.List.{_++_};
 ghost use Prim.Native.Nat.{_+_, _<_};
-ghost use lib.ListN.{length};
 ghost use Rattle.sequences.specs.Lists.{put, zeros};
 ghost use Rattle.sequences.specs.Numbers.{be};
 ghost use Rattle.files.specs.Sizes.{entryPlace};

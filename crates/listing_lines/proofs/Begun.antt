@@ -1,13 +1,13 @@
 -- The count at the front of the input, and the register that a start leaves.
 -- Assumes nothing.
-use Prim.Native.Nat.{ℕ, _+_, _≤_, _<_}
+use Prim.Native.Nat.{ℕ, _≤_, _<_}
 use mathlib.Core.Path.{_≡_, refl, sym, ap, _∙_, subst}
 use mathlib.Core.Bool.{Bool, true, false, _&&_}
 use mathlib.Core.List.{List, []}
 use native.Mathlib.Omega.{arith}
 use borrow.Author.Tests.{le-leb, lt-leb}
 use lib.Dec.{leb}
-use lib.ListN.{length, getD, take, drop}
+use lib.ListN.{length, drop}
 use Rattle.counts.specs.Verdict.{Verdict}
 use Rattle.blake2b.specs.Hash.{nodeHash}
 use Rattle.sequences.specs.Lists.{part}
@@ -17,7 +17,7 @@ use Rattle.files.specs.Headers.{treeHeader, signaturesHeader, bitfieldHeader}
 use Rattle.files.specs.Belongs.{Buffers, Register, Within}
 use Rattle.files.proofs.OfImage.{treeHeader-length, signaturesHeader-length, bitfieldHeader-length}
 use Rattle.checks.specs.Given.{registerOf}
-use Rattle.writing.specs.Start.{started, startedRegister, afterStart, startVerdict, unlessRefused}
+use Rattle.writing.specs.Start.{started, startedRegister, afterStart, unlessRefused}
 use Rattle.writing.specs.Post.{lent, StartPost}
 use Rattle.writing.proofs.Written.{take-header}
 use Rattle.writing.proofs.Started.{fits-start, started-belongs}

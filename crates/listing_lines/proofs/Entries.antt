@@ -1,20 +1,20 @@
 -- The lines as the stored tree gives them.
 -- Assumes nothing.
 use Prim.Native.Nat.{ℕ, zero, suc, _+_, _-_, _*_, _^_, _%_, _≤_, _<_}
-use mathlib.Core.Path.{_≡_, refl, sym, ap, ap₂, _∙_, subst}
+use mathlib.Core.Path.{_≡_, refl, sym, ap, ap₂, _∙_}
 use mathlib.Core.Bool.{Bool, true, false}
-use mathlib.Core.List.{List, [], _∷_, _++_, map, map-append, append-nil}
-use native.Mathlib.Nat.{mod-eq-of-lt, zero-add, add-zero, add-mul, one-mul, lt-of-le-of-lt}
+use mathlib.Core.List.{List, [], _∷_, _++_, map, map-append}
+use native.Mathlib.Nat.{mod-eq-of-lt, zero-add, add-zero}
 use native.Mathlib.Numerals.{add-one}
 use native.Mathlib.Omega.{arith}
 use lib.ListN.{length, take, getD, replicate}
 use lib.Seq.{take-suc, take-all}
 use lib.Pow.{pow-pos}
 use Rattle.sequences.specs.Lists.{run, joined, total}
-use Rattle.tree_index.specs.Tree.{index, depth, block, filled, roots, entries}
+use Rattle.sequences.proofs.Lists.{run-add, total-append}
+use Rattle.tree_index.specs.Tree.{depth, block, filled, roots, entries}
 use Rattle.tree_index.proofs.Index.{index-of}
 use Rattle.tree_index.proofs.Filled.{block-end, filled-end}
-use Rattle.tree_index.proofs.Runs.{run-append}
 use Rattle.tree_index.proofs.Words.{end-below}
 use Rattle.tree_index.specs.Numbers.{numbers}
 use Rattle.tree_index.proofs.Numbers.{number-in}
@@ -24,7 +24,6 @@ use Rattle.writing.proofs.Written.{joined-snoc}
 use Rattle.files.specs.Sizes.{entryPlace}
 use Rattle.files.specs.Stored.{storedSize, storedStart}
 use Rattle.files.specs.Within.{EntryIn}
-use Rattle.files.proofs.Spans.{total-append}
 use Rattle.listing_lines.specs.Lines.{decimal, line, leafWord, parentWord, holeWord, kindWord, firstUnder}
 use Rattle.listing_lines.specs.Inner.{Put, Printable, storedLine, storedEntries, rootsOf}
 use Rattle.listing_lines.proofs.Put.{nothing-put, both-put, wider-put, same-put}
@@ -63,7 +62,7 @@ pub start-more : (tree : List ℕ) (j sum size : ℕ) → sum ≡ storedStart tr
 unfolding storedStart
 start-more tree j sum size e f =
     ap₂ _+_ e (f ∙ ap (λ (x : ℕ). storedSize tree (2 * x)) (sym (zero-add j)))
-    ∙ sym (ap total (run-append (λ k. storedSize tree (2 * k)) 0 j 1)
+    ∙ sym (ap total (run-add (λ k. storedSize tree (2 * k)) 0 j 1)
     ∙ total-append (run (λ k. storedSize tree (2 * k)) 0 j) (run (λ k. storedSize tree (2 * k)) (0 + j) 1)
     ∙ ap (λ (x : ℕ). total (run (λ k. storedSize tree (2 * k)) 0 j) + x) (one-run (λ k. storedSize tree (2 * k)) (0 + j)))
 
@@ -131,7 +130,7 @@ pub entries-more : {xs ys zs : List ℕ} {at r s : ℕ} (f : ℕ → List ℕ) (
     → Put xs at (70 * (i + 1)) (joined (run f 0 (i + 1))) s zs
 entries-more f i p q =
     same-put
-    (sym (ap joined (run-append f 0 i 1 ∙ ap (λ (t : List (List ℕ)). run f 0 i ++ t) (run-one f i)) ∙ joined-snoc (run f 0 i) (f i)))
+    (sym (ap joined (run-add f 0 i 1 ∙ ap (λ (t : List (List ℕ)). run f 0 i ++ t) (run-one f i)) ∙ joined-snoc (run f 0 i) (f i)))
     (wider-put (70 * (i + 1)) (omega arith) (both-put p q))
 
 pub entries-all : {xs ys : List ℕ} {at r : ℕ} (tree : List ℕ) (n i : ℕ) → n ≤ 64 → i ≤ entries n → 2 * n ≤ i + 1

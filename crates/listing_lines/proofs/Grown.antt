@@ -1,7 +1,7 @@
 -- A chunk added to the listing's register by an append and a stored signature.
 -- Assumes nothing.
-use Prim.Native.Nat.{ℕ, zero, suc, _+_, _-_, _*_, _≤_, _<_}
-use mathlib.Core.Path.{_≡_, refl, sym, ap, ap₂, _∙_, subst}
+use Prim.Native.Nat.{ℕ, _+_, _≤_, _<_}
+use mathlib.Core.Path.{_≡_, refl, sym, ap, _∙_, subst}
 use mathlib.Core.Bool.{Bool, true, false, _||_}
 use mathlib.Core.List.{List, [], _∷_, _++_}
 use native.Mathlib.Omega.{arith}
@@ -11,7 +11,7 @@ use lib.ListN.{length, take}
 use Rattle.counts.specs.Verdict.{Verdict, done}
 use Rattle.blake2b.specs.Hash.{nodeHash}
 use Rattle.blake2b.proofs.Laws.{node-length, node-byte}
-use Rattle.sequences.specs.Lists.{put, Bytes}
+use Rattle.sequences.specs.Lists.{Bytes}
 use Rattle.sequences.proofs.Lists.{length-put, take-put}
 use Rattle.tree_index.specs.Tree.{entries}
 use Rattle.bitfield.specs.Image.{entryCount, entriesOf}
@@ -26,9 +26,9 @@ use Rattle.checks.proofs.Passed.{Passed}
 use Rattle.audit.proofs.Accepts.{belongs-accepted}
 use Rattle.audit.proofs.Audited.{accepted-audited}
 use Rattle.writing.specs.Start.{unlessRefused}
-use Rattle.writing.specs.Append.{appendVerdict, appendedTree, appendedRegister, afterAppend}
+use Rattle.writing.specs.Append.{appendVerdict, appendedRegister, afterAppend}
 use Rattle.writing.specs.Sign.{signVerdict, signedRegister, afterSign}
-use Rattle.writing.specs.Fits.{AppendFits, SignFits}
+use Rattle.writing.specs.Fits.{AppendFits}
 use Rattle.writing.specs.Post.{lent, AppendPost, SignPost}
 use Rattle.writing.proofs.Tree.{appended-length}
 use Rattle.writing.proofs.Verdicts.{passed-append, passed-sign}

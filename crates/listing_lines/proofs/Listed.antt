@@ -1,6 +1,6 @@
 -- The stored lines of a register that belongs to chunks are the lines of these chunks.
 -- Assumes nothing.
-use Prim.Native.Nat.{ℕ, zero, suc, _+_, _-_, _*_, _^_, _≤_, _<_}
+use Prim.Native.Nat.{ℕ, _+_, _-_, _*_, _^_, _≤_, _<_}
 use mathlib.Core.Path.{_≡_, refl, sym, ap, ap₂, _∙_, subst}
 use mathlib.Core.Bool.{Bool, true, false, cond}
 use mathlib.Core.List.{List, [], _∷_, _++_}
@@ -12,7 +12,7 @@ use lib.ListN.{length, getD, take, drop}
 use Rattle.blake2b.specs.Hash.{nodeHash}
 use Rattle.sequences.specs.Lists.{part, put, run, joined, total}
 use Rattle.sequences.proofs.Lists.{length-part, getD-part, run-from, run-ext}
-use Rattle.tree_index.specs.Tree.{index, depth, block, filled, entries}
+use Rattle.tree_index.specs.Tree.{depth, block, filled, entries}
 use Rattle.tree_index.proofs.Index.{index-of}
 use Rattle.tree_index.proofs.Filled.{block-end, filled-end}
 use Rattle.files.specs.Stored.{storedSize, storedStart}

@@ -1,7 +1,7 @@
 -- Whether a chunk stands at a place of the input.
 -- Assumes nothing.
 use Prim.Native.Nat.{ℕ, _+_, _-_, _≤_, _<_}
-use mathlib.Core.Path.{_≡_, refl, sym, ap, _∙_}
+use mathlib.Core.Path.{_≡_, sym, ap, _∙_}
 use mathlib.Core.Bool.{Bool, true, false, not, _&&_}
 use mathlib.Core.List.{List}
 use native.Mathlib.Omega.{arith}
@@ -10,6 +10,7 @@ use lib.Dec.{leb}
 use lib.ListN.{length, drop, length-drop}
 use Rattle.sequences.specs.Lists.{part}
 use Rattle.sequences.specs.Numbers.{number}
+use Rattle.checks.proofs.Judged.{both-right}
 use Rattle.listing_lines.specs.Input.{nextLength, chunkStands}
 
 module _ (input : List ℕ) (at room : ℕ) (h : at ≤ length input) where
@@ -39,16 +40,12 @@ module _ (input : List ℕ) (at room : ℕ) (h : at ≤ length input) where
       ap (λ (k : ℕ). leb (4 + k) (length input - at)) e
       ∙ sym (long l ∙ ap (λ (b : Bool). b && leb (4 + number (part input at 4)) (length input - at)) (le-leb (number (part input at 4)) room (omega arith)))
 
-pub both-true : (a b : Bool) → (a && b) ≡ true → (a ≡ true) × (b ≡ true)
-both-true true b e = (refl, e)
-both-true false b e = absurd (let z : _≡_ {A = ℕ} 0 1 = cc in omega arith)
-
 -- what is there where a chunk stands
 pub stands-facts : (input : List ℕ) (at room : ℕ) → at ≤ length input → chunkStands (drop at input) room ≡ true
     → (4 ≤ length input - at) × (number (part input at 4) ≤ room) × (4 + number (part input at 4) ≤ length input - at)
 stands-facts input at room h e =
-    let a = both-true _ _ (sym (stood input at room h) ∙ e) in
-    let b = both-true _ _ (a .1) in
+    let a = both-right _ _ (sym (stood input at room h) ∙ e) in
+    let b = both-right _ _ (a .1) in
     (leb-true _ _ (a .0), leb-true _ _ (b .0), leb-true _ _ (b .1))
 
 -- where the test of a chunk did not fail: the chunk ends within the input, and within 4,096 bytes

@@ -1,6 +1,6 @@
 -- The listing's lines: "a line of counts and roots, then per tree entry: tree index, kind, start, length (0 0 for a hole)".
 use Prim.Native.Nat.{ℕ, zero, suc, _+_, _*_, _/_, _%_, _^_}
-use mathlib.Core.Bool.{Bool, true, false}
+use mathlib.Core.Bool.{true, false}
 use mathlib.Core.List.{List, [], _∷_, _++_, map}
 use lib.ListN.{length, take}
 use Rattle.sequences.specs.Lists.{part, run, joined}

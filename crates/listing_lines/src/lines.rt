@@ -1,10 +1,11 @@
 // The lines of a register, from its stored tree. Every function is inner: the caller sees to the room.
 use crate::text::put_digits;
 use crate::text::put_text;
+use counts::ByteOffset;
 use counts::ChunkNumber;
 use counts::TreeIndex;
 ghost use mathlib.Core.Path.{_≡_};
-ghost use Prim.Native.Nat.{_+_, _-_, _*_, _≤_, _<_};
+ghost use Prim.Native.Nat.{_+_, _*_, _≤_, _<_};
 ghost use lib.ListN.{length};
 ghost use Rattle.tree_index.specs.Tree.{entries};
 ghost use Rattle.files.specs.Stored.{storedStart};
@@ -25,20 +26,22 @@ fn put_line(out: &mut [u8], at: usize, i: u64, word: &[u8], start: u64, len: u64
 }
 
 // The first chunk under a tree index.
-fn first_under(i: TreeIndex) -> u64
+fn first_under(i: TreeIndex) -> ChunkNumber
     requires { ⌜ i .0 < 127 ⌝ }
-    ensures { λ r. ⌜ r ≡ firstUnder (i .0) ⌝ }
+    ensures { λ r. ⌜ r .0 ≡ firstUnder (i .0) ⌝ }
 {
     let d = tree_index::depth(i);
     let k = tree_index::block(i);
-    k << d
+    let first = k << d;
+    ChunkNumber(first)
 }
 
-// Where the chunk k starts: the sum of the leaf lengths before it.
-fn start_of(tree: &[u8], k: u64) -> u64
-    requires { ⌜ Printable (now tree) k ⌝ }
-    ensures { λ r. ⌜ r ≡ storedStart (now (tree .entry)) k ⌝ }
+// Where a chunk starts: the sum of the leaf lengths before it.
+fn start_of(tree: &[u8], c: ChunkNumber) -> ByteOffset
+    requires { ⌜ Printable (now tree) (c .0) ⌝ }
+    ensures { λ r. ⌜ r .0 ≡ storedStart (now (tree .entry)) (c .0) ⌝ }
 {
+    let k = c.0;
     let mut sum: u64 = 0;
     let mut j: u64 = 0;
     while j < k {
@@ -46,24 +49,23 @@ fn start_of(tree: &[u8], k: u64) -> u64
         sum += size;
         j += 1;
     }
-    sum
+    ByteOffset(sum)
 }
 
 // The line of a tree entry.
-fn put_entry(out: &mut [u8], at: usize, tree: &[u8], n: u64, i: u64) -> usize
-    requires { ⌜ (at + 70 ≤ length (now out)) × Printable (now tree) n × (i < entries n) ⌝ }
-    ensures { λ r. ⌜ Put (now (out .entry)) at 70 (storedLine (now (tree .entry)) n i) r (now (out .exit)) ⌝ }
+fn put_entry(out: &mut [u8], at: usize, tree: &[u8], n: u64, i: TreeIndex) -> usize
+    requires { ⌜ (at + 70 ≤ length (now out)) × Printable (now tree) n × (i .0 < entries n) ⌝ }
+    ensures { λ r. ⌜ Put (now (out .entry)) at 70 (storedLine (now (tree .entry)) n (i .0)) r (now (out .exit)) ⌝ }
 {
-    let index = TreeIndex(i);
-    if !tree_index::is_filled(n, index) {
-        return put_line(out, at, i, b" hole ", 0, 0);
+    if !tree_index::is_filled(n, i) {
+        return put_line(out, at, i.0, b" hole ", 0, 0);
     }
-    let start = start_of(tree, first_under(index));
-    let len = files::entries::stored_size(tree, index);
-    if tree_index::depth(index) == 0 {
-        return put_line(out, at, i, b" leaf ", start, len);
+    let start = start_of(tree, first_under(i));
+    let len = files::entries::stored_size(tree, i);
+    if tree_index::depth(i) == 0 {
+        return put_line(out, at, i.0, b" leaf ", start.0, len);
     }
-    put_line(out, at, i, b" parent ", start, len)
+    put_line(out, at, i.0, b" parent ", start.0, len)
 }
 
 // The lines of all tree entries.
@@ -74,7 +76,7 @@ fn put_entries(out: &mut [u8], at: usize, tree: &[u8], n: u64) -> usize
     let mut next = at;
     let mut i: u64 = 0;
     while i + 1 < 2 * n {
-        let behind = put_entry(out, next, tree, n, i);
+        let behind = put_entry(out, next, tree, n, TreeIndex(i));
         next = behind;
         i += 1;
     }

@@ -31,7 +31,7 @@ use Rattle.checks.proofs.Passed.{Passed, passes, passed, same-of}
 use Rattle.lookup.specs.Descent.{Ending, stopped, reached, chunkWithin, byteWithin, descent}
 use Rattle.lookup.specs.Lookup.{refusal, found, stopRefused, foundUnless, chunkOf, startOf, toChunk, toByte, placeVerdict, byteVerdict, placeOf, byteAt}
 use Rattle.lookup.specs.Read.{chunkBytes, andThen, partUnless, readVerdict, readPart}
-use Rattle.lookup.specs.Answers.{startIn, HasByte, Answers, AnswersForAll, Lies, LookupsStayInside, LookupsStayInsideForAll}
+use Rattle.lookup.specs.Answers.{startIn, HasByte, Answers, AnswersForAll, Lies, Stops, atLeaf, atParent, LookupsStayInside, LookupsStayInsideForAll}
 use Rattle.lookup.proofs.Descents.{Ground, Ends, ends, chunk-order, byte-order, left-first, right-end, left-inside, twice}
 
 -- ---- the verdicts
@@ -96,7 +96,7 @@ module _ (r : Register) (p : Passed r) where
 
   pub stays-inside : LookupsStayInside r
   unfolding chunkBytes
-  stays-inside = record { chunk = at-chunk; byte = at-byte; read = in-read }
+  stays-inside = record { chunk = at-chunk; byte = at-byte; chunkStops = chunk-stops; byteStops = byte-stops; read = in-read }
     where
       at-chunk : (c : ℕ) → c < r .n → (k start : ℕ) → toChunk r c ≡ reached k start → (k ≡ c) × Lies r k start
       at-chunk c h k start e =
@@ -107,6 +107,18 @@ module _ (r : Register) (p : Passed r) where
       at-byte b h k start e =
           let l = subst (Ends (r .tree) (r .n) (λ p s. s ≤ b) (λ p s. b < s) (λ p s. Unit {0}) (λ i. Unit {0}) 0 (r .size)) e (byte-lands (λ p s. Unit {0}) (λ i. Unit {0}) (any-ground (r .tree) (r .n)) tt b h) in
           (l .low, l .high, record { below = l .below; inside = l .to })
+
+      -- the ground that tells of stops
+      stops : Ground (r .tree) (r .n) (λ p s. Unit {0}) (Stops r)
+      stops = record { step = λ d k s h a. tt; leaf = atLeaf; parent = atParent }
+
+      chunk-stops : (c : ℕ) → c < r .n → (i : ℕ) → toChunk r c ≡ stopped i → Stops r i
+      chunk-stops c h i e =
+          subst (Ends (r .tree) (r .n) (λ p s. p ≤ c) (λ p s. c < p) (λ p s. Unit {0}) (Stops r) 0 (r .size)) e (chunk-lands (λ p s. Unit {0}) (Stops r) stops tt c h)
+
+      byte-stops : (b : ℕ) → b < r .size → (i : ℕ) → toByte r b ≡ stopped i → Stops r i
+      byte-stops b h i e =
+          subst (Ends (r .tree) (r .n) (λ p s. s ≤ b) (λ p s. b < s) (λ p s. Unit {0}) (Stops r) 0 (r .size)) e (byte-lands (λ p s. Unit {0}) (Stops r) stops tt b h)
 
       in-read : (c : ℕ) → c < r .n → (k start : ℕ) → toChunk r c ≡ reached k start → length (chunkBytes r c) ≡ storedSize (r .tree) (index 0 c)
       in-read c h k start e =

@@ -2,18 +2,20 @@
 --
 -- The notions in it: `HashFunction` (files, Messages), `Register`, `Within` and `Belongs` (files, Belongs), `dataSize` (files, Images),
 -- `judged` and `registerChecks` (checks, Checks), `placeOf` and `byteAt` (Lookup), `readVerdict` and `readPart` (Read).
-use Prim.Native.Nat.{ℕ, _+_, _-_, _≤_, _<_}
+use Prim.Native.Nat.{ℕ, suc, _+_, _-_, _*_, _^_, _≤_, _<_}
 use mathlib.Core.Path.{_≡_}
+use mathlib.Core.Logic.{_≢_}
 use mathlib.Core.List.{List, []}
 use lib.ListN.{length, getD, take}
 use Rattle.counts.specs.Verdict.{none, done, refused}
 use Rattle.tree_index.specs.Tree.{index}
+use Rattle.files.specs.Sizes.{longestChunk}
 use Rattle.files.specs.Messages.{HashFunction}
 use Rattle.files.specs.Images.{dataSize}
 use Rattle.files.specs.Stored.{storedSize}
 use Rattle.files.specs.Belongs.{Register, Within, Belongs}
 use Rattle.checks.specs.Checks.{judged, registerChecks}
-use Rattle.lookup.specs.Descent.{reached}
+use Rattle.lookup.specs.Descent.{stopped, reached}
 use Rattle.lookup.specs.Lookup.{toChunk, toByte, refusal, found, placeOf, byteAt}
 use Rattle.lookup.specs.Read.{chunkBytes, readVerdict, readPart}
 
@@ -55,6 +57,13 @@ pub record Lies (r : Register) (k start : ℕ) : Type 0 where
   -- they lie within the data
   pub inside : start + storedSize (r .tree) (index 0 k) ≤ r .size
 
+-- a tree index at which a lookup may stop: "a visited parent whose length isn't the sum of its children's, or a visited leaf above 65,536"
+pub data Stops (r : Register) : ℕ → Type 0 where
+  atLeaf : (k : ℕ) → k < r .n → longestChunk < storedSize (r .tree) (index 0 k) → Stops r (index 0 k)
+  atParent : (d k : ℕ) → (k + 1) * 2 ^ suc d ≤ r .n
+      → storedSize (r .tree) (index (suc d) k) ≢ storedSize (r .tree) (index d (2 * k)) + storedSize (r .tree) (index d (2 * k + 1))
+      → Stops r (index (suc d) k)
+
 -- what is claimed of every register that passes the checks 2 to 6, whatever else its tree file holds
 pub record LookupsStayInside (r : Register) : Type 0 where
   -- the descent to a chunk reaches this chunk or none
@@ -62,6 +71,9 @@ pub record LookupsStayInside (r : Register) : Type 0 where
   -- the descent to a byte reaches a chunk whose bytes contain it, or none
   pub byte : (b : ℕ) → b < r .size → (k start : ℕ) → toByte r b ≡ reached k start
       → (start ≤ b) × (b < start + storedSize (r .tree) (index 0 k)) × Lies r k start
+  -- a descent stops nowhere else than the scope says
+  pub chunkStops : (c : ℕ) → c < r .n → (i : ℕ) → toChunk r c ≡ stopped i → Stops r i
+  pub byteStops : (b : ℕ) → b < r .size → (i : ℕ) → toByte r b ≡ stopped i → Stops r i
   -- what a read hands back is as long as the leaf says
   pub read : (c : ℕ) → c < r .n → (k start : ℕ) → toChunk r c ≡ reached k start
       → length (chunkBytes r c) ≡ storedSize (r .tree) (index 0 c)

@@ -8,14 +8,14 @@ use Rattle.files.specs.Stored.{storedSize}
 use Rattle.files.specs.Belongs.{Register}
 use Rattle.lookup.specs.Lookup.{Found, refusal, found, foundUnless, startOf, toChunk}
 use Rattle.lookup.specs.Read.{Name, metadata, contents, readVerdict}
-use Rattle.lookup.specs.declared.lookup.Placed.{Placed}
-use Rattle.lookup.specs.declared.lookup.Placed.the-variants.{Refused as NoPlace, At}
-use Rattle.lookup.specs.declared.lookup.Located.{Located}
-use Rattle.lookup.specs.declared.lookup.Located.the-variants.{Refused as NoByte, In}
-use Rattle.lookup.specs.declared.read.Name.{Name as CodeName}
-use Rattle.lookup.specs.declared.read.Name.the-variants.{Metadata, Content}
-use Rattle.lookup.specs.declared.read.Verified.{Verified}
-use Rattle.lookup.specs.declared.read.Verified.the-variants.{Refused as NoPart, Part}
+use Rattle.lookup.specs.declared.places.Placed.{Placed}
+use Rattle.lookup.specs.declared.places.Placed.the-variants.{Refused as NoPlace, At}
+use Rattle.lookup.specs.declared.places.Located.{Located}
+use Rattle.lookup.specs.declared.places.Located.the-variants.{Refused as NoByte, In}
+use Rattle.lookup.specs.declared.reading.Name.{Name as CodeName}
+use Rattle.lookup.specs.declared.reading.Name.the-variants.{Metadata, Content}
+use Rattle.lookup.specs.declared.reading.Verified.{Verified}
+use Rattle.lookup.specs.declared.reading.Verified.the-variants.{Refused as NoPart, Part}
 
 abbrev pub refusedAs : Refusal → Found
 refusedAs r = refusal (r .number) (spotOf (r .place))
@@ -34,7 +34,7 @@ nameOf Content = contents
 
 abbrev pub verifiedOf : Verified → Found
 verifiedOf (NoPart r) = refusedAs r
-verifiedOf (Part from end) = found from end
+verifiedOf (Part start end) = found (start .0) (end .0)
 
 -- what the checks of a read find: its refusal, or where the chunk's bytes begin and end
 unfoldable pub readFound : (List ℕ → List ℕ) → Register → ℕ → Found

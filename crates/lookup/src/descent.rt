@@ -84,15 +84,15 @@ pub fn from_roots(tree: &[u8], n: u64, sought: Sought) -> Ending
 {
     let count = tree_index::root_count(n);
     let roots = tree_index::root_indexes(n);
-    let mut start: u64 = 0;
+    let mut start = ByteOffset(0);
     let mut j: usize = 0;
     while j < count {
         let i = roots[j];
         let size = files::entries::stored_size(tree, i);
-        if is_within(sought, i, ByteOffset(start), size) {
-            return descend(tree, sought, i, ByteOffset(start));
+        if is_within(sought, i, start, size) {
+            return descend(tree, sought, i, start);
         }
-        start += size;
+        start = ByteOffset(start.0 + size);
         j += 1;
     }
     Ending::Stopped(TreeIndex(0))

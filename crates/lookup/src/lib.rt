@@ -1,4 +1,14 @@
 // Lookups and verified reads.
-pub mod descent;
-pub mod lookup;
-pub mod read;
+mod descent;
+mod places;
+mod reading;
+
+pub use places::Located;
+pub use places::Placed;
+pub use places::locate;
+pub use places::place;
+pub use reading::Name;
+pub use reading::Verified;
+pub use reading::read;
+pub use reading::read_answer;
+pub use reading::verify;

@@ -40,7 +40,7 @@ use Rattle.packet.proofs.Climb.{left-first, right-first, ordered-size, 
 use Rattle.packet.proofs.InTurn.{all, whole, length-all, entry-at}
 use Rattle.packet.proofs.Right.{checked-by, verdict-done}
 use Rattle.packet.proofs.Rows.{beside-even, beside-odd, half, siblings-filled, others-filled, others-row, skipped-below, packet-long}
-use Rattle.packet.proofs.Making.{readable, read-bytes}
+use Rattle.packet.proofs.Makes.{readable, read-bytes}
 use Rattle.packet.proofs.Pieces.{entry-in, length-back, chunk-back, shape-right, sibling-at, other-at}
 
 -- ---- the climb along the nodes

@@ -6,7 +6,7 @@ pub mod Climb
 pub mod InTurn
 pub mod Right
 pub mod Rows
-pub mod Making
+pub mod Makes
 pub mod Pieces
 pub mod Answers
 pub mod Inside

@@ -10,8 +10,8 @@ use Rattle.files.specs.Belongs.{Register}
 use Rattle.checks.specs.Checks.{holds}
 use Rattle.packet.specs.Packet.{roomOr14, outUnless, lengthUnless, makeVerdict, madeLength, afterMake}
 use Rattle.packet.specs.Parts.{packetWith}
-use Rattle.packet.specs.declared.make.Made.{Made}
-use Rattle.packet.specs.declared.make.Made.the-variants.{Refused, Length}
+use Rattle.packet.specs.declared.making.Made.{Made}
+use Rattle.packet.specs.declared.making.Made.the-variants.{Refused, Length}
 
 -- the verdict and the length that each case of the answer stands for
 abbrev pub madeVerdict : Made → Verdict

@@ -13,7 +13,7 @@ use Rattle.files.specs.Messages.{rootMessage}
 use Rattle.files.specs.Nodes.{Entry, parentOf}
 use Rattle.packet.specs.Packet.{rootAbove, beside, siblings, otherRoots, section}
 use Rattle.packet.specs.Check.{shapeRight, entryIn, entriesIn, ordered, inTurn, items}
-use Rattle.packet.specs.declared.check.Node.{Node}
+use Rattle.packet.specs.declared.checking.Node.{Node}
 
 -- which of the roots is, counted from the left, is the first whose block ends behind chunk c; their count where none does
 unfoldable pub placeAbove : List ℕ → ℕ → ℕ

@@ -1,4 +1,9 @@
 // Packets: made from a register, and checked against a root hash.
-pub mod check;
-pub mod make;
-pub mod path;
+mod checking;
+mod making;
+mod path;
+
+pub use checking::check;
+pub use checking::check_answer;
+pub use making::Made;
+pub use making::make;

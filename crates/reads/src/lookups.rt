@@ -1,8 +1,8 @@
 // Place lookups and byte lookups.
 use counts::ByteOffset;
 use counts::ChunkNumber;
-use lookup::lookup::Located;
-use lookup::lookup::Placed;
+use lookup::Located;
+use lookup::Placed;
 use samples::Told;
 
 // The metadata register, whose chunks have 2, 0 and 3 bytes.
@@ -150,7 +150,7 @@ fn byte_offset(k: u64) -> u64 {
 // Where a chunk begins, and its length.
 fn place(tree: &[u8], signatures: &[u8], bitfield: &[u8], data: &[u8], t: Told, chunk: u64) {
     printing::text(b" ");
-    match lookup::lookup::place(
+    match lookup::place(
         tree,
         signatures,
         bitfield,
@@ -169,7 +169,7 @@ fn place(tree: &[u8], signatures: &[u8], bitfield: &[u8], data: &[u8], t: Told, 
 // The chunk of a byte, and the offset within it.
 fn byte(tree: &[u8], signatures: &[u8], bitfield: &[u8], data: &[u8], t: Told, offset: u64) {
     printing::text(b" ");
-    match lookup::lookup::locate(
+    match lookup::locate(
         tree,
         signatures,
         bitfield,

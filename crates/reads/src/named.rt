@@ -1,7 +1,7 @@
 // Reads of the metadata and of the content register. What belongs to the metadata register begins with m, to the content register with c;
 // t, s, b and d are its tree, signatures, bitfield and data.
 use counts::ChunkNumber;
-use lookup::read::Name;
+use lookup::Name;
 use samples::Told;
 
 // With bytes changed, in the content register each byte of its data, hashes in its tree, and lengths in its tree together; as the registers
@@ -169,7 +169,7 @@ fn answer<'a>(
     c: Told,
     k: u64,
 ) {
-    printing::answer(lookup::read::read_answer(
+    printing::answer(lookup::read_answer(
         named(k),
         mt,
         ms,
@@ -202,7 +202,7 @@ fn bytes<'a>(
     c: Told,
     k: u64,
 ) {
-    printing::hex(lookup::read::read(
+    printing::hex(lookup::read(
         named(k),
         mt,
         ms,

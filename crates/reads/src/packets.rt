@@ -1,6 +1,6 @@
 // Packets of the content register's chunks: made and checked.
 use counts::ChunkNumber;
-use packet::make::Made;
+use packet::Made;
 use samples::Told;
 
 // The packets of each register that the content register begins with; then with little room, with numbers told wrong, and with a changed
@@ -117,7 +117,7 @@ fn made(
     chunk: u64,
     out: &mut [u8],
 ) -> u64 {
-    match packet::make::make(
+    match packet::make(
         tree,
         signatures,
         bitfield,
@@ -235,8 +235,8 @@ pub fn check_line(bytes: &[u8], length: u64, n: u64, i: u64, root: &[u8; 32]) {
 }
 
 fn check_whole(packet: &[u8], n: u64, i: u64, root: &[u8; 32]) {
-    let answer = packet::check::check_answer(packet, n, ChunkNumber(i), root);
-    let bytes = packet::check::check(packet, n, ChunkNumber(i), root);
+    let answer = packet::check_answer(packet, n, ChunkNumber(i), root);
+    let bytes = packet::check(packet, n, ChunkNumber(i), root);
     printing::text(b" ");
     printing::answer(answer);
     printing::text(b":");

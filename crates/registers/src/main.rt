@@ -1,5 +1,6 @@
 // Builds registers on lent buffers that held other bytes before, and prints what the calls answer and a hash of each whole buffer, for
 // comparison with the text in stdout.
+use counts::ChunkNumber;
 use samples::Told;
 ghost use Prim.Native.Nat.{_<_, _≤_};
 ghost use lib.ListN.{length};
@@ -384,7 +385,7 @@ fn raise(xs: &mut [u8])
 {
     let mut n: u64 = 0;
     while n < 16386 {
-        bitfield::append_bits(xs, n);
+        bitfield::append_bits(xs, ChunkNumber(n));
         n += 1;
         shown(xs, n);
     }

@@ -1,16 +1,16 @@
--- Laws of parts, places, runs and lists one behind the other. Assumes nothing.
+-- Laws of parts, places, runs, sums and lists one behind the other. Assumes nothing.
 use mathlib.Core.Path.{_≡_, refl, sym, ap, _∙_, subst}
 use Prim.Native.Nat.{ℕ, zero, suc, _+_, _-_, _*_, _<_, _≤_}
 use native.Mathlib.Nat.{add-zero, zero-add, add-suc, suc-add, add-assoc, le-refl, le-of-suc-le-suc, not-suc-le-zero, suc-mul, zero-mul}
 use native.Mathlib.Omega.{arith}
 use mathlib.Core.Bool.{Bool, true, false, _&&_}
 use mathlib.Core.List.{List, [], _∷_, _++_, append-assoc, append-nil}
-use lib.ListN.{length, getD, set, take, drop, length-append, length-drop, length-replicate, take-append-drop, List·getD-append, drop-of-length-le}
-use lib.Seq.{length-take-le, take-at, drop-at, take-append-le, drop-append-le, getD-take, getD-drop, getD-append-add, drop-append-add, take-append-add, take-take, drop-drop, take-add, set-split, ext-getD, take-all, take-nil, take-suc, drop-cons, sets, sets-eq, paste}
+use lib.ListN.{length, getD, set, take, drop, length-append, length-drop, length-replicate, take-append-drop, drop-of-length-le}
+use lib.Seq.{length-take-le, take-at, drop-at, take-append-le, drop-append-le, getD-take, getD-drop, getD-append-add, drop-append-add, take-append-add, take-take, drop-drop, take-add, set-split, ext-getD, take-nil, take-suc, drop-cons}
 use native.Mathlib.Numerals.{add-one}
 use lib.Dec.{eqb}
 use borrow.Author.Tests.{eqb-true, eq-eqb, ne-eqb}
-use Rattle.sequences.specs.Lists.{part, put, run, joined, Bytes, zeros, sameList, allZero}
+use Rattle.sequences.specs.Lists.{part, put, run, joined, total, Bytes, zeros, sameList, allZero}
 
 module _ {A : Type 0} where
   -- ---- behind a list whose length is known by an equation
@@ -38,10 +38,6 @@ module _ {A : Type 0} where
   pub getD-part : (xs : List A) (at k j : ℕ) (d : A) → j < k → getD (part xs at k) j d ≡ getD xs (at + j) d
   unfolding part
   getD-part xs at k j d h = getD-take k (drop at xs) j d h ∙ getD-drop at xs j d
-
-  pub part-whole : (xs : List A) → part xs 0 (length xs) ≡ xs
-  unfolding part
-  part-whole xs = take-all (length xs) xs (le-refl (length xs))
 
   pub part-part : (xs : List A) (p m a k : ℕ) → a + k ≤ m → part (part xs p m) a k ≡ part xs (p + a) k
   unfolding part
@@ -89,36 +85,6 @@ module _ {A : Type 0} where
   length-put xs at ys h =
       simp (length-append, length-drop, length-take-le at xs (omega arith)) (omega arith)
 
-  -- what a lent part gives back
-  pub put-part : (xs : List A) (at k : ℕ) (ys : List A) → length ys ≡ k → take at xs ++ (ys ++ drop k (drop at xs)) ≡ put xs at ys
-  unfolding put
-  put-part xs at k ys e =
-      ap (λ (r : List A). take at xs ++ (ys ++ r)) (drop-drop k at xs ∙ ap (λ (i : ℕ). drop (at + i) xs) (sym e))
-
-  pub getD-put-before : (xs : List A) (at : ℕ) (ys : List A) (j : ℕ) (d : A) → at ≤ length xs → j < at → getD (put xs at ys) j d ≡ getD xs j d
-  unfolding put
-  getD-put-before xs at ys j d h l =
-      List·getD-append (take at xs) (ys ++ drop (at + length ys) xs) d j
-      (subst (λ (k : ℕ). j < k) (sym (length-take-le at xs h)) l)
-      ∙ getD-take at xs j d l
-
-  pub getD-put-in : (xs : List A) (at : ℕ) (ys : List A) (j : ℕ) (d : A) → at ≤ length xs → j < length ys → getD (put xs at ys) (at + j) d ≡ getD ys j d
-  unfolding put
-  getD-put-in xs at ys j d h l =
-      getD-behind (take at xs) (ys ++ drop (at + length ys) xs) at j d (length-take-le at xs h)
-      ∙ List·getD-append ys (drop (at + length ys) xs) d j l
-
-  pub getD-put-behind : (xs : List A) (at : ℕ) (ys : List A) (j : ℕ) (d : A) → at ≤ length xs → at + length ys ≤ j → getD (put xs at ys) j d ≡ getD xs j d
-  unfolding put
-  getD-put-behind xs at ys j d h l =
-      let i : ℕ = j - (at + length ys) in
-      let e : j ≡ at + (length ys + i) = omega arith in
-      let f : at + length ys + i ≡ j = omega arith in
-      ap (λ (k : ℕ). getD (take at xs ++ (ys ++ drop (at + length ys) xs)) k d) e
-      ∙ getD-behind (take at xs) (ys ++ drop (at + length ys) xs) at (length ys + i) d (length-take-le at xs h)
-      ∙ getD-append-add ys (drop (at + length ys) xs) i d ∙ getD-drop (at + length ys) xs i d
-      ∙ ap (λ (k : ℕ). getD xs k d) f
-
   pub take-put : (n : ℕ) (xs : List A) (at : ℕ) (ys : List A) → n ≤ at → at ≤ length xs → take n (put xs at ys) ≡ take n xs
   unfolding put
   take-put n xs at ys h l =
@@ -152,22 +118,6 @@ module _ {A : Type 0} where
   pub part-put-behind : (xs : List A) (at : ℕ) (ys : List A) (p k : ℕ) → at + length ys ≤ p → at ≤ length xs → part (put xs at ys) p k ≡ part xs p k
   unfolding part
   part-put-behind xs at ys p k h l = ap (take k) (drop-put p xs at ys h l)
-
-  -- the same front and the same rest, and so the same list once zs stands there
-  put-ext : (xs us : List A) (at : ℕ) (zs : List A) → take at us ≡ take at xs → drop (at + length zs) us ≡ drop (at + length zs) xs → put us at zs ≡ put xs at zs
-  unfolding put
-  put-ext xs us at zs p q =
-      ap (λ (r : List A). r ++ (zs ++ drop (at + length zs) us)) p ∙ ap (λ (r : List A). take at xs ++ (zs ++ r)) q
-
-  pub put-put : (xs : List A) (at : ℕ) (ys zs : List A) → length ys ≡ length zs → at ≤ length xs → put (put xs at ys) at zs ≡ put xs at zs
-  put-put xs at ys zs e l =
-      put-ext xs (put xs at ys) at zs (take-put at xs at ys (le-refl at) l) (drop-put (at + length zs) xs at ys (omega arith) l)
-
-  -- the part that is there put where it is
-  pub put-same : (xs : List A) (at k : ℕ) → at + k ≤ length xs → put xs at (part xs at k) ≡ xs
-  unfolding put
-  put-same xs at k h =
-      ap (λ (i : ℕ). take at xs ++ (part xs at k ++ drop (at + i) xs)) (length-part xs at k h) ∙ around xs at k
 
   pub put-nil : (xs : List A) (at : ℕ) → put xs at [] ≡ xs
   unfolding put
@@ -206,77 +156,6 @@ module _ {A : Type 0} where
       ap (λ (k : ℕ). set (put xs at (take i ys)) (at + k) (getD ys i d)) (sym e)
       ∙ put-snoc xs at (take i ys) (getD ys i d) (omega (arith, e))
       ∙ ap (put xs at) (sym (take-suc ys i d l) ∙ ap (λ (k : ℕ). take k ys) (sym (add-one i)))
-
-  -- a list is what it was, but for one part, which is ys: then it is the list with ys there
-  pub is-put : (xs zs : List A) (at k : ℕ) (ys : List A) → length ys ≡ k → take at zs ≡ take at xs → part zs at k ≡ ys → drop (at + k) zs ≡ drop (at + k) xs → zs ≡ put xs at ys
-  unfolding put
-  is-put xs zs at k ys e p q r =
-      sym (around zs at k) ∙ ap (λ (s : List A). s ++ (part zs at k ++ drop (at + k) zs)) p
-      ∙ ap (λ (s : List A). take at xs ++ (s ++ drop (at + k) zs)) q ∙ ap (λ (s : List A). take at xs ++ (ys ++ s)) r
-      ∙ ap (λ (i : ℕ). take at xs ++ (ys ++ drop (at + i) xs)) (sym e)
-
-  part-first : (zs : List A) (p m a : ℕ) → a ≤ m → part zs p a ≡ take a (part zs p m)
-  unfolding part
-  part-first zs p m a h = sym (take-take a m (drop p zs) h)
-
-  part-rest : (zs : List A) (p m b : ℕ) → b ≤ m → drop b (part zs p m) ≡ part zs (p + b) (m - b)
-  unfolding part
-  part-rest zs p m b h =
-      let e : m ≡ b + (m - b) = omega arith in
-      ap (λ (i : ℕ). drop b (take i (drop p zs))) e ∙ drop-take b (m - b) (drop p zs)
-      ∙ ap (take (m - b)) (drop-drop b p zs)
-
-  -- a place inside a part
-  pub part-put-inside : (xs : List A) (p m a : ℕ) (ys : List A) → a + length ys ≤ m → p + m ≤ length xs
-      → part (put xs (p + a) ys) p m ≡ put (part xs p m) a ys
-  part-put-inside xs p m a ys h l =
-      let zs : List A = put xs (p + a) ys in
-      let b : ℕ = a + length ys in
-      is-put (part xs p m) (part zs p m) a (length ys) ys refl
-      (sym (part-first zs p m a (omega arith)) ∙ part-put-before xs (p + a) ys p a (le-refl (p + a)) (omega arith) ∙ part-first xs p m a (omega arith))
-      (part-part zs p m a (length ys) h ∙ part-put xs (p + a) (length ys) ys refl (omega arith))
-      (part-rest zs p m b h ∙ part-put-behind xs (p + a) ys (p + b) (m - b) (omega arith) (omega arith) ∙ sym (part-rest xs p m b h))
-
-  -- a place as single stores, and as a copy
-  pub put-sets : (xs : List A) (at : ℕ) (ys : List A) → at + length ys ≤ length xs → sets xs at ys ≡ put xs at ys
-  unfolding put
-  put-sets xs at ys h = sets-eq ys xs at h ∙ append-assoc (take at xs) ys (drop (at + length ys) xs)
-
-  pub put-paste : (xs : List A) (at : ℕ) (ys : List A) (n : ℕ) → n ≤ length ys → paste xs at ys n ≡ put xs at (take n ys)
-  unfolding put
-  put-paste xs at ys n h =
-      append-assoc (take at xs) (take n ys) (drop (at + n) xs)
-      ∙ ap (λ (k : ℕ). take at xs ++ (take n ys ++ drop (at + k) xs)) (sym (length-take-le n ys h))
-
-  -- a place within the first n, and a place behind them
-  pub take-put-above : (n : ℕ) (xs : List A) (at : ℕ) (ys : List A) → at + length ys ≤ n → n ≤ length xs → take n (put xs at ys) ≡ put (take n xs) at ys
-  unfolding part
-  take-put-above n xs at ys h l =
-      ap (λ (k : ℕ). take n (put xs k ys)) (sym (zero-add at)) ∙ part-put-inside xs 0 n at ys h (omega arith)
-
-  pub drop-put-below : (n : ℕ) (xs : List A) (a : ℕ) (ys : List A) → n ≤ length xs → drop n (put xs (n + a) ys) ≡ put (drop n xs) a ys
-  unfolding put
-  drop-put-below n xs a ys h =
-      ap (λ (r : List A). drop n (r ++ (ys ++ drop (n + a + length ys) xs))) (take-add n a xs)
-      ∙ ap (drop n) (append-assoc (take n xs) (take a (drop n xs)) (ys ++ drop (n + a + length ys) xs))
-      ∙ drop-at (take n xs) (take a (drop n xs) ++ (ys ++ drop (n + a + length ys) xs)) n (length-take-le n xs h)
-      ∙ ap (λ (r : List A). take a (drop n xs) ++ (ys ++ r))
-      (ap (λ (k : ℕ). drop k xs) (add-assoc n a (length ys)) ∙ sym (drop-drop (a + length ys) n xs))
-
-  -- two places that don't meet
-  pub put-comm : (xs : List A) (a b : ℕ) (ys zs : List A) → a + length ys ≤ b → b + length zs ≤ length xs → put (put xs a ys) b zs ≡ put (put xs b zs) a ys
-  put-comm xs a b ys zs h l =
-      let m : length (put xs a ys) ≡ length xs = length-put xs a ys (omega arith) in
-      let n : ℕ = a + length ys in
-      let c : ℕ = b - n in
-      let e : b ≡ n + c = omega arith in
-      is-put (put xs b zs) (put (put xs a ys) b zs) a (length ys) ys refl
-      (take-put a (put xs a ys) b zs (omega arith) (omega (arith, m)) ∙ take-put a xs a ys (le-refl a) (omega arith)
-      ∙ sym (take-put a xs b zs (omega arith) (omega arith)))
-      (part-put-before (put xs a ys) b zs a (length ys) h (omega (arith, m)) ∙ part-put xs a (length ys) ys refl (omega arith))
-      (ap (λ (k : ℕ). drop n (put (put xs a ys) k zs)) e ∙ drop-put-below n (put xs a ys) c zs (omega (arith, m))
-      ∙ ap (λ (r : List A). put r c zs) (drop-put n xs a ys (le-refl n) (omega arith))
-      ∙ sym (ap (λ (k : ℕ). drop n (put xs k zs)) e ∙ drop-put-below n xs c zs (omega arith)))
 
   -- ---- runs
 
@@ -368,28 +247,12 @@ module _ {A : Type 0} where
         ap (λ (n : ℕ). part (joined (run f i n)) (e * m) m) s
         ∙ ap (λ (r : List A). part r (e * m) m) (joined-run-add f i e (suc b)) ∙ part-joined-split i e b
 
-  -- one of equally long lists put anew
-  module _ (f g : ℕ → List A) (m : ℕ) (same : (j : ℕ) → length (f j) ≡ m) (i e : ℕ) (l : length (g (i + e)) ≡ m)
-      (other : (j : ℕ) → (j ≡ i + e → ⊥) → f j ≡ g j) where
-    put-joined-split : (b : ℕ) → put (joined (run f i e) ++ joined (run f (i + e) (suc b))) (e * m) (g (i + e)) ≡ joined (run g i e) ++ joined (run g (i + e) (suc b))
-    unfolding run joined put
-    put-joined-split b =
-        let rest : List A = f (i + e) ++ joined (run f (suc (i + e)) b) in
-        ap (λ (r : List A). r ++ (g (i + e) ++ drop (e * m + length (g (i + e))) (joined (run f i e) ++ rest)))
-        (take-at (joined (run f i e)) rest (e * m) (length-joined f m same i e)
-        ∙ ap joined (run-ext f g i e (λ j p q. other j (λ z. omega arith))))
-        ∙ ap (λ (r : List A). joined (run g i e) ++ (g (i + e) ++ r))
-        (drop-behind (joined (run f i e)) rest (e * m) (length (g (i + e))) (length-joined f m same i e)
-        ∙ drop-at (f (i + e)) (joined (run f (suc (i + e)) b)) (length (g (i + e))) (same (i + e) ∙ sym l)
-        ∙ ap joined (run-ext f g (suc (i + e)) b (λ j p q. other j (λ z. omega arith))))
+-- ---- sums
 
-    pub put-joined : (k : ℕ) → e < k → put (joined (run f i k)) (e * m) (g (i + e)) ≡ joined (run g i k)
-    put-joined k h =
-        let b : ℕ = k - suc e in
-        let s : k ≡ e + suc b = omega arith in
-        ap (λ (n : ℕ). put (joined (run f i n)) (e * m) (g (i + e))) s
-        ∙ ap (λ (r : List A). put r (e * m) (g (i + e))) (joined-run-add f i e (suc b)) ∙ put-joined-split b
-        ∙ sym (ap (λ (n : ℕ). joined (run g i n)) s ∙ joined-run-add g i e (suc b))
+pub total-append : (xs ys : List ℕ) → total (xs ++ ys) ≡ total xs + total ys
+unfolding total
+total-append [] ys = sym (zero-add (total ys))
+total-append (x ∷ xs) ys = ap (λ (t : ℕ). x + t) (total-append xs ys) ∙ sym (add-assoc x (total xs) (total ys))
 
 -- ---- bytes
 
@@ -432,18 +295,6 @@ pub bytes-joined : (f : ℕ → List ℕ) (i k : ℕ) → ((j : ℕ) → Bytes (
 unfolding run joined
 bytes-joined f i zero h j = omega arith
 bytes-joined f i (suc k) h j = bytes-append (f i) (joined (run f (suc i) k)) (h i) (bytes-joined f (suc i) k h) j
-
-pub bytes-set : (xs : List ℕ) (i v : ℕ) → Bytes xs → v < 256 → Bytes (set xs i v)
-bytes-set [] i v p h j = p j
-bytes-set (x ∷ xs) zero v p h zero = h
-bytes-set (x ∷ xs) zero v p h (suc j) = p (suc j)
-bytes-set (x ∷ xs) (suc i) v p h zero = p zero
-bytes-set (x ∷ xs) (suc i) v p h (suc j) = bytes-set xs i v (λ l. p (suc l)) h j
-
-pub getD-zeros : (k j : ℕ) → getD (zeros k) j 0 ≡ 0
-getD-zeros zero j = refl
-getD-zeros (suc k) zero = refl
-getD-zeros (suc k) (suc j) = getD-zeros k j
 
 pub zeros-suc : (k : ℕ) → zeros k ++ (0 ∷ []) ≡ zeros (suc k)
 zeros-suc zero = refl
@@ -534,16 +385,3 @@ zero-off xs i h e = ap allZero (drop-cons xs i 0 h) ∙ zero-stop (getD xs i 0) 
 pub zero-end : (xs : List ℕ) (i : ℕ) → length xs ≤ i → allZero (drop i xs) ≡ true
 unfolding allZero
 zero-end xs i h = ap allZero (drop-of-length-le xs h)
-
--- all zero: these zeros
-pub zero-eq : (xs : List ℕ) → allZero xs ≡ true → xs ≡ zeros (length xs)
-unfolding allZero
-zero-eq [] e = refl
-zero-eq (x ∷ xs) e =
-    let h = both-true (eqb x 0) (allZero xs) e in
-    ap (λ (t : ℕ). t ∷ xs) (eqb-true x 0 (h .0)) ∙ ap {B = List ℕ} (λ r. 0 ∷ r) (zero-eq xs (h .1))
-
-pub zero-zeros : (k : ℕ) → allZero (zeros k) ≡ true
-unfolding allZero
-zero-zeros zero = refl
-zero-zeros (suc k) = zero-zeros k

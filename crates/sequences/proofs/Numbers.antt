@@ -36,10 +36,6 @@ unfolding numberFrom
 from-snoc a [] x = refl
 from-snoc a (y ∷ xs) x = from-snoc (a * 256 + y) xs x
 
-pub number-snoc : (xs : List ℕ) (x : ℕ) → number (xs ++ (x ∷ [])) ≡ number xs * 256 + x
-unfolding number
-number-snoc xs x = from-snoc 0 xs x
-
 below-quotient : (k x : ℕ) → x < 256 ^ suc k → x / 256 < 256 ^ k
 below-quotient k x h = div-lt-iff-lt-mul {k = 256} {x = x} {y = 256 ^ k} (lit< tt) .1 (subst (λ (n : ℕ). x < n) (pow-suc 256 k) h)
 

@@ -1,22 +1,19 @@
 -- What appending the chunk n fills.
 -- Assumes nothing.
-use Prim.Native.Nat.{ℕ, zero, suc, _+_, _-_, _*_, _/_, _%_, _^_, _≤_, _<_, suc-le-suc, zero-le}
+use Prim.Native.Nat.{ℕ, zero, suc, _+_, _-_, _*_, _/_, _^_, _≤_, _<_, suc-le-suc, zero-le}
 use mathlib.Core.Path.{_≡_, refl, sym, ap, ap₂, _∙_, subst}
 use mathlib.Core.Bool.{Bool, true, false, _||_}
 use mathlib.Core.Logic.{_⊎_, inl, inr}
-use mathlib.Core.List.{_∷_}
-use native.Mathlib.Nat.{mul-assoc, mul-comm, le-dest, le-antisymm, div-eq-of-eq-mul-left, div-one, pow-succ', zero-add}
-use native.Mathlib.Numerals.{add-one}
+use native.Mathlib.Nat.{mul-assoc, mul-comm, le-dest, le-antisymm, div-eq-of-eq-mul-left, zero-add}
 use native.Mathlib.Omega.{arith}
 use borrow.Author.Tests.{ltb-true, ltb-false}
 use lib.Dec.{ltb}
-use lib.ListN.{length}
 use lib.Pow.{pow-pos, pow-add}
 use Rattle.sequences.specs.Lists.{run, among}
 use Rattle.tree_index.specs.Tree.{index, depth, block, filled, completed, filledBy}
-use Rattle.tree_index.proofs.Index.{index-of, index-leaf, index-suc, index-sum, by-coordinates, index-closed, pow-twice, completed-depth}
-use Rattle.tree_index.proofs.Filled.{block-end, end-filled, end-hole}
-use Rattle.tree_index.proofs.Runs.{run-length, among-in, among-of}
+use Rattle.tree_index.proofs.Index.{index-of, by-coordinates, index-closed, pow-twice, completed-depth}
+use Rattle.tree_index.proofs.Filled.{end-filled, end-hole}
+use Rattle.tree_index.proofs.Runs.{among-in, among-of}
 
 -- below a node of the depth d + e, its last block of the depth d
 pub last-block : (d e k : ℕ) → index (d + e) k + 1 ≡ (index e k + 1) * 2 ^ d
@@ -74,9 +71,6 @@ filledBy-in n d h =
 pub filledBy-filled : (n i : ℕ) → n + 1 < 2 ^ 64 → among i (filledBy n) ≡ true → filled (n + 1) i ≡ true
 filledBy-filled n i l h = let r = filledBy-at n i h in ap (filled (n + 1)) (r .2) ∙ newly-filled n (r .0) l (r .1)
 
-pub filledBy-hole : (n i : ℕ) → n + 1 < 2 ^ 64 → among i (filledBy n) ≡ true → filled n i ≡ false
-filledBy-hole n i l h = let r = filledBy-at n i h in ap (filled n) (r .2) ∙ newly-hole n (r .0) l (r .1)
-
 -- an append fills those and no other
 three : (a b : ℕ) → (a < b) ⊎ ((a ≡ b) ⊎ (b < a))
 three a b = pick (ltb a b) refl (ltb b a) refl
@@ -110,39 +104,3 @@ filled-suc n i l = by-coordinates (λ j. filled (n + 1) j ≡ (filled n j || amo
         is-false (among (index d k) (filledBy n)) (λ t. let f = filledBy-filled n (index d k) small t in let z : _≡_ {A = ℕ} 0 1 = cc in omega arith)
         in
         hole ∙ sym (ap₂ _||_ (end-hole n d k (omega arith)) none)
-
--- the list itself: the leaf of the chunk n first, and one index for each depth
-pub filledBy-leaf : (n : ℕ) → filledBy n ≡ 2 * n ∷ run (λ d. index d ((n + 1) / 2 ^ d - 1)) 1 (completed n)
-unfolding filledBy run index
-filledBy-leaf n =
-    let one : (n + 1) / 1 ≡ n + 1 = div-one (n + 1) in
-    ap (run (λ d. index d ((n + 1) / 2 ^ d - 1)) 0) (add-one (completed n))
-    ∙ ap (λ (x : ℕ). 2 * x ∷ run (λ d. index d ((n + 1) / 2 ^ d - 1)) 1 (completed n)) (omega arith)
-
-pub length-filledBy : (n : ℕ) → length (filledBy n) ≡ completed n + 1
-unfolding filledBy
-length-filledBy n = run-length (λ d. index d ((n + 1) / 2 ^ d - 1)) 0 (completed n + 1)
-
--- Appending the chunk n adds the entries 2n - 1 (but for n = 0) and 2n, the leaf. The first is a parent that is completed where
--- n is odd, and a hole where n is even.
-new-entry : (n : ℕ) → 0 < n → (d : ℕ) × (index (suc d) (block (n - 1)) ≡ 2 * n - 1) × ((block (n - 1) + 1) * 2 ^ suc d ≡ n + 2 ^ d) × (d ≡ depth (n - 1))
-new-entry n h =
-    let d : ℕ = depth (n - 1) in
-    let k : ℕ = block (n - 1) in
-    let at : index (depth (n - 1)) (block (n - 1)) ≡ n - 1 = index-of (n - 1) in
-    (depth (n - 1), omega (arith, index-suc d k), omega (arith, index-sum d k, pow-twice (k + 1) d, block-end d k), refl)
-
-pub new-hole : (n : ℕ) → 0 < n → n % 2 ≡ 0 → filled (n + 1) (2 * n - 1) ≡ false
-new-hole n h e =
-    let r = new-entry n h in
-    ap (filled (n + 1)) (sym (r .1)) ∙ end-hole (n + 1) (suc (r .0)) (block (n - 1)) (omega (arith, r .2, large (r .0) (r .3)))
-  where
-    large : (d : ℕ) → d ≡ depth (n - 1) → 2 ≤ 2 ^ d
-    large zero q = absurd (omega (arith, index-of (n - 1), index-leaf (block (n - 1)), ap (λ (x : ℕ). index x (block (n - 1))) q))
-    large (suc d) q = omega (arith, pow-succ' 2 d, pow-pos d)
-
-pub new-parent : (n : ℕ) → n % 2 ≡ 1 → filled (n + 1) (2 * n - 1) ≡ true
-new-parent n e =
-    let k : ℕ = n / 2 in
-    let at : index 1 (n / 2) ≡ 2 * n - 1 = omega (arith, index-suc 0 k, index-leaf k) in
-    ap (filled (n + 1)) (sym at) ∙ end-filled (n + 1) 1 k (omega arith)

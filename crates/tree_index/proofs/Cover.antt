@@ -3,25 +3,15 @@
 use Prim.Native.Nat.{ℕ, zero, suc, _+_, _-_, _*_, _/_, _%_, _^_, _<_}
 use mathlib.Core.Path.{_≡_, refl, sym, ap, ap₂, _∙_}
 use mathlib.Core.Logic.{_⊎_, inl, inr}
-use mathlib.Core.List.{List, [], _∷_, _++_, append-assoc, append-nil, map, map-append}
-use native.Mathlib.Nat.{mod-one, mod-eq-of-lt, div-eq-of-lt, div-div-eq-div-mul, pow-suc, pow-succ', add-mul, one-mul, mul-assoc, add-assoc, zero-mul, mul-one, add-zero}
+use mathlib.Core.List.{List, [], _∷_, _++_, append-nil, map, map-append}
+use native.Mathlib.Nat.{mod-one, mod-eq-of-lt, div-eq-of-lt, div-div-eq-div-mul, pow-suc, pow-succ', add-mul, one-mul, mul-assoc, zero-mul, mul-one, add-zero}
 use native.Mathlib.Omega.{arith}
 use Rattle.sequences.specs.Lists.{run, joined, total}
+use Rattle.sequences.proofs.Lists.{run-add, joined-append, total-append}
 use Rattle.tree_index.specs.Tree.{index, depth, block, rootOf, rootsBelow, roots}
 use Rattle.tree_index.proofs.Index.{depth-index, block-index, pow-twice}
 use Rattle.tree_index.proofs.Filled.{block-end}
-use Rattle.tree_index.proofs.Runs.{run-append}
 use Rattle.tree_index.proofs.Roots.{bit, no-root, one-root, low-bits}
-
-joined-append : {A : Type 0} (xs ys : List (List A)) → joined (xs ++ ys) ≡ joined xs ++ joined ys
-unfolding joined
-joined-append [] ys = refl
-joined-append (x ∷ xs) ys = ap (λ l. x ++ l) (joined-append xs ys) ∙ sym (append-assoc x (joined xs) (joined ys))
-
-total-append : (xs ys : List ℕ) → total (xs ++ ys) ≡ total xs + total ys
-unfolding total
-total-append [] ys = omega arith
-total-append (x ∷ xs) ys = ap (λ (s : ℕ). x + s) (total-append xs ys) ∙ sym (add-assoc x (total xs) (total ys))
 
 -- the values of f at the chunks of the block that stands at the tree index i
 unfoldable pub inBlock : {A : Type 0} → (ℕ → A) → ℕ → List A
@@ -65,7 +55,7 @@ cover-below f (suc d) n =
         let count : 2 ^ d + n % 2 ^ d ≡ n % 2 ^ suc d = omega (arith, low-bits d n) in
         ap (λ l. joined (map (inBlock f) l) ++ run f (n / 2 ^ d * 2 ^ d) (n % 2 ^ d)) (one-root d n e)
         ∙ ap₂ _++_ (append-nil (inBlock f (index d k)) ∙ inBlock-index f d k) (ap (λ (x : ℕ). run f x (n % 2 ^ d)) (sym start))
-        ∙ sym (run-append f (k * 2 ^ d) (2 ^ d) (n % 2 ^ d))
+        ∙ sym (run-add f (k * 2 ^ d) (2 ^ d) (n % 2 ^ d))
         ∙ ap₂ (run f) from count
 
 -- the values at the blocks of the roots, one behind the other, are the values at all chunks
@@ -92,7 +82,7 @@ size-run s (suc d) k =
     ∙ ap₂ (λ (x y : ℕ). total (run s x (2 ^ d)) + total (run s y (2 ^ d))) even odd
     ∙ sym
     (ap (λ (x : ℕ). total (run s (k * 2 ^ suc d) x)) twice
-    ∙ ap total (run-append s (k * 2 ^ suc d) (2 ^ d) (2 ^ d))
+    ∙ ap total (run-add s (k * 2 ^ suc d) (2 ^ d) (2 ^ d))
     ∙ total-append (run s (k * 2 ^ suc d) (2 ^ d)) (run s (k * 2 ^ suc d + 2 ^ d) (2 ^ d)))
 
 total-joined : (g : ℕ → List ℕ) (h : ℕ → ℕ) → ((i : ℕ) → total (g i) ≡ h i) → (xs : List ℕ) → total (joined (map g xs)) ≡ total (map h xs)
@@ -106,14 +96,3 @@ unfolding inBlock
 roots-size s n h =
     sym (total-joined (inBlock s) (λ (i : ℕ). sizeAt s (depth i) (block i)) (λ i. sym (size-run s (depth i) (block i))) (roots n))
     ∙ ap total (roots-cover s n h)
-
--- so the roots tell how many chunks there are
-ones-run : (i c : ℕ) → total (run (λ _. 1) i c) ≡ c
-unfolding run total
-ones-run i zero = refl
-ones-run i (suc c) = omega (arith, ones-run (suc i) c)
-
-pub roots-tell : (n m : ℕ) → n < 2 ^ 21 → m < 2 ^ 21 → roots n ≡ roots m → n ≡ m
-roots-tell n m h l e =
-    let sum : List ℕ → ℕ = λ xs. total (map (λ (i : ℕ). sizeAt (λ _. 1) (depth i) (block i)) xs) in
-    sym (roots-size (λ _. 1) n h ∙ ones-run 0 n) ∙ ap sum e ∙ roots-size (λ _. 1) m l ∙ ones-run 0 m

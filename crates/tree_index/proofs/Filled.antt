@@ -3,14 +3,14 @@
 use Prim.Native.Nat.{ℕ, zero, suc, _+_, _-_, _*_, _^_, _≤_, _<_}
 use mathlib.Core.Path.{_≡_, refl, sym, ap, ap₂, _∙_}
 use mathlib.Core.Bool.{Bool, true, false}
-use native.Mathlib.Nat.{add-mul, mul-assoc, one-mul, mul-one, pow-succ', le-of-suc-le-suc}
+use native.Mathlib.Nat.{add-mul, mul-assoc, one-mul, mul-one, pow-succ'}
 use native.Mathlib.Numerals.{add-one}
 use native.Mathlib.Omega.{arith}
 use borrow.Author.Tests.{leb-true, le-leb, lt-leb}
 use lib.Dec.{leb, ltb}
 use lib.Pow.{pow-pos}
-use Rattle.tree_index.specs.Tree.{index, depth, block, leftChild, rightChild, filled, entries}
-use Rattle.tree_index.proofs.Index.{depth-index, block-index, by-coordinates, index-sum, pow-twice, pow-below, leftChild-index, rightChild-index}
+use Rattle.tree_index.specs.Tree.{index, depth, leftChild, rightChild, filled, entries}
+use Rattle.tree_index.proofs.Index.{depth-index, block-index, by-coordinates, index-sum, pow-twice, leftChild-index, rightChild-index}
 
 -- where a block ends
 pub block-end : (d k : ℕ) → (k + 1) * 2 ^ d ≡ k * 2 ^ d + 2 ^ d
@@ -80,17 +80,3 @@ filled-rightChild = filled-child rightChild (λ k. 2 * k + 1) rightChild-index f
 pub children-below : (n i : ℕ) → 0 < depth i → filled n i ≡ true → (leftChild i < entries n) × (rightChild i < entries n)
 children-below n i p h =
     (filled-below n (leftChild i) (filled-leftChild n i p h), filled-below n (rightChild i) (filled-rightChild n i p h))
-
--- an entry, filled or not: its first chunk is there, and its depth is small
-pub first-below : (n i : ℕ) → i < entries n → block i * 2 ^ depth i < n
-unfolding entries
-first-below n =
-    by-coordinates (λ i. i < 2 * n - 1 → block i * 2 ^ depth i < n)
-    (λ d k h. rw (block-index d k, depth-index d k) (omega (arith, index-sum d k, pow-pos d)))
-
-pub depth-below : (w n i : ℕ) → n ≤ 2 ^ w → i < entries n → depth i ≤ w
-unfolding entries
-depth-below w n i l =
-    by-coordinates (λ j. j < 2 * n - 1 → depth j ≤ w)
-    (λ d k h. rw (depth-index d k) (le-of-suc-le-suc (pow-below d (suc w) (omega (arith, index-sum d k, pow-succ' 2 w)))))
-    i

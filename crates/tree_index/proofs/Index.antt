@@ -9,7 +9,7 @@ use native.Mathlib.Omega.{arith}
 use lib.Arith.{half-le}
 use lib.Pow.{pow-mono}
 use lib.Count.{trailingZeros}
-use Rattle.tree_index.specs.Tree.{index, trailingOnes, depth, block, leftChild, rightChild, parent, completed}
+use Rattle.tree_index.specs.Tree.{index, trailingOnes, depth, block, leftChild, rightChild, completed}
 
 -- ---- halves
 
@@ -119,23 +119,6 @@ pub rightChild-index : (d k : ℕ) → rightChild (index (suc d) k) ≡ index d 
 unfolding rightChild
 rightChild-index d k =
     ap₂ index (ap (λ (x : ℕ). x - 1) (depth-index (suc d) k) ∙ omega arith) (ap (λ (x : ℕ). 2 * x + 1) (block-index (suc d) k))
-
-pub parent-index : (d k : ℕ) → parent (index d k) ≡ index (suc d) (k / 2)
-unfolding parent
-parent-index d k = ap₂ index (ap (λ (x : ℕ). x + 1) (depth-index d k) ∙ add-one d) (ap (λ (x : ℕ). x / 2) (block-index d k))
-
-pub parent-left : (d k : ℕ) → parent (index d (2 * k)) ≡ index (suc d) k
-parent-left d k = parent-index d (2 * k) ∙ ap (index (suc d)) (omega arith)
-
-pub parent-right : (d k : ℕ) → parent (index d (2 * k + 1)) ≡ index (suc d) k
-parent-right d k = parent-index d (2 * k + 1) ∙ ap (index (suc d)) (omega arith)
-
--- a parent stands between its children, half the size of its block away from each
-pub between-children : (d k : ℕ) → (index d (2 * k) + 2 ^ d ≡ index (suc d) k) × (index (suc d) k + 2 ^ d ≡ index d (2 * k + 1))
-between-children d k = (
-  omega (arith, index-sum d (2 * k), index-sum (suc d) k, pow-twice k d, pow-succ' 2 d, mul-assoc 2 k (2 ^ d)),
-  omega (arith, index-sum d (2 * k + 1), index-sum (suc d) k, pow-twice k d, pow-succ' 2 d, mul-assoc 2 k (2 ^ d), add-mul (2 * k) 1 (2 ^ d)),
-)
 
 -- ---- the depth as the code computes it
 

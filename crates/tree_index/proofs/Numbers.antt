@@ -3,13 +3,9 @@
 use Prim.Native.Nat.{ℕ, zero, suc, _<_}
 use mathlib.Core.Path.{_≡_, refl, sym, ap, _∙_}
 use mathlib.Core.List.{List, [], _∷_, _++_}
-use lib.ListN.{length, getD, set, length-map, List·getD-map, List·getD-append}
+use lib.ListN.{length, getD, set, List·getD-map, List·getD-append}
 use Rattle.counts.specs.declared.TreeIndex.{TreeIndex}
 use Rattle.tree_index.specs.Numbers.{numbers}
-
-pub numbers-length : (l : List TreeIndex) → length (numbers l) ≡ length l
-unfolding numbers
-numbers-length l = length-map l (λ (i : TreeIndex). i .0)
 
 pub numbers-set : (l : List TreeIndex) (i : ℕ) (v : TreeIndex) → numbers (set l i v) ≡ set (numbers l) i (v .0)
 unfolding numbers

@@ -5,18 +5,17 @@ use mathlib.Core.Path.{_≡_, refl, sym, ap, ap₂, _∙_, subst}
 use mathlib.Core.Bool.{true}
 use mathlib.Core.Logic.{_⊎_, inl, inr}
 use mathlib.Core.List.{List, [], _∷_, _++_, append-assoc, append-nil}
-use native.Mathlib.Nat.{le-refl, le-trans, le-dest, le-of-suc-le-suc, eq-or-lt-of-le, eq-zero-or-pos, mod-one, mod-lt, mod-eq-of-lt, div-mul-le-self, div-div-eq-div-mul, div-eq-of-eq-mul-left, pow-suc, pow-succ', add-zero, add-suc, suc-add, zero-add, add-comm}
-use native.Mathlib.Numerals.{add-one, one-add}
+use native.Mathlib.Nat.{le-refl, le-trans, le-dest, le-of-suc-le-suc, eq-or-lt-of-le, eq-zero-or-pos, mod-one, mod-lt, mod-eq-of-lt, div-mul-le-self, div-le-self, div-div-eq-div-mul, div-eq-of-eq-mul-left, pow-suc, pow-succ', add-zero, add-suc, suc-add, zero-add, add-comm}
+use native.Mathlib.Numerals.{one-add}
 use native.Mathlib.Omega.{arith}
 use lib.Arith.{digits-div}
 use lib.Count.{ones, ones-cat, ones-le}
-use lib.ListN.{length, getD, take, length-append}
-use lib.Seq.{getD-append-add, getD-at, take-append-add, take-at}
+use lib.ListN.{length, getD, length-append}
 use lib.Pow.{pow-pos, pow-lt, mod-pow-add, shr-shr, ones-lt}
-use Rattle.tree_index.specs.Tree.{index, depth, block, filled, entries, leftChild, rightChild, rootOf, rootsBelow, roots, completed}
-use Rattle.tree_index.proofs.Index.{index-of, index-leaf, index-suc, pow-below, pow-le-index, completed-depth, leftChild-index, rightChild-index}
+use Rattle.tree_index.specs.Tree.{index, depth, block, filled, entries, rootOf, rootsBelow, roots, completed}
+use Rattle.tree_index.proofs.Index.{index-of, index-leaf, index-suc, pow-below, pow-le-index, completed-depth}
 use Rattle.tree_index.proofs.Filled.{block-end, end-filled, filled-below}
-use Rattle.tree_index.proofs.Appended.{last-block}
+use Rattle.tree_index.proofs.Appended.{last-block, completed-end}
 
 -- ---- a root for each one bit
 
@@ -141,25 +140,6 @@ unfoldable pub siblings : ℕ → ℕ → ℕ → List ℕ
 siblings n d zero = []
 siblings n d (suc c) = siblings n (suc d) c ++ (index d ((n + 1) / 2 ^ d - 2) ∷ [])
 
-pub length-siblings : (n d c : ℕ) → length (siblings n d c) ≡ c
-unfolding siblings
-length-siblings n d zero = refl
-length-siblings n d (suc c) =
-    length-append (siblings n (suc d) c) (index d ((n + 1) / 2 ^ d - 2) ∷ []) ∙ ap (λ (x : ℕ). x + 1) (length-siblings n (suc d) c) ∙ add-one c
-
--- the last of a stack of roots, and the stack without it
-pub last-sibling : (kept : List ℕ) (n d c : ℕ) → getD (kept ++ siblings n d (suc c)) (length kept + c) 0 ≡ index d ((n + 1) / 2 ^ d - 2)
-unfolding siblings
-last-sibling kept n d c =
-    getD-append-add kept (siblings n d (suc c)) c 0
-    ∙ getD-at (siblings n (suc d) c) (index d ((n + 1) / 2 ^ d - 2)) [] 0 c (length-siblings n (suc d) c)
-
-pub without-last : (kept : List ℕ) (n d c : ℕ) → take (length kept + c) (kept ++ siblings n d (suc c)) ≡ kept ++ siblings n (suc d) c
-unfolding siblings
-without-last kept n d c =
-    take-append-add kept (siblings n d (suc c)) c
-    ∙ ap (λ (l : List ℕ). kept ++ l) (take-at (siblings n (suc d) c) (index d ((n + 1) / 2 ^ d - 2) ∷ []) c (length-siblings n (suc d) c))
-
 -- of the chunk number index (d + e) q the bits from d upward, and those of the number after it
 shifted : (d e q : ℕ) → index (d + e) q / 2 ^ d ≡ index e q
 shifted d e q =
@@ -268,6 +248,16 @@ completed-le w n h l =
     subst (λ (x : ℕ). x ≤ w) (sym (completed-depth n (omega (arith, pow-lt l))))
     (le-of-suc-le-suc (pow-below (depth n) (suc w) (omega (arith, subst (λ (x : ℕ). 2 ^ depth n ≤ x + 1) (index-of n) (pow-le-index (depth n) (block n)), pow-succ' 2 w, pow-pos w))))
 
+-- at each depth that it completes the block of the chunk is numbered from 0, and below the count of the chunks
+module _ (n d : ℕ) (few : n < 1048576) (h : d ≤ completed n) where
+  pub completed-few : d ≤ 20
+  completed-few = omega (arith, completed-le 20 n few (omega arith))
+
+  pub completed-block : (1 ≤ (n + 1) / 2 ^ d) × ((n + 1) / 2 ^ d ≤ n + 1)
+  completed-block =
+      let q : (n + 1) / 2 ^ d ≡ (n + 1) / 2 ^ d - 1 + 1 = div-eq-of-eq-mul-left (pow-pos d) (sym (completed-end n d (omega arith) h)) in
+      (omega arith, div-le-self (n + 1) (2 ^ d))
+
 pub carried : (n : ℕ) → n < 2 ^ 20 → Carried n
 unfolding roots
 carried n h =
@@ -296,18 +286,6 @@ carried n h =
     all : (20 - completed n) + suc (completed n) ≡ 21
     all = omega (arith, completed-le 20 n h (omega arith))
 
--- so the count of roots falls by the parents completed, and rises by one
-pub length-carried : (n : ℕ) → n < 2 ^ 20 → length (roots (n + 1)) + completed n ≡ length (roots n) + 1
-length-carried n h =
-    let r = carried n h in
-    let b : length (roots n) ≡ length (r .kept) + completed n =
-    ap length (r .before) ∙ length-append (r .kept) (siblings n 0 (completed n)) ∙ ap (λ (x : ℕ). length (r .kept) + x) (length-siblings n 0 (completed n))
-    in
-    let a : length (roots (n + 1)) ≡ length (r .kept) + 1 =
-    ap length (r .after) ∙ length-append (r .kept) (index (completed n) ((n + 1) / 2 ^ completed n - 1) ∷ [])
-    in
-    omega arith
-
 -- each sibling is the left child, and the node completed beneath is the right child, of the node that is completed next
 pub completed-half : (n d : ℕ) → n + 1 < 2 ^ 64 → suc d ≤ completed n → (n + 1) / 2 ^ d ≡ 2 * ((n + 1) / 2 ^ suc d - 1) + 2
 completed-half n d l h =
@@ -324,13 +302,3 @@ completed-half n d l h =
     (ap (λ (x : ℕ). index x (block n)) (add-suc d (r .0) ∙ sym (suc-add d (r .0))) ∙ at) (shifted-next d (suc (r .0)) (block n))
     in
     omega (arith, index-suc (r .0) (block n))
-
-pub sibling-left : (n d : ℕ) → n + 1 < 2 ^ 64 → suc d ≤ completed n
-    → leftChild (index (suc d) ((n + 1) / 2 ^ suc d - 1)) ≡ index d ((n + 1) / 2 ^ d - 2)
-sibling-left n d l h =
-    leftChild-index d ((n + 1) / 2 ^ suc d - 1) ∙ ap (index d) (omega (arith, completed-half n d l h))
-
-pub sibling-right : (n d : ℕ) → n + 1 < 2 ^ 64 → suc d ≤ completed n
-    → rightChild (index (suc d) ((n + 1) / 2 ^ suc d - 1)) ≡ index d ((n + 1) / 2 ^ d - 1)
-sibling-right n d l h =
-    rightChild-index d ((n + 1) / 2 ^ suc d - 1) ∙ ap (index d) (omega (arith, completed-half n d l h))

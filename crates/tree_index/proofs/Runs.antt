@@ -1,27 +1,13 @@
--- Runs of values: what is among them, and a run in two parts.
+-- Runs of values: what is among them.
 -- Assumes nothing.
 use Prim.Native.Nat.{ℕ, zero, suc, _+_, _<_, suc-le-suc, zero-le}
-use mathlib.Core.Path.{_≡_, refl, sym, ap, ap₂, _∙_}
+use mathlib.Core.Path.{_≡_, refl, sym, ap, _∙_}
 use mathlib.Core.Bool.{Bool, true, false, _||_}
-use mathlib.Core.List.{_∷_, _++_}
-use native.Mathlib.Nat.{add-zero, zero-add, add-suc, suc-add}
+use native.Mathlib.Nat.{add-zero, add-suc, suc-add}
 use native.Mathlib.Omega.{arith}
 use borrow.Author.Tests.{eq-eqb, eqb-true}
 use lib.Dec.{eqb}
-use lib.ListN.{length}
 use Rattle.sequences.specs.Lists.{run, among}
-
-pub run-append : {A : Type 0} (f : ℕ → A) (a b c : ℕ) → run f a (b + c) ≡ run f a b ++ run f (a + b) c
-unfolding run
-run-append f a zero c = ap₂ (run f) (sym (add-zero a)) (zero-add c)
-run-append f a (suc b) c =
-    ap (run f a) (suc-add b c)
-    ∙ ap (λ l. f a ∷ l) (run-append f (suc a) b c ∙ ap (λ x. run f (suc a) b ++ run f x c) (suc-add a b ∙ sym (add-suc a b)))
-
-pub run-length : {A : Type 0} (f : ℕ → A) (a c : ℕ) → length (run f a c) ≡ c
-unfolding run
-run-length f a zero = refl
-run-length f a (suc c) = ap suc (run-length f (suc a) c)
 
 or-right : (x y : Bool) → y ≡ true → x || y ≡ true
 or-right true y e = refl

@@ -1,12 +1,11 @@
 // The in-order tree: indexes, depths, children, parents and roots.
 //
-// Every function here is inner: it asks that indexes stay below 4,194,304 and that a register has at most 1,048,576
-// chunks, which the calls on a register test first.
+// Every function here is inner: its `requires` names its bounds, which its callers meet.
 use counts::ChunkNumber;
 use counts::TreeIndex;
 ghost use mathlib.Core.Path.{_≡_};
 ghost use mathlib.Core.List.{_++_};
-ghost use Prim.Native.Nat.{_-_, _%_, _≤_, _<_};
+ghost use Prim.Native.Nat.{_+_, _-_, _*_, _/_, _%_, _^_, _≤_, _<_};
 ghost use lib.ListN.{length, replicate};
 ghost use Rattle.tree_index.specs.Tree as tree;
 ghost use Rattle.tree_index.specs.Numbers.{numbers};
@@ -17,6 +16,14 @@ pub fn leaf_index(c: ChunkNumber) -> TreeIndex
     ensures { λ r. ⌜ r .0 ≡ tree.index 0 (c .0) ⌝ }
 {
     TreeIndex(2 * c.0)
+}
+
+// The entry just before the leaf of a chunk that is not the first: a parent, which the append of the chunk makes. Inner.
+pub fn parent_before(c: ChunkNumber) -> TreeIndex
+    requires { ⌜ (0 < c .0) × (c .0 < 2097152) ⌝ }
+    ensures { λ r. ⌜ r .0 ≡ 2 * c .0 - 1 ⌝ }
+{
+    TreeIndex(2 * c.0 - 1)
 }
 
 // The chunk of a leaf. Inner.
@@ -102,12 +109,21 @@ pub fn root_count(n: u64) -> usize
     u64::count_ones(n) as usize
 }
 
-// How many parents the chunk n completes. Inner.
-pub fn completed(n: u64) -> u32
-    requires { ⌜ n ≤ 1048576 ⌝ }
-    ensures { λ r. ⌜ r ≡ tree.completed n ⌝ }
+// How many parents a chunk completes. Inner.
+pub fn completed(c: ChunkNumber) -> u32
+    requires { ⌜ c .0 < 1048576 ⌝ }
+    ensures { λ r. ⌜ r ≡ tree.completed (c .0) ⌝ }
 {
-    u64::trailing_zeros(n + 1)
+    u64::trailing_zeros(c.0 + 1)
+}
+
+// The node of the 2^d chunks that end with a chunk: its leaf, or a parent that it completes. Inner.
+pub fn node_ending(c: ChunkNumber, d: u32) -> TreeIndex
+    requires { ⌜ (c .0 < 1048576) × (d ≤ tree.completed (c .0)) ⌝ }
+    ensures { λ r. ⌜ r .0 ≡ tree.index d ((c .0 + 1) / 2 ^ d - 1) ⌝ }
+{
+    let blocks = (c.0 + 1) >> d;
+    node_index(d, blocks - 1)
 }
 
 // The roots of n chunks, largest first, and zeros behind them. Inner.

@@ -10,7 +10,7 @@ use lib.ListN.{length, take, drop}
 use Rattle.sequences.specs.Lists.{part, put, Bytes}
 use Rattle.sequences.proofs.Lists.{drop-put}
 use Rattle.bitfield.specs.Image.{entryCount, entriesOf}
-use Rattle.bitfield.specs.Append.{appended, entryPlace}
+use Rattle.bitfield.specs.Append.{appended, bitsPlace}
 use Rattle.bitfield.proofs.Image.{length-entries}
 use Rattle.bitfield.proofs.Append.{entries-after, appended-image}
 use Rattle.files.specs.Headers.{bitfieldHeader}
@@ -34,7 +34,7 @@ module _ (xs : List ℕ) (n : ℕ) (few : n < mostChunks) (room : usedBitfield (
   cut = header-cut xs bitfieldHeader (entriesOf n) 32 (3328 * entryCount n) bitfieldHeader-length (omega arith) image
 
   pub bits-put : appended xs n ≡ put xs 32 (entriesOf (n + 1))
-  unfolding usedBitfield entryPlace
+  unfolding usedBitfield bitsPlace
   bits-put = appended-image xs n few (omega (arith, entries-after n)) (cut .1)
 
   pub bits-image : take (usedBitfield (n + 1)) (appended xs n) ≡ bitfieldImage (n + 1)

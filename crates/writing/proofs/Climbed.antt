@@ -4,7 +4,7 @@ use Prim.Native.Nat.{ℕ, zero, suc, _+_, _-_, _*_, _/_, _^_, _≤_, _<_}
 use mathlib.Core.Path.{_≡_, refl, sym, ap, ap₂, _∙_}
 use mathlib.Core.Bool.{true, false}
 use mathlib.Core.List.{List, [], _∷_, map, map-append}
-use native.Mathlib.Nat.{add-zero, zero-add, add-suc, suc-add, div-eq-of-eq-mul-left, div-le-self}
+use native.Mathlib.Nat.{add-zero, zero-add, add-suc, suc-add}
 use native.Mathlib.Numerals.{add-one}
 use native.Mathlib.Omega.{arith}
 use lib.ListN.{length, length-append}
@@ -15,7 +15,7 @@ use Rattle.sequences.proofs.Numbers.{length-be}
 use Rattle.tree_index.specs.Tree.{index, filled, completed, filledBy, entries, roots}
 use Rattle.tree_index.proofs.Filled.{block-end, end-filled, filled-below}
 use Rattle.tree_index.proofs.Appended.{completed-end, newly-filled, newly-hole}
-use Rattle.tree_index.proofs.Roots.{siblings, completed-half, completed-le, carried}
+use Rattle.tree_index.proofs.Roots.{siblings, completed-half, carried}
 use Rattle.files.specs.Sizes.{mostChunks, entryPlace, usedTree}
 use Rattle.files.specs.Nodes.{Entry, entryBytes, leaf, parentOf}
 use Rattle.files.specs.Stored.{storedHash, storedSize, storedRootSizes}
@@ -35,16 +35,7 @@ module _ (n d : ℕ) (few : n < mostChunks) where
   small : n + 1 < 2 ^ 64
   small = omega arith
 
-  -- the depths are few
-  pub depth-small : d ≤ completed n → d < 32
-  depth-small h = omega (arith, completed-le 20 n few (omega arith))
-
-  -- the blocks that end with the chunk n are numbered below n + 1, and from 0
-  pub block-one : d ≤ completed n → (1 ≤ (n + 1) / 2 ^ d) × ((n + 1) / 2 ^ d ≤ n + 1)
-  block-one h =
-      let q : (n + 1) / 2 ^ d ≡ (n + 1) / 2 ^ d - 1 + 1 = div-eq-of-eq-mul-left (pow-pos d) (sym (completed-end n d small h)) in
-      (omega arith, div-le-self (n + 1) (2 ^ d))
-
+  -- there is a block before the one that ends with the chunk n, where a parent of both is completed
   pub block-two : d < completed n → 2 ≤ (n + 1) / 2 ^ d
   block-two h = omega (arith, completed-half n d small h)
 

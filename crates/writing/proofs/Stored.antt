@@ -1,6 +1,6 @@
 -- The steps of the part of an append that writes. Assumes nothing.
 use Prim.Native.Nat.{ℕ, zero, suc, _+_, _-_, _*_, _/_, _^_, _≤_, _<_}
-use mathlib.Core.Path.{_≡_, refl, sym, ap, ap₂, _∙_}
+use mathlib.Core.Path.{_≡_, refl, sym, ap, ap₂, _∙_, subst}
 use mathlib.Core.Bool.{Bool, true, false, cond}
 use mathlib.Core.List.{List, _∷_, _++_}
 use native.Mathlib.Omega.{arith}
@@ -11,7 +11,7 @@ use Rattle.sequences.proofs.Lists.{part-put}
 use Rattle.tree_index.specs.Tree.{index, filled, completed, filledBy, entries, roots}
 use Rattle.tree_index.proofs.Filled.{filled-below, filled-leaf}
 use Rattle.tree_index.proofs.Roots.{root-filled}
-use Rattle.bitfield.specs.Append.{entryPlace as bitsPlace, appended}
+use Rattle.bitfield.specs.Append.{bitsPlace, appended}
 use Rattle.bitfield.proofs.Append.{entries-after}
 use Rattle.blake2b.specs.Hash.{nodeHash}
 use Rattle.files.specs.Sizes.{mostChunks, entryPlace, usedTree, usedBitfield}
@@ -37,14 +37,19 @@ no-hole-first t n e =
     let f : filled (n + 1) (2 * n - 1) ≡ true = ap₂ filled (omega arith) (omega arith) ∙ filled-leaf 1 0 in
     sym (ap (λ (b : Bool). cond b t (put t (entryPlace (2 * n - 1)) (zeros 40))) f)
 
-pub no-hole : (t : List ℕ) (n : ℕ) (b : Bool) → b ≡ filled (n + 1) (2 * n - 1) → b ≡ true → t ≡ withHole t n
-unfolding withHole
-no-hole t n b e f = sym (ap (λ (x : Bool). cond x t (put t (entryPlace (2 * n - 1)) (zeros 40))) (sym e ∙ f))
+module _ (t : List ℕ) (n i : ℕ) (b : Bool) (at : i ≡ 2 * n - 1) (e : b ≡ filled (n + 1) i) where
+  new-filled : filled (n + 1) (2 * n - 1) ≡ b
+  new-filled = ap (filled (n + 1)) (sym at) ∙ sym e
 
-pub a-hole : (t u : List ℕ) (n : ℕ) (b : Bool) → b ≡ filled (n + 1) (2 * n - 1) → b ≡ false → u ≡ put t (entryPlace (2 * n - 1)) (zeros 40)
-    → u ≡ withHole t n
-unfolding withHole
-a-hole t u n b e f p = p ∙ sym (ap (λ (x : Bool). cond x t (put t (entryPlace (2 * n - 1)) (zeros 40))) (sym e ∙ f))
+  pub no-hole : b ≡ true → t ≡ withHole t n
+  unfolding withHole
+  no-hole f = sym (ap (λ (x : Bool). cond x t (put t (entryPlace (2 * n - 1)) (zeros 40))) (new-filled ∙ f))
+
+  pub a-hole : (u : List ℕ) → b ≡ false → u ≡ put t (entryPlace i) (zeros 40) → u ≡ withHole t n
+  unfolding withHole
+  a-hole u f p =
+      p ∙ ap (λ (j : ℕ). put t (entryPlace j) (zeros 40)) at
+      ∙ sym (ap (λ (x : Bool). cond x t (put t (entryPlace (2 * n - 1)) (zeros 40))) (new-filled ∙ f))
 
 -- what is filled among n chunks stands as it did
 module _ (t : List ℕ) (n : ℕ) (room : usedTree (n + 1) ≤ length t) where
@@ -106,8 +111,9 @@ pub bits-room : (b : List ℕ) (n : ℕ) → usedBitfield (n + 1) ≤ length b �
 unfolding usedBitfield bitsPlace
 bits-room b n h = omega (arith, entries-after n)
 
-pub hole-in : (t : List ℕ) (n : ℕ) → n < mostChunks → usedTree (n + 1) ≤ length t → EntryIn t (2 * n - 1)
-hole-in t n few room = record { small = omega arith; inside = hole-room t n room }
+pub hole-in : (t : List ℕ) (n i : ℕ) → n < mostChunks → usedTree (n + 1) ≤ length t → i ≡ 2 * n - 1 → EntryIn t i
+hole-in t n i few room at =
+    subst (EntryIn t) (sym at) (record { small = omega arith; inside = hole-room t n room })
 
 -- ---- one node, at the index i that the code made
 

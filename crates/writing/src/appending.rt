@@ -1,7 +1,7 @@
 // An append: "adds one chunk, writes the leaf, every completed parent and the new hole, if any, sets the bits, regenerates the
 // Index of the new chunk's bitfield entry (zeroed first if it is new), and answers the new root hash".
 use counts::Answer;
-use counts::TreeIndex;
+use counts::ChunkNumber;
 ghost use mathlib.Core.Path.{_≡_};
 ghost use Prim.Native.Nat.{_+_, _*_, _≤_, _<_};
 ghost use lib.ListN.{length};
@@ -99,7 +99,7 @@ fn judge(
     }
 }
 
-// Inner: the new hole, if any. The entry 2n - 1 is new; it is a hole where the chunk n does not complete it.
+// Inner: the new hole, if any. The parent before the leaf of the chunk n is new; it is a hole where the chunk does not complete it.
 fn clear_hole(tree: &mut [u8], n: u64)
     requires { ⌜ (n < 1048576) × (usedTree (n + 1) ≤ length (now tree)) ⌝ }
     ensures { λ _. ⌜ now (tree .exit) ≡ withHole (now (tree .entry)) n ⌝ }
@@ -107,7 +107,7 @@ fn clear_hole(tree: &mut [u8], n: u64)
     if n == 0 {
         return;
     }
-    let i = TreeIndex(2 * n - 1);
+    let i = tree_index::parent_before(ChunkNumber(n));
     if tree_index::is_filled(n + 1, i) {
         return;
     }
@@ -119,7 +119,7 @@ fn put_node(tree: &mut [u8], n: u64, d: u32, node: Node)
     requires { ⌜ NodeFits (now tree) n d ⌝ }
     ensures { λ _. ⌜ now (tree .exit) ≡ put (now (tree .entry)) (entryPlace (place n d)) (entryBytes (entryOf node)) ⌝ }
 {
-    let i = tree_index::node_index(d, ((n + 1) >> d) - 1);
+    let i = tree_index::node_ending(ChunkNumber(n), d);
     let hash = node.hash;
     files::entries::write_entry(tree, i, &hash, node.size);
 }
@@ -147,7 +147,7 @@ fn write_filled(tree: &mut [u8], n: u64, leaf: Node)
         withEntries (now (tree .entry)) (filledBy n) (climb nodeHash (now (tree .entry)) n 0 (completed n) (entryOf leaf))
         ⌝ }
 {
-    let last = tree_index::completed(n);
+    let last = tree_index::completed(ChunkNumber(n));
     let mut node = leaf;
     let mut d: u32 = 0;
     while d < last {
@@ -188,7 +188,7 @@ fn store(
             size: chunk.len() as u64,
         },
     );
-    bitfield::append_bits(bitfield, n);
+    bitfield::append_bits(bitfield, ChunkNumber(n));
     files::roots::stored_root_hash(tree, n + 1)
 }
 

@@ -14,7 +14,7 @@ steps xs a b c d n p q r s =
     s ∙ ap (λ (l : List ℕ). regenerated l (n / 8192)) (r ∙ ap (λ (l : List ℕ). setTreeBits l (filledBy n)) (q ∙ ap (λ (l : List ℕ). setDataBit l n) p))
 
 returns : tie.Need-returns
-returns c = steps _ _ _ _ _ _ (c .before .before .before .before .before .before .before .before .before .before .before .before .before .before .zero-if-new .ensures) (c .before .before .before .before .before .before .before .before .before .before .set-data-bit .ensures) (c .before .before .before .before .before .before .set-filled .ensures) (c .before .before .regenerate .ensures)
+returns c = steps _ _ _ _ _ _ (c .before .before .before .before .before .before .before .before .before .before .before .before .before .before .before .zero-if-new .ensures) (c .before .before .before .before .before .before .before .before .before .before .before .set-data-bit .ensures) (c .before .before .before .before .before .before .before .set-filled .ensures) (c .before .before .regenerate .ensures)
 
 pub append-bits-spec : {M : Type 1} → statement M
 append-bits-spec =

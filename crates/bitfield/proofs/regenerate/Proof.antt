@@ -7,38 +7,38 @@ use Prim.Native.Nat.{ℕ, _+_, _-_, _*_}
 use lib.ListN.{length, take, drop}
 use Rattle.sequences.specs.Lists.{part, put}
 use Rattle.bitfield.specs.Index.{indexBytes}
-use Rattle.bitfield.specs.Append.{regenerated, entryPlace}
+use Rattle.bitfield.specs.Append.{regenerated, bitsPlace}
 use Rattle.bitfield.proofs.Levels.{length-index}
 use Rattle.bitfield.proofs.regenerate.Statement.{statement}
 use Rattle.bitfield.proofs.regenerate.Tie as tie
 
 mul-at : tie.Need-mul-at
-unfolding entryPlace
+unfolding bitsPlace
 mul-at c = omega arith
 
 add-at : tie.Need-add-at
-unfolding entryPlace
+unfolding bitsPlace
 add-at c = omega arith
 
 add-end : tie.Need-add-end
-unfolding entryPlace
+unfolding bitsPlace
 add-end c = omega arith
 
 part-index-of-end : tie.Need-part-index-of-end
-unfolding entryPlace
+unfolding bitsPlace
 part-index-of-end c = omega arith
 
 add-copy-to : tie.Need-add-copy-to
-unfolding entryPlace
+unfolding bitsPlace
 add-copy-to c = omega arith
 
 copy-to-requires : tie.Need-copy-to-requires
-unfolding entryPlace
+unfolding bitsPlace
 copy-to-requires c κs = omega (arith, ap length (c .before .before .index-of .ensures) ∙ length-index _)
 
 together : (xs zs bs : List ℕ) (e : ℕ) → zs ≡ put xs (32 + 3328 * e + 3072) bs
     → bs ≡ indexBytes (take (32 + 3328 * e + 1024 - (32 + 3328 * e)) (drop (32 + 3328 * e) xs)) → zs ≡ regenerated xs e
-unfolding regenerated entryPlace part
+unfolding regenerated bitsPlace part
 together xs zs bs e p q =
     let r : 32 + 3328 * e + 1024 - (32 + 3328 * e) ≡ 1024 = omega arith in
     p ∙ ap (put xs (32 + 3328 * e + 3072)) (q ∙ ap (λ (k : ℕ). indexBytes (take k (drop (32 + 3328 * e) xs))) r)

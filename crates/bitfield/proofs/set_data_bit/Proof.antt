@@ -1,16 +1,16 @@
 -- The place of the entry, and the bit in it.
 use borrow.Author.Needs.{needs}
 use native.Mathlib.Omega.{arith}
-use Rattle.bitfield.specs.Append.{setDataBit, entryPlace}
+use Rattle.bitfield.specs.Append.{setDataBit, bitsPlace}
 use Rattle.bitfield.proofs.set_data_bit.Statement.{statement}
 use Rattle.bitfield.proofs.set_data_bit.Tie as tie
 
 set-bit-requires : tie.Need-set-bit-requires
-unfolding entryPlace
+unfolding bitsPlace
 set-bit-requires c κs = omega arith
 
 returns : tie.Need-returns
-unfolding setDataBit entryPlace
+unfolding setDataBit bitsPlace
 returns c = c .before .before .set-bit .ensures
 
 pub set-data-bit-spec : {M : Type 1} → statement M

@@ -1,79 +1,80 @@
--- The bits of the first d nodes are set, and w is 2^d.
+-- The bits of the first d nodes are set.
 use borrow.Author.Needs.{needs}
 use native.Mathlib.Omega.{arith}
 use mathlib.Core.Path.{_≡_, refl, sym, ap, _∙_}
 use mathlib.Core.List.{List}
-use Prim.Native.Nat.{ℕ, _+_, _-_, _*_, _^_, _≤_, _<_}
-use native.Mathlib.Nat.{pow-succ'}
-use native.Mathlib.Numerals.{add-one}
+use Prim.Native.Nat.{ℕ, _+_, _-_, _*_, _/_, _^_, _≤_, _<_}
 use lib.ListN.{length}
-use lib.Count.{trailingZeros, trailing-le}
 use lib.Pow.{pow-pos}
-use Rattle.tree_index.specs.Tree.{completed, filledBy}
-use Rattle.bitfield.specs.Append.{entryPlace, setTreeBit, setTreeBits}
+use Rattle.tree_index.specs.Tree.{index, completed, filledBy}
+use Rattle.tree_index.proofs.Roots.{completed-few}
+use Rattle.bitfield.specs.Append.{bitsPlace, setTreeBit, setTreeBits}
 use Rattle.bitfield.proofs.Append.{filledFirst, no-bits, next-bit, all-bits}
-use Rattle.bitfield.proofs.TreeFacts.{width-le}
+use Rattle.bitfield.proofs.TreeFacts.{width-le, filled-place}
 use Rattle.bitfield.proofs.set_filled.Statement.{statement}
 use Rattle.bitfield.proofs.set_filled.Tie as tie
 
 abbrev Inv-loop : tie.InvT-loop
-Inv-loop xs₀ n last d₀ w₀ xs d w = (d ≤ last + 1) × (w ≡ 2 ^ d) × (xs ≡ setTreeBits xs₀ (filledFirst n d)) × (length xs ≡ length xs₀)
+Inv-loop xs₀ c last d₀ xs d = (d ≤ last + 1) × (xs ≡ setTreeBits xs₀ (filledFirst (c .0) d)) × (length xs ≡ length xs₀)
 
 abbrev μ-loop : tie.MeasureT-loop
-μ-loop xs₀ n last d₀ w₀ xs d w = last + 1 - d
+μ-loop xs₀ c last d₀ xs d = last + 1 - d
 
-wide : (n d : ℕ) → n < 1048576 → d ≤ trailingZeros 64 (n + 1) → 2 ^ d ≤ n + 1
-unfolding completed
-wide n d few h = width-le n d (omega arith) h
+-- the node stands before the leaf of the chunk behind it, so its bit lies in the file
+inside : (n d i k : ℕ) → n < 1048576 → d ≤ completed n → i ≡ index d ((n + 1) / 2 ^ d - 1) → bitsPlace (n / 8192 + 1) ≤ k → bitsPlace (i / 16384 + 1) ≤ k
+unfolding bitsPlace
+inside n d i k few h e room = omega (arith, filled-place n d (omega arith) h, width-le n d (omega arith) h, pow-pos d)
 
-next : (n d : ℕ) (xs : List ℕ) → n < 1048576 → d ≤ trailingZeros 64 (n + 1) → setTreeBit (setTreeBits xs (filledFirst n d)) (2 * n + 1 - 2 ^ d) ≡ setTreeBits xs (filledFirst n (d + 1))
-unfolding completed
-next n d xs few h = next-bit xs n d (omega arith) h
+end : (xs : List ℕ) (n d : ℕ) → d ≡ completed n + 1 → setTreeBits xs (filledFirst n d) ≡ setTreeBits xs (filledBy n)
+end xs n d e = ap (λ (t : ℕ). setTreeBits xs (filledFirst n t)) e ∙ ap (setTreeBits xs) (all-bits n)
 
-end : (xs : List ℕ) (n d : ℕ) → d ≤ trailingZeros 64 (n + 1) + 1 → trailingZeros 64 (n + 1) < d → setTreeBits xs (filledFirst n d) ≡ setTreeBits xs (filledBy n)
-unfolding completed
-end xs n d h l =
-    let e : d ≡ trailingZeros 64 (n + 1) + 1 = omega arith in
-    ap (λ (t : ℕ). setTreeBits xs (filledFirst n t)) e ∙ ap (setTreeBits xs) (all-bits n)
+-- the test of the loop, on the chunk's own count
+below : (c : tie.In-loop Inv-loop μ-loop) → c .before .loop .d ≤ completed (c .before .before .before .before .args .c .0)
+below c = omega (arith, c .loop-test .taken, c .before .before .completed .ensures)
 
 loop-holds : tie.Need-loop-holds Inv-loop μ-loop
-loop-holds c = (search needs, refl, no-bits (c .before .args .xs .now) (c .before .args .n), refl)
+loop-holds c = (search needs, no-bits (c .before .before .args .xs .now) (c .before .before .args .c .0), refl)
 
-sub-i : tie.Need-sub-i Inv-loop μ-loop
-sub-i c = omega (arith, wide (c .before .before .before .args .n) (c .before .loop .d) (c .before .before .before .pre .0) (c .loop-test .taken))
+node-ending-requires : tie.Need-node-ending-requires Inv-loop μ-loop
+node-ending-requires c κs = (c .before .before .before .before .pre .0, below c)
 
 set-tree-bit-requires : tie.Need-set-tree-bit-requires Inv-loop μ-loop
-unfolding entryPlace
-set-tree-bit-requires c κs = omega (arith, wide (c .before .before .before .before .args .n) (c .before .before .loop .d) (c .before .before .before .before .pre .0) (c .before .loop-test .taken), pow-pos (c .before .before .loop .d))
-
-mul-w : tie.Need-mul-w Inv-loop μ-loop
-mul-w c = omega (arith, wide (c .before .before .before .before .before .before .before .args .n) (c .before .before .before .before .before .loop .d) (c .before .before .before .before .before .before .before .pre .0) (c .before .before .before .before .loop-test .taken))
+set-tree-bit-requires c κs =
+    let in-loop = c .before .before .before in
+    let start = in-loop .before .before .before .before in (
+      refl,
+      inside (start .args .c .0) (in-loop .before .loop .d) _ _ (start .pre .0) (below in-loop) (c .before .before .node-ending .ensures)
+          (omega (arith, start .pre .1, in-loop .before .loop .inv .2)),
+    )
 
 add-d : tie.Need-add-d Inv-loop μ-loop
-add-d c = omega (arith, trailing-le 64 (c .before .before .before .before .before .before .before .args .n + 1))
+add-d c =
+    let in-loop = c .before .before .before .before .before .before in
+    let start = in-loop .before .before .before .before in
+    omega (arith, completed-few (start .args .c .0) (in-loop .before .loop .d) (start .pre .0) (below in-loop))
 
 loop-again : tie.Need-loop-again Inv-loop μ-loop
 loop-again c =
-    let at-loop = c .before .before .before .before .before in
-    let start = at-loop .before .before in
-    let n = start .args .n in
-    let d = at-loop .loop .d in (
+    let in-loop = c .before .before .before .before .before .before in
+    let start = in-loop .before .before .before .before in
+    let l = in-loop .before .loop in
+    let xs = start .args .xs .now in
+    let n = start .args .c .0 in (
       search needs,
-      ap (λ (t : ℕ). 2 * t) (at-loop .loop .inv .1) ∙ sym (pow-succ' 2 d) ∙ ap (λ (t : ℕ). 2 ^ t) (sym (add-one d)),
-      c .before .before .set-tree-bit .ensures
-          ∙ ap (λ (l : List ℕ). setTreeBit l (2 * n + 1 - at-loop .loop .w)) (at-loop .loop .inv .2)
-          ∙ ap (λ (t : ℕ). setTreeBit (setTreeBits (start .args .xs .now) (filledFirst n d)) (2 * n + 1 - t)) (at-loop .loop .inv .1)
-          ∙ next n d (start .args .xs .now) (start .pre .0) (c .before .before .before .before .loop-test .taken),
+      c .before .before .set-tree-bit .ensures ∙ ap (setTreeBit (l .xs)) (c .before .before .before .before .before .node-ending .ensures)
+          ∙ ap (λ (y : List ℕ). setTreeBit y (index (l .d) ((n + 1) / 2 ^ l .d - 1))) (l .inv .1) ∙ next-bit xs n (l .d),
       search needs,
     )
 
 returns : tie.Need-returns Inv-loop μ-loop
 returns c =
-    let at-loop = c .before in
-    let start = at-loop .before .before in
-    at-loop .loop .inv .2 ∙ end (start .args .xs .now) (start .args .n) (at-loop .loop .d) (at-loop .loop .inv .0) (c .loop-test .left)
+    let l = c .before .loop in
+    let start = c .before .before .before .before in
+    l .inv .1
+    ∙ end (start .args .xs .now) (start .args .c .0) (l .d) (omega (arith, l .inv .0, c .loop-test .left, c .before .before .completed .ensures))
 
 pub set-filled-spec : {M : Type 1} → statement M
 set-filled-spec =
-    tie.close (tie.spec Inv-loop μ-loop (λ c. search needs) loop-holds (λ c. search needs) (λ c. search needs) sub-i
-    set-tree-bit-requires mul-w add-d (λ c. search needs) loop-again (λ c. search needs) returns)
+    tie.close
+    (tie.spec Inv-loop μ-loop (λ c κs. search needs) loop-holds node-ending-requires set-tree-bit-requires add-d (λ c. search needs) loop-again
+    (λ c. search needs) returns)

@@ -1,7 +1,7 @@
 -- `compare::compare` meets its contract.  Assumes nothing.
 use Rattle.blake2b.specs.Hash.{nodeHash}
 use Rattle.checks.specs.Given.{registerOf}
-use Rattle.compare.proofs.Walked.{first-refuses, second-refuses, both-readable, walk-says}
+use Rattle.compare.proofs.Walked.{first-refuses, second-refuses, both-walkable, walk-says}
 use Rattle.compare.specs.Answered.{compared}
 use borrow.Author.Needs.{needs}
 use Rattle.compare.proofs.compare.Statement.{statement}
@@ -14,7 +14,7 @@ returns-2 : tie.Need-returns-2
 returns-2 c = let a = c .before .before .before .before .before .before .before .before .before .before .before .before .before .before .before .args in second-refuses nodeHash (registerOf (a .tree .now) (a .signatures .now) (a .bitfield .now) (a .content .now) (a .n) (a .s) (a .size)) (registerOf (a .tree2 .now) (a .signatures2 .now) (a .bitfield2 .now) (a .content2 .now) (a .n2) (a .s2) (a .size2)) (c .before .before .before .before .before .before .audit .result) (c .before .before .before .before .before .before .audit .ensures) (c .before .before .before .before .enum-told .given .1) (c .before .before .before .audit2 .result) (c .before .before .before .audit2 .ensures) _ (c .before .second .given .1)
 
 walk-requires : tie.Need-walk-requires
-walk-requires c κs = let a = c .before .before .before .before .before .before .before .before .before .before .before .before .before .before .args in both-readable nodeHash (registerOf (a .tree .now) (a .signatures .now) (a .bitfield .now) (a .content .now) (a .n) (a .s) (a .size)) (registerOf (a .tree2 .now) (a .signatures2 .now) (a .bitfield2 .now) (a .content2 .now) (a .n2) (a .s2) (a .size2)) (c .before .before .before .before .before .audit .result) (c .before .before .before .before .before .audit .ensures) (c .before .before .before .enum-told .given .1) (c .before .before .audit2 .result) (c .before .before .audit2 .ensures) (c .enum-told2 .given .1)
+walk-requires c κs = let a = c .before .before .before .before .before .before .before .before .before .before .before .before .before .before .args in both-walkable nodeHash (registerOf (a .tree .now) (a .signatures .now) (a .bitfield .now) (a .content .now) (a .n) (a .s) (a .size)) (registerOf (a .tree2 .now) (a .signatures2 .now) (a .bitfield2 .now) (a .content2 .now) (a .n2) (a .s2) (a .size2)) (c .before .before .before .before .before .audit .result) (c .before .before .before .before .before .audit .ensures) (c .before .before .before .enum-told .given .1) (c .before .before .audit2 .result) (c .before .before .audit2 .ensures) (c .enum-told2 .given .1)
 
 returns-3 : tie.Need-returns-3
 returns-3 c = let a = c .before .before .before .before .before .before .before .before .before .before .before .before .before .before .before .args in walk-says nodeHash (registerOf (a .tree .now) (a .signatures .now) (a .bitfield .now) (a .content .now) (a .n) (a .s) (a .size)) (registerOf (a .tree2 .now) (a .signatures2 .now) (a .bitfield2 .now) (a .content2 .now) (a .n2) (a .s2) (a .size2)) (c .before .before .before .before .before .before .audit .result) (c .before .before .before .before .before .before .audit .ensures) (c .before .before .before .before .enum-told .given .1) (c .before .before .before .audit2 .result) (c .before .before .before .audit2 .ensures) (c .before .enum-told2 .given .1) (compared (c .walk .result)) (c .walk .ensures)

@@ -3,8 +3,6 @@ use borrow.Author.Needs.{needs}
 use Rattle.listing_lines.proofs.Listed.{list-short, list-copied}
 use Rattle.listing_lines.proofs.list_on.Statement.{statement}
 use Rattle.listing_lines.proofs.list_on.Tie as tie
-use Rattle.listing_lines.proofs.list_on.Reads as reads
-use Rattle.listing_lines.proofs.list_on.Lts as lts
 
 returns : tie.Need-returns
 returns c = list-short (c .before .before .before .before .before .before .before .before .before .before .before .before .before .before .before .before .before .before .before .before .before .before .before .before .args .input .now) (c .before .before .before .before .before .before .before .before .before .before .before .before .before .before .before .before .before .before .before .before .before .before .before .before .args .out .now) (c .before .before .before .before .before .before .before .before .before .before .before .put-listing .ensures) (c .if1 .taken)

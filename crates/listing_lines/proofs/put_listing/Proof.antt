@@ -6,8 +6,6 @@ use Rattle.listing_lines.specs.Lines.{refusedLine}
 use Rattle.listing_lines.proofs.Listed.{refused-put, lines-put, read-printable}
 use Rattle.listing_lines.proofs.put_listing.Statement.{statement}
 use Rattle.listing_lines.proofs.put_listing.Tie as tie
-use Rattle.listing_lines.proofs.put_listing.Reads as reads
-use Rattle.listing_lines.proofs.put_listing.Lts as lts
 
 returns : tie.Need-returns
 unfolding refusedLine

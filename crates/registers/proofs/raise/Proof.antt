@@ -4,7 +4,7 @@ use native.Mathlib.Omega.{arith}
 use Prim.Native.Nat.{_-_}
 use mathlib.Core.Path.{_≡_}
 use lib.ListN.{length}
-use Rattle.bitfield.specs.Append.{entryPlace}
+use Rattle.bitfield.specs.Append.{bitsPlace}
 use Rattle.registers.proofs.raise.Statement.{statement}
 use Rattle.registers.proofs.raise.Tie as tie
 
@@ -15,7 +15,7 @@ abbrev μ-loop : tie.MeasureT-loop
 μ-loop xs₀ n₀ xs n = 16386 - n
 
 append-bits-requires : tie.Need-append-bits-requires Inv-loop μ-loop
-unfolding entryPlace
+unfolding bitsPlace
 append-bits-requires c κs = omega arith
 
 pub raise-spec : {M : Type 1} → statement M

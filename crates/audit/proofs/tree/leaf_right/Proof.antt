@@ -17,13 +17,13 @@ returns : tie.Need-returns
 returns c = let a = c .before .before .before .before .before .args in leaf-long nodeHash (a .tree .now) (a .content .now) (a .size) (a .c .0) (c .before .stored-size .result) (c .before .stored-size .ensures ∙ ap (storedSize (a .tree .now)) (c .before .before .leaf-index .ensures ∙ index-leaf (a .c .0))) (omega (arith, c .if1 .taken))
 
 returns-2 : tie.Need-returns-2
-returns-2 c = let a = c .before .before .before .before .before .before .args in leaf-past nodeHash (a .tree .now) (a .content .now) (a .size) (a .c .0) (a .start) (c .before .before .stored-size .result) (c .before .before .before .before .before .before .pre .here) (c .before .before .stored-size .ensures ∙ ap (storedSize (a .tree .now)) (c .before .before .before .leaf-index .ensures ∙ index-leaf (a .c .0))) (omega (arith, c .before .if1 .left)) (c .if2 .taken) (c .before .before .before .before .before .before .pre .inside)
+returns-2 c = let a = c .before .before .before .before .before .before .before .args in leaf-past nodeHash (a .tree .now) (a .content .now) (a .size) (a .c .0) (a .start .0) (c .before .before .before .stored-size .result) (c .before .before .before .before .before .before .before .pre .here) (c .before .before .before .stored-size .ensures ∙ ap (storedSize (a .tree .now)) (c .before .before .before .before .leaf-index .ensures ∙ index-leaf (a .c .0))) (omega (arith, c .before .before .if1 .left)) (c .if2 .taken) (c .before .before .before .before .before .before .before .pre .inside)
 
 stored-hash-requires : tie.Need-stored-hash-requires
-stored-hash-requires c κs = let a = c .before .before .before .before .before .before .before .before .args in entry-as (a .tree .now) (c .before .before .before .before .before .leaf-index .ensures ∙ index-leaf (a .c .0)) (c .before .before .before .before .before .before .before .before .pre .entry)
+stored-hash-requires c κs = let a = c .before .before .before .before .before .before .before .before .before .args in entry-as (a .tree .now) (c .before .before .before .before .before .before .leaf-index .ensures ∙ index-leaf (a .c .0)) (c .before .before .before .before .before .before .before .before .before .pre .entry)
 
 returns-3 : tie.Need-returns-3
-returns-3 c = let a = c .before .before .before .before .before .before .before .before .before .before .before .before .args in let at = c .before .before .before .before .before .before .before .before .before .leaf-index .ensures ∙ index-leaf (a .c .0) in leaf-same nodeHash (a .tree .now) (a .content .now) (a .size) (a .c .0) (a .start) (c .before .before .before .before .before .before .before .before .stored-size .result) (a .start + c .before .before .before .before .before .before .before .before .stored-size .result - a .start) (c .before .before .before .stored-hash .result) (c .before .before .before .before .leaf-hash .result) (c .same .result) (c .before .before .before .before .before .before .before .before .before .before .before .before .pre .here) (c .before .before .before .before .before .before .before .before .stored-size .ensures ∙ ap (storedSize (a .tree .now)) at) (omega (arith, c .before .before .before .before .before .before .before .if1 .left)) (c .before .before .before .before .before .before .if2 .left) (c .before .before .before .before .before .before .before .before .before .before .before .before .pre .inside) (omega arith) (c .before .before .before .stored-hash .ensures ∙ ap (storedHash (a .tree .now)) at) (c .before .before .before .before .leaf-hash .ensures) (c .same .ensures)
+returns-3 c = let a = c .before .before .before .before .before .before .before .before .before .before .before .before .before .args in let at = c .before .before .before .before .before .before .before .before .before .before .leaf-index .ensures ∙ index-leaf (a .c .0) in leaf-same nodeHash (a .tree .now) (a .content .now) (a .size) (a .c .0) (a .start .0) (c .before .before .before .before .before .before .before .before .before .stored-size .result) (a .start .0 + c .before .before .before .before .before .before .before .before .before .stored-size .result - a .start .0) (c .before .before .before .stored-hash .result) (c .before .before .before .before .leaf-hash .result) (c .same .result) (c .before .before .before .before .before .before .before .before .before .before .before .before .before .pre .here) (c .before .before .before .before .before .before .before .before .before .stored-size .ensures ∙ ap (storedSize (a .tree .now)) at) (omega (arith, c .before .before .before .before .before .before .before .before .if1 .left)) (c .before .before .before .before .before .before .if2 .left) (c .before .before .before .before .before .before .before .before .before .before .before .before .before .pre .inside) (omega arith) (c .before .before .before .stored-hash .ensures ∙ ap (storedHash (a .tree .now)) at) (c .before .before .before .before .leaf-hash .ensures) (c .same .ensures)
 
 pub leaf-right-spec : {M : Type 1} → statement M
 leaf-right-spec = tie.close (tie.spec (λ c κs. search needs) stored-size-requires returns (λ c. search needs) returns-2 (λ c. search needs) (λ c. search needs) (λ c. search needs) (λ c. search needs) (λ c κs. search needs) stored-hash-requires (λ c. search needs) (λ c. search needs) (λ c κs. search needs) returns-3)

@@ -5,14 +5,14 @@ use native.Mathlib.Omega.{arith}
 use Rattle.audit.proofs.tree.start_behind.Statement.{statement}
 use Rattle.audit.proofs.tree.start_behind.Tie as tie
 
-add-result : tie.Need-add-result
-add-result c = omega (arith, c .before .before .before .before .pre .fits (c .before .if1 .taken), c .stored-size .ensures)
+add-t7 : tie.Need-add-t7
+add-t7 c = omega (arith, c .before .before .before .before .before .pre .fits (c .before .before .if1 .taken), c .before .stored-size .ensures)
 
 returns : tie.Need-returns
-returns c = let a = c .before .before .before .before .args in behind-leaf (a .tree .now) (a .i .0) (a .start) (c .stored-size .result) (c .before .if1 .taken) (c .before .before .before .before .pre .here) (c .stored-size .ensures)
+returns c = let a = c .before .before .before .before .before .args in behind-leaf (a .tree .now) (a .i .0) (a .start .0) (c .before .stored-size .result) (c .before .before .if1 .taken) (c .before .before .before .before .before .pre .here) (c .before .stored-size .ensures)
 
 returns-2 : tie.Need-returns-2
-returns-2 c = let a = c .before .before .before .args in behind-parent (a .tree .now) (a .i .0) (a .start) (c .if1 .left) (c .before .before .before .pre .here)
+returns-2 c = let a = c .before .before .before .args in behind-parent (a .tree .now) (a .i .0) (a .start .0) (c .if1 .left) (c .before .before .before .pre .here)
 
 pub start-behind-spec : {M : Type 1} → statement M
-start-behind-spec = tie.close (tie.spec (λ c κs. search needs) add-result returns returns-2)
+start-behind-spec = tie.close (tie.spec (λ c κs. search needs) add-t7 returns returns-2)

@@ -10,7 +10,7 @@ use Rattle.audit.proofs.tree.wrong_entry.Statement.{statement}
 use Rattle.audit.proofs.tree.wrong_entry.Tie as tie
 
 abbrev Inv-loop : tie.InvT-loop
-Inv-loop tree content n size count i₀ start₀ i start = Walking nodeHash tree content n size count i start
+Inv-loop tree content n size count i₀ start₀ i start = Walking nodeHash tree content n size count i (start .0)
 
 abbrev μ-loop : tie.MeasureT-loop
 μ-loop tree content n size count i₀ start₀ i start = count - i
@@ -22,19 +22,19 @@ loop-holds : tie.Need-loop-holds Inv-loop μ-loop
 loop-holds c = let a = c .before .before .before .args in walking-start nodeHash (a .tree .now) (a .content .now) (a .n) (a .size) (c .entries .result) (c .entries .ensures)
 
 entry-right-requires : tie.Need-entry-right-requires Inv-loop μ-loop
-entry-right-requires c κs = let a = c .before .before .before .before .before .args in let at = c .before .loop in walking-entry nodeHash (a .tree .now) (a .content .now) (a .n) (a .size) (c .before .before .entries .result) (at .i) (at .start) (at .inv) (c .before .before .before .before .before .pre .0) (c .before .before .before .before .before .pre .1) (c .loop-test .taken)
+entry-right-requires c κs = let a = c .before .before .before .before .before .args in let at = c .before .loop in walking-entry nodeHash (a .tree .now) (a .content .now) (a .n) (a .size) (c .before .before .entries .result) (at .i) (at .start .0) (at .inv) (c .before .before .before .before .before .pre .0) (c .before .before .before .before .before .pre .1) (c .loop-test .taken)
 
 returns : tie.Need-returns Inv-loop μ-loop
-returns c = let a = c .before .before .before .before .before .before .before .before .args in let at = c .before .before .before .before .loop in walking-found nodeHash (a .tree .now) (a .content .now) (a .n) (a .size) (c .before .before .before .before .before .entries .result) (at .i) (at .start) (at .inv) (said (c .refuse-entry .result)) (c .before .before .before .loop-test .taken) (sym (c .before .before .entry-right .ensures) ∙ not-true _ (c .before .if1 .taken)) (c .refuse-entry .ensures)
+returns c = let a = c .before .before .before .before .before .before .before .before .args in let at = c .before .before .before .before .loop in walking-found nodeHash (a .tree .now) (a .content .now) (a .n) (a .size) (c .before .before .before .before .before .entries .result) (at .i) (at .start .0) (at .inv) (said (c .refuse-entry .result)) (c .before .before .before .loop-test .taken) (sym (c .before .before .entry-right .ensures) ∙ not-true _ (c .before .if1 .taken)) (c .refuse-entry .ensures)
 
 start-behind-requires : tie.Need-start-behind-requires Inv-loop μ-loop
-start-behind-requires c κs = let a = c .before .before .before .before .before .before .before .args in let at = c .before .before .before .loop in at-start nodeHash (a .tree .now) (a .content .now) (a .n) (a .size) (at .i) (at .start) (walking-entry nodeHash (a .tree .now) (a .content .now) (a .n) (a .size) (c .before .before .before .before .entries .result) (at .i) (at .start) (at .inv) (c .before .before .before .before .before .before .before .pre .0) (c .before .before .before .before .before .before .before .pre .1) (c .before .before .loop-test .taken)) (c .before .before .before .before .before .before .before .fits .size .fits) (sym (c .before .entry-right .ensures) ∙ not-false _ (c .if1 .left))
+start-behind-requires c κs = let a = c .before .before .before .before .before .before .before .args in let at = c .before .before .before .loop in at-start nodeHash (a .tree .now) (a .content .now) (a .n) (a .size) (at .i) (at .start .0) (walking-entry nodeHash (a .tree .now) (a .content .now) (a .n) (a .size) (c .before .before .before .before .entries .result) (at .i) (at .start .0) (at .inv) (c .before .before .before .before .before .before .before .pre .0) (c .before .before .before .before .before .before .before .pre .1) (c .before .before .loop-test .taken)) (c .before .before .before .before .before .before .before .fits .size .fits) (sym (c .before .entry-right .ensures) ∙ not-false _ (c .if1 .left))
 
 loop-again : tie.Need-loop-again Inv-loop μ-loop
-loop-again c = let a = c .before .before .before .before .before .before .before .before .args in let at = c .before .before .before .before .loop in walking-next nodeHash (a .tree .now) (a .content .now) (a .n) (a .size) (c .before .before .before .before .before .entries .result) (at .i) (at .start) (at .inv) (c .start-behind .result) (walking-entry nodeHash (a .tree .now) (a .content .now) (a .n) (a .size) (c .before .before .before .before .before .entries .result) (at .i) (at .start) (at .inv) (c .before .before .before .before .before .before .before .before .pre .0) (c .before .before .before .before .before .before .before .before .pre .1) (c .before .before .before .loop-test .taken)) (c .before .before .before .loop-test .taken) (sym (c .before .before .entry-right .ensures) ∙ not-false _ (c .before .if1 .left)) (c .start-behind .ensures)
+loop-again c = let a = c .before .before .before .before .before .before .before .before .args in let at = c .before .before .before .before .loop in walking-next nodeHash (a .tree .now) (a .content .now) (a .n) (a .size) (c .before .before .before .before .before .entries .result) (at .i) (at .start .0) (at .inv) (c .start-behind .result .0) (walking-entry nodeHash (a .tree .now) (a .content .now) (a .n) (a .size) (c .before .before .before .before .before .entries .result) (at .i) (at .start .0) (at .inv) (c .before .before .before .before .before .before .before .before .pre .0) (c .before .before .before .before .before .before .before .before .pre .1) (c .before .before .before .loop-test .taken)) (c .before .before .before .loop-test .taken) (sym (c .before .before .entry-right .ensures) ∙ not-false _ (c .before .if1 .left)) (c .start-behind .ensures)
 
 returns-2 : tie.Need-returns-2 Inv-loop μ-loop
-returns-2 c = let a = c .before .before .before .before .before .args in let at = c .before .loop in walking-done nodeHash (a .tree .now) (a .content .now) (a .n) (a .size) (c .before .before .entries .result) (at .i) (at .start) (at .inv) (c .loop-test .left)
+returns-2 c = let a = c .before .before .before .before .before .args in let at = c .before .loop in walking-done nodeHash (a .tree .now) (a .content .now) (a .n) (a .size) (c .before .before .entries .result) (at .i) (at .start .0) (at .inv) (c .loop-test .left)
 
 pub wrong-entry-spec : {M : Type 1} → statement M
 wrong-entry-spec = tie.close (tie.spec Inv-loop μ-loop entries-requires loop-holds entry-right-requires (λ c κs. search needs) returns start-behind-requires (λ c. search needs) (λ c. search needs) loop-again returns-2)

@@ -16,11 +16,11 @@ given c =
     registerOf (c .args .tree .now) (c .args .signatures .now) (c .args .bitfield .now) (c .args .content .now) (c .args .n) (c .args .s)
     (c .args .size)
 
-sub-t17 : tie.Need-sub-t17
-sub-t17 c =
-    let k = c .before .found2 .given in
-    let start = c .before .before .before .before .before .before .before .before in
-    lying nodeHash (given start) (start .args .chunk) (k .0 .0) (k .0 .1 .0) (sym (ap verifiedOf (k .1)) ∙ c .before .before .before .verify .ensures) .ordered
+sub-t16 : tie.Need-sub-t16
+sub-t16 c =
+    let k = c .before .before .before .found2 .given in
+    let start = c .before .before .before .before .before .before .before .before .before .before in
+    lying nodeHash (given start) (start .args .chunk) (k .0 .0 .0) (k .0 .1 .0 .0) (sym (ap verifiedOf (k .1)) ∙ c .before .before .before .before .before .verify .ensures) .ordered
 
 returns : tie.Need-returns
 returns c =
@@ -29,9 +29,9 @@ returns c =
 
 returns-2 : tie.Need-returns-2
 returns-2 c =
-    let k = c .before .before .before .found2 .given in
-    gives-found _ _ _ _ _ (c .encode .ensures) (ap asPart (sym (ap verifiedOf (k .1)) ∙ c .before .before .before .before .before .verify .ensures))
+    let k = c .before .before .before .before .before .found2 .given in
+    gives-found _ _ _ _ _ (c .encode .ensures) (ap asPart (sym (ap verifiedOf (k .1)) ∙ c .before .before .before .before .before .before .before .verify .ensures))
 
 pub sleep-read-spec : {M : Type 1} → statement M
 sleep-read-spec =
-    tie.close (tie.spec (λ c κs. search needs) (λ c. search needs) (λ c κs. search needs) (λ c. search needs) sub-t17 (λ c κs. search needs) returns returns-2)
+    tie.close (tie.spec (λ c κs. search needs) (λ c. search needs) (λ c κs. search needs) (λ c. search needs) sub-t16 (λ c κs. search needs) returns returns-2)

@@ -6,13 +6,13 @@ use Rattle.compare.proofs.messages.collides_at.Statement.{statement}
 use Rattle.compare.proofs.messages.collides_at.Tie as tie
 
 is-filled-requires : tie.Need-is-filled-requires
-is-filled-requires c κs = let a = c .before .before .before .before .args in read-entry (a .tree .now) (a .content .now) (a .n) (a .i .0) (a .start) (c .before .before .before .before .pre .0) .small
+is-filled-requires c κs = let a = c .before .before .before .before .args in read-entry (a .tree .now) (a .content .now) (a .n) (a .i .0) (a .start .0) (c .before .before .before .before .pre .0) .small
 
 returns : tie.Need-returns
 returns c = let a = c .before .before .before .before .before .before .args in collide-hole (a .tree .now) (a .content .now) (a .tree2 .now) (a .content2 .now) (a .n) (a .i .0) (sym (c .before .is-filled .ensures) ∙ not-true _ (c .if1 .taken))
 
 same-hash-requires : tie.Need-same-hash-requires
-same-hash-requires c κs = let a = c .before .before .before .before .before .before .args in (read-entry (a .tree .now) (a .content .now) (a .n) (a .i .0) (a .start) (c .before .before .before .before .before .before .pre .0), read-entry (a .tree2 .now) (a .content2 .now) (a .n) (a .i .0) (a .start2) (c .before .before .before .before .before .before .pre .1))
+same-hash-requires c κs = let a = c .before .before .before .before .before .before .args in (read-entry (a .tree .now) (a .content .now) (a .n) (a .i .0) (a .start .0) (c .before .before .before .before .before .before .pre .0), read-entry (a .tree2 .now) (a .content2 .now) (a .n) (a .i .0) (a .start2 .0) (c .before .before .before .before .before .before .pre .1))
 
 returns-2 : tie.Need-returns-2
 returns-2 c = let a = c .before .before .before .before .before .before .before .before .args in collide-hash (a .tree .now) (a .content .now) (a .tree2 .now) (a .content2 .now) (a .n) (a .i .0) (sym (c .before .same-hash .ensures) ∙ not-true _ (c .if2 .taken))

@@ -5,8 +5,6 @@ use Rattle.listing_lines.proofs.Chunks.{read-stopped}
 use Rattle.listing_lines.proofs.Begun.{input-short, input-many, read-counted, left-started}
 use Rattle.listing_lines.proofs.build.read.Statement.{statement}
 use Rattle.listing_lines.proofs.build.read.Tie as tie
-use Rattle.listing_lines.proofs.build.read.Reads as reads
-use Rattle.listing_lines.proofs.build.read.Lts as lts
 
 returns : tie.Need-returns
 returns c = read-stopped _ _ (input-short (c .before .before .before .before .before .before .args .input .now) (c .if1 .taken)) (omega arith) (omega arith)

@@ -12,8 +12,6 @@ use Rattle.listing_lines.proofs.Stands.{stands-facts, stood-room}
 use Rattle.listing_lines.proofs.Chunks.{first-reading, lent-length, next-added, stopped, read-stopped, read-all}
 use Rattle.listing_lines.proofs.build.read_chunks.Statement.{statement}
 use Rattle.listing_lines.proofs.build.read_chunks.Tie as tie
-use Rattle.listing_lines.proofs.build.read_chunks.Reads as reads
-use Rattle.listing_lines.proofs.build.read_chunks.Lts as lts
 
 abbrev Inv-loop : tie.InvT-loop
 Inv-loop input count tree₀ signatures₀ bitfield₀ content₀ at₀ n₀ size₀ tree signatures bitfield content at n size =

@@ -5,8 +5,6 @@ use Rattle.listing_lines.proofs.Stands.{stands-short, stands-large, sta
 use borrow.Author.Needs.{needs}
 use Rattle.listing_lines.proofs.build.stands.Statement.{statement}
 use Rattle.listing_lines.proofs.build.stands.Tie as tie
-use Rattle.listing_lines.proofs.build.stands.Reads as reads
-use Rattle.listing_lines.proofs.build.stands.Lts as lts
 
 returns : tie.Need-returns
 returns c = stands-short (c .before .before .args .input .now) (c .before .before .args .at) (4096 - c .before .before .args .size) (c .before .before .pre .0) (c .if1 .taken)

@@ -5,14 +5,12 @@ use Rattle.listing_lines.proofs.Entries.{first-word}
 use borrow.Author.Needs.{needs}
 use Rattle.listing_lines.proofs.lines.first_under.Statement.{statement}
 use Rattle.listing_lines.proofs.lines.first_under.Tie as tie
-use Rattle.listing_lines.proofs.lines.first_under.Reads as reads
-use Rattle.listing_lines.proofs.lines.first_under.Lts as lts
 
-shl-result : tie.Need-shl-result
-shl-result c = omega (arith, c .before .depth .ensures, depth-small (c .before .before .args .i .0) (omega arith))
+shl-first : tie.Need-shl-first
+shl-first c = omega (arith, c .before .depth .ensures, depth-small (c .before .before .args .i .0) (omega arith))
 
 returns : tie.Need-returns
 returns c = first-word (c .before .before .args .i .0) (c .before .depth .result) (c .block .result) (c .before .before .pre) (c .before .depth .ensures) (c .block .ensures)
 
 pub first-under-spec : {M : Type 1} → statement M
-first-under-spec = tie.close (tie.spec (λ c κs. search needs) (λ c κs. search needs) (λ c. search needs) shl-result returns)
+first-under-spec = tie.close (tie.spec (λ c κs. search needs) (λ c κs. search needs) (λ c. search needs) shl-first returns)

@@ -1,7 +1,6 @@
 -- `listing_lines::lines::put_entries` meets its contract. The loop's invariant: the lines of the first i entries are put. Assumes nothing.
-use mathlib.Core.Path.{_≡_, sym, ap, _∙_, subst}
 use native.Mathlib.Omega.{arith}
-use Prim.Native.Nat.{_+_, _-_, _*_, _≤_}
+use Prim.Native.Nat.{_-_, _*_, _≤_}
 use Rattle.sequences.specs.Lists.{run, joined}
 use Rattle.tree_index.specs.Tree.{entries}
 use Rattle.listing_lines.specs.Inner.{Put, storedLine}
@@ -9,8 +8,6 @@ use Rattle.listing_lines.proofs.Entries.{most, entry-small, entry-next,
 use borrow.Author.Needs.{needs}
 use Rattle.listing_lines.proofs.lines.put_entries.Statement.{statement}
 use Rattle.listing_lines.proofs.lines.put_entries.Tie as tie
-use Rattle.listing_lines.proofs.lines.put_entries.Reads as reads
-use Rattle.listing_lines.proofs.lines.put_entries.Lts as lts
 
 abbrev Inv-loop : tie.InvT-loop
 Inv-loop out₀ at tree n next₀ i₀ out next i = (i ≤ entries n) × Put out₀ at (70 * i) (joined (run (storedLine tree n) 0 i)) next out

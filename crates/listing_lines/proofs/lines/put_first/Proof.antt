@@ -4,8 +4,6 @@ use Rattle.listing_lines.specs.Lines.{chunksWord, bytesWord, rootsWord}
 use borrow.Author.Needs.{needs}
 use Rattle.listing_lines.proofs.lines.put_first.Statement.{statement}
 use Rattle.listing_lines.proofs.lines.put_first.Tie as tie
-use Rattle.listing_lines.proofs.lines.put_first.Reads as reads
-use Rattle.listing_lines.proofs.lines.put_first.Lts as lts
 
 returns : tie.Need-returns
 unfolding chunksWord bytesWord rootsWord

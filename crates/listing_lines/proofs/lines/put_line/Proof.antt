@@ -3,8 +3,6 @@ use Rattle.listing_lines.proofs.Put.{line-put}
 use borrow.Author.Needs.{needs}
 use Rattle.listing_lines.proofs.lines.put_line.Statement.{statement}
 use Rattle.listing_lines.proofs.lines.put_line.Tie as tie
-use Rattle.listing_lines.proofs.lines.put_line.Reads as reads
-use Rattle.listing_lines.proofs.lines.put_line.Lts as lts
 
 returns : tie.Need-returns
 returns c = line-put (c .before .before .before .before .before .before .before .before .before .before .before .before .before .before .before .before .before .before .before .before .before .before .before .before .before .before .before .before .args .i) (c .before .before .before .before .before .before .before .before .before .before .before .before .before .before .before .before .before .before .before .before .before .before .before .before .before .before .before .before .args .start) (c .before .before .before .before .before .before .before .before .before .before .before .before .before .before .before .before .before .before .before .before .before .before .before .before .before .before .before .before .args .len) (c .before .before .before .before .before .before .before .before .before .before .before .before .before .before .before .before .before .before .before .before .before .before .before .before .before .before .before .before .pre .1) (c .before .before .before .before .before .before .before .before .before .before .before .before .before .before .before .before .before .before .before .before .before .before .before .before .put-digits .ensures) (c .before .before .before .before .before .before .before .before .before .before .before .before .before .before .before .before .before .before .before .before .put-text .ensures)

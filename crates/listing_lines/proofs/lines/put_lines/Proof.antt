@@ -4,8 +4,6 @@ use Rattle.listing_lines.specs.Inner.{storedLines}
 use borrow.Author.Needs.{needs}
 use Rattle.listing_lines.proofs.lines.put_lines.Statement.{statement}
 use Rattle.listing_lines.proofs.lines.put_lines.Tie as tie
-use Rattle.listing_lines.proofs.lines.put_lines.Reads as reads
-use Rattle.listing_lines.proofs.lines.put_lines.Lts as lts
 
 returns : tie.Need-returns
 unfolding storedLines

@@ -1,17 +1,13 @@
 -- `listing_lines::lines::put_roots` meets its contract. The loop's invariant: the first j roots are put. Assumes nothing.
-use mathlib.Core.Path.{_≡_, sym, ap, _∙_, subst}
+use mathlib.Core.Path.{subst}
 use native.Mathlib.Omega.{arith}
-use Prim.Native.Nat.{ℕ, _+_, _-_, _*_, _≤_, _<_}
-use lib.ListN.{length}
-use Rattle.tree_index.specs.Tree as tree
+use Prim.Native.Nat.{ℕ, _-_, _*_, _≤_, _<_}
 use Rattle.tree_index.proofs.Roots.{length-roots-le}
 use Rattle.listing_lines.specs.Inner.{Put}
 use Rattle.listing_lines.proofs.Entries.{rootsUpTo, roots-none, roots-more, roots-all}
 use borrow.Author.Needs.{needs}
 use Rattle.listing_lines.proofs.lines.put_roots.Statement.{statement}
 use Rattle.listing_lines.proofs.lines.put_roots.Tie as tie
-use Rattle.listing_lines.proofs.lines.put_roots.Reads as reads
-use Rattle.listing_lines.proofs.lines.put_roots.Lts as lts
 
 abbrev Inv-loop : tie.InvT-loop
 Inv-loop out₀ at n count roots next₀ j₀ space out next j = (j ≤ count) × Put out₀ at (21 * j) (rootsUpTo n j) next out

@@ -1,15 +1,12 @@
 -- `listing_lines::lines::start_of` meets its contract. The loop's invariant: the sum is the start of the chunk j. Assumes nothing.
-use mathlib.Core.Path.{_≡_, ap, _∙_, subst}
-use Prim.Native.Nat.{ℕ, _-_, _+_, _≤_, _<_}
+use mathlib.Core.Path.{_≡_, ap, _∙_}
+use Prim.Native.Nat.{_-_, _+_, _≤_}
 use native.Mathlib.Omega.{arith}
 use Rattle.tree_index.proofs.Index.{index-leaf}
 use Rattle.files.specs.Stored.{storedSize, storedStart}
 use Rattle.listing_lines.proofs.Entries.{start-none, start-more, entry-in}
-use borrow.Author.Needs.{needs}
 use Rattle.listing_lines.proofs.lines.start_of.Statement.{statement}
 use Rattle.listing_lines.proofs.lines.start_of.Tie as tie
-use Rattle.listing_lines.proofs.lines.start_of.Reads as reads
-use Rattle.listing_lines.proofs.lines.start_of.Lts as lts
 
 abbrev Inv-loop : tie.InvT-loop
 Inv-loop tree k sum₀ j₀ sum j = (j ≤ k) × (sum ≡ storedStart tree j)

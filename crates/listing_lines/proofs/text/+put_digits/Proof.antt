@@ -1,6 +1,5 @@
 -- The proof of the cycle of calls {put_digits}. The measure is the number of digits. Assumes nothing.
 use borrow.Author.Needs.{needs}
-use mathlib.Core.Path.{sym, ap, subst}
 use native.Mathlib.Omega.{arith}
 use Rattle.listing_lines.proofs.Put.{none-digits, one-digit, more-digits}
 use Prim.Native.Nat.{ℕ, _<_}

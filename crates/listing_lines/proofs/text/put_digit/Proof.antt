@@ -2,8 +2,6 @@
 use borrow.Author.Needs.{needs}
 use Rattle.listing_lines.proofs.text.put_digit.Statement.{statement}
 use Rattle.listing_lines.proofs.text.put_digit.Tie as tie
-use Rattle.listing_lines.proofs.text.put_digit.Reads as reads
-use Rattle.listing_lines.proofs.text.put_digit.Lts as lts
 
 returns : tie.Need-returns
 returns c = c .before .before .put-text .ensures

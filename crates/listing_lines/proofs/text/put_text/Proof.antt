@@ -3,8 +3,6 @@ use borrow.Author.Needs.{needs}
 use Rattle.listing_lines.proofs.Put.{text-put}
 use Rattle.listing_lines.proofs.text.put_text.Statement.{statement}
 use Rattle.listing_lines.proofs.text.put_text.Tie as tie
-use Rattle.listing_lines.proofs.text.put_text.Reads as reads
-use Rattle.listing_lines.proofs.text.put_text.Lts as lts
 
 returns : tie.Need-returns
 returns c =

@@ -11,7 +11,7 @@ use Rattle.lookup.proofs.descent.from_roots.Statement.{statement}
 use Rattle.lookup.proofs.descent.from_roots.Tie as tie
 
 abbrev Inv-loop : tie.InvT-loop
-Inv-loop tree n sought count roots start₀ j₀ start j = Rest (withinOf sought) tree n start j
+Inv-loop tree n sought count roots start₀ j₀ start j = Rest (withinOf sought) tree n (start .0) j
 
 abbrev μ-loop : tie.MeasureT-loop
 μ-loop tree n sought count roots start₀ j₀ start j = count - j
@@ -48,7 +48,7 @@ is-within-requires c κs =
     let h : l .j < length (roots (a .n)) = subst (λ (x : ℕ). l .j < x) (c .before .before .before .before .before .root-count .ensures) (c .before .before .loop-test .taken) in
     let e : getD (is .result) (l .j) (record { 0 = 0 }) .0 ≡ getD (roots (a .n)) (l .j) 0 = root-of (is .result) (a .n) (l .j) (is .ensures) h in
     let f = root-fits (withinOf (a .sought)) (a .tree .now) (a .n) (l .inv) (c .before .before .before .before .before .before .before .pre) h e in
-    (root-entry (withinOf (a .sought)) (a .tree .now) (a .n) (l .inv) (c .before .before .before .before .before .before .before .pre) h e .small, subst (λ (x : ℕ). l .start + x < 2 ^ 64) (sym (c .stored-size .ensures)) f)
+    (root-entry (withinOf (a .sought)) (a .tree .now) (a .n) (l .inv) (c .before .before .before .before .before .before .before .pre) h e .small, subst (λ (x : ℕ). l .start .0 + x < 2 ^ 64) (sym (c .stored-size .ensures)) f)
 
 descend-requires : tie.Need-descend-requires Inv-loop μ-loop
 descend-requires c κs =
@@ -69,15 +69,15 @@ returns c =
     c .descend .ensures
     ∙ found-here (withinOf (a .sought)) (a .tree .now) (a .n) (l .inv) (c .before .before .before .before .before .before .before .before .before .before .pre) h e (c .before .before .before .stored-size .ensures) (sym (c .before .before .is-within .ensures) ∙ c .before .if1 .taken)
 
-add-start : tie.Need-add-start Inv-loop μ-loop
-add-start c =
-    let a = c .before .before .before .before .before .before .before .before .before .args in
-    let l = c .before .before .before .before .before .loop in
-    let is = c .before .before .before .before .before .before .root-indexes in
-    let h : l .j < length (roots (a .n)) = subst (λ (x : ℕ). l .j < x) (c .before .before .before .before .before .before .before .root-count .ensures) (c .before .before .before .before .loop-test .taken) in
+add-t17 : tie.Need-add-t17 Inv-loop μ-loop
+add-t17 c =
+    let a = c .before .before .before .before .before .before .before .before .before .before .args in
+    let l = c .before .before .before .before .before .before .loop in
+    let is = c .before .before .before .before .before .before .before .root-indexes in
+    let h : l .j < length (roots (a .n)) = subst (λ (x : ℕ). l .j < x) (c .before .before .before .before .before .before .before .before .root-count .ensures) (c .before .before .before .before .before .loop-test .taken) in
     let e : getD (is .result) (l .j) (record { 0 = 0 }) .0 ≡ getD (roots (a .n)) (l .j) 0 = root-of (is .result) (a .n) (l .j) (is .ensures) h in
-    let f = root-fits (withinOf (a .sought)) (a .tree .now) (a .n) (l .inv) (c .before .before .before .before .before .before .before .before .before .pre) h e in
-    record { fits = subst (λ (x : ℕ). l .start + x < 2 ^ 64) (sym (c .before .before .stored-size .ensures)) f }
+    let f = root-fits (withinOf (a .sought)) (a .tree .now) (a .n) (l .inv) (c .before .before .before .before .before .before .before .before .before .before .pre) h e in
+    record { fits = subst (λ (x : ℕ). l .start .0 + x < 2 ^ 64) (sym (c .before .before .before .stored-size .ensures)) f }
 
 add-j : tie.Need-add-j Inv-loop μ-loop
 add-j c = search needs
@@ -87,12 +87,12 @@ loop-less c = search needs
 
 loop-again : tie.Need-loop-again Inv-loop μ-loop
 loop-again c =
-    let a = c .before .before .before .before .before .before .before .before .before .args in
-    let l = c .before .before .before .before .before .loop in
-    let is = c .before .before .before .before .before .before .root-indexes in
-    let h : l .j < length (roots (a .n)) = subst (λ (x : ℕ). l .j < x) (c .before .before .before .before .before .before .before .root-count .ensures) (c .before .before .before .before .loop-test .taken) in
+    let a = c .before .before .before .before .before .before .before .before .before .before .args in
+    let l = c .before .before .before .before .before .before .loop in
+    let is = c .before .before .before .before .before .before .before .root-indexes in
+    let h : l .j < length (roots (a .n)) = subst (λ (x : ℕ). l .j < x) (c .before .before .before .before .before .before .before .before .root-count .ensures) (c .before .before .before .before .before .loop-test .taken) in
     let e : getD (is .result) (l .j) (record { 0 = 0 }) .0 ≡ getD (roots (a .n)) (l .j) 0 = root-of (is .result) (a .n) (l .j) (is .ensures) h in
-    not-here (withinOf (a .sought)) (a .tree .now) (a .n) (l .inv) (c .before .before .before .before .before .before .before .before .before .pre) h e (c .before .before .stored-size .ensures) (sym (c .before .is-within .ensures) ∙ c .if1 .left)
+    not-here (withinOf (a .sought)) (a .tree .now) (a .n) (l .inv) (c .before .before .before .before .before .before .before .before .before .before .pre) h e (c .before .before .before .stored-size .ensures) (sym (c .before .before .is-within .ensures) ∙ c .before .if1 .left)
 
 returns-2 : tie.Need-returns-2 Inv-loop μ-loop
 returns-2 c =
@@ -115,7 +115,7 @@ from-roots-spec =
     is-within-requires
     descend-requires
     returns
-    add-start
+    add-t17
     add-j
     loop-less
     loop-again

@@ -1,19 +1,20 @@
 -- `writing::appending::above` meets its contract. Assumes nothing.
 use native.Mathlib.Omega.{arith}
 use borrow.Author.Needs.{needs}
-use Rattle.writing.proofs.Climbed.{depth-small, block-one, block-two}
+use Rattle.tree_index.proofs.Roots.{completed-few, completed-block}
+use Rattle.writing.proofs.Climbed.{block-two}
 use Rattle.writing.proofs.Stored.{sibling-in, sum-fits, node-above}
 use Rattle.writing.proofs.appending.above.Statement.{statement}
 use Rattle.writing.proofs.appending.above.Tie as tie
 
 shr-node-index : tie.Need-shr-node-index
-shr-node-index c = let s = c .before in omega (arith, depth-small (s .args .n) (s .args .d) (s .pre .few) (omega (arith, s .pre .depth)))
+shr-node-index c = let s = c .before in omega (arith, completed-few (s .args .n) (s .args .d) (s .pre .few) (omega (arith, s .pre .depth)))
 
 sub-node-index : tie.Need-sub-node-index
 sub-node-index c = let s = c .before in block-two (s .args .n) (s .args .d) (s .pre .few) (s .pre .depth)
 
 node-index-requires : tie.Need-node-index-requires
-node-index-requires c κs = let s = c .before in (depth-small (s .args .n) (s .args .d) (s .pre .few) (omega (arith, s .pre .depth)), omega (arith, s .pre .few, block-one (s .args .n) (s .args .d) (s .pre .few) (omega (arith, s .pre .depth)) .1))
+node-index-requires c κs = let s = c .before in (omega (arith, completed-few (s .args .n) (s .args .d) (s .pre .few) (omega (arith, s .pre .depth))), omega (arith, s .pre .few, completed-block (s .args .n) (s .args .d) (s .pre .few) (omega (arith, s .pre .depth)) .1))
 
 stored-hash-requires : tie.Need-stored-hash-requires
 stored-hash-requires c κs = let s = c .before .before in sibling-in (s .args .tree .now) (s .args .n) (s .args .d) _ (s .pre .few) (s .pre .depth) (s .pre .room) (c .node-index .ensures)

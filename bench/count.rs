@@ -1,0 +1,48 @@
+//! Makes the calls that are to be counted, on the saved images, and prints a line for each: the call and the count of chunks.
+
+mod cases;
+#[path = "../bindings/sleep_register.rs"]
+mod proved;
+mod simple_blake2b;
+mod simple_register;
+mod timing;
+
+use cases::{cut_back, picked, Case, CASES, LENGTH};
+use proved::Store;
+
+fn loaded(folder: &str) -> Store {
+    let image = |name: &str| std::fs::read(format!("{folder}/{name}")).unwrap();
+    Store {
+        tree: image("tree"),
+        signatures: image("signatures"),
+        bitfield: image("bitfield"),
+        data: image("data"),
+        n: 0,
+        s: 0,
+        size: 0,
+    }
+}
+
+fn main() {
+    let folder = std::env::args().nth(1).expect("the folder of the images");
+    let mut store = loaded(&folder);
+    for (n, case) in CASES {
+        cut_back(&mut store, n);
+        match case {
+            Case::Lookups => {
+                for chunk in picked(store.n) {
+                    store.register().place(chunk).unwrap();
+                    println!("place {n}");
+                }
+                for offset in picked(store.size) {
+                    store.register().byte(offset).unwrap();
+                    println!("byte {n}");
+                }
+            }
+            Case::Append => {
+                store.append(&[9; LENGTH]).unwrap();
+                println!("append {n}");
+            }
+        }
+    }
+}

@@ -1,0 +1,190 @@
+// The verified read, of one of two registers.
+use super::places::Placed;
+use counts::Answer;
+use counts::ByteOffset;
+use counts::ChunkNumber;
+use counts::Place;
+use counts::Refusal;
+ghost use mathlib.Core.Path.{_≡_};
+ghost use Rattle.counts.specs.Said.{said};
+ghost use Rattle.blake2b.specs.Hash.{nodeHash};
+ghost use Rattle.checks.specs.Given.{registerOf};
+ghost use Rattle.lookup.specs.Read.{named, readVerdict, readPart};
+ghost use Rattle.lookup.specs.Said.{nameOf, verifiedOf, readFound};
+
+// Which of the two registers a read names.
+pub enum Name {
+    Metadata,
+    Content,
+}
+
+// What the checks of a read find: a refusal, or where the chunk's bytes begin and end in the data.
+pub enum Verified {
+    Refused(Refusal),
+    Part(ByteOffset, ByteOffset),
+}
+
+// The checks of a read of one register: the place of the chunk, and then its leaf hash, of the bytes where they lie.
+pub fn verify(
+    tree: &[u8],
+    signatures: &[u8],
+    bitfield: &[u8],
+    content: &[u8],
+    n: u64,
+    s: u64,
+    size: u64,
+    chunk: ChunkNumber,
+) -> Verified
+    ensures { λ r.
+        ⌜
+        verifiedOf r ≡
+        readFound nodeHash
+        (registerOf (now (tree .entry)) (now (signatures .entry)) (now (bitfield .entry)) (now (content .entry)) n s size)
+        (chunk .0)
+        ⌝ }
+{
+    match super::places::place(tree, signatures, bitfield, content, n, s, size, chunk) {
+        Placed::Refused(refusal) => Verified::Refused(refusal),
+        Placed::At(start, length) => {
+            let end = ByteOffset(start.0 + length);
+            let from = start.0 as usize;
+            let to = end.0 as usize;
+            let leaf = tree_index::leaf_index(chunk);
+            let stored = files::entries::stored_hash(tree, leaf);
+            let hash = files::hashes::leaf_hash(&content[from..to]);
+            if sequences::same(&stored, &hash) {
+                Verified::Part(start, end)
+            } else {
+                Verified::Refused(Refusal {
+                    number: 10,
+                    place: Place::Tree(leaf),
+                })
+            }
+        }
+    }
+}
+
+// A read of one register.
+pub fn read_one<'a>(
+    tree: &[u8],
+    signatures: &[u8],
+    bitfield: &[u8],
+    content: &'a [u8],
+    n: u64,
+    s: u64,
+    size: u64,
+    chunk: ChunkNumber,
+) -> &'a [u8]
+    ensures { λ r.
+        ⌜
+        now r ≡
+        readPart nodeHash
+        (registerOf (now (tree .entry)) (now (signatures .entry)) (now (bitfield .entry)) (now (content .entry)) n s size)
+        (chunk .0)
+        ⌝ }
+{
+    match verify(tree, signatures, bitfield, content, n, s, size, chunk) {
+        Verified::Part(start, end) => {
+            let from = start.0 as usize;
+            let to = end.0 as usize;
+            &content[from..to]
+        }
+        Verified::Refused(_) => &content[0..0],
+    }
+}
+
+// What a read of one register answers: done, or its refusal.
+pub fn answer_one(
+    tree: &[u8],
+    signatures: &[u8],
+    bitfield: &[u8],
+    content: &[u8],
+    n: u64,
+    s: u64,
+    size: u64,
+    chunk: ChunkNumber,
+) -> Answer
+    ensures { λ r.
+        ⌜
+        said r ≡
+        readVerdict nodeHash
+        (registerOf (now (tree .entry)) (now (signatures .entry)) (now (bitfield .entry)) (now (content .entry)) n s size)
+        (chunk .0)
+        ⌝ }
+{
+    match verify(tree, signatures, bitfield, content, n, s, size, chunk) {
+        Verified::Part(_, _) => Answer::Done,
+        Verified::Refused(refusal) => Answer::Refused(refusal),
+    }
+}
+
+// A read names the metadata or the content register, checks only the one named, and hands back that register's own bytes; nothing
+// after a refusal, which `read_answer` tells. What belongs to the metadata register begins with m, to the content register with c.
+pub fn read<'a>(
+    name: Name,
+    mtree: &[u8],
+    msignatures: &[u8],
+    mbitfield: &[u8],
+    mdata: &'a [u8],
+    mn: u64,
+    ms: u64,
+    msize: u64,
+    ctree: &[u8],
+    csignatures: &[u8],
+    cbitfield: &[u8],
+    cdata: &'a [u8],
+    cn: u64,
+    cs: u64,
+    csize: u64,
+    chunk: ChunkNumber,
+) -> &'a [u8]
+    ensures { λ r.
+        ⌜
+        now r ≡
+        readPart nodeHash
+        (named (nameOf name)
+        (registerOf (now (mtree .entry)) (now (msignatures .entry)) (now (mbitfield .entry)) (now (mdata .entry)) mn ms msize)
+        (registerOf (now (ctree .entry)) (now (csignatures .entry)) (now (cbitfield .entry)) (now (cdata .entry)) cn cs csize))
+        (chunk .0)
+        ⌝ }
+{
+    match name {
+        Name::Metadata => read_one(mtree, msignatures, mbitfield, mdata, mn, ms, msize, chunk),
+        Name::Content => read_one(ctree, csignatures, cbitfield, cdata, cn, cs, csize, chunk),
+    }
+}
+
+// Beside a read: whether it is done, or its refusal.
+pub fn read_answer(
+    name: Name,
+    mtree: &[u8],
+    msignatures: &[u8],
+    mbitfield: &[u8],
+    mdata: &[u8],
+    mn: u64,
+    ms: u64,
+    msize: u64,
+    ctree: &[u8],
+    csignatures: &[u8],
+    cbitfield: &[u8],
+    cdata: &[u8],
+    cn: u64,
+    cs: u64,
+    csize: u64,
+    chunk: ChunkNumber,
+) -> Answer
+    ensures { λ r.
+        ⌜
+        said r ≡
+        readVerdict nodeHash
+        (named (nameOf name)
+        (registerOf (now (mtree .entry)) (now (msignatures .entry)) (now (mbitfield .entry)) (now (mdata .entry)) mn ms msize)
+        (registerOf (now (ctree .entry)) (now (csignatures .entry)) (now (cbitfield .entry)) (now (cdata .entry)) cn cs csize))
+        (chunk .0)
+        ⌝ }
+{
+    match name {
+        Name::Metadata => answer_one(mtree, msignatures, mbitfield, mdata, mn, ms, msize, chunk),
+        Name::Content => answer_one(ctree, csignatures, cbitfield, cdata, cn, cs, csize, chunk),
+    }
+}

@@ -1,0 +1,26 @@
+-- `packet::checking::entry_hash` meets its contract. Assumes nothing.
+use mathlib.Core.Path.{refl}
+use Rattle.sequences.specs.Lists.{part}
+use Rattle.files.proofs.Places.{read-hash}
+use Rattle.packet.specs.Check.{entryIn}
+use borrow.Author.Needs.{needs}
+use Rattle.packet.proofs.checking.entry_hash.Statement.{statement}
+use Rattle.packet.proofs.checking.entry_hash.Tie as tie
+
+returns : tie.Need-returns
+unfolding entryIn part
+returns c =
+    let a = c .before .before .before .before .before .args in
+    read-hash (a .packet .now) {at = a .at} refl (search needs) (c .before .copy-to .ensures)
+
+pub entry-hash-spec : {M : Type 1} → statement M
+entry-hash-spec =
+    tie.close
+    (tie.spec
+    (λ c. search needs)
+    (λ c. search needs)
+    (λ c. search needs)
+    (λ c. search needs)
+    (λ c. search needs)
+    (λ c κs. search needs)
+    returns)

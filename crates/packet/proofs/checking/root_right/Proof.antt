@@ -1,0 +1,139 @@
+-- `packet::checking::root_right` meets its contract. Assumes nothing.
+use Rattle.sequences.specs.Lists.{part}
+use Prim.Native.Nat.{ℕ, _+_, _≤_}
+use mathlib.Core.Path.{_∙_}
+use native.Mathlib.Omega.{arith}
+use Rattle.blake2b.specs.Hash.{nodeHash}
+use Rattle.packet.specs.Check.{chunkLength}
+use Rattle.packet.specs.Parts.{entryOf}
+use Rattle.packet.proofs.Shape.{sized}
+use Rattle.packet.proofs.Right.{Laid, laid, siblings-row, others-row, others-in, sum-wrong, climbable, root-judged}
+use borrow.Author.Needs.{needs}
+use Rattle.packet.proofs.checking.root_right.Statement.{statement}
+use Rattle.packet.proofs.checking.root_right.Tie as tie
+
+-- the packet laid out, once its counts and its chunk's length are read
+lies : (c : tie.After-read-be32) → Laid (c .before .before .before .before .args .packet .now) (c .read-be32 .result) (c .before .before .sibling-count .result) (c .before .other-count .result)
+unfolding chunkLength
+lies c =
+    let a = c .before .before .before .before .args in
+    let u = c .before .before .sibling-count in
+    let o = c .before .other-count in
+    let l = c .read-be32 in
+    laid (a .packet .now) (a .n) (a .chunk .0) (c .before .before .before .before .pre) (l .result) (u .result) (o .result) (l .ensures) (u .ensures .0) (o .ensures .0)
+
+read-be32-requires : tie.Need-read-be32-requires
+read-be32-requires c κs = sized (c .before .before .before .args .packet .now) (c .before .before .before .args .n) (c .before .before .before .args .chunk .0) (c .before .before .before .pre .shape) .front
+
+add-first : tie.Need-add-first
+add-first c = omega (arith, lies c)
+
+add-second : tie.Need-add-second
+add-second c = omega (arith, lies c)
+
+add-second-2 : tie.Need-add-second-2
+add-second-2 c = omega (arith, lies c)
+
+add-add-lengths : tie.Need-add-add-lengths
+add-add-lengths c = omega (arith, lies c)
+
+add-lengths-requires : tie.Need-add-lengths-requires
+unfolding chunkLength
+add-lengths-requires c κs =
+    let a = c .before .before .before .before .args in
+    let u = c .before .before .sibling-count in
+    let o = c .before .other-count in
+    let l = c .read-be32 in
+    (siblings-row (a .packet .now) (a .n) (a .chunk .0) (c .before .before .before .before .pre) (l .result) (u .result) (o .result) (l .ensures) (u .ensures .0) (o .ensures .0), omega (arith, lies c))
+
+add-add-lengths-2 : tie.Need-add-add-lengths-2
+add-add-lengths-2 c = omega (arith, lies (c .before))
+
+add-lengths-requires-2 : tie.Need-add-lengths-requires-2
+unfolding chunkLength
+add-lengths-requires-2 c κs =
+    let a = c .before .before .before .before .before .args in
+    let u = c .before .before .before .sibling-count in
+    let o = c .before .before .other-count in
+    let l = c .before .read-be32 in
+    (others-row (a .packet .now) (a .n) (a .chunk .0) (c .before .before .before .before .before .pre) (l .result) (u .result) (o .result) (l .ensures) (u .ensures .0) (o .ensures .0), c .add-lengths .ensures .small)
+
+returns : tie.Need-returns
+unfolding chunkLength
+returns c =
+    let a = c .before .before .before .before .before .before .before .args in
+    let u = c .before .before .before .before .before .sibling-count in
+    let o = c .before .before .before .before .other-count in
+    let l = c .before .before .before .read-be32 in
+    sum-wrong (a .packet .now) (a .n) (a .chunk .0) (c .before .before .before .before .before .before .before .pre) (l .result) (u .result) (o .result) (l .ensures) (u .ensures .0) (o .ensures .0) nodeHash (a .root .now)
+    (c .before .before .add-lengths .result) (c .before .add-lengths2 .result) (c .before .before .add-lengths .ensures) (c .before .add-lengths2 .ensures) (c .if1 .taken)
+
+part-leaf-node-end : tie.Need-part-leaf-node-end
+part-leaf-node-end c = omega (arith, lies (c .before .before .before))
+
+add-climb : tie.Need-add-climb
+add-climb c = omega (arith, lies (c .before .before .before .before .before))
+
+climb-requires : tie.Need-climb-requires
+unfolding chunkLength part
+climb-requires c κs =
+    let a = c .before .before .before .before .before .before .before .before .before .args in
+    let u = c .before .before .before .before .before .before .before .sibling-count in
+    let o = c .before .before .before .before .before .before .other-count in
+    let l = c .before .before .before .before .before .read-be32 in
+    climbable (a .packet .now) (a .n) (a .chunk .0) (c .before .before .before .before .before .before .before .before .before .pre) (l .result) (u .result) (o .result) (l .ensures) (u .ensures .0) (o .ensures .0) nodeHash (a .root .now)
+    (c .before .before .before .before .add-lengths .result) (c .before .before .before .add-lengths2 .result) (c .before .before .before .before .add-lengths .ensures) (c .before .before .before .add-lengths2 .ensures) (c .before .before .if1 .left)
+    (entryOf (c .leaf-node .result)) (c .leaf-node .ensures)
+
+add-root-hash-with : tie.Need-add-root-hash-with
+add-root-hash-with c = omega (arith, lies (c .before .before .before .before .before .before))
+
+root-hash-with-requires : tie.Need-root-hash-with-requires
+unfolding chunkLength
+root-hash-with-requires c κs =
+    let a = c .before .before .before .before .before .before .before .before .before .before .args in
+    let u = c .before .before .before .before .before .before .before .before .sibling-count in
+    let o = c .before .before .before .before .before .before .before .other-count in
+    let l = c .before .before .before .before .before .before .read-be32 in
+    others-in (a .packet .now) (a .n) (a .chunk .0) (c .before .before .before .before .before .before .before .before .before .before .pre) (l .result) (u .result) (o .result) (l .ensures) (u .ensures .0) (o .ensures .0)
+
+returns-2 : tie.Need-returns-2
+unfolding chunkLength part
+returns-2 c =
+    let a = c .before .before .before .before .before .before .before .before .before .before .before .before .before .before .args in
+    let u = c .before .before .before .before .before .before .before .before .before .before .before .before .sibling-count in
+    let o = c .before .before .before .before .before .before .before .before .before .before .before .other-count in
+    let l = c .before .before .before .before .before .before .before .before .before .before .read-be32 in
+    c .same .ensures
+    ∙ root-judged (a .packet .now) (a .n) (a .chunk .0) (c .before .before .before .before .before .before .before .before .before .before .before .before .before .before .pre) (l .result) (u .result) (o .result) (l .ensures) (u .ensures .0) (o .ensures .0) nodeHash (a .root .now)
+    (c .before .before .before .before .before .before .before .before .before .add-lengths .result) (c .before .before .before .before .before .before .before .before .add-lengths2 .result) (c .before .before .before .before .before .before .before .before .before .add-lengths .ensures) (c .before .before .before .before .before .before .before .before .add-lengths2 .ensures) (c .before .before .before .before .before .before .before .if1 .left)
+    (entryOf (c .before .before .before .before .before .leaf-node .result)) (c .before .before .before .before .before .leaf-node .ensures) (entryOf (c .before .before .before .before .climb .result)) (c .before .before .before .before .climb .ensures) (c .before .before .before .root-hash-with .result) (c .before .before .before .root-hash-with .ensures)
+
+pub root-right-spec : {M : Type 1} → statement M
+root-right-spec =
+    tie.close
+    (tie.spec
+    (λ c κs. search needs)
+    (λ c. search needs)
+    (λ c κs. search needs)
+    read-be32-requires
+    add-first
+    add-second
+    (λ c. search needs)
+    add-second-2
+    add-add-lengths
+    add-lengths-requires
+    add-add-lengths-2
+    add-lengths-requires-2
+    returns
+    (λ c. search needs)
+    (λ c. search needs)
+    part-leaf-node-end
+    (λ c κs. search needs)
+    add-climb
+    climb-requires
+    add-root-hash-with
+    root-hash-with-requires
+    (λ c. search needs)
+    (λ c κs. search needs)
+    returns-2)

@@ -1,0 +1,81 @@
+-- `packet::checking::shape_right` meets its contract. Assumes nothing.
+use mathlib.Core.Path.{refl}
+use Rattle.packet.specs.Check.{chunkLength}
+use Rattle.packet.proofs.Shape.{too-short, too-long, not-whole, not-up, all-tests}
+use borrow.Author.Needs.{needs}
+use Rattle.packet.proofs.checking.shape_right.Statement.{statement}
+use Rattle.packet.proofs.checking.shape_right.Tie as tie
+
+returns : tie.Need-returns
+returns c =
+    let a = c .before .before .before .before .args in
+    let u = c .before .before .sibling-count in
+    let o = c .before .other-count in
+    too-short (a .packet .now) (a .n) (a .chunk .0) (chunkLength (a .packet .now)) (u .result) (o .result) refl (u .ensures .0)
+    (o .ensures .0) (c .if1 .taken)
+
+returns-2 : tie.Need-returns-2
+unfolding chunkLength
+returns-2 c =
+    let a = c .before .before .before .before .before .before .args in
+    let u = c .before .before .before .before .sibling-count in
+    let o = c .before .before .before .other-count in
+    let l = c .before .read-be32 in
+    too-long (a .packet .now) (a .n) (a .chunk .0) (l .result) (u .result) (o .result) (l .ensures) (u .ensures .0) (o .ensures .0)
+    (c .before .before .if1 .left) (c .if2 .taken)
+
+returns-3 : tie.Need-returns-3
+unfolding chunkLength
+returns-3 c =
+    let a = c .before .before .before .before .before .before .before .args in
+    let u = c .before .before .before .before .before .sibling-count in
+    let o = c .before .before .before .before .other-count in
+    let l = c .before .before .read-be32 in
+    not-whole (a .packet .now) (a .n) (a .chunk .0) (l .result) (u .result) (o .result) (l .ensures) (u .ensures .0) (o .ensures .0)
+    (c .before .before .before .if1 .left) (c .before .if2 .left) (c .if3 .taken)
+
+returns-4 : tie.Need-returns-4
+unfolding chunkLength
+returns-4 c =
+    let a = c .before .before .before .before .before .before .before .before .before .before .args in
+    let u = c .before .before .before .before .before .before .before .before .sibling-count in
+    let o = c .before .before .before .before .before .before .before .other-count in
+    let l = c .before .before .before .before .before .read-be32 in
+    not-up (a .packet .now) (a .n) (a .chunk .0) (l .result) (u .result) (o .result) (l .ensures) (u .ensures .0) (o .ensures .0)
+    (c .before .before .before .before .before .before .if1 .left) (c .before .before .before .before .if2 .left) (c .before .before .before .if3 .left) (c .before .wide .result) (c .before .wide .ensures) (c .if4 .taken)
+
+returns-5 : tie.Need-returns-5
+unfolding chunkLength
+returns-5 c =
+    let a = c .before .before .before .before .before .before .before .before .before .before .before .before .args in
+    let u = c .before .before .before .before .before .before .before .before .before .before .sibling-count in
+    let o = c .before .before .before .before .before .before .before .before .before .other-count in
+    let l = c .before .before .before .before .before .before .before .read-be32 in
+    all-tests (a .packet .now) (a .n) (a .chunk .0) (l .result) (u .result) (o .result) (l .ensures) (u .ensures .0) (o .ensures .0)
+    (c .before .before .before .before .before .before .before .before .if1 .left) (c .before .before .before .before .before .before .if2 .left) (c .before .before .before .before .before .if3 .left) (c .before .before .before .wide .result) (c .before .before .before .wide .ensures) (c .before .before .if4 .left)
+    (c .wide2 .result) (c .wide2 .ensures)
+
+pub shape-right-spec : {M : Type 1} → statement M
+shape-right-spec =
+    tie.close
+    (tie.spec
+    (λ c κs. search needs)
+    (λ c. search needs)
+    (λ c κs. search needs)
+    returns
+    (λ c κs. search needs)
+    returns-2
+    (λ c. search needs)
+    (λ c. search needs)
+    (λ c. search needs)
+    (λ c. search needs)
+    (λ c. search needs)
+    (λ c. search needs)
+    (λ c. search needs)
+    returns-3
+    (λ c. search needs)
+    (λ c κs. search needs)
+    returns-4
+    (λ c. search needs)
+    (λ c κs. search needs)
+    returns-5)

@@ -1,0 +1,23 @@
+-- `packet::checking::step_up` meets its contract. Assumes nothing.
+use mathlib.Core.Path.{_≡_}
+use native.Mathlib.Omega.{arith}
+use Rattle.blake2b.specs.Hash.{nodeHash}
+use Rattle.packet.specs.Parts.{entryOf}
+use Rattle.packet.proofs.Climb.{odd, stepped-left, stepped-right}
+use borrow.Author.Needs.{needs}
+use Rattle.packet.proofs.checking.step_up.Statement.{statement}
+use Rattle.packet.proofs.checking.step_up.Tie as tie
+
+returns : tie.Need-returns
+returns c =
+    let a = c .before .before .before .before .before .before .before .before .args in
+    stepped-left nodeHash (a .k) (entryOf (a .node)) (entryOf (a .beside)) (c .parent-hash .result) (omega arith) (c .parent-hash .ensures)
+
+returns-2 : tie.Need-returns-2
+returns-2 c =
+    let a = c .before .before .before .before .before .before .before .before .args in
+    stepped-right nodeHash (a .k) (entryOf (a .node)) (entryOf (a .beside)) (c .parent-hash2 .result) (omega arith) (c .parent-hash2 .ensures)
+
+pub step-up-spec : {M : Type 1} → statement M
+step-up-spec =
+    tie.close (tie.spec (λ c. search needs) (λ c κs. search needs) returns (λ c κs. search needs) returns-2)

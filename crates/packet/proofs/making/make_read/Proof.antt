@@ -1,0 +1,20 @@
+-- `packet::making::make_read` meets its contract. Assumes nothing.
+use Rattle.packet.proofs.Makes.{no-room, made-whole}
+use borrow.Author.Needs.{needs}
+use Rattle.packet.proofs.making.make_read.Statement.{statement}
+use Rattle.packet.proofs.making.make_read.Tie as tie
+
+returns : tie.Need-returns
+returns c =
+    let a = c .before .before .before .before .before .args in
+    no-room (a .tree .now) (a .n) (a .chunk .0) (a .bytes .now) (a .out .now) (c .before .packet-length .result) (c .before .packet-length .ensures) (c .if1 .taken)
+
+returns-2 : tie.Need-returns-2
+returns-2 c =
+    let a = c .before .before .before .before .before .before .before .before .before .args in
+    made-whole (a .tree .now) (a .n) (a .chunk .0) (a .bytes .now) (a .out .now) (c .before .before .before .before .before .packet-length .result) (c .before .before .before .before .before .packet-length .ensures)
+    (c .before .before .before .before .if1 .left) (c .before .before .write-packet .last .1 .1 .1 .1 .0) (c .before .before .write-packet .ensures)
+
+pub make-read-spec : {M : Type 1} → statement M
+make-read-spec =
+    tie.close (tie.spec (λ c κs. search needs) returns (λ c κs. search needs) (λ c. search needs) returns-2)

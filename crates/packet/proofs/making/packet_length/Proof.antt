@@ -1,0 +1,27 @@
+-- `packet::making::packet_length` meets its contract. Assumes nothing.
+use Rattle.packet.proofs.Rows.{packet-long}
+use borrow.Author.Needs.{needs}
+use Rattle.packet.proofs.making.packet_length.Statement.{statement}
+use Rattle.packet.proofs.making.packet_length.Tie as tie
+
+returns : tie.Need-returns
+returns c =
+    let a = c .before .before .before .before .args in
+    packet-long (a .tree .now) (a .n) (a .chunk .0) (a .bytes .now) (c .before .before .before .before .pre) (c .before .sibling-count .result) (c .other-count .result)
+    (c .before .sibling-count .ensures .0) (c .other-count .ensures .0)
+
+pub packet-length-spec : {M : Type 1} → statement M
+packet-length-spec =
+    tie.close
+    (tie.spec
+    (λ c κs. search needs)
+    (λ c. search needs)
+    (λ c κs. search needs)
+    (λ c. search needs)
+    (λ c. search needs)
+    (λ c. search needs)
+    (λ c. search needs)
+    (λ c. search needs)
+    (λ c. search needs)
+    (λ c. search needs)
+    returns)

@@ -94,6 +94,7 @@ fn appends(pair: &mut Pair, rounds: usize) -> Row {
 
 fn audits(pair: &Pair, rounds: usize) -> Row {
     let mut row = Row::new("audit", 1, pair.ours.data.len());
+    assert!(pair.ours.register().audit().is_ok() && pair.theirs.audit().is_ok(), "both audits are done");
     for _ in 0..rounds {
         row.round(|| pair.ours.register().audit().is_ok(), || pair.theirs.audit().is_ok());
     }
@@ -109,6 +110,9 @@ fn lookups(pair: &Pair, rounds: usize) -> Vec<Row> {
     let mut rows =
         vec![Row::new("place", CALLS, 0), Row::new("byte", CALLS, 0), Row::new("read", CALLS, CALLS * pair.chunks[0].len())];
     let sum = |(a, b): (u64, u64)| a * 3 + b;
+    for &chunk in &chunks {
+        assert!(ours.read(chunk).unwrap() == theirs.read(chunk as usize).unwrap(), "both reads give the same bytes");
+    }
     for _ in 0..rounds {
         rows[0].round(
             || chunks.iter().map(|&chunk| sum(ours.place(chunk).unwrap())).sum::<u64>(),

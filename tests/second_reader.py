@@ -294,6 +294,42 @@ def unseen_damage(files, numbers, root, lines, described):
         return "damage in the root hash isn't seen"
     return None
 
+def described_hash(text, message):
+    """The hash by the description's own section on BLAKE2b, with the constants that stand in it."""
+    section = text.split("\n## BLAKE2b")[1].split("\n## ")[0]
+    iv = [int(word, 16) for word in section.split("(hex): ")[1].split(".")[0].split()]
+    table = [[int(x) for x in row.split("|")[2].split()] for row in section.split("\n") if row[:3].strip("| ").isdigit()]
+    mask = 2 ** 64 - 1
+    h = [iv[0] ^ 0x01010020] + iv[1:]
+    blocks = [message[at:at + 128] for at in range(0, len(message), 128)] or [b""]
+    for k, block in enumerate(blocks):
+        m = [int.from_bytes(block.ljust(128, b"\0")[8 * j:8 * j + 8], "little") for j in range(16)]
+        v = h + iv
+        v[12] ^= 128 * k + len(block)
+        v[14] ^= mask if k == len(blocks) - 1 else 0
+        for r in range(12):
+            mix_round(v, m, table[r % 10], mask)
+        h = [x ^ v[j] ^ v[j + 8] for j, x in enumerate(h)]
+    return b"".join(x.to_bytes(8, "little") for x in h[:4])
+
+def mix_round(v, m, s, mask):
+    quads = [(0, 4, 8, 12), (1, 5, 9, 13), (2, 6, 10, 14), (3, 7, 11, 15), (0, 5, 10, 15), (1, 6, 11, 12), (2, 7, 8, 13), (3, 4, 9, 14)]
+    for k, (a, b, c, d) in enumerate(quads):
+        for word, (first, second) in ((m[s[2 * k]], (32, 24)), (m[s[2 * k + 1]], (16, 63))):
+            v[a] = v[a] + v[b] + word & mask
+            v[d] = turned(v[d] ^ v[a], first, mask)
+            v[c] = v[c] + v[d] & mask
+            v[b] = turned(v[b] ^ v[c], second, mask)
+
+def turned(x, k, mask):
+    return (x >> k | x << 64 - k) & mask
+
+def hash_differs(text):
+    """None where the description's BLAKE2b is the one of Python's library, else the message's length."""
+    lengths = (0, 1, 3, 127, 128, 129, 256, 1000)
+    wrong = [n for n in lengths if described_hash(text, bytes(j % 251 for j in range(n))) != H(bytes(j % 251 for j in range(n)))]
+    return f"the hash of {wrong[0]} bytes" if wrong else None
+
 def packets_differ(text, registers):
     """None where each packet that is written out is the one of its register, else what differs."""
     lines = [line.split()[1:] for line in text.split("\n") if line.startswith("    packet ")]
@@ -315,7 +351,7 @@ def main(path):
                  or unseen_damage(files, numbers, root, register["lines"], described))
         if wrong:
             return f"register of {numbers[0]} chunks: {wrong}"
-    return packets_differ(text, registers) or f"{len(registers)} registers agree"
+    return hash_differs(text) or packets_differ(text, registers) or f"{len(registers)} registers agree"
 
 if __name__ == "__main__":
     answer = main(sys.argv[1])

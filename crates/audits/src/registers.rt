@@ -22,8 +22,8 @@ pub fn grown(
     samples::grow(tree, signatures, bitfield, data, none, n, span)
 }
 
-// How a register is made: of the first 24 bytes of samples::bytes_of(text) as n chunks, the even ones of `even` bytes, the odd ones of
-// `odd`, and the last of what is left. It is told to have s signatures.
+// How a register is made: of the first 24 bytes of samples::bytes_of(text) as n chunks, the even ones of `even` bytes and the odd ones of
+// `odd`, each as far as the 24 bytes reach. It is told to have s signatures.
 pub struct Cut {
     pub text: u64,
     pub n: u64,

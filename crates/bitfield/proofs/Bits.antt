@@ -7,7 +7,7 @@ use Prim.Native.Nat.{ℕ, zero, suc, _+_, _-_, _*_, _/_, _%_, _^_, _<_, _≤_}
 use native.Mathlib.Nat.{add-zero, zero-add, add-assoc, suc-add}
 use native.Mathlib.Omega.{arith}
 use lib.Dec.{T, eqb, ltb, eqb→eq}
-use lib.ListN.{length, getD, set, length-set, List·getD-append}
+use lib.ListN.{length, getD, set, List·getD-append}
 use lib.Seq.{set-append-left}
 use lib.Bits.{bitOr}
 use borrow.Author.Tests.{eqb-true, eqb-false, eq-eqb, ne-eqb, ltb-true, ltb-false}
@@ -166,10 +166,6 @@ unfolding setBit
 setBit-within xs ys p b h =
     ap (λ (v : ℕ). set (xs ++ ys) (p + b / 8) (bitOr v (2 ^ (7 - b % 8)))) (List·getD-append xs ys 0 (p + b / 8) h)
     ∙ set-append-left xs ys (p + b / 8) (bitOr (getD xs (p + b / 8) 0) (2 ^ (7 - b % 8))) h
-
-pub length-setBit : (xs : List ℕ) (p b : ℕ) → length (setBit xs p b) ≡ length xs
-unfolding setBit
-length-setBit xs p b = length-set xs (p + b / 8) (bitOr (getD xs (p + b / 8) 0) (2 ^ (7 - b % 8)))
 
 setBit-head : (x : ℕ) (xs : List ℕ) (b : ℕ) → b < 8 → setBit (x ∷ xs) 0 b ≡ bitOr x (2 ^ (7 - b)) ∷ xs
 unfolding setBit

@@ -33,7 +33,7 @@ pub record Passed (r : Register) : Type 0 where
 pub same-of : (xs ys : List ℕ) → xs ≡ ys → sameList xs ys ≡ true
 same-of xs ys e = ap (sameList xs) (sym e) ∙ same-refl xs
 
-all-right : (r : Register) → Passed r → AllRight (registerChecks r)
+pub all-right : (r : Register) → Passed r → AllRight (registerChecks r)
 unfolding registerChecks laterChecks addsUp
 all-right r p = (
   le-leb (r .n) mostChunks (p .count),
@@ -64,7 +64,7 @@ all-right r p = (
   ),
 )
 
-right-all : (r : Register) → AllRight (registerChecks r) → Passed r
+pub right-all : (r : Register) → AllRight (registerChecks r) → Passed r
 unfolding registerChecks
 right-all r a =
     let l = later-facts r (a .1) in

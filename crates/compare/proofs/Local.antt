@@ -1,7 +1,7 @@
 -- Small laws of lists and tests that the proofs of the walk and of demand 3 share.
 -- Assumes nothing.
 use Prim.Native.Nat.{ℕ, zero, suc, _<_}
-use mathlib.Core.Path.{_≡_, refl, sym, _∙_, subst}
+use mathlib.Core.Path.{_≡_, refl, sym, _∙_}
 use mathlib.Core.Logic.{_≢_, _⊎_, inl, inr}
 use mathlib.Core.Bool.{Bool, true, false, cond, _&&_, true≢false, false≢true}
 use mathlib.Core.List.{List, [], _∷_, _++_, map, head-eq-of-cons-eq, tail-eq-of-cons-eq}
@@ -9,7 +9,8 @@ use native.Mathlib.Nat.{suc-inj, suc-ne-zero}
 use native.Mathlib.Omega.{arith}
 use lib.ListN.{length, getD}
 use Rattle.sequences.specs.Lists.{sameList}
-use Rattle.sequences.proofs.Lists.{same-refl, same-eq}
+use Rattle.sequences.proofs.Lists.{same-eq}
+use Rattle.checks.proofs.Passed.{same-of}
 
 -- ---- tests
 
@@ -26,12 +27,9 @@ pub and-right : (a b : Bool) → (a && b) ≡ true → b ≡ true
 and-right true b h = h
 and-right false b h = absurd (false≢true h)
 
--- "the same" is said of equal lists, and of no others
-pub true-same : (xs ys : List ℕ) → xs ≡ ys → sameList xs ys ≡ true
-true-same xs ys e = subst (λ (zs : List ℕ). sameList xs zs ≡ true) e (same-refl xs)
-
+-- "the same" is said of no other lists than equal ones
 pub same-false : (xs ys : List ℕ) → sameList xs ys ≡ false → xs ≢ ys
-same-false xs ys h e = true≢false (sym (true-same xs ys e) ∙ h)
+same-false xs ys h e = true≢false (sym (same-of xs ys e) ∙ h)
 
 -- two lists are the same, or they are not, and the test says so
 abbrev pub Told : List ℕ → List ℕ → Type 0

@@ -22,12 +22,13 @@ use Rattle.files.specs.Within.{EntryIn, RootsIn}
 use Rattle.files.proofs.Nodes.{byDepth}
 use Rattle.files.proofs.OfImage.{stored-leaf}
 use Rattle.checks.proofs.Judged.{both-right}
+use Rattle.checks.proofs.Passed.{same-of}
 use Rattle.checks.proofs.Steps.{and-stop, and-pass}
 use Rattle.audit.specs.Walked.{leavesBefore, Started, AtParent}
 use Rattle.audit.proofs.Entries.{entry-in, odd-depth, parent-in}
 use Rattle.compare.specs.Walk.{collides}
 use Rattle.compare.specs.Inner.{Walkable, ReadAt, ChunkIn, sameParent, collidesAt}
-use Rattle.compare.proofs.Local.{Told, told, true-same}
+use Rattle.compare.proofs.Local.{Told, told}
 use Rattle.compare.proofs.Apart.{be-injective, leaf-injective, SameParent, parent-injective}
 
 -- ---- tests that say the same
@@ -44,7 +45,7 @@ as-same b us vs f g = go b refl (told us vs)
 
 -- leaf messages are the same exactly where the chunks are
 same-leaves : (c d : List ℕ) → sameList c d ≡ sameList (leafMessage c) (leafMessage d)
-same-leaves c d = as-same (sameList c d) (leafMessage c) (leafMessage d) (λ e. ap leafMessage (same-eq c d e)) (λ e. true-same c d (leaf-injective c d e))
+same-leaves c d = as-same (sameList c d) (leafMessage c) (leafMessage d) (λ e. ap leafMessage (same-eq c d e)) (λ e. same-of c d (leaf-injective c d e))
 
 -- ---- what is stored
 
@@ -90,7 +91,7 @@ same-parents t u i b b′ p q e g = as-same (sameParent t u i) (parentOf t i) (p
         be-injective 8 (storedSize t i) (storedSize u i) (size-lt t i b (p .entry)) (size-lt u i b′ (q .entry))
         (ap (be 8) e ∙ s .sum ∙ ap (be 8) (sym g)) in
         ap₂ _&&_ (eq-eqb (storedSize t i) (storedSize u i) z)
-        (ap₂ _&&_ (true-same (storedHash t (leftChild i)) (storedHash u (leftChild i)) (s .left)) (true-same (storedHash t (rightChild i)) (storedHash u (rightChild i)) (s .right)))
+        (ap₂ _&&_ (same-of (storedHash t (leftChild i)) (storedHash u (leftChild i)) (s .left)) (same-of (storedHash t (rightChild i)) (storedHash u (rightChild i)) (s .right)))
 
 -- the stored message, by its index
 even-message : (t d : List ℕ) (i k : ℕ) → 2 * k ≡ i → storedMessage t d i ≡ leafMessage (storedChunk t d k)

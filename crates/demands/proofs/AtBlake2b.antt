@@ -1,14 +1,10 @@
 -- The hash of the calls is such a function, so both demands hold of the calls as they are.
 use Rattle.blake2b.specs.Hash.{nodeHash}
-use Rattle.blake2b.proofs.Laws.{node-length, node-byte}
-use Rattle.files.specs.Messages.{HashFunction}
+use Rattle.files.proofs.Hashed.{hash-function}
 use Rattle.demands.specs.Demand2.{Demand2}
 use Rattle.demands.specs.Demand3.{Demand3}
 use Rattle.demands.proofs.Demand2.{demand-2}
 use Rattle.demands.proofs.Demand3.{demand-3}
-
-pub hash-function : HashFunction nodeHash
-hash-function = record { size = λ d b. node-length d; byte = λ d b. node-byte d }
 
 pub demand-2-of-the-calls : Demand2 nodeHash
 demand-2-of-the-calls = demand-2 nodeHash hash-function

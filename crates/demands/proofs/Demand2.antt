@@ -19,13 +19,14 @@ use Rattle.audit.specs.Audit.{Accepted}
 use Rattle.audit.specs.Exact.{Imaged}
 use Rattle.audit.proofs.Audited.{accepted-audited}
 use Rattle.audit.proofs.Exact.{imaged-accepted, audit-exact}
-use Rattle.writing.specs.Start.{unlessRefused, startVerdict, started, startedRegister, afterStart}
+use Rattle.writing.specs.Start.{startVerdict, started, startedRegister, afterStart}
 use Rattle.writing.specs.Append.{appendVerdict, appendedRegister, rootUnlessRefused, appendRoot, afterAppend}
 use Rattle.writing.specs.Sign.{signVerdict, signedRegister, afterSign}
 use Rattle.writing.specs.RootHash.{rootVerdict, rootAnswer}
 use Rattle.writing.specs.Fits.{AppendFits, SignFits}
 use Rattle.writing.proofs.Written.{length-snoc, within-nil, each-below-snoc}
 use Rattle.writing.proofs.Started.{fits-start, start-refused, started-belongs, started-signatures, start-tree-rest, start-signatures-rest, start-bitfield-rest}
+use Rattle.writing.proofs.Orders.{left-done, left-refused}
 use Rattle.writing.proofs.Verdicts.{append-passed, passed-append, sign-passed, passed-sign}
 use Rattle.writing.proofs.Appended.{longer-within, append-belongs, append-root, append-tree-rest, append-bitfield-rest, append-content-rest}
 use Rattle.writing.proofs.Signed.{sign-image, sign-rest, sign-belongs}
@@ -33,13 +34,6 @@ use Rattle.writing.proofs.Lent.{start-lent, append-lent, sign-lent}
 use Rattle.lookup.proofs.Answers.{answers}
 use Rattle.packet.proofs.Answers.{packet-answers}
 use Rattle.demands.specs.Demand2.{Beyond, StartWrites, AppendWrites, SignWrites, RootAnswers, Written, fromStart, fromImages, andAppended, andSigned, Demand2ForAll}
-
--- what is left in the buffers
-left-done : (v : Verdict) (x y : Buffers) → v ≡ done → unlessRefused v x y ≡ x
-left-done v x y e = ap (λ (u : Verdict). unlessRefused u x y) e
-
-left-refused : (v : Verdict) (x y : Buffers) (m : ℕ) (at : Spot) → v ≡ refused m at → unlessRefused v x y ≡ y
-left-refused v x y m at e = ap (λ (u : Verdict). unlessRefused u x y) e
 
 -- ---- a start
 

@@ -19,7 +19,8 @@ use Rattle.files.proofs.Nodes.{nodeAt-hash}
 use Rattle.audit.specs.Audit.{Lowest, lowest}
 use Rattle.compare.specs.Walk.{Comparison, rootsDiffer, atRoots, atIndex, equal, found, walk, collides}
 use Rattle.demands.specs.Demand3.{Collision, CollisionAt}
-use Rattle.compare.proofs.Local.{and-left, and-right, true-same, same-false, false-same, Told, told}
+use Rattle.checks.proofs.Passed.{same-of}
+use Rattle.compare.proofs.Local.{and-left, and-right, same-false, false-same, Told, told}
 use Rattle.demands.proofs.Lowest.{Found, none, some, found-lowest}
 use Rattle.demands.proofs.Roots.{hashFor, same-roots}
 
@@ -55,7 +56,7 @@ module _ (F : List ℕ → List ℕ) (cs ds : List (List ℕ)) where
         m = false-same (messageFor F cs i) (messageFor F ds i) (c .collision .differ)
 
         h : sameList (hashFor F cs i) (hashFor F ds i) ≡ true
-        h = true-same (hashFor F cs i) (hashFor F ds i)
+        h = same-of (hashFor F cs i) (hashFor F ds i)
             (nodeAt-hash F cs i (c .inFirst) ∙ c .collision .oneHash ∙ sym (nodeAt-hash F ds i (c .inSecond)))
 
     wrong-collides : (i : ℕ) → length cs ≡ length ds → free i ≡ false → CollisionAt F cs ds i

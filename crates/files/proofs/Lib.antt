@@ -7,3 +7,4 @@ pub mod Places
 pub mod ByValue
 pub mod Written
 pub mod ImageBytes
+pub mod Hashed

@@ -10,7 +10,6 @@ use lib.Dec.{eqb}
 use lib.ListN.{length, take}
 use Rattle.counts.specs.Verdict.{Verdict, done}
 use Rattle.blake2b.specs.Hash.{nodeHash}
-use Rattle.blake2b.proofs.Laws.{node-length, node-byte}
 use Rattle.sequences.specs.Lists.{Bytes}
 use Rattle.sequences.proofs.Lists.{length-put, take-put}
 use Rattle.tree_index.specs.Tree.{entries}
@@ -18,31 +17,25 @@ use Rattle.bitfield.specs.Image.{entryCount, entriesOf}
 use Rattle.bitfield.proofs.Image.{length-entries}
 use Rattle.files.specs.Headers.{signaturesHeader}
 use Rattle.files.specs.Sizes.{usedTree, usedSignatures, usedBitfield}
-use Rattle.files.specs.Messages.{HashFunction}
 use Rattle.files.specs.Belongs.{Buffers, Register, buffersOf, Within, Belongs}
+use Rattle.files.proofs.Hashed.{hash-function}
 use Rattle.checks.specs.Checks.{signedRight}
 use Rattle.checks.specs.Given.{registerOf}
 use Rattle.checks.proofs.Passed.{Passed}
 use Rattle.audit.proofs.Accepts.{belongs-accepted}
 use Rattle.audit.proofs.Audited.{accepted-audited}
-use Rattle.writing.specs.Start.{unlessRefused}
 use Rattle.writing.specs.Append.{appendVerdict, appendedRegister, afterAppend}
 use Rattle.writing.specs.Sign.{signVerdict, signedRegister, afterSign}
 use Rattle.writing.specs.Fits.{AppendFits}
 use Rattle.writing.specs.Post.{lent, AppendPost, SignPost}
 use Rattle.writing.proofs.Tree.{appended-length}
+use Rattle.writing.proofs.Orders.{left-done}
 use Rattle.writing.proofs.Verdicts.{passed-append, passed-sign}
 use Rattle.writing.proofs.Appended.{longer-within, append-belongs, bits-put}
 use Rattle.writing.proofs.Signed.{sign-belongs}
 use Rattle.listing_lines.specs.Inner.{Ready, Adds}
 
-pub hash-function : HashFunction nodeHash
-hash-function = record { size = λ d b. node-length d; byte = λ d b. node-byte d }
-
-left-done : (v : Verdict) (x y : Buffers) → v ≡ done → unlessRefused v x y ≡ x
-left-done v x y e = ap (λ (u : Verdict). unlessRefused u x y) e
-
-tree-room : (n : ℕ) → n < 64 → usedTree (n + 1) ≤ 5120
+pub tree-room : (n : ℕ) → n < 64 → usedTree (n + 1) ≤ 5120
 unfolding usedTree entries
 tree-room n h = omega arith
 

@@ -25,7 +25,7 @@ use Rattle.listing_lines.specs.Lines.{line, kindWord, holeWord, firstUnd
 use Rattle.listing_lines.specs.Inner.{Put, Read, Printable, Ready, Reading, behind, firstOf, rootsOf, storedLine, storedEntries, storedLines}
 use Rattle.listing_lines.specs.Post.{fits, Listed}
 use Rattle.listing_lines.proofs.Put.{wider-put, same-put}
-use Rattle.listing_lines.proofs.Grown.{hash-function}
+use Rattle.files.proofs.Hashed.{hash-function}
 use Rattle.listing_lines.proofs.Entries.{first-le}
 
 -- the lengths of a part of the chunks

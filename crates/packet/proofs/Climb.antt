@@ -1,21 +1,21 @@
 -- The climb along the siblings, and the root put back among the others.
 -- Assumes nothing.
 use Prim.Native.Nat.{ℕ, zero, suc, _+_, _-_, _*_, _/_, _%_, _≤_, _<_}
-use mathlib.Core.Path.{_≡_, refl, sym, ap, ap₂, _∙_, subst}
-use mathlib.Core.Bool.{Bool, true, false, cond}
+use mathlib.Core.Path.{_≡_, refl, sym, ap, _∙_, subst}
+use mathlib.Core.Bool.{Bool, cond}
 use mathlib.Core.Logic.{_⊎_, inl, inr}
-use mathlib.Core.List.{List, [], _∷_, _++_, map}
-use native.Mathlib.Nat.{add-comm, eq-zero-or-pos}
+use mathlib.Core.List.{List, [], _∷_}
+use native.Mathlib.Nat.{add-comm}
 use native.Mathlib.Numerals.{add-one}
 use native.Mathlib.Omega.{arith}
-use lib.Dec.{ltb, eqb}
-use lib.ListN.{length, getD}
+use lib.Dec.{eqb}
+use lib.ListN.{length}
 use borrow.Author.Tests.{lt-ltb, le-ltb, eq-eqb, ne-eqb}
 use Rattle.sequences.specs.Lists.{run, total}
 use Rattle.tree_index.proofs.Roots.{bit}
-use Rattle.files.specs.Messages.{leafMessage, parentMessage}
-use Rattle.files.specs.Nodes.{Entry, leaf, parentOf}
-use Rattle.packet.specs.Check.{entryIn, entriesIn, ordered, Step, stepsAbove, lastEntry}
+use Rattle.files.specs.Messages.{parentMessage}
+use Rattle.files.specs.Nodes.{Entry, parentOf}
+use Rattle.packet.specs.Check.{entryIn, entriesIn, ordered, stepsAbove, lastEntry}
 use Rattle.packet.specs.Parts.{sizesIn, Climbable, climbed, turned, TurnIn, TurnsIn}
 
 -- ---- one step up
@@ -151,15 +151,6 @@ module _ {A : Type 0} (f : ℕ → A) (k : ℕ) (x : A) (j : ℕ) where
   turned-behind h n =
       ap (λ (b : Bool). cond b (f j) (cond (eqb j k) x (f (j - 1)))) (le-ltb j k h)
       ∙ ap (λ (b : Bool). cond b x (f (j - 1))) (ne-eqb j k n)
-
-pub turned-map : {A B : Type 0} (g : A → B) (f : ℕ → A) (k : ℕ) (x : A) (j : ℕ) → g (turned f k x j) ≡ turned (λ i. g (f i)) k (g x) j
-unfolding turned
-turned-map {A} {B} g f k x j = pick (ltb j k) (eqb j k)
-  where
-    pick : (a b : Bool) → g (cond a (f j) (cond b x (f (j - 1)))) ≡ cond a (g (f j)) (cond b (g x) (g (f (j - 1))))
-    pick true b = refl
-    pick false true = refl
-    pick false false = refl
 
 pub turn-in : (p : List ℕ) (at k count j : ℕ) → TurnsIn p at k count → j < count → TurnIn p at k j
 turn-in p at k count j t h =

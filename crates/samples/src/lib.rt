@@ -1,4 +1,4 @@
-// Registers for the test programs to work on: chunks and signatures whose bytes depend on the chunk number.
+// Registers for the programs of the gate to work on: chunks and signatures whose bytes depend on the chunk number. Inner.
 ghost use Prim.Native.Nat.{_<_, _≤_};
 
 // What a caller tells of a register.
@@ -87,7 +87,7 @@ fn add(
     add_part(tree, signatures, bitfield, data, n, size, &bytes, count);
 }
 
-// (A reference to the array brings its length along.)
+// The first `count` of the bytes appended. (A reference to the array brings its length along.)
 fn add_part(
     tree: &mut [u8],
     signatures: &[u8],

@@ -6,16 +6,17 @@ use mathlib.Core.List.{List, [], _∷_, _++_}
 use borrow.Author.Tests.{lt-ltb, le-ltb}
 use lib.Dec.{leb, ltb, eqb}
 use lib.ListN.{length}
-use Rattle.counts.specs.Verdict.{Verdict, none, done, refused}
+use Rattle.counts.specs.Verdict.{Spot, Verdict, none, done, refused}
 use Rattle.counts.specs.Said.{said, spotOf}
 use Rattle.counts.specs.declared.Refusal.{Refusal}
 use Rattle.counts.specs.declared.Answer.{Answer}
 use Rattle.counts.specs.declared.Answer.the-variants.{Done, Refused}
 use Rattle.files.specs.Sizes.{mostChunks, longestChunk, usedTree, usedSignatures, usedBitfield}
-use Rattle.files.specs.Belongs.{Register}
+use Rattle.files.specs.Belongs.{Buffers, Register}
 use Rattle.checks.specs.Checks.{Check, judged, holds, laterChecks, registerChecks}
 use Rattle.checks.proofs.Passed.{AllRight}
 use Rattle.checks.proofs.Judged.{judged-append, judged-refused, judged-right, judged-done}
+use Rattle.writing.specs.Start.{unlessRefused}
 use Rattle.writing.specs.Append.{ownChecks, appendChecks, appendVerdict}
 use Rattle.writing.specs.Sign.{ownSignChecks, signChecks, signVerdict}
 
@@ -38,6 +39,13 @@ both-right (x ∷ xs) ys p q = (p .0, both-right xs ys (p .1) q)
 pub right-both : (xs ys : List Check) → AllRight (xs ++ ys) → AllRight xs × AllRight ys
 right-both [] ys p = (tt, p)
 right-both (x ∷ xs) ys p = let r = right-both xs ys (p .1) in ((p .0, r .0), r .1)
+
+-- what is left in the buffers
+pub left-done : (v : Verdict) (x y : Buffers) → v ≡ done → unlessRefused v x y ≡ x
+left-done v x y e = ap (λ (u : Verdict). unlessRefused u x y) e
+
+pub left-refused : (v : Verdict) (x y : Buffers) (m : ℕ) (at : Spot) → v ≡ refused m at → unlessRefused v x y ≡ y
+left-refused v x y m at e = ap (λ (u : Verdict). unlessRefused u x y) e
 
 -- ---- an append
 

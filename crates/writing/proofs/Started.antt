@@ -18,20 +18,10 @@ use Rattle.files.specs.Images.{dataSize, dataImage, bitfieldImage, signaturesIm
 use Rattle.files.specs.Belongs.{Buffers, Belongs}
 use Rattle.files.proofs.OfImage.{treeHeader-length, signaturesHeader-length, bitfieldHeader-length}
 use Rattle.checks.specs.Checks.{judged}
-use Rattle.checks.proofs.Passed.{all-must, all-pass}
+use Rattle.checks.proofs.Passed.{all-pass}
 use Rattle.writing.specs.Start.{startChecks, startVerdict, started, startedRegister}
 use Rattle.writing.specs.Fits.{StartFits}
 use Rattle.writing.proofs.Written.{take-header, drop-header}
-
-pub start-fits : (b : Buffers) → startVerdict b ≡ done → StartFits b
-unfolding startVerdict startChecks
-start-fits b e =
-    let a = all-must (startChecks b) done e .0 in
-    record {
-      tree = leb-true 32 (length (b .tree)) (a .0);
-      signatures = leb-true 32 (length (b .signatures)) (a .1 .0);
-      bitfield = leb-true 32 (length (b .bitfield)) (a .1 .1 .0);
-    }
 
 pub fits-start : (b : Buffers) → StartFits b → startVerdict b ≡ done
 unfolding startVerdict startChecks

@@ -12,18 +12,11 @@ use Rattle.counts.specs.Verdict.{done}
 use Rattle.files.specs.Sizes.{mostChunks, longestChunk, usedTree, usedSignatures, usedBitfield}
 use Rattle.files.specs.Belongs.{Register}
 use Rattle.checks.specs.Checks.{Check, signedRight, laterChecks, registerChecks}
-use Rattle.checks.proofs.Passed.{Passed, AllRight, all-must, all-pass, passed, passes}
+use Rattle.checks.proofs.Passed.{Passed, all-must, all-pass, all-right, right-all}
 use Rattle.writing.specs.Append.{ownChecks, appendChecks, appendVerdict}
 use Rattle.writing.specs.Sign.{ownSignChecks, signChecks, signVerdict}
 use Rattle.writing.specs.Fits.{AppendFits, SignFits}
 use Rattle.writing.proofs.Orders.{both-right, right-both}
-
--- the numbers 2 to 6 as a list of checks, both ways
-checked : (r : Register) → AllRight (registerChecks r) → Passed r
-checked r a = passed r done (all-pass (registerChecks r) done a) .0
-
-unchecked : (r : Register) → Passed r → AllRight (registerChecks r)
-unchecked r p = all-must (registerChecks r) done (passes r done p) .0
 
 -- ---- an append
 
@@ -33,7 +26,7 @@ append-passed r chunk e =
     let a = all-must (appendChecks r chunk) done e .0 in
     let s = right-both (laterChecks r) (ownChecks r chunk) (a .1) in
     let l : r .n < mostChunks = ltb-true (r .n) mostChunks (a .0) in (
-      checked r (le-leb (r .n) mostChunks (omega arith), s .0),
+      right-all r (le-leb (r .n) mostChunks (omega arith), s .0),
       record {
         fewer = l;
         short = leb-true (length chunk) longestChunk (s .1 .0);
@@ -49,7 +42,7 @@ unfolding appendVerdict appendChecks registerChecks ownChecks
 passed-append r chunk c p =
     all-pass (appendChecks r chunk) done (
       lt-ltb (r .n) mostChunks (p .fewer),
-      both-right (laterChecks r) (ownChecks r chunk) (unchecked r c .1) (
+      both-right (laterChecks r) (ownChecks r chunk) (all-right r c .1) (
         le-leb (length chunk) longestChunk (p .short),
         (
           eq-eqb (r .s) (r .n) (p .paid),
@@ -77,7 +70,7 @@ pub sign-passed : (r : Register) → signVerdict r ≡ done → Passed r × Sign
 unfolding signVerdict signChecks ownSignChecks
 sign-passed r e =
     let s = right-both (registerChecks r) (ownSignChecks (r .signatures) (r .n) (r .s)) (all-must (signChecks r) done e .0) in
-    let p : Passed r = checked r (s .0) in (
+    let p : Passed r = right-all r (s .0) in (
       p,
       record {
         owed = one-owed (r .n) (r .s) (p .signed) (eqb-false (r .s) (r .n) (not-true (eqb (r .s) (r .n)) (s .1 .0)));
@@ -89,7 +82,7 @@ pub passed-sign : (r : Register) → Passed r → SignFits r → signVerdict r �
 unfolding signVerdict signChecks ownSignChecks
 passed-sign r c p =
     all-pass (signChecks r) done
-    (both-right (registerChecks r) (ownSignChecks (r .signatures) (r .n) (r .s)) (unchecked r c) (
+    (both-right (registerChecks r) (ownSignChecks (r .signatures) (r .n) (r .s)) (all-right r c) (
       ap not (ne-eqb (r .s) (r .n) (λ e. omega (arith, p .owed))),
       (le-leb (usedSignatures (r .s + 1)) (length (r .signatures)) (p .room), tt),
     ))

@@ -3,7 +3,7 @@
 use counts::Answer;
 use counts::ChunkNumber;
 ghost use mathlib.Core.Path.{_≡_};
-ghost use Prim.Native.Nat.{_+_, _*_, _≤_, _<_};
+ghost use Prim.Native.Nat.{_+_, _≤_, _<_};
 ghost use lib.ListN.{length};
 ghost use Rattle.sequences.specs.Lists.{put};
 ghost use Rattle.tree_index.specs.Tree.{completed, filledBy};

@@ -33,8 +33,7 @@ gather-spec =
     tie.close
     (tie.spec
     fill-requires
-    (λ c. search needs)
-    (λ c κs. search needs)
+    (λ c. search needs) (λ c κs. search needs)
     fill-requires-2
     returns
     fill-requires-3

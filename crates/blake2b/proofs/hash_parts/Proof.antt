@@ -17,7 +17,5 @@ pub hash-parts-spec : {M : Type 1} → statement M
 hash-parts-spec =
     tie.close
     (tie.spec
-    (λ c κs. search needs)
-    (λ c κs. search needs)
-    (λ c κs. search needs)
+    (λ c κs. search needs) (λ c κs. search needs) (λ c κs. search needs)
     returns)

@@ -87,7 +87,6 @@ make-level-spec =
     element-write-out
     mul-p-2
     add-p
-    (λ c. search needs)
-    (λ c. search needs)
+    (λ c. search needs) (λ c. search needs)
     loop-again
     returns)

@@ -69,7 +69,6 @@ add-lengths-spec =
     sub-if1
     returns
     add-sum
-    (λ c. search needs)
-    (λ c. search needs)
+    (λ c. search needs) (λ c. search needs)
     loop-again
     returns-2)

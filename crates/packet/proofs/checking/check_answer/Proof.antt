@@ -52,8 +52,7 @@ check-answer-spec =
     returns
     (λ c κs. search needs)
     returns-2
-    (λ c κs. search needs)
-    (λ c κs. search needs)
+    (λ c κs. search needs) (λ c κs. search needs)
     returns-3
     root-right-requires
     (λ c κs. search needs)

@@ -56,7 +56,6 @@ climb-spec =
     (λ c. search needs)
     entry-node-requires
     step-up-requires
-    (λ c. search needs)
-    (λ c. search needs)
+    (λ c. search needs) (λ c. search needs)
     loop-again
     returns)

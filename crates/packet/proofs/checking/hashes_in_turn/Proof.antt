@@ -54,9 +54,6 @@ hashes-in-turn-spec =
     μ-loop
     loop-holds
     in-turn-requires
-    (λ c. search needs)
-    (λ c. search needs)
-    (λ c. search needs)
-    (λ c. search needs)
+    (λ c. search needs) (λ c. search needs) (λ c. search needs) (λ c. search needs)
     loop-again
     returns)

@@ -58,8 +58,7 @@ in-turn-spec =
     entry-node-requires
     returns
     returns-2
-    (λ c. search needs)
-    (λ c. search needs)
+    (λ c. search needs) (λ c. search needs)
     add-entry-node-2
     entry-node-requires-2
     returns-3)

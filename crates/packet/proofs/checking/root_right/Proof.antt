@@ -113,9 +113,7 @@ pub root-right-spec : {M : Type 1} → statement M
 root-right-spec =
     tie.close
     (tie.spec
-    (λ c κs. search needs)
-    (λ c. search needs)
-    (λ c κs. search needs)
+    (λ c κs. search needs) (λ c. search needs) (λ c κs. search needs)
     read-be32-requires
     add-first
     add-second
@@ -126,14 +124,12 @@ root-right-spec =
     add-add-lengths-2
     add-lengths-requires-2
     returns
-    (λ c. search needs)
-    (λ c. search needs)
+    (λ c. search needs) (λ c. search needs)
     part-leaf-node-end
     (λ c κs. search needs)
     add-climb
     climb-requires
     add-root-hash-with
     root-hash-with-requires
-    (λ c. search needs)
-    (λ c κs. search needs)
+    (λ c. search needs) (λ c κs. search needs)
     returns-2)

@@ -54,9 +54,6 @@ sizes-in-turn-spec =
     μ-loop
     loop-holds
     in-turn-requires
-    (λ c. search needs)
-    (λ c. search needs)
-    (λ c. search needs)
-    (λ c. search needs)
+    (λ c. search needs) (λ c. search needs) (λ c. search needs) (λ c. search needs)
     loop-again
     returns)

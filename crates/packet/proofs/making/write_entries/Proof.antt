@@ -87,12 +87,10 @@ write-entries-spec =
     add-end
     mul-copy-to
     add-copy-to
-    (λ c. search needs)
-    (λ c. search needs)
+    (λ c. search needs) (λ c. search needs)
     part-copy-to-end
     copy-to-requires
-    (λ c. search needs)
-    (λ c. search needs)
+    (λ c. search needs) (λ c. search needs)
     loop-again
     same-length
     returns)

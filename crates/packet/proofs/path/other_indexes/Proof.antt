@@ -80,8 +80,7 @@ other-indexes-spec =
     (tie.spec
     Inv-loop
     μ-loop
-    (λ c κs. search needs)
-    (λ c κs. search needs)
+    (λ c κs. search needs) (λ c κs. search needs)
     sub-count
     loop-holds
     skipping-requires
@@ -89,7 +88,6 @@ other-indexes-spec =
     array-copy-out-found
     mul-found-2
     array-set-from-found
-    (λ c. search needs)
-    (λ c. search needs)
+    (λ c. search needs) (λ c. search needs)
     loop-again
     returns)

@@ -46,8 +46,7 @@ pub sibling-count-spec : {M : Type 1} → statement M
 sibling-count-spec =
     tie.close
     (tie.spec
-    (λ c κs. search needs)
-    (λ c κs. search needs)
+    (λ c κs. search needs) (λ c κs. search needs)
     mul-depth
     array-copy-out-depth
     depth-requires

@@ -20,7 +20,8 @@
  *   All numbers in the images are big-endian. All numbers of this interface are plain uint64_t or size_t.
  *
  *   What the caller owes, since no callee can check it:
- *     - a pointer is not NULL, even where its length is 0, and its length is what may be read (and, where it is not const, written);
+ *     - the length beside a pointer is what may be read there (and, where it is not const, written). Where the length is 0 the pointer is
+ *       not looked at and may be NULL. A pointer without a length beside it (a hash, a signature, a number or two) is never NULL;
  *     - a buffer or a result that a call writes (every parameter that is not const) overlaps no other buffer and no other result of
  *       that call. So a chunk to append doesn't lie in the data buffer, and a packet isn't made in an image. Buffers that are only read
  *       may overlap: one register may be compared with itself.
@@ -30,6 +31,12 @@
  *   from the start of that buffer, and its length in bytes. It is buffer[out[0]] up to, and without, buffer[out[0] + out[1]], which always
  *   lies within the buffer. A part of length 0 is an empty chunk, which is no refusal. Of sleep_place and sleep_read the buffer is data, so
  *   the offset is the count of bytes of all chunks before it; of sleep_check_packet it is the packet.
+ *
+ * WHAT FIRMWARE HAS TO PROVIDE
+ *   Code: at most 40,000 bytes with its read-only constants (some 30,000 today). The archive has no variables: no static data, zeroed or
+ *   not, and nothing to set up. From outside it needs memcpy and memset, and nothing else; it allocates nothing. The stack that each call
+ *   takes at most, counted from the caller's frame, with arguments, return address and what memcpy or memset takes, is SLEEP_STACK_.. below.
+ *   tests/run holds the archive to all of this, the stack by calls on a painted one.
  *
  * ANSWERS AND REFUSALS
  *   A call is done (number 0) or refused. A refused call changes no byte of any buffer, and no result that is lent to it. Checks are
@@ -71,8 +78,26 @@ extern "C" {
 #define SLEEP_MOST_CHUNKS 1048576u
 #define SLEEP_LONGEST_CHUNK 65536u
 
-/* What a packet has beside its chunk's bytes, at most: a buffer of the chunk's length and this many bytes never lacks room for it. */
+/* What a packet has beside its chunk's bytes, at most: a buffer of the chunk's length and this many bytes never lacks room for it
+ * (proved: PacketStaysShort, crates/packet/specs/Answers.antt). */
 #define SLEEP_PACKET_EXTRA 1526u
+
+/* The most stack that a call takes, in bytes. A lookup goes down the tree by recursion, some 100 bytes for each level and at most 20 levels.
+ * Calls that give or judge a root hash have the roots and the root message in arrays with room for 20 roots, some 1 KiB each, which are
+ * passed by value; the comparing walk has two root messages at once. */
+#define SLEEP_STACK_START 512u
+#define SLEEP_STACK_STORE_SIGNATURE 2048u
+#define SLEEP_STACK_HASH 3072u
+#define SLEEP_STACK_HASH_PARTS 3072u
+#define SLEEP_STACK_AUDIT 3072u
+#define SLEEP_STACK_PLACE 4096u
+#define SLEEP_STACK_BYTE 4096u
+#define SLEEP_STACK_READ 4096u
+#define SLEEP_STACK_MAKE_PACKET 5120u
+#define SLEEP_STACK_ROOT_HASH 6144u
+#define SLEEP_STACK_CHECK_PACKET 6144u
+#define SLEEP_STACK_APPEND 6144u
+#define SLEEP_STACK_COMPARE 8192u
 
 enum { SLEEP_PLACE_NONE = 0, SLEEP_PLACE_TREE_INDEX = 1, SLEEP_PLACE_BITFIELD_BYTE = 2 };
 
@@ -101,57 +126,152 @@ typedef struct {
     const uint8_t *tree, size_t tree_length, const uint8_t *signatures, size_t signatures_length, const uint8_t *bitfield,      \
         size_t bitfield_length, const uint8_t *data, size_t data_length, uint64_t n, uint64_t s, uint64_t size
 
+/* No pointer may be NULL: of the archive's own symbols, which the fronts at the end of this file call. */
+#if defined(__GNUC__)
+#define SLEEP_NOT_NULL __attribute__((nonnull))
+#else
+#define SLEEP_NOT_NULL
+#endif
+
 /* BLAKE2b (RFC 7693) without a key: length bytes of output, then zeros up to 64. Answers 0, or 1 for a wrong length. */
-uint64_t sleep_hash(uint64_t length, const uint8_t *message, size_t message_length, uint8_t digest[64]);
+uint64_t sleep_hash(uint64_t length, const uint8_t *message, size_t message_length, uint8_t digest[64]) SLEEP_NOT_NULL;
 
 /* BLAKE2b with 32 bytes of output, of prefix and then body. It refuses nothing. */
-void sleep_hash_parts(const uint8_t *prefix, size_t prefix_length, const uint8_t *body, size_t body_length, uint8_t out[32]);
+void sleep_hash_parts(const uint8_t *prefix, size_t prefix_length, const uint8_t *body, size_t body_length, uint8_t out[32]) SLEEP_NOT_NULL;
 
 /* A register without chunks: writes the three headers, 32 bytes each, and no other byte. Refusal: 14. Go on with n = s = size = 0. */
 sleep_answer sleep_start(uint8_t *tree, size_t tree_length, uint8_t *signatures, size_t signatures_length, uint8_t *bitfield,
-                         size_t bitfield_length, const uint8_t *data, size_t data_length);
+                         size_t bitfield_length, const uint8_t *data, size_t data_length) SLEEP_NOT_NULL;
 
 /* Adds one chunk, which may be empty, and gives the new root hash, for the signing device. Refusals: 2 to 8, 14. */
 sleep_answer sleep_append(uint8_t *tree, size_t tree_length, const uint8_t *signatures, size_t signatures_length,
                           uint8_t *bitfield, size_t bitfield_length, uint8_t *data, size_t data_length, uint64_t n, uint64_t s,
-                          uint64_t size, const uint8_t *chunk, size_t chunk_length, uint8_t root[32]);
+                          uint64_t size, const uint8_t *chunk, size_t chunk_length, uint8_t root[32]) SLEEP_NOT_NULL;
 
 /* Stores the newest chunk's signature, 64 bytes that are not looked into. Refusals: 2 to 6, 8, 14. */
 sleep_answer sleep_store_signature(const uint8_t *tree, size_t tree_length, uint8_t *signatures, size_t signatures_length,
                                    const uint8_t *bitfield, size_t bitfield_length, const uint8_t *data, size_t data_length,
-                                   uint64_t n, uint64_t s, uint64_t size, const uint8_t signature[64]);
+                                   uint64_t n, uint64_t s, uint64_t size, const uint8_t signature[64]) SLEEP_NOT_NULL;
 
 /* The root hash that the stored roots give. It does not look at the other entries. Refusals: 2 to 6. */
-sleep_answer sleep_root_hash(SLEEP_REGISTER_READ, uint8_t root[32]);
+sleep_answer sleep_root_hash(SLEEP_REGISTER_READ, uint8_t root[32]) SLEEP_NOT_NULL;
 
 /* Whether the images are those of some chunks: hashes every chunk again. Refusals: 2 to 6, 10, 11. */
-sleep_answer sleep_audit(SLEEP_REGISTER_READ);
+sleep_answer sleep_audit(SLEEP_REGISTER_READ) SLEEP_NOT_NULL;
 
 /* Where a chunk lies in data, as a part: out[0] its offset, out[1] its length. Nothing is hashed. Refusals: 2 to 6, 9, 10. */
-sleep_answer sleep_place(SLEEP_REGISTER_READ, uint64_t chunk, uint64_t out[2]);
+sleep_answer sleep_place(SLEEP_REGISTER_READ, uint64_t chunk, uint64_t out[2]) SLEEP_NOT_NULL;
 
 /* out[0]: the number of the chunk that has the byte at an offset of data, never of an empty chunk; out[1]: which byte of that chunk it is,
  * from 0. Nothing is hashed. Refusals: 2 to 6, 9, 10. */
-sleep_answer sleep_byte(SLEEP_REGISTER_READ, uint64_t offset, uint64_t out[2]);
+sleep_answer sleep_byte(SLEEP_REGISTER_READ, uint64_t offset, uint64_t out[2]) SLEEP_NOT_NULL;
 
 /* A verified read: the chunk's part of data, as sleep_place gives it, after its bytes were hashed where they lie and their hash was found to
  * be the stored one. Of two registers, lend the one that is meant. Refusals: 2 to 6, 9, 10. */
-sleep_answer sleep_read(SLEEP_REGISTER_READ, uint64_t chunk, uint64_t out[2]);
+sleep_answer sleep_read(SLEEP_REGISTER_READ, uint64_t chunk, uint64_t out[2]) SLEEP_NOT_NULL;
 
 /* The packet of a chunk: its bytes with the entries that show it to stand under the register's root hash. It reads the chunk as sleep_read
  * does, writes the packet at the front of out, leaves the rest of out as it was, and gives the packet's length. out needs room for the
  * chunk's length and at most SLEEP_PACKET_EXTRA bytes more. Refusals: 2 to 6, 9, 10, 14. */
-sleep_answer sleep_make_packet(SLEEP_REGISTER_READ, uint64_t chunk, uint8_t *out, size_t out_length, uint64_t *length);
+sleep_answer sleep_make_packet(SLEEP_REGISTER_READ, uint64_t chunk, uint8_t *out, size_t out_length, uint64_t *length) SLEEP_NOT_NULL;
 
 /* Whether a packet, of exactly packet_length bytes, shows its bytes to be chunk number chunk of the n chunks whose root hash is root. After
  * done the chunk is the part out of packet. No register is needed. Refusals: 2, 9, 12, 13. */
 sleep_answer sleep_check_packet(const uint8_t *packet, size_t packet_length, uint64_t n, uint64_t chunk, const uint8_t root[32],
-                                uint64_t out[2]);
+                                uint64_t out[2]) SLEEP_NOT_NULL;
 
 /* The comparing walk: audits the first register, then the second, then compares them. A refusal (2 to 6, 10, 11) says which register. */
 sleep_comparison sleep_compare(SLEEP_REGISTER_READ, const uint8_t *tree2, size_t tree2_length, const uint8_t *signatures2,
                                size_t signatures2_length, const uint8_t *bitfield2, size_t bitfield2_length, const uint8_t *data2,
-                               size_t data2_length, uint64_t n2, uint64_t s2, uint64_t size2);
+                               size_t data2_length, uint64_t n2, uint64_t s2, uint64_t size2) SLEEP_NOT_NULL;
+
+/* EMPTY BUFFERS
+ *   The archive's own calls take no NULL, even where a length is 0. So from here on, in C and C++, the name of each call stands for an inline
+ *   front, sleep_.._front, which looks at the lengths: for an empty buffer it hands on a pointer that is not NULL, and everything else as it
+ *   is. The archive's symbols are the names above, without _front; whoever links them from another language keeps to their rule. */
+#define SLEEP_LENT(buffer) (buffer##_length == 0 ? (uint8_t *)&buffer##_length : buffer), buffer##_length
+#define SLEEP_REGISTER_LENT SLEEP_LENT(tree), SLEEP_LENT(signatures), SLEEP_LENT(bitfield), SLEEP_LENT(data), n, s, size
+
+static inline uint64_t sleep_hash_front(uint64_t length, const uint8_t *message, size_t message_length, uint8_t digest[64]) {
+    return sleep_hash(length, SLEEP_LENT(message), digest);
+}
+
+static inline void sleep_hash_parts_front(const uint8_t *prefix, size_t prefix_length, const uint8_t *body, size_t body_length,
+                                          uint8_t out[32]) {
+    sleep_hash_parts(SLEEP_LENT(prefix), SLEEP_LENT(body), out);
+}
+
+static inline sleep_answer sleep_start_front(uint8_t *tree, size_t tree_length, uint8_t *signatures, size_t signatures_length,
+                                             uint8_t *bitfield, size_t bitfield_length, const uint8_t *data, size_t data_length) {
+    return sleep_start(SLEEP_LENT(tree), SLEEP_LENT(signatures), SLEEP_LENT(bitfield), SLEEP_LENT(data));
+}
+
+static inline sleep_answer sleep_append_front(uint8_t *tree, size_t tree_length, const uint8_t *signatures, size_t signatures_length,
+                                              uint8_t *bitfield, size_t bitfield_length, uint8_t *data, size_t data_length, uint64_t n,
+                                              uint64_t s, uint64_t size, const uint8_t *chunk, size_t chunk_length, uint8_t root[32]) {
+    return sleep_append(SLEEP_REGISTER_LENT, SLEEP_LENT(chunk), root);
+}
+
+static inline sleep_answer sleep_store_signature_front(const uint8_t *tree, size_t tree_length, uint8_t *signatures,
+                                                       size_t signatures_length, const uint8_t *bitfield, size_t bitfield_length,
+                                                       const uint8_t *data, size_t data_length, uint64_t n, uint64_t s, uint64_t size,
+                                                       const uint8_t signature[64]) {
+    return sleep_store_signature(SLEEP_REGISTER_LENT, signature);
+}
+
+static inline sleep_answer sleep_root_hash_front(SLEEP_REGISTER_READ, uint8_t root[32]) {
+    return sleep_root_hash(SLEEP_REGISTER_LENT, root);
+}
+
+static inline sleep_answer sleep_audit_front(SLEEP_REGISTER_READ) {
+    return sleep_audit(SLEEP_REGISTER_LENT);
+}
+
+static inline sleep_answer sleep_place_front(SLEEP_REGISTER_READ, uint64_t chunk, uint64_t out[2]) {
+    return sleep_place(SLEEP_REGISTER_LENT, chunk, out);
+}
+
+static inline sleep_answer sleep_byte_front(SLEEP_REGISTER_READ, uint64_t offset, uint64_t out[2]) {
+    return sleep_byte(SLEEP_REGISTER_LENT, offset, out);
+}
+
+static inline sleep_answer sleep_read_front(SLEEP_REGISTER_READ, uint64_t chunk, uint64_t out[2]) {
+    return sleep_read(SLEEP_REGISTER_LENT, chunk, out);
+}
+
+static inline sleep_answer sleep_make_packet_front(SLEEP_REGISTER_READ, uint64_t chunk, uint8_t *out, size_t out_length,
+                                                   uint64_t *length) {
+    return sleep_make_packet(SLEEP_REGISTER_LENT, chunk, SLEEP_LENT(out), length);
+}
+
+static inline sleep_answer sleep_check_packet_front(const uint8_t *packet, size_t packet_length, uint64_t n, uint64_t chunk,
+                                                    const uint8_t root[32], uint64_t out[2]) {
+    return sleep_check_packet(SLEEP_LENT(packet), n, chunk, root, out);
+}
+
+static inline sleep_comparison sleep_compare_front(SLEEP_REGISTER_READ, const uint8_t *tree2, size_t tree2_length,
+                                                   const uint8_t *signatures2, size_t signatures2_length, const uint8_t *bitfield2,
+                                                   size_t bitfield2_length, const uint8_t *data2, size_t data2_length, uint64_t n2,
+                                                   uint64_t s2, uint64_t size2) {
+    return sleep_compare(SLEEP_REGISTER_LENT, SLEEP_LENT(tree2), SLEEP_LENT(signatures2), SLEEP_LENT(bitfield2), SLEEP_LENT(data2), n2, s2,
+                         size2);
+}
+
+#undef SLEEP_REGISTER_LENT
+#undef SLEEP_LENT
+#define sleep_hash sleep_hash_front
+#define sleep_hash_parts sleep_hash_parts_front
+#define sleep_start sleep_start_front
+#define sleep_append sleep_append_front
+#define sleep_store_signature sleep_store_signature_front
+#define sleep_root_hash sleep_root_hash_front
+#define sleep_audit sleep_audit_front
+#define sleep_place sleep_place_front
+#define sleep_byte sleep_byte_front
+#define sleep_read sleep_read_front
+#define sleep_make_packet sleep_make_packet_front
+#define sleep_check_packet sleep_check_packet_front
+#define sleep_compare sleep_compare_front
 
 #ifdef __cplusplus
 }

@@ -1,19 +1,43 @@
-"""A second reader and auditor of registers, written from the format's description alone.
-`python3 second_reader.py FORMAT.md` compares the description's worked examples with it."""
+"""A second reader, auditor and writer of registers, written from the format's description alone.
+`python3 second_reader.py FORMAT.md` reads the description's examples out of it, fails if one is missing, and holds each to this program."""
 
 import functools
 import hashlib
+import re
 import sys
 
 MAX_CHUNKS = 1048576
 MAX_CHUNK = 65536
-MAX_DATA = MAX_CHUNKS * MAX_CHUNK
+MAX_DATA = 68719476736
 HEADER, ENTRY, SIGNATURE, BITS = 32, 40, 64, 3328
+FILES = ("tree", "signatures", "bitfield", "data")
 HEADERS = {
     "tree": (bytes.fromhex("05025702 00 0028 07") + b"BLAKE2b").ljust(HEADER, b"\0"),
     "signatures": (bytes.fromhex("05025701 00 0040 07") + b"Ed25519").ljust(HEADER, b"\0"),
     "bitfield": bytes.fromhex("05025700 00 0d00 00").ljust(HEADER, b"\0"),
 }
+
+
+# --- answers
+
+class Refused(Exception):
+    """What is wrong: its number, and the words of its place."""
+    def __str__(self):
+        return " ".join(["refused"] + [str(part) for part in self.args])
+
+def refuse_unless(good, number, *place):
+    if not good:
+        raise Refused(number, *place)
+
+def answer(call, *args):
+    """What a call answers, in the words of the description's examples."""
+    try:
+        given = call(*args)
+    except Refused as refused:
+        return str(refused)
+    if isinstance(given, bytes):
+        given = (given.hex(),)
+    return " ".join(["done"] + [str(part) for part in given or ()])
 
 
 # --- numbers and hashes
@@ -43,12 +67,20 @@ def depth(i):
     """The number of trailing one bits."""
     return (i ^ (i + 1)).bit_length() - 1
 
-def index_of(d, block):
-    return (1 << d) * (2 * block + 1) - 1
+def index_of(d, q):
+    return (1 << d) * (2 * q + 1) - 1
+
+def behind(i):
+    """The number of the first chunk behind those that an entry stands for."""
+    d = depth(i)
+    return ((i >> (d + 1)) + 1) << d
 
 def filled(i, n):
-    d = depth(i)
-    return ((i >> (d + 1)) + 1) << d <= n
+    return behind(i) <= n
+
+def children(i):
+    half = 1 << (depth(i) - 1)
+    return i - half, i + half
 
 def roots(n):
     """The tree indexes of the roots, from the left."""
@@ -59,12 +91,8 @@ def roots(n):
             first += 1 << d
     return found
 
-def root_above(n, i):
-    """The position among the roots, and the depth, of the root above chunk i."""
-    for position, r in enumerate(roots(n)):
-        d = depth(r)
-        if i >> d == r >> (d + 1):
-            return position, d
+def root_above(n, k):
+    return next(root for root in roots(n) if k < behind(root))
 
 def used_sizes(n, s, size):
     return {
@@ -73,27 +101,6 @@ def used_sizes(n, s, size):
         "bitfield": HEADER + BITS * ((n + 8191) // 8192),
         "data": size,
     }
-
-def raw_entry(tree, i):
-    return tree[HEADER + ENTRY * i:HEADER + ENTRY * (i + 1)]
-
-def pair(raw):
-    return raw[:32], int.from_bytes(raw[32:], "big")
-
-def entry(tree, i):
-    return pair(raw_entry(tree, i))
-
-def root_hash(tree, n):
-    return hash_of_roots([entry(tree, r) for r in roots(n)], n)
-
-def chunks(tree, data, n):
-    """The chunks of a register whose audit was good."""
-    found, start = [], 0
-    for k in range(n):
-        length = entry(tree, 2 * k)[1]
-        found.append(data[start:start + length])
-        start += length
-    return found
 
 
 # --- the bitfield
@@ -113,18 +120,17 @@ def combine(left, right):
 
 def index_part(data_bits):
     index = bytearray(256)
-    for k in range(128):
+    for j in range(0, 256, 2):
         for t in range(4):
-            two = data_bits[8 * k + 2 * t:8 * k + 2 * t + 2]
+            two = bytes(data_bits[4 * j + 2 * t:4 * j + 2 * t + 2])
             value = {b"\xff\xff": 3, b"\0\0": 0}.get(two, 2)
-            index[2 * k] |= value << (6 - 2 * t)
-    for d in range(1, 8):
-        for i in range((1 << d) - 1, 255, 2 << d):
-            half = 1 << (d - 1)
-            index[i] = combine(index[i - half], index[i + half])
+            index[j] |= value << (6 - 2 * t)
+    for j in sorted(range(1, 255, 2), key=depth):
+        left, right = children(j)
+        index[j] = combine(index[left], index[right])
     return bytes(index)
 
-@functools.lru_cache(maxsize=8)
+@functools.lru_cache(maxsize=16)
 def bitfield_of(n):
     """The used part of the bitfield of n chunks, with its header."""
     out = bytearray(HEADERS["bitfield"])
@@ -135,225 +141,504 @@ def bitfield_of(n):
     return bytes(out)
 
 
-# --- the auditor
+# --- registers
 
-def wrong_byte(name, file, expected):
-    """None for a file that begins with the bytes expected."""
-    if file[:len(expected)] == expected:
-        return None
-    return f"{name}: wrong at byte {next(at for at, byte in enumerate(expected) if file[at] != byte)}"
+class Register:
+    """Four files, by name, and n, s and the data size."""
+    def __init__(self, files, n, s, size):
+        self.files, self.n, self.s, self.size = dict(files), n, s, size
 
-def audit(tree, signatures, bitfield, data, n, s, size):
-    """None for a good register, else what is wrong first."""
-    files = {"tree": tree, "signatures": signatures, "bitfield": bitfield, "data": data}
-    if not 0 <= n <= MAX_CHUNKS:
-        return "n out of range"
-    if s not in (n, max(0, n - 1)):
-        return "s is neither n nor n - 1"
-    for name, used in used_sizes(n, s, size).items():
-        if len(files[name]) < used:
-            return f"{name}: {len(files[name])} bytes, {used} needed"
-    for name, header in HEADERS.items():
-        wrong = wrong_byte(name + " header", files[name], header)
-        if wrong:
-            return wrong
-    if sum(entry(tree, r)[1] for r in roots(n)) != size:
-        return "tree: the lengths of the roots don't add up to the data size"
-    return audit_tree(tree, data, n, size) or wrong_byte("bitfield", bitfield, bitfield_of(n))
+    def raw(self, i):
+        return bytes(self.files["tree"][HEADER + ENTRY * i:HEADER + ENTRY * (i + 1)])
 
-def audit_tree(tree, data, n, size):
-    start = 0
-    for i in range(2 * n - 1):
-        hash_, length = entry(tree, i)
-        d = depth(i)
-        if d == 0:
-            if length > MAX_CHUNK:
-                return f"tree index {i}: the chunk is too long"
-            if start + length > size:
-                return f"tree index {i}: the chunk runs past the data"
-            if hash_ != leaf_of(data[start:start + length])[0]:
-                return f"tree index {i}: wrong hash of the chunk at data byte {start}"
-            start += length
-        elif filled(i, n):
-            half = 1 << (d - 1)
-            left, right = entry(tree, i - half), entry(tree, i + half)
-            if length != left[1] + right[1]:        # first: a sum beyond 64 bits ends here
-                return f"tree index {i}: wrong length of a parent"
-            if hash_ != parent_of(left, right)[0]:
-                return f"tree index {i}: wrong hash of a parent"
-        elif raw_entry(tree, i) != bytes(ENTRY):
-            return f"tree index {i}: a hole that isn't zero"
-    return None
+    def entry(self, i):
+        return pair(self.raw(i))
+
+    def length(self, i):
+        return self.entry(i)[1]
+
+    def bytes_at(self, start, length):
+        return bytes(self.files["data"][start:start + length])
+
+def pair(raw):
+    return raw[:32], int.from_bytes(raw[32:], "big")
+
+def changed(register, name, at, byte):
+    file = register.files[name]
+    return Register(dict(register.files, **{name: file[:at] + bytes([byte]) + file[at + 1:]}), register.n, register.s, register.size)
+
+def told(register, n, s, size):
+    return Register(register.files, n, s, size)
+
+def root_hash(register):
+    return hash_of_roots([register.entry(root) for root in roots(register.n)], register.n)
+
+
+# --- the first checks, and the audit
+
+def first_checks(register):
+    n, s, size, files = register.n, register.s, register.size, register.files
+    refuse_unless(n <= MAX_CHUNKS, 2)
+    refuse_unless(s == 0 if n == 0 else s in (n, n - 1), 3)
+    refuse_unless(all(len(files[name]) >= used for name, used in used_sizes(n, s, size).items()), 4)
+    refuse_unless(all(files[name][:HEADER] == header for name, header in HEADERS.items()), 5)
+    refuse_unless(sum(register.length(root) for root in roots(n)) == size, 6)
+
+def audit(register):
+    first_checks(register)
+    start = 0                                       # of the next leaf
+    for i in range(2 * register.n - 1):             # step 6
+        if depth(i) == 0:
+            refuse_unless(right_leaf(register, i, start), 10, "tree", i)
+            start += register.length(i)
+        elif filled(i, register.n):
+            refuse_unless(right_parent(register, i), 10, "tree", i)
+        else:
+            refuse_unless(register.raw(i) == bytes(ENTRY), 10, "tree", i)
+    bitfield = register.files["bitfield"]
+    for at, byte in enumerate(bitfield_of(register.n)):     # step 7
+        refuse_unless(bitfield[at] == byte, 11, "bitfield", at)
+
+def right_leaf(register, i, start):
+    length = register.length(i)
+    return length <= MAX_CHUNK and start + length <= register.size and register.entry(i) == leaf_of(register.bytes_at(start, length))
+
+def right_parent(register, i):
+    left, right = (register.entry(child) for child in children(i))
+    return register.length(i) == left[1] + right[1] and register.entry(i) == parent_of(left, right)
+
+
+# --- finding and reading
+
+def find(register, k):
+    """Where chunk k begins, and its length."""
+    first_checks(register)                          # step 1
+    refuse_unless(k < register.n, 9)                # step 2
+    start, above = 0, iter(roots(register.n))       # step 3
+    i = next(above)
+    while k >= behind(i):
+        start += register.length(i)
+        i = next(above)
+    while i % 2:                                    # step 4
+        left, right = children(i)
+        refuse_unless(register.length(i) == register.length(left) + register.length(right), 10, "tree", i)
+        if 2 * k < i:
+            i = left
+        else:
+            start += register.length(left)
+            i = right
+    assert i == 2 * k                               # step 5
+    refuse_unless(register.length(i) <= MAX_CHUNK, 10, "tree", i)
+    return start, register.length(i)                # step 6
+
+def read(register, k):
+    chunk = register.bytes_at(*find(register, k))
+    refuse_unless(leaf_of(chunk)[0] == register.entry(2 * k)[0], 10, "tree", 2 * k)     # step 7
+    return chunk
+
+def find_byte(register, p):
+    """The chunk that has the byte at p, and the offset within it."""
+    first_checks(register)                          # step 1
+    refuse_unless(p < register.size, 9)             # step 2
+    rest, above = p, iter(roots(register.n))        # step 3
+    i = next(above)
+    while rest >= register.length(i):
+        rest -= register.length(i)
+        i = next(above)
+    while i % 2:                                    # step 4
+        left, right = children(i)
+        refuse_unless(register.length(i) == register.length(left) + register.length(right), 10, "tree", i)
+        if rest < register.length(left):
+            i = left
+        else:
+            rest -= register.length(left)
+            i = right
+    refuse_unless(register.length(i) <= MAX_CHUNK, 10, "tree", i)   # step 5
+    return i // 2, rest                             # step 6
 
 
 # --- packets
 
-def make_packet(tree, data, n, i):
-    position, d = root_above(n, i)
-    start = sum(entry(tree, 2 * k)[1] for k in range(i))
-    chunk = data[start:start + entry(tree, 2 * i)[1]]
-    others = roots(n)
-    del others[position]
-    return b"".join(
-        [len(chunk).to_bytes(4, "big"), chunk, bytes([d])]
-        + [raw_entry(tree, index_of(h, i >> h ^ 1)) for h in range(d)]
-        + [bytes([len(others)])]
-        + [raw_entry(tree, r) for r in others])
+def siblings_of(n, k):
+    """The tree indexes of the siblings, from the leaf upward."""
+    rows = [(d, k >> d) for d in range(depth(root_above(n, k)))]
+    return [index_of(d, q + 1 if q % 2 == 0 else q - 1) for d, q in rows]
 
-def check_packet(packet, n, i, root):
-    """The chunk, if the packet proves it to be chunk i under this root hash, else None."""
-    if not 0 <= i < n <= MAX_CHUNKS:
-        return None
-    position, d = root_above(n, i)
-    others = len(roots(n)) - 1
+def others_of(n, k):
+    return [root for root in roots(n) if root != root_above(n, k)]
+
+def packet_parts(register, k):
+    """The parts of the packet of chunk k, with their names in the examples."""
+    chunk = read(register, k)
+    siblings, others = siblings_of(register.n, k), others_of(register.n, k)
+    return ([("length", len(chunk).to_bytes(4, "big")), ("chunk", chunk), ("siblings", bytes([len(siblings)]))]
+            + [(f"entry {i}", register.raw(i)) for i in siblings]
+            + [("roots", bytes([len(others)]))]
+            + [(f"entry {i}", register.raw(i)) for i in others])
+
+def check_packet(packet, n, k, root):
+    """The chunk, if the packet proves it to be chunk k of n under this root hash."""
+    refuse_unless(n <= MAX_CHUNKS, 2)               # step 1
+    refuse_unless(k < n, 9)                         # step 2
+    chunk, siblings, others = taken_apart(packet, len(siblings_of(n, k)), len(others_of(n, k)))    # step 3
+    refuse_unless(len(chunk) + sum(length for _, length in siblings + others) <= MAX_DATA, 13)     # step 4
+    node, q = leaf_of(chunk), k                     # step 5
+    for sibling in siblings:                        # step 6
+        node = parent_of(node, sibling) if q % 2 == 0 else parent_of(sibling, node)
+        q //= 2
+    nodes, rest = [], iter(others)                  # step 7
+    for i in roots(n):
+        nodes.append(node if i == root_above(n, k) else next(rest))
+    refuse_unless(hash_of_roots(nodes, n) == root, 13)
+    return chunk                                    # step 8
+
+def taken_apart(packet, sibling_count, other_count):
+    """The chunk, the siblings and the other roots, these as pairs (hash, length)."""
     length = int.from_bytes(packet[:4], "big")
     siblings_at = 4 + length + 1
-    others_at = siblings_at + ENTRY * d + 1
-    if length > MAX_CHUNK or len(packet) != others_at + ENTRY * others:
-        return None
-    if packet[siblings_at - 1] != d or packet[others_at - 1] != others:
-        return None
-    chunk = packet[4:4 + length]
+    others_at = siblings_at + ENTRY * sibling_count + 1
+    refuse_unless(length <= MAX_CHUNK and len(packet) == others_at + ENTRY * other_count, 12)
+    refuse_unless((packet[siblings_at - 1], packet[others_at - 1]) == (sibling_count, other_count), 12)
     siblings = [pair(packet[at:at + ENTRY]) for at in range(siblings_at, others_at - 1, ENTRY)]
-    nodes = [pair(packet[at:at + ENTRY]) for at in range(others_at, len(packet), ENTRY)]
-    if length + sum(node[1] for node in siblings + nodes) > MAX_DATA:
-        return None
-    node = leaf_of(chunk)
-    for h, sibling in enumerate(siblings):
-        node = parent_of(sibling, node) if i >> h & 1 else parent_of(node, sibling)
-    nodes.insert(position, node)
-    return chunk if hash_of_roots(nodes, n) == root else None
+    others = [pair(packet[at:at + ENTRY]) for at in range(others_at, len(packet), ENTRY)]
+    return packet[4:4 + length], siblings, others
 
 
-# --- the worked examples of the description
+# --- writing, on files that grow
 
-DESCRIBED = [[], [b"coat"], [b"AB", b"", b"CDE"], [bytes([97 + k]) * k for k in range(10)]]
+def started():
+    files = {name: bytearray(HEADERS.get(name, b"")) for name in FILES}
+    return Register(files, 0, 0, 0)
 
-def parse(text):
-    """The registers of the last section, each as (n, s, size), root hash, files and lines."""
+def append(register, chunk):
+    n = register.n
+    refuse_unless(n < MAX_CHUNKS, 2)
+    first_checks(register)
+    refuse_unless(len(chunk) <= MAX_CHUNK, 7)
+    refuse_unless(register.s == n, 8)
+    register.files["data"] += chunk                 # step 1
+    register.files["tree"] += bytes(ENTRY if n == 0 else 2 * ENTRY)     # step 2
+    write_entry(register, 2 * n, leaf_of(chunk))
+    written, d = [2 * n], 1
+    while (n + 1) % (1 << d) == 0:                  # step 3
+        i = index_of(d, (n + 1) // (1 << d) - 1)
+        write_entry(register, i, parent_of(*(register.entry(child) for child in children(i))))
+        written.append(i)
+        d += 1
+    write_bits(register, n, written)                # step 4
+    register.n, register.size = n + 1, register.size + len(chunk)       # step 5
+    return root_hash(register)
+
+def write_entry(register, i, node):
+    register.files["tree"][HEADER + ENTRY * i:HEADER + ENTRY * (i + 1)] = node[0] + u64(node[1])
+
+def write_bits(register, n, written):
+    bitfield = register.files["bitfield"]
+    if n % 8192 == 0:
+        bitfield += bytes(BITS)
+    set_bit(bitfield, HEADER + BITS * (n // 8192), n % 8192)
+    for i in written:
+        set_bit(bitfield, HEADER + BITS * (i // 16384) + 1024, i % 16384)
+    at = HEADER + BITS * (n // 8192)
+    bitfield[at + 3072:at + BITS] = index_part(bitfield[at:at + 1024])
+
+def set_bit(file, at, bit):
+    file[at + bit // 8] |= 0x80 >> bit % 8
+
+def store_signature(register, signature):
+    first_checks(register)
+    refuse_unless(register.s != register.n, 8)
+    register.files["signatures"] += signature
+    register.s += 1
+
+
+# --- the description's hash
+
+def section(text, title):
+    """The text under a heading, to the next one that is as high or higher."""
+    marks = title.split(" ")[0]
+    rest = text.split(f"\n{title}\n", 1)[1]
+    return re.split(rf"\n#{{1,{len(marks)}}} ", rest)[0]
+
+def described_hash(text, message, length=32):
+    """The hash by the description's own section on BLAKE2b, with the constants that stand in it."""
+    part = section(text, "## BLAKE2b")
+    iv = [int(word, 16) for word in part.split("(hex): ")[1].split(".")[0].split()]
+    table = [[int(x) for x in row[1].split()] for row in rows_of(part, "Line")]
+    mask = 2 ** 64 - 1
+    state = [iv[0] ^ 0x01010000 + length] + iv[1:]
+    blocks = [message[at:at + 128] for at in range(0, len(message), 128)] or [b""]
+    for number, block in enumerate(blocks):
+        words = [int.from_bytes(block.ljust(128, b"\0")[8 * x:8 * x + 8], "little") for x in range(16)]
+        work = state + iv
+        work[12] ^= 128 * number + len(block)
+        work[14] ^= mask if number == len(blocks) - 1 else 0
+        for turn in range(12):
+            mix_round(work, words, table[turn % 10], mask)
+        state = [word ^ work[x] ^ work[x + 8] for x, word in enumerate(state)]
+    return b"".join(word.to_bytes(8, "little") for word in state)[:length]
+
+def mix_round(work, block, row, mask):
+    places = [(0, 4, 8, 12), (1, 5, 9, 13), (2, 6, 10, 14), (3, 7, 11, 15), (0, 5, 10, 15), (1, 6, 11, 12), (2, 7, 8, 13), (3, 4, 9, 14)]
+    for x, (a, b, c, d) in enumerate(places):
+        for word, (first, second) in ((block[row[2 * x]], (32, 24)), (block[row[2 * x + 1]], (16, 63))):
+            work[a] = work[a] + work[b] + word & mask
+            work[d] = turned(work[d] ^ work[a], first, mask)
+            work[c] = work[c] + work[d] & mask
+            work[b] = turned(work[b] ^ work[c], second, mask)
+
+def turned(word, by, mask):
+    return (word >> by | word << 64 - by) & mask
+
+
+# --- the description's examples: each function says what differs, or None
+
+def rows_of(text, first):
+    """The cells of each line of the table whose heading begins with this word."""
+    lines = text.split("\n")
+    at = next(number for number, line in enumerate(lines) if line.startswith(f"| {first} |"))
     found = []
-    for line in text.split("\n## ")[-1].split("```")[1].strip("\n").split("\n"):
-        word, *rest = line.split()
-        if word == "register":
-            numbers = [int(number) for number in rest]
-            files = {name: bytes(used) for name, used in used_sizes(*numbers).items()}
-            found.append({"numbers": numbers, "files": files, "lines": []})
-        elif word == "root":
-            found[-1]["root"] = bytes.fromhex(rest[0])
-        elif rest:                                  # the data line of an empty register has no bytes
-            at, content = int(rest[0]) if word != "data" else 0, bytes.fromhex(rest[-1])
-            file = found[-1]["files"][word]
-            if at + len(content) > len(file):
-                raise ValueError(f"a line runs past the used size: {word} {at}")
-            found[-1]["files"][word] = file[:at] + content + file[at + len(content):]
-            found[-1]["lines"].append((word, at, len(content)))
+    for line in lines[at + 2:]:
+        if not line.startswith("|"):
+            return found
+        found.append([cell.strip() for cell in line.strip("|").split("|")])
     return found
 
-def audited(files, numbers):
-    return audit(files["tree"], files["signatures"], files["bitfield"], files["data"], *numbers)
+def example_lines(text, title):
+    """The lines of the block under a heading of the worked examples, each as a list of words."""
+    return [line.split() for line in section(text, title).split("```")[1].strip("\n").split("\n")]
 
-def differs(files, numbers, root, described):
-    """None where a register agrees with its description and with this program, else what differs."""
-    n, tree, data = numbers[0], files["tree"], files["data"]
-    wrong = audited(files, numbers)
-    if wrong:
-        return "audit: " + wrong
-    if numbers != [len(described), len(described), len(b"".join(described))]:
-        return "the numbers aren't those described"
-    if root_hash(tree, n) != root:
+def tables_differ(text):
+    sizes = rows_of(text, "n")
+    if [row[0] for row in sizes] != ["0", "1", "10", "8192", "8193"]:
+        return "the used sizes: other rows"
+    for n, *row in sizes:
+        if [int(cell) for cell in row] != list(used_sizes(int(n), int(n), 0).values())[:3]:
+            return f"the used sizes of {n} chunks"
+    of_roots = rows_of(section(text, "## Tree"), "n")
+    if [row[0] for row in of_roots] != ["0", "1", "2", "3", "6", "7", "8", "10", "13"]:
+        return "the roots: other rows"
+    for n, row in of_roots:
+        if row != (", ".join(str(i) for i in roots(int(n))) or "none"):
+            return f"the roots of {n} chunks"
+    of_index = rows_of(section(text, "## Bitfield"), "n")
+    if [row[0] for row in of_index] != ["10", "16", "64", "128"]:
+        return "the Index: other rows"
+    for n, row in of_index:
+        if bytes.fromhex(row) != bitfield_of(int(n))[3104:3108]:
+            return f"the Index of {n} chunks"
+    numbers = [row[0] for row in rows_of(text, "Number")]
+    return None if numbers == [str(number) for number in range(1, 15)] else "the numbers of what can be wrong"
+
+def drawing_differs(text):
+    """The tree of ten chunks: each entry stands at its depth, from left to right in the order of the file, above both children; holes in brackets."""
+    lines = section(text, "## Tree").split("\n")
+    at = {}
+    for line in lines:
+        row = re.match(r"    depth (\d)", line)
+        for mark in re.finditer(r"\(?\d+\)?", line[row.end():]) if row else ():
+            i = int(mark.group().strip("()"))
+            at[i] = row.end() + mark.start() + mark.group().startswith("(")
+            if int(row.group(1)) != depth(i) or mark.group().startswith("(") != (not filled(i, 10)):
+                return f"the drawing at tree index {i}"
+    if sorted(at, key=at.get) != list(range(19)):
+        return "the drawing's order"
+    for number, line in enumerate(lines):
+        for mark in re.finditer(r"\.-+\+-+\.", line):
+            i = next((i for i, place in at.items() if place == mark.start() + mark.group().index("+")), None)
+            if i is None or (at[children(i)[0]], at[children(i)[1]]) != (mark.start(), mark.end() - 1):
+                return f"the drawing's lines at {i}"
+    joined = sum(len(re.findall(r"\.-+\+-+\.", line)) for line in lines)
+    chunks = next(line for line in lines if line.startswith("    chunk "))
+    below = {mark.start(): int(mark.group()) for mark in re.finditer(r"\d+", chunks)}
+    if below != {at[2 * k]: k for k in range(10)} or joined != sum(i % 2 and filled(i, 10) for i in range(19)):
+        return "the drawing's chunks or lines"
+    return None
+
+def hashes_differ(text):
+    lines = example_lines(text, "### Hashes")
+    wanted = [("abc", 32), ("abc", 64), ("abc", 20), ("0", 32), ("128", 32), ("129", 32), ("256", 32)]
+    if [(name, int(length)) for _, name, length, _ in lines] != wanted:
+        return "the hashes: other lines"
+    for _, name, length, digits in lines:
+        message = b"abc" if name == "abc" else bytes(range(int(name)))
+        if described_hash(text, message, int(length)) != bytes.fromhex(digits):
+            return f"the hash of {name}, {length} bytes of output"
+    for count in (0, 1, 3, 127, 128, 129, 145, 256, 257, 1000):
+        for length in (1, 32, 63, 64):
+            message = bytes(x % 251 for x in range(count))
+            if described_hash(text, message, length) != hashlib.blake2b(message, digest_size=length).digest():
+                return f"the hash of {count} bytes, {length} bytes of output, beside Python's"
+    return None
+
+def chunks_described(n):
+    """The chunks of the register of n chunks, as the table above the registers says."""
+    if n == 7:
+        lengths = (119, 120, 0, 247, 248, 120, 119)
+        return [bytes(p % 251 for p in range(sum(lengths[:k]), sum(lengths[:k + 1]))) for k in range(7)]
+    few = {1: [b"coat"], 2: [b"hello world"] * 2, 3: [b"AB", b"", b"CDE"]}
+    return few[n] if n in few else [bytes([97 + k]) * k for k in range(n)]
+
+@functools.lru_cache(maxsize=None)
+def written(n):
+    """That register, written by this program."""
+    register = started()
+    for k, chunk in enumerate(chunks_described(n)):
+        append(register, chunk)
+        if (n, k) != (7, 6):
+            store_signature(register, bytes([k + 1]) * SIGNATURE)
+    return register
+
+def registers_in(text):
+    """The registers, each with its root hash and its lines (file, offset, number of bytes)."""
+    found = []
+    for word, *rest in example_lines(text, "### Registers"):
+        if word == "register":
+            numbers = [int(number) for number in rest]
+            found.append([Register({name: bytes(used) for name, used in used_sizes(*numbers).items()}, *numbers), None, []])
+        elif word == "root":
+            found[-1][1] = bytes.fromhex(rest[0])
+        else:
+            register, _, lines = found[-1]
+            at, content = int(rest[0]), bytes.fromhex(rest[1])
+            file = register.files[word]
+            if at + len(content) > len(file):
+                raise ValueError(f"a line runs past the used size: {word} {at}")
+            register.files[word] = file[:at] + content + file[at + len(content):]
+            lines.append((word, at, len(content)))
+    return found
+
+def registers_differ(text):
+    registers = registers_in(text)
+    if [(register.n, register.s) for register, _, _ in registers] != [(0, 0), (1, 1), (2, 2), (3, 3), (7, 6), (10, 10)]:
+        return "the registers: others"
+    for register, root, lines in registers:
+        wrong = register_differs(register, root) or unseen_damage(register, root, lines)
+        if wrong:
+            return f"the register of {register.n} chunks: {wrong}"
+    return None
+
+def register_differs(register, root):
+    n, described = register.n, chunks_described(register.n)
+    if answer(audit, register) != "done":
+        return "audit: " + answer(audit, register)
+    if root_hash(register) != root:
         return "root hash"
-    if data != b"".join(described) or chunks(tree, data, n) != described:
+    if register.size != len(b"".join(described)) or [read(register, k) for k in range(n)] != described:
         return "chunks"
-    if files["signatures"][HEADER:] != b"".join(bytes([k + 1]) * SIGNATURE for k in range(n)):
-        return "signatures"
-    for i in range(n):
-        packet = make_packet(tree, data, n, i)
-        if check_packet(packet, n, i, root) != described[i]:
-            return f"packet of chunk {i}"
-        for at in range(len(packet)):
-            if check_packet(damaged(packet, at), n, i, root) is not None:
-                return f"packet of chunk {i}: damage at byte {at} isn't seen"
+    for p in range(register.size):
+        k, rest = find_byte(register, p)
+        if find(register, k)[0] + rest != p or rest >= len(described[k]):
+            return f"the chunk of byte {p}"
+    for name in FILES:
+        if register.files[name] != bytes(written(n).files[name]):
+            return f"{name}: not what the writer leaves"
     return None
 
 def damaged(file, at):
     return file[:at] + bytes([file[at] ^ 1]) + file[at + 1:]
 
-def unseen_damage(files, numbers, root, lines, described):
+def unseen_damage(register, root, lines):
     """Damages one byte of each line. An audit doesn't look at the bytes of a signature: there it
     must stay good, and only the comparison with the description sees the damage."""
     for count, (name, at, length) in enumerate(lines):
-        changed = dict(files, **{name: damaged(files[name], at + 7 * count % length)})
-        if (audited(changed, numbers) is None) != (name == "signatures" and at > 0):
+        place = at + 7 * count % length
+        spoilt = changed(register, name, place, register.files[name][place] ^ 1)
+        if (answer(audit, spoilt) == "done") != (name == "signatures" and at > 0):
             return f"damage in the line {name} {at}: the audit doesn't answer as it should"
-        if differs(changed, numbers, root, described) is None:
+        if register_differs(spoilt, root) is None:
             return f"damage in the line {name} {at} isn't seen"
-    for position, name in enumerate(("n", "s", "data size")):
-        if audited(files, [x + (place == position) for place, x in enumerate(numbers)]) is None:
-            return f"{name} one too high isn't seen"
-    if differs(files, numbers, damaged(root, 0), described) is None:
-        return "damage in the root hash isn't seen"
+    n, s, size = register.n, register.s, register.size
+    for numbers in ((n + 1, s, size), (n, s + 2, size), (n, s, size + 1)):
+        if answer(audit, told(register, *numbers)) == "done":
+            return f"{numbers} isn't seen to be wrong"
+    return "damage in the root hash isn't seen" if register_differs(register, damaged(root, 0)) is None else None
+
+def outside_differs(text):
+    """The hash from outside is that of a parent of two leaves `hello world`, and stands in the register of two chunks."""
+    outside = re.search(r"Hypercore[^`]*`([0-9a-f]{64})`", text)
+    if outside is None:
+        return "no hash from outside"
+    leaf = leaf_of(b"hello world")
+    register = next(register for register, _, _ in registers_in(text) if register.n == 2)
+    here = {parent_of(leaf, leaf)[0].hex(), register.entry(1)[0].hex(), register.files["tree"][72:104].hex()}
+    return None if here == {outside.group(1)} else "the hash from outside"
+
+def packets_differ(text):
+    """Each packet is the one of its register, and its check gives the chunk, for this n, k and root hash and for no damaged byte."""
+    packets, checks = [], []
+    for word, *rest in example_lines(text, "### Packets"):
+        if word == "packet":
+            packets.append([int(rest[0]), int(rest[1]), None, []])
+        elif word == "root":
+            packets[-1][2] = bytes.fromhex(rest[0])
+        elif word == "check":
+            checks.append((int(rest[0]), int(rest[1]), " ".join(rest[2:])))
+        else:
+            packets[-1][3].append((" ".join([word] + rest[:-1]), bytes.fromhex(rest[-1])))
+    if [packet[:2] for packet in packets] != [[3, 0], [13, 9]]:
+        return "the packets: others"
+    for n, k, root, parts in packets:
+        packet = b"".join(part for _, part in parts)
+        if parts != packet_parts(written(n), k) or root != root_hash(written(n)):
+            return f"the packet of chunk {k} of {n}"
+        if check_packet(packet, n, k, root) != chunks_described(n)[k]:
+            return f"the check of the packet of chunk {k} of {n}"
+        if any(answer(check_packet, damaged(packet, at), n, k, root).startswith("done") for at in range(len(packet))):
+            return f"the packet of chunk {k} of {n}: damage isn't seen"
+        if {answer(check_packet, other, n, k, root) for other in (packet[:-1], packet + b"\0", b"")} != {"refused 12"}:
+            return f"the packet of chunk {k} of {n}: missing bytes aren't seen"
+    if [check[:2] for check in checks] != [(13, 9), (13, 8), (14, 9), (13, 12), (12, 9), (13, 13), (1048577, 9)]:
+        return "the checks of the packet: others"
+    for n, k, said in checks:
+        given = answer(check_packet, packet, n, k, root)
+        if said != ("done" if given.startswith("done") else given):
+            return f"the check of the packet for {n} and {k}"
     return None
 
-def described_hash(text, message):
-    """The hash by the description's own section on BLAKE2b, with the constants that stand in it."""
-    section = text.split("\n## BLAKE2b")[1].split("\n## ")[0]
-    iv = [int(word, 16) for word in section.split("(hex): ")[1].split(".")[0].split()]
-    table = [[int(x) for x in row.split("|")[2].split()] for row in section.split("\n") if row[:3].strip("| ").isdigit()]
-    mask = 2 ** 64 - 1
-    h = [iv[0] ^ 0x01010020] + iv[1:]
-    blocks = [message[at:at + 128] for at in range(0, len(message), 128)] or [b""]
-    for k, block in enumerate(blocks):
-        m = [int.from_bytes(block.ljust(128, b"\0")[8 * j:8 * j + 8], "little") for j in range(16)]
-        v = h + iv
-        v[12] ^= 128 * k + len(block)
-        v[14] ^= mask if k == len(blocks) - 1 else 0
-        for r in range(12):
-            mix_round(v, m, table[r % 10], mask)
-        h = [x ^ v[j] ^ v[j + 8] for j, x in enumerate(h)]
-    return b"".join(x.to_bytes(8, "little") for x in h[:4])
+def all_packets_differ():
+    """The packets of every chunk of the registers with up to 13 chunks of the rule for ten."""
+    for n in range(4, 14):
+        register = written(n)
+        for k in range(n):
+            packet = b"".join(part for _, part in packet_parts(register, k))
+            if check_packet(packet, n, k, root_hash(register)) != chunks_described(n)[k]:
+                return f"the packet of chunk {k} of {n}"
+    return None
 
-def mix_round(v, m, s, mask):
-    quads = [(0, 4, 8, 12), (1, 5, 9, 13), (2, 6, 10, 14), (3, 7, 11, 15), (0, 5, 10, 15), (1, 6, 11, 12), (2, 7, 8, 13), (3, 4, 9, 14)]
-    for k, (a, b, c, d) in enumerate(quads):
-        for word, (first, second) in ((m[s[2 * k]], (32, 24)), (m[s[2 * k + 1]], (16, 63))):
-            v[a] = v[a] + v[b] + word & mask
-            v[d] = turned(v[d] ^ v[a], first, mask)
-            v[c] = v[c] + v[d] & mask
-            v[b] = turned(v[b] ^ v[c], second, mask)
+ASKED = [["3"], ["3", "tree", "112", "50"], ["3", "tree", "231", "04"], ["3", "signatures", "31", "01"], ["7", "signatures", "415", "00"],
+         ["10", "tree", "191", "07"], ["10", "tree", "632", "01"], ["10", "bitfield", "33", "e0"]]
+QUESTIONS = {"audit": 8, "told": 5, "place": 6, "byte": 5, "read": 4}
 
-def turned(x, k, mask):
-    return (x >> k | x << 64 - k) & mask
-
-def hash_differs(text):
-    """None where the description's BLAKE2b is the one of Python's library, else the message's length."""
-    lengths = (0, 1, 3, 127, 128, 129, 256, 1000)
-    wrong = [n for n in lengths if described_hash(text, bytes(j % 251 for j in range(n))) != H(bytes(j % 251 for j in range(n)))]
-    return f"the hash of {wrong[0]} bytes" if wrong else None
-
-def packets_differ(text, registers):
-    """None where each packet that is written out is the one of its register, else what differs."""
-    lines = [line.split()[1:] for line in text.split("\n") if line.startswith("    packet ")]
-    for n, i, digits in lines:
-        files = next(r["files"] for r in registers if r["numbers"][0] == int(n))
-        if make_packet(files["tree"], files["data"], int(n), int(i)) != bytes.fromhex(digits):
-            return f"the packet of chunk {i} of {n}"
-    return None if lines else "no packet is written out"
+def answers_differ(text):
+    registers = {register.n: register for register, _, _ in registers_in(text)}
+    asked, counts = [], dict.fromkeys(QUESTIONS, 0)
+    for word, *rest in example_lines(text, "### Answers"):
+        if word == "asked":
+            asked.append(rest)
+            register = registers[int(rest[0])]
+            if rest[1:]:
+                register = changed(register, rest[1], int(rest[2]), int(rest[3], 16))
+            continue
+        counts[word] += 1
+        inputs = [int(number) for number in rest[:{"audit": 0, "told": 3}.get(word, 1)]]
+        if word == "told":
+            given = answer(audit, told(register, *inputs))
+        else:
+            given = answer({"audit": audit, "place": find, "byte": find_byte, "read": read}[word], register, *inputs)
+        if given.split() != rest[len(inputs):]:
+            return f"asked {' '.join(asked[-1])}: {word} {' '.join(rest)}, and here {given}"
+    if asked != ASKED or counts != QUESTIONS:
+        return "the answers: others"
+    return None
 
 def main(path):
     with open(path, encoding="utf-8") as file:
         text = file.read()
-    registers = parse(text)
-    if len(registers) != len(DESCRIBED):
-        return f"{len(registers)} registers, {len(DESCRIBED)} described"
-    for register, described in zip(registers, DESCRIBED):
-        files, numbers, root = register["files"], register["numbers"], register["root"]
-        wrong = (differs(files, numbers, root, described)
-                 or unseen_damage(files, numbers, root, register["lines"], described))
-        if wrong:
-            return f"register of {numbers[0]} chunks: {wrong}"
-    return hash_differs(text) or packets_differ(text, registers) or f"{len(registers)} registers agree"
+    return (tables_differ(text) or drawing_differs(text) or hashes_differ(text) or registers_differ(text) or outside_differs(text)
+            or packets_differ(text) or all_packets_differ() or answers_differ(text))
 
 if __name__ == "__main__":
-    answer = main(sys.argv[1])
-    print(answer)
-    sys.exit(0 if answer == f"{len(DESCRIBED)} registers agree" else 1)
+    wrong = main(sys.argv[1])
+    print(wrong or "tables, drawing, 7 hashes, 6 registers, the hash from outside, 2 packets and 28 answers agree")
+    sys.exit(1 if wrong else 0)

@@ -1,4 +1,4 @@
-"""Prints, from the reference model alone, the text that the program `audits` is to print."""
+"""Prints, from the reference model alone, the text that the program `gate_audits` is to print."""
 
 from samples import buffers, bytes_of, grow, said, told
 from sleep_model import (ENTRY, HEADER, SIGNATURE, Register, append, audit, be, compare, entry_bytes, images_of,

@@ -1,4 +1,4 @@
-"""Prints, from the reference model alone, the text that the program `reads` is to print."""
+"""Prints, from the reference model alone, the text that the program `gate_reads` is to print."""
 
 from contextlib import contextmanager
 

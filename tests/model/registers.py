@@ -1,4 +1,4 @@
-"""Prints, from the reference model alone, the text that the program `registers` is to print."""
+"""Prints, from the reference model alone, the text that the program `gate_registers` is to print."""
 
 from samples import buffers, bytes_of, grow, said, told
 from sleep_model import append, bitfield_image, node_hash, root_hash, start, store_signature

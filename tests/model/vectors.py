@@ -1,4 +1,4 @@
-"""Prints, from hashlib alone, the text that the program `vectors` is to print: one vector a line."""
+"""Prints, from hashlib alone, the text that the program `gate_vectors` is to print: one vector a line."""
 
 import hashlib
 

@@ -95,10 +95,10 @@ pub part-long : (xs : List ℕ) (at m : ℕ) → at + 1024 ≤ length xs → m �
 unfolding part
 part-long xs at m h e = ap (λ (k : ℕ). length (take k (drop at xs))) e ∙ length-part xs at 1024 h
 
-pub index-by : (xs : List ℕ) (e m : ℕ) (r : List ℕ) → m ≡ 1024 → r ≡ indexBytes (take m (drop (32 + 3328 * e) xs))
+pub index-by : (xs : List ℕ) (e at m : ℕ) (r : List ℕ) → at ≡ 32 + 3328 * e → m ≡ 1024 → r ≡ indexBytes (take m (drop at xs))
     → r ≡ indexBytes (part xs (32 + 3328 * e) 1024)
 unfolding part
-index-by xs e m r h q = q ∙ ap (λ (k : ℕ). indexBytes (take k (drop (32 + 3328 * e) xs))) h
+index-by xs e at m r p h q = q ∙ ap₂ (λ (k b : ℕ). indexBytes (take k (drop b xs))) h p
 
 -- the test that the code makes of the byte at place b of the file
 abbrev pub byStored : List ℕ → ℕ → ℕ → ℕ → Bool

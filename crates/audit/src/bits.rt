@@ -32,21 +32,28 @@ fn byte_of(a: bool, b: bool, c: bool, d: bool, e: bool, f: bool, g: bool, h: boo
     high + 8 * bit_of(e) + 4 * bit_of(f) + 2 * bit_of(g) + bit_of(h)
 }
 
+// Whether the chunk k behind a chunk is one of n.
+fn held_behind(n: u64, c: ChunkNumber, k: u64) -> bool
+    requires { ⌜ c .0 + k < 4194304 ⌝ }
+    ensures { λ r. ⌜ r ≡ heldBelow n (c .0 + k) ⌝ }
+{
+    c.0 + k < n
+}
+
 // The byte of the data bits from a chunk on.
 fn data_byte(n: u64, c: ChunkNumber) -> u8
-    requires { ⌜ c .0 < 4194304 ⌝ }
+    requires { ⌜ c .0 + 7 < 4194304 ⌝ }
     ensures { λ r. ⌜ r ≡ byteOf (heldBelow n) (c .0) ⌝ }
 {
-    let k = c.0;
     byte_of(
-        k < n,
-        k + 1 < n,
-        k + 2 < n,
-        k + 3 < n,
-        k + 4 < n,
-        k + 5 < n,
-        k + 6 < n,
-        k + 7 < n,
+        held_behind(n, c, 0),
+        held_behind(n, c, 1),
+        held_behind(n, c, 2),
+        held_behind(n, c, 3),
+        held_behind(n, c, 4),
+        held_behind(n, c, 5),
+        held_behind(n, c, 6),
+        held_behind(n, c, 7),
     )
 }
 
@@ -106,20 +113,28 @@ fn expected_byte(n: u64, e: u64, j: u64, index: &[u8; 256]) -> u8
     index[k]
 }
 
+// Where entry e begins.
+fn entry_offset(e: u64) -> ByteOffset
+    requires { ⌜ e < 128 ⌝ }
+    ensures { λ r. ⌜ r .0 ≡ 32 + 3328 * e ⌝ }
+{
+    ByteOffset(32 + 3328 * e)
+}
+
 // The lowest wrong byte of entry e. Its Index is judged by the stored data bytes: a wrong one of these comes first.
 fn wrong_in_entry(xs: &[u8], n: u64, e: u64) -> Answer
     requires { ⌜ AtBits (now xs) n e ⌝ }
     ensures { λ r. ⌜ said r ≡ refusedAt 11 atByte (lowest (byteRight (now (xs .entry)) n) (32 + 3328 * e) 3328) done ⌝ }
 {
-    let at = 32 + 3328 * e;
-    let from = at as usize;
+    let at = entry_offset(e);
+    let from = at.0 as usize;
     let end = from + 1024;
     let index = bitfield::index::index_of(&xs[from..end]);
     let mut j: u64 = 0;
     while j < 3328 {
-        let place = (at + j) as usize;
+        let place = (at.0 + j) as usize;
         if xs[place] != expected_byte(n, e, j, &index) {
-            return counts::refuse_byte(11, ByteOffset(at + j));
+            return counts::refuse_byte(11, ByteOffset(at.0 + j));
         }
         j += 1;
     }

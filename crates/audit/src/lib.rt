@@ -1,8 +1,10 @@
 // The audit of a register: whether its used bytes are the images of some chunk sequence and some signatures.
 mod bits;
-pub mod tree;
+mod tree;
 
 use counts::Answer;
+pub use tree::entry_count;
+pub use tree::start_behind;
 ghost use mathlib.Core.Path.{_≡_};
 ghost use Rattle.counts.specs.Said.{said};
 ghost use Rattle.blake2b.specs.Hash.{nodeHash};

@@ -17,7 +17,7 @@ ghost use Rattle.audit.specs.Audit.{lowest, leafRight, parentRight, hole
 ghost use Rattle.audit.specs.Walked.{leavesBefore, Started, AtEntry, AtLeaf, AtParent};
 
 // Inner: how many entries the tree file of n chunks has.
-pub fn entries(n: u64) -> u64
+pub fn entry_count(n: u64) -> u64
     requires { ⌜ n ≤ 1048576 ⌝ }
     ensures { λ r. ⌜ r ≡ entriesOf n ⌝ }
 {
@@ -124,16 +124,16 @@ pub fn wrong_entry(tree: &[u8], content: &[u8], n: u64, size: u64) -> Answer
         done
         ⌝ }
 {
-    let count = entries(n);
-    let mut i: u64 = 0;
+    let count = entry_count(n);
+    let mut i = TreeIndex(0);
     let mut start = ByteOffset(0);
-    while i < count {
-        if !entry_right(tree, content, n, size, TreeIndex(i), start) {
-            return counts::refuse_entry(10, TreeIndex(i));
+    while i.0 < count {
+        if !entry_right(tree, content, n, size, i, start) {
+            return counts::refuse_entry(10, i);
         }
-        let next = start_behind(tree, TreeIndex(i), start);
+        let next = start_behind(tree, i, start);
         start = next;
-        i += 1;
+        i = TreeIndex(i.0 + 1);
     }
     Answer::Done
 }

@@ -14,7 +14,7 @@ use lib.ListN.{length, take, drop, length-replicate}
 use lib.Seq.{length-take-le, take-add}
 use borrow.Author.Tests.{eqb-true, eqb-false, lt-ltb, le-ltb, ltb-true, ltb-false}
 use Rattle.sequences.specs.Lists.{part, put, zeros, run, joined, among}
-use Rattle.sequences.proofs.Lists.{run-suc, run-ext, around, joined-run-suc, take-put, drop-put}
+use Rattle.sequences.proofs.Lists.{run-suc, run-ext, around, joined-run-suc}
 use Rattle.tree_index.specs.Tree.{index, completed, filledBy, filled}
 use Rattle.tree_index.proofs.Appended.{filled-suc}
 use Rattle.bitfield.specs.Bits.{setBit}
@@ -281,13 +281,3 @@ module _ (xs : List ℕ) (n : ℕ) (few : n < 1048576) (room : bitsPlace (n / 81
       let l : length (entriesOf (n + 1)) ≡ 3328 * k = length-entries (n + 1) ∙ ap (λ (t : ℕ). 3328 * t) c in
       appended-run ∙ ap (λ (r : List ℕ). take 32 xs ++ (r ++ tail)) (sym (entries-run (n + 1) k c))
       ∙ ap (λ (t : ℕ). take 32 xs ++ (entriesOf (n + 1) ++ drop (32 + t) xs)) (sym l)
-
-  pub appended-front : take 32 (appended xs n) ≡ take 32 xs
-  unfolding bitsPlace
-  appended-front = ap (take 32) appended-image ∙ take-put 32 xs 32 (entriesOf (n + 1)) (le-refl 32) (omega arith)
-
-  pub appended-rest : drop (32 + 3328 * entryCount (n + 1)) (appended xs n) ≡ drop (32 + 3328 * entryCount (n + 1)) xs
-  unfolding bitsPlace
-  appended-rest =
-      ap (drop (32 + 3328 * entryCount (n + 1))) appended-image
-      ∙ drop-put (32 + 3328 * entryCount (n + 1)) xs 32 (entriesOf (n + 1)) (omega (arith, length-entries (n + 1))) (omega arith)

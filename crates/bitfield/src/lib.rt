@@ -4,11 +4,47 @@ pub mod index;
 use counts::ChunkNumber;
 use counts::TreeIndex;
 ghost use mathlib.Core.Path.{_≡_};
-ghost use Prim.Native.Nat.{_+_, _/_, _<_, _≤_};
+ghost use Prim.Native.Nat.{_+_, _/_, _%_, _^_, _<_, _≤_};
 ghost use lib.ListN.{length};
 ghost use Rattle.bitfield.specs.Bits.{setBit};
 ghost use Rattle.bitfield.specs.Append.{bitsPlace, zeroedIfNew, setDataBit, setTreeBit, setTreeBits, regenerated, appended};
 ghost use Rattle.tree_index.specs.Tree.{filledBy};
+
+// The entry that has the data bit of a chunk.
+fn entry_of_chunk(c: ChunkNumber) -> usize
+    ensures { λ r. ⌜ r ≡ c .0 / 8192 ⌝ }
+{
+    (c.0 / 8192) as usize
+}
+
+// The entry that has the tree bit of a tree index.
+fn entry_of_index(i: TreeIndex) -> usize
+    ensures { λ r. ⌜ r ≡ i .0 / 16384 ⌝ }
+{
+    (i.0 / 16384) as usize
+}
+
+// Which of the data bits of its entry is a chunk's.
+fn data_bit(c: ChunkNumber) -> usize
+    ensures { λ r. ⌜ r ≡ c .0 % 8192 ⌝ }
+{
+    (c.0 % 8192) as usize
+}
+
+// Which of the tree bits of its entry is a tree index's.
+fn tree_bit(i: TreeIndex) -> usize
+    ensures { λ r. ⌜ r ≡ i .0 % 16384 ⌝ }
+{
+    (i.0 % 16384) as usize
+}
+
+// Inner: where an entry that lies in a file begins.
+fn entry_place(e: usize) -> usize
+    requires { ⌜ bitsPlace e < 2 ^ 64 ⌝ }
+    ensures { λ r. ⌜ r ≡ bitsPlace e ⌝ }
+{
+    32 + 3328 * e
+}
 
 // Inner: the bit number b, counted from the byte at place p, becomes 1. The first bit of a byte is its highest.
 fn set_bit(xs: &mut [u8], p: usize, b: usize)
@@ -21,39 +57,40 @@ fn set_bit(xs: &mut [u8], p: usize, b: usize)
 }
 
 // Inner: the data bit of a chunk, whose entry has its room.
-pub fn set_data_bit(xs: &mut [u8], c: ChunkNumber)
+fn set_data_bit(xs: &mut [u8], c: ChunkNumber)
     requires { ⌜ bitsPlace (c .0 / 8192 + 1) ≤ length (now xs) ⌝ }
     ensures { λ _. ⌜ now (xs .exit) ≡ setDataBit (now (xs .entry)) (c .0) ⌝ }
 {
-    let e = (c.0 / 8192) as usize;
-    set_bit(xs, 32 + 3328 * e, (c.0 % 8192) as usize);
+    let at = entry_place(entry_of_chunk(c));
+    set_bit(xs, at, data_bit(c));
 }
 
 // Inner: the tree bit of a tree index, which lies in entry e.
-pub fn set_tree_bit(xs: &mut [u8], e: usize, i: TreeIndex)
+fn set_tree_bit(xs: &mut [u8], e: usize, i: TreeIndex)
     requires { ⌜ (e ≡ i .0 / 16384) × (bitsPlace (e + 1) ≤ length (now xs)) ⌝ }
     ensures { λ _. ⌜ now (xs .exit) ≡ setTreeBit (now (xs .entry)) (i .0) ⌝ }
 {
-    set_bit(xs, 32 + 3328 * e + 1024, (i.0 % 16384) as usize);
+    let at = entry_place(e) + 1024;
+    set_bit(xs, at, tree_bit(i));
 }
 
 // Inner: the entry of a new chunk becomes zeros where it is new.
-pub fn zero_if_new(xs: &mut [u8], c: ChunkNumber)
+fn zero_if_new(xs: &mut [u8], c: ChunkNumber)
     requires { ⌜ bitsPlace (c .0 / 8192 + 1) ≤ length (now xs) ⌝ }
     ensures { λ _. ⌜ now (xs .exit) ≡ zeroedIfNew (now (xs .entry)) (c .0) ⌝ }
 {
-    if c.0 % 8192 == 0 {
-        let e = (c.0 / 8192) as usize;
-        sequences::clear(xs, 32 + 3328 * e, 3328);
+    if data_bit(c) == 0 {
+        let at = entry_place(entry_of_chunk(c));
+        sequences::clear(xs, at, 3328);
     }
 }
 
 // Inner: the Index of entry e made anew from its data bytes.
-pub fn regenerate(xs: &mut [u8], e: usize)
+fn regenerate(xs: &mut [u8], e: usize)
     requires { ⌜ bitsPlace (e + 1) ≤ length (now xs) ⌝ }
     ensures { λ _. ⌜ now (xs .exit) ≡ regenerated (now (xs .entry)) e ⌝ }
 {
-    let at = 32 + 3328 * e;
+    let at = entry_place(e);
     let end = at + 1024;
     let bytes = index::index_of(&xs[at..end]);
     sequences::copy_to(xs, at + 3072, &bytes);
@@ -69,7 +106,7 @@ fn set_filled(xs: &mut [u8], c: ChunkNumber)
     let mut d: u32 = 0;
     while d <= last {
         let i = tree_index::node_ending(c, d);
-        set_tree_bit(xs, (i.0 / 16384) as usize, i);
+        set_tree_bit(xs, entry_of_index(i), i);
         d += 1;
     }
 }
@@ -82,5 +119,5 @@ pub fn append_bits(xs: &mut [u8], c: ChunkNumber)
     zero_if_new(xs, c);
     set_data_bit(xs, c);
     set_filled(xs, c);
-    regenerate(xs, (c.0 / 8192) as usize);
+    regenerate(xs, entry_of_chunk(c));
 }

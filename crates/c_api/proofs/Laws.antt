@@ -2,7 +2,7 @@
 use Prim.Native.Nat.{ℕ}
 use mathlib.Core.Path.{_≡_, sym, ap, ap₂, _∙_}
 use mathlib.Core.List.{List, [], _∷_}
-use Rattle.counts.specs.Verdict.{Verdict, done, refused}
+use Rattle.counts.specs.Verdict.{Verdict, done, refused, unlessRefused}
 use Rattle.counts.specs.Said.{said, refusalOf, spotOf}
 use Rattle.counts.specs.declared.Place.{Place}
 use Rattle.counts.specs.declared.Answer.{Answer}
@@ -19,7 +19,7 @@ use Rattle.packet.specs.declared.making.Made.{Made}
 use Rattle.packet.specs.declared.making.Made.the-variants.{Refused as NotMade, Length}
 use Rattle.compare.specs.Answered.{compared}
 use Rattle.compare.specs.declared.Compared.{Compared}
-use Rattle.c_api.specs.Number.{numberOf, unlessRefused}
+use Rattle.c_api.specs.Number.{numberOf}
 use Rattle.c_api.specs.Encoding.{encoded, verdictOf, numbersUnless, Gives, packetPart, Makes, encodedComparison}
 use Rattle.c_api.specs.declared.answers.SleepAnswer.{SleepAnswer}
 

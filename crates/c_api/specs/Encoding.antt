@@ -2,14 +2,13 @@
 use Prim.Native.Nat.{ℕ, _-_}
 use mathlib.Core.Path.{_≡_}
 use mathlib.Core.List.{List, [], _∷_}
-use Rattle.counts.specs.Verdict.{Spot, Verdict, none, tree, bitfield, done, refused}
+use Rattle.counts.specs.Verdict.{Spot, Verdict, none, tree, bitfield, done, refused, unlessRefused}
 use Rattle.blake2b.specs.Hash.{nodeHash}
 use Rattle.files.specs.Belongs.{Register}
 use Rattle.lookup.specs.Lookup.{Found, refusal, found, foundUnless}
 use Rattle.packet.specs.Packet.{makeVerdict, madeLength, afterMake}
 use Rattle.packet.specs.Check.{chunkLength, packetVerdict}
 use Rattle.compare.specs.Walk.{Comparison, firstRefused, secondRefused, rootsDiffer, atRoots, atIndex, equal}
-use Rattle.c_api.specs.Number.{unlessRefused}
 use Rattle.c_api.specs.declared.answers.SleepAnswer.{SleepAnswer}
 use Rattle.c_api.specs.declared.comparing.SleepComparison.{SleepComparison}
 

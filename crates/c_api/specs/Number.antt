@@ -6,8 +6,3 @@ use Rattle.counts.specs.Verdict.{Verdict, Spot, done, refused}
 abbrev pub numberOf : Verdict → ℕ
 numberOf done = 0
 numberOf (refused number place) = number
-
--- what a lent buffer or number holds after a call that writes it: "After a refusal each lent buffer holds what it held"
-abbrev pub unlessRefused : {A : Type 0} → Verdict → A → A → A
-unlessRefused done written before = written
-unlessRefused (refused number place) written before = before

@@ -4,8 +4,8 @@ use counts::Place;
 use counts::Refusal;
 ghost use mathlib.Core.Path.{_≡_};
 ghost use mathlib.Core.List.{[], _∷_};
+ghost use Rattle.counts.specs.Verdict.{unlessRefused};
 ghost use Rattle.counts.specs.Said.{said, refusalOf};
-ghost use Rattle.c_api.specs.Number.{unlessRefused};
 ghost use Rattle.c_api.specs.Encoding.{encoded};
 
 // `number` is 0 where the call is done, else the number of its refusal. `place_kind` is 0 where the refusal has no place, 1 where

@@ -1,9 +1,10 @@
 // The hash by itself.
 ghost use mathlib.Core.Path.{_≡_};
 ghost use mathlib.Core.List.{_++_};
+ghost use Rattle.counts.specs.Verdict.{unlessRefused};
 ghost use Rattle.blake2b.specs.Hash.{nodeHash};
 ghost use Rattle.blake2b.specs.Call.{verdict, digest as Call·digest};
-ghost use Rattle.c_api.specs.Number.{numberOf, unlessRefused};
+ghost use Rattle.c_api.specs.Number.{numberOf};
 
 // BLAKE2b with `length` bytes of output: these and then zeros in `digest`, 64 bytes in all. It answers 0 or the number of its
 // refusal, which has no place. After a refusal `digest` is as it was.

@@ -2,6 +2,7 @@
 // `bitfield` and `content` (the data), and told the chunk count `n`, the signature count `s` and the data size `size`.
 use super::answers::SleepAnswer;
 ghost use mathlib.Core.Path.{_≡_};
+ghost use Rattle.counts.specs.Verdict.{unlessRefused};
 ghost use Rattle.blake2b.specs.Hash.{nodeHash};
 ghost use Rattle.checks.specs.Given.{registerOf};
 ghost use Rattle.audit.specs.Audit as Audit;
@@ -10,7 +11,6 @@ ghost use Rattle.writing.specs.Append.{appendVerdict, appendRoot, afterAppend};
 ghost use Rattle.writing.specs.Sign.{signVerdict, afterSign};
 ghost use Rattle.writing.specs.RootHash.{rootVerdict, rootAnswer};
 ghost use Rattle.writing.specs.Post.{lent};
-ghost use Rattle.c_api.specs.Number.{unlessRefused};
 ghost use Rattle.c_api.specs.Encoding.{encoded};
 
 // A register without chunks in four buffers.

@@ -1,52 +1,12 @@
--- What the checks 3 to 6 find, as facts. Assumes nothing.
+-- The checks 3 to 6 number by number. Assumes nothing.
 use mathlib.Core.Path.{_≡_, refl, ap}
 use mathlib.Core.Bool.{Bool, true, false, cond, _&&_}
-use Prim.Native.Nat.{_≤_}
-use lib.ListN.{length, take}
-use borrow.Author.Tests.{leb-true, eqb-true}
-use Rattle.counts.specs.Verdict.{Verdict, none, done, refused}
-use Rattle.sequences.specs.Lists.{total}
-use Rattle.sequences.proofs.Lists.{same-eq}
+use Rattle.counts.specs.Verdict.{Verdict, none, refused}
 use Rattle.files.specs.Headers.{treeHeader, signaturesHeader, bitfieldHeader}
 use Rattle.files.specs.Sizes.{usedTree, usedSignatures, usedBitfield}
-use Rattle.files.specs.Stored.{storedRootSizes}
 use Rattle.files.specs.Belongs.{Register}
 use Rattle.checks.specs.Checks.{judged, signedRight, holds, headed, addsUp, laterChecks}
 use Rattle.checks.specs.Given.{longRight, headsRight}
-use Rattle.checks.proofs.Judged.{AllRight, judged-done}
-
--- what 3 to 6 find
-pub record Later (r : Register) : Type 0 where
-  pub signed : signedRight (r .n) (r .s) ≡ true
-  pub tree-long : usedTree (r .n) ≤ length (r .tree)
-  pub signatures-long : usedSignatures (r .s) ≤ length (r .signatures)
-  pub bitfield-long : usedBitfield (r .n) ≤ length (r .bitfield)
-  pub content-long : r .size ≤ length (r .content)
-  pub tree-head : take 32 (r .tree) ≡ treeHeader
-  pub signatures-head : take 32 (r .signatures) ≡ signaturesHeader
-  pub bitfield-head : take 32 (r .bitfield) ≡ bitfieldHeader
-  pub sum : total (storedRootSizes (r .tree) (r .n)) ≡ r .size
-
-pub later-facts : (r : Register) → AllRight (laterChecks r) → Later r
-unfolding laterChecks addsUp
-later-facts r a =
-    record {
-      signed = a .0;
-      tree-long = leb-true _ _ (a .1 .0);
-      signatures-long = leb-true _ _ (a .1 .1 .0);
-      bitfield-long = leb-true _ _ (a .1 .1 .1 .0);
-      content-long = leb-true _ _ (a .1 .1 .1 .1 .0);
-      tree-head = same-eq _ _ (a .1 .1 .1 .1 .1 .0);
-      signatures-head = same-eq _ _ (a .1 .1 .1 .1 .1 .1 .0);
-      bitfield-head = same-eq _ _ (a .1 .1 .1 .1 .1 .1 .1 .0);
-      sum = eqb-true _ _ (a .1 .1 .1 .1 .1 .1 .1 .1 .0);
-    }
-
--- a register that passes them
-pub later-done : (r : Register) (next : Verdict) → judged (laterChecks r) next ≡ done → Later r
-later-done r next e = later-facts r (judged-done (laterChecks r) next e .0)
-
--- ---- number by number
 
 -- 3, 4, 5 and 6 as four tests
 abbrev pub ladder : Bool → Bool → Bool → Bool → Verdict → Verdict

@@ -4,17 +4,16 @@ use Prim.Native.Nat.{ℕ, _≤_}
 use mathlib.Core.Path.{_≡_, sym, ap, _∙_}
 use mathlib.Core.Bool.{true}
 use mathlib.Core.List.{List}
-use borrow.Author.Tests.{leb-true, le-leb, eq-eqb}
+use borrow.Author.Tests.{leb-true, le-leb, eq-eqb, eqb-true}
 use lib.ListN.{length, take}
 use Rattle.counts.specs.Verdict.{Verdict, done}
 use Rattle.sequences.specs.Lists.{sameList, total}
-use Rattle.sequences.proofs.Lists.{same-refl}
+use Rattle.sequences.proofs.Lists.{same-refl, same-eq}
 use Rattle.files.specs.Headers.{treeHeader, signaturesHeader, bitfieldHeader}
 use Rattle.files.specs.Sizes.{mostChunks, usedTree, usedSignatures, usedBitfield}
 use Rattle.files.specs.Stored.{storedRootSizes}
 use Rattle.files.specs.Belongs.{Register}
 use Rattle.checks.specs.Checks.{judged, signedRight, addsUp, laterChecks, registerChecks}
-use Rattle.checks.proofs.Later.{later-facts}
 -- where every check of a list is passed the verdict is what comes next, and only then it can be done
 pub use Rattle.checks.proofs.Judged.{AllRight, judged-right as all-pass, judged-done as all-must}
 
@@ -65,20 +64,19 @@ all-right r p = (
 )
 
 pub right-all : (r : Register) → AllRight (registerChecks r) → Passed r
-unfolding registerChecks
+unfolding registerChecks laterChecks addsUp
 right-all r a =
-    let l = later-facts r (a .1) in
     record {
-      count = leb-true (r .n) mostChunks (a .0);
-      signed = l .signed;
-      tree = l .tree-long;
-      signatures = l .signatures-long;
-      bitfield = l .bitfield-long;
-      content = l .content-long;
-      treeFront = l .tree-head;
-      signaturesFront = l .signatures-head;
-      bitfieldFront = l .bitfield-head;
-      adds = l .sum;
+      count = leb-true _ _ (a .0);
+      signed = a .1 .0;
+      tree = leb-true _ _ (a .1 .1 .0);
+      signatures = leb-true _ _ (a .1 .1 .1 .0);
+      bitfield = leb-true _ _ (a .1 .1 .1 .1 .0);
+      content = leb-true _ _ (a .1 .1 .1 .1 .1 .0);
+      treeFront = same-eq _ _ (a .1 .1 .1 .1 .1 .1 .0);
+      signaturesFront = same-eq _ _ (a .1 .1 .1 .1 .1 .1 .1 .0);
+      bitfieldFront = same-eq _ _ (a .1 .1 .1 .1 .1 .1 .1 .1 .0);
+      adds = eqb-true _ _ (a .1 .1 .1 .1 .1 .1 .1 .1 .1 .0);
     }
 
 pub passes : (r : Register) (next : Verdict) → Passed r → judged (registerChecks r) next ≡ next

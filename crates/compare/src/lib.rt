@@ -1,5 +1,5 @@
 // The comparing walk on two registers. It reads the lent bytes and changes nothing.
-pub mod messages;
+mod messages;
 
 use counts::Answer;
 use counts::ByteOffset;
@@ -40,28 +40,19 @@ fn lowest_collision(tree: &[u8], content: &[u8], tree2: &[u8], content2: &[u8], 
         (entries n))
         ⌝ }
 {
-    let count = audit::tree::entries(n);
-    let mut i: u64 = 0;
+    let count = audit::entry_count(n);
+    let mut i = TreeIndex(0);
     let mut start = ByteOffset(0);
     let mut start2 = ByteOffset(0);
-    while i < count {
-        if messages::collides_at(
-            tree,
-            content,
-            start,
-            tree2,
-            content2,
-            start2,
-            n,
-            TreeIndex(i),
-        ) {
-            return Compared::AtIndex(TreeIndex(i));
+    while i.0 < count {
+        if messages::collides_at(tree, content, start, tree2, content2, start2, n, i) {
+            return Compared::AtIndex(i);
         }
-        let next = audit::tree::start_behind(tree, TreeIndex(i), start);
+        let next = audit::start_behind(tree, i, start);
         start = next;
-        let next2 = audit::tree::start_behind(tree2, TreeIndex(i), start2);
+        let next2 = audit::start_behind(tree2, i, start2);
         start2 = next2;
-        i += 1;
+        i = TreeIndex(i.0 + 1);
     }
     Compared::Equal
 }

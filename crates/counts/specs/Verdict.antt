@@ -11,3 +11,8 @@ pub data Spot : Type 0 where
 pub data Verdict : Type 0 where
   done : Verdict
   refused : ℕ → Spot → Verdict
+
+-- what is left of what held `before`, where the call writes `after`: "After a refusal each lent buffer holds what it held"
+abbrev pub unlessRefused : {A : Type 0} → Verdict → A → A → A
+unlessRefused done after before = after
+unlessRefused (refused m at) after before = before

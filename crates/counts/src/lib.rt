@@ -1,7 +1,7 @@
 // The three counts of a register, and how a call answers.
 //
 // A chunk number, a tree index and a byte offset count three separate things, so each is a type of its own, and one
-// becomes another only by a function that says how.
+// becomes another only by a function that says how. Each counts from 0, so the number of a thing is how many stand before it.
 ghost use mathlib.Core.Path.{_≡_};
 ghost use Rattle.counts.specs.Verdict.{none, tree, bitfield, refused};
 ghost use Rattle.counts.specs.Said.{said};
@@ -14,6 +14,13 @@ pub struct TreeIndex(pub u64);
 
 // An offset in bytes, from the start of a file or of the data.
 pub struct ByteOffset(pub u64);
+
+// The chunk behind n others: the one that an append to n chunks adds.
+pub fn chunk_behind(n: u64) -> ChunkNumber
+    ensures { λ r. ⌜ r .0 ≡ n ⌝ }
+{
+    ChunkNumber(n)
+}
 
 // Where a refusal points: nowhere, at a tree entry, or at a byte of the bitfield file.
 pub enum Place {

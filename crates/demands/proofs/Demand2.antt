@@ -116,14 +116,14 @@ module _ (F : List ℕ → List ℕ) (r : Register) (chunk : List ℕ) where
           append-lent F hf (m .0) (m .2 .within) r (m .2 .belongs) chunk p fits l,
         )
 
-    append-beyond : (cs : List (List ℕ)) → Within cs → Belongs F r cs → Beyond (buffersOf r) (appendedRegister F r chunk)
+    append-beyond : Lent r → Beyond (buffersOf r) (appendedRegister F r chunk)
     unfolding appendedRegister
-    append-beyond cs w b =
+    append-beyond l =
         record {
-          tree = append-tree-rest F hf cs w r b chunk p fits;
+          tree = append-tree-rest F hf r l chunk p fits;
           signatures = refl;
-          bitfield = append-bitfield-rest F hf cs w r b chunk p fits;
-          content = append-content-rest F hf cs w r b chunk p fits;
+          bitfield = append-bitfield-rest F hf r l chunk p fits;
+          content = append-content-rest F hf r l chunk p fits;
         }
 
 pub append-writes : (F : List ℕ → List ℕ) → HashFunction F → AppendWrites F
@@ -136,7 +136,7 @@ append-writes F hf =
       answers = λ r cs chunk w b p e. answered F r chunk e ∙ append-root F hf cs w r b chunk p (append-passed r chunk e .1);
       images = λ r cs sigs chunk m p e. append-imaged F r chunk hf p e cs sigs m;
       accepted = λ r chunk l a p e. append-accepted F r chunk hf p e l a;
-      beyond = λ r cs chunk w b p e. append-beyond F r chunk hf p e cs w b;
+      beyond = λ r chunk l p e. append-beyond F r chunk hf p e l;
       unchanged = append-unchanged F;
     }
 

@@ -69,7 +69,8 @@ pub record AppendWrites (F : List ℕ → List ℕ) : Type 0 where
   -- an append to an accepted register leaves an accepted register, in buffers that hold bytes again
   pub accepted : (r : Register) (chunk : List ℕ) → Lent r → Accepted F r → Bytes chunk → appendVerdict r chunk ≡ done
       → Accepted F (appendedRegister F r chunk) × Lent (appendedRegister F r chunk)
-  pub beyond : (r : Register) (cs : List (List ℕ)) (chunk : List ℕ) → Within cs → Belongs F r cs → Bytes chunk → appendVerdict r chunk ≡ done
+  -- done, on any register, it leaves every byte beyond the new used sizes
+  pub beyond : (r : Register) (chunk : List ℕ) → Lent r → Bytes chunk → appendVerdict r chunk ≡ done
       → Beyond (buffersOf r) (appendedRegister F r chunk)
   -- "No lent byte changes.", and the answer beside a refusal is zeros
   pub unchanged : (r : Register) (chunk : List ℕ) (m : ℕ) (at : Spot) → appendVerdict r chunk ≡ refused m at

@@ -39,11 +39,7 @@ module _ {A : Type 0} where
   set-behind [] x v r = refl
   set-behind (y ∷ xs) x v r = ap (λ (l : List A). y ∷ l) (set-behind xs x v r)
 
-  pub padded-none : (x : A) (f : ℕ → A) → replicate 20 x ≡ padded x 0 (run f 0 0)
-  unfolding padded run
-  padded-none x f = refl
-
-  pub padded-next : (x : A) (f : ℕ → A) (j : ℕ) (v : A) → j < 20 → v ≡ f j
+  padded-next : (x : A) (f : ℕ → A) (j : ℕ) (v : A) → j < 20 → v ≡ f j
       → set (padded x j (run f 0 j)) j v ≡ padded x (j + 1) (run f 0 (j + 1))
   unfolding padded
   padded-next x f j v h e =
@@ -57,10 +53,29 @@ module _ {A : Type 0} where
       ∙ sym (append-assoc (run f 0 j) (f (0 + j) ∷ []) (replicate m x))
       ∙ ap₂ (λ (l : List A) (i : ℕ). l ++ replicate i x) (sym (run-suc f 0 j) ∙ ap (run f 0) (sym (add-one j))) n
 
-  -- the same at a turn of a loop
-  pub padded-turn : (x : A) (f : ℕ → A) (j : ℕ) (v : A) (l : List A) → j < 20 → l ≡ padded x j (run f 0 j) → v ≡ f j
-      → set l j v ≡ padded x (j + 1) (run f 0 (j + 1))
-  padded-turn x f j v l h e g = ap (λ (m : List A). set m j v) e ∙ padded-next x f j v h g
+  -- a loop that fills an array from the front: its first j elements are those of f, and behind them it holds x
+  pub record Filling (x : A) (f : ℕ → A) (count j : ℕ) (l : List A) : Type 0 where
+    pub few : count ≤ 20
+    pub below : j ≤ count
+    pub front : l ≡ padded x j (run f 0 j)
+
+  module _ (x : A) (f : ℕ → A) (count : ℕ) where
+    pub filling-none : count ≤ 20 → Filling x f count 0 (replicate 20 x)
+    unfolding padded run
+    filling-none h = record { few = h; below = omega arith; front = refl }
+
+    module _ (j : ℕ) (l : List A) (w : Filling x f count j l) where
+      pub filling-next : (m : List A) (v : A) → j < count → v ≡ f j → m ≡ set l j v → Filling x f count (j + 1) m
+      filling-next m v h g e =
+          record {
+            few = w .few;
+            below = omega arith;
+            front = e ∙ ap (λ (y : List A). set y j v) (w .front) ∙ padded-next x f j v (omega (arith, w .few)) g;
+          }
+
+      pub filling-all : count ≤ j → l ≡ padded x count (run f 0 count)
+      filling-all h =
+          let e : j ≡ count = omega (arith, w .below) in w .front ∙ ap (λ (i : ℕ). padded x i (run f 0 i)) e
 
   run-shift : (f : ℕ → A) (i k : ℕ) → run f (suc i) k ≡ run (λ j. f (suc j)) i k
   unfolding run

@@ -50,7 +50,7 @@ fn hashes_at(tree: &[u8], indexes: [TreeIndex; 20], count: usize) -> [[u8; 32]; 
 }
 
 // Inner: the stored roots of the first n chunks, without their hashes.
-pub fn stored_roots(tree: &[u8], n: u64) -> Roots
+fn stored_roots(tree: &[u8], n: u64) -> Roots
     requires { ⌜ RootsIn (now tree) n ⌝ }
     ensures { λ r. ⌜ RootsOf (now (tree .entry)) n r ⌝ }
 {
@@ -65,7 +65,7 @@ pub fn stored_roots(tree: &[u8], n: u64) -> Roots
 }
 
 // Inner: the hashes of the stored roots of the first n chunks, and zeros behind them.
-pub fn stored_root_hashes(tree: &[u8], n: u64) -> [[u8; 32]; 20]
+fn stored_root_hashes(tree: &[u8], n: u64) -> [[u8; 32]; 20]
     requires { ⌜ RootsIn (now tree) n ⌝ }
     ensures { λ r. ⌜ r ≡ padded (zeros 32) (length (rootsOf n)) (map (storedHash (now (tree .entry))) (rootsOf n)) ⌝ }
 {
@@ -90,7 +90,7 @@ fn put_item(message: &mut [u8], at: usize, hash: &[u8; 32], index: TreeIndex, si
 
 // Inner: the root message, "02, then for each root from the left its hash, 8-byte tree index and 8-byte length", at the front of an
 // array that has room for 20 roots.
-pub fn root_message(roots: Roots, hashes: [[u8; 32]; 20]) -> [u8; 961]
+fn root_message(roots: Roots, hashes: [[u8; 32]; 20]) -> [u8; 961]
     requires { ⌜ roots .count ≤ 20 ⌝ }
     ensures { λ r. ⌜ take (1 + 48 * roots .count) r ≡ rootMessage (itemsOf hashes (numbers (roots .indexes)) (roots .sizes) (roots .count)) ⌝ }
 {
@@ -138,7 +138,7 @@ pub fn stored_root_hash(tree: &[u8], n: u64) -> [u8; 32]
 }
 
 // Inner: whether the lengths of the roots add up to a size, as whole numbers: what is left of the size is never less than 0.
-pub fn sizes_add_up(roots: Roots, size: u64) -> bool
+fn sizes_add_up(roots: Roots, size: u64) -> bool
     requires { ⌜ roots .count ≤ 20 ⌝ }
     ensures { λ r. ⌜ r ≡ eqb (total (take (roots .count) (roots .sizes))) size ⌝ }
 {

@@ -8,7 +8,7 @@ use native.Mathlib.Omega.{arith}
 use borrow.Author.Tests.{le-leb, lt-leb}
 use lib.Dec.{leb}
 use lib.ListN.{length, drop}
-use Rattle.counts.specs.Verdict.{Verdict}
+use Rattle.counts.specs.Verdict.{Verdict, unlessRefused}
 use Rattle.blake2b.specs.Hash.{nodeHash}
 use Rattle.sequences.specs.Lists.{part}
 use Rattle.sequences.specs.Numbers.{number}
@@ -17,7 +17,7 @@ use Rattle.files.specs.Headers.{treeHeader, signaturesHeader, bitfieldHeader}
 use Rattle.files.specs.Belongs.{Buffers, Register, Within}
 use Rattle.files.proofs.OfImage.{treeHeader-length, signaturesHeader-length, bitfieldHeader-length}
 use Rattle.checks.specs.Given.{registerOf}
-use Rattle.writing.specs.Start.{started, startedRegister, afterStart, unlessRefused}
+use Rattle.writing.specs.Start.{started, startedRegister, afterStart}
 use Rattle.writing.specs.Post.{lent, StartPost}
 use Rattle.writing.proofs.Written.{take-header}
 use Rattle.writing.proofs.Started.{fits-start, started-belongs}

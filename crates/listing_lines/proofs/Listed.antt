@@ -2,14 +2,17 @@
 -- Assumes nothing.
 use Prim.Native.Nat.{ℕ, _+_, _-_, _*_, _^_, _≤_, _<_}
 use mathlib.Core.Path.{_≡_, refl, sym, ap, ap₂, _∙_, subst}
-use mathlib.Core.Bool.{Bool, true, false, cond}
+use mathlib.Core.Bool.{Bool, true, false}
 use mathlib.Core.List.{List, [], _∷_, _++_}
 use native.Mathlib.Nat.{sub-zero}
 use native.Mathlib.Omega.{arith}
 use borrow.Author.Tests.{leb-true, le-leb, lt-leb}
 use lib.Dec.{leb}
 use lib.ListN.{length, getD, take, drop}
+use Rattle.counts.specs.Verdict.{Verdict, none, done, refused, unlessRefused}
+use Rattle.counts.specs.declared.Place.the-variants.{Nowhere}
 use Rattle.blake2b.specs.Hash.{nodeHash}
+use Rattle.checks.specs.Checks.{judged}
 use Rattle.sequences.specs.Lists.{part, put, run, joined, total}
 use Rattle.sequences.proofs.Lists.{length-part, getD-part, run-from, run-ext}
 use Rattle.tree_index.specs.Tree.{depth, block, filled, entries}
@@ -23,7 +26,9 @@ use Rattle.files.proofs.OfImage.{stored-start, stored-span}
 use Rattle.listing_lines.specs.Input.{Input, chunks, before, inputOf}
 use Rattle.listing_lines.specs.Lines.{line, kindWord, holeWord, firstUnder, countUnder, startOf, lengthOf, firstLine, entryLine, linesOf, linesFor, refusedLine, listing}
 use Rattle.listing_lines.specs.Inner.{Put, Read, Printable, Ready, Reading, behind, firstOf, rootsOf, storedLine, storedEntries, storedLines}
-use Rattle.listing_lines.specs.Post.{fits, Listed}
+use Rattle.listing_lines.specs.Post.{listVerdict, listingBytes, Listed}
+use Rattle.listing_lines.specs.declared.Listing.{Listing}
+use Rattle.listing_lines.specs.declared.Listing.the-variants.{Refused, Written}
 use Rattle.listing_lines.proofs.Put.{wider-put, same-put}
 use Rattle.files.proofs.Hashed.{hash-function}
 use Rattle.listing_lines.proofs.Entries.{first-le}
@@ -122,35 +127,46 @@ module _ (xs : List ℕ) (b : Bool) (r : Register) (g : Read (inputOf xs) b r) {
 pub read-printable : (xs : List ℕ) (b : Bool) (r : Register) → Read (inputOf xs) b r → b ≡ true → Printable (r .tree) (r .n)
 read-printable xs b r g e = ready-printable r (g .taken e .cs) (g .taken e .ready) (g .few) (g .small)
 
+-- what the listing says, by whether the buffer has room
+has-room : (xs out : List ℕ) (b : Bool) → leb (length (listing xs)) (length out) ≡ b
+    → listVerdict xs out ≡ judged (record { number = 14; right = b } ∷ []) done
+unfolding listVerdict
+has-room xs out b e = ap (λ (f : Bool). judged (record { number = 14; right = f } ∷ []) done) e
+
 -- the lines copied to a lent buffer, or not
 module _ (xs out : List ℕ) {t t' : List ℕ} {len : ℕ} (p : Put t 0 9371 (listing xs) len t') where
-  pub list-short : length out < len → Listed xs out 0 out
-  unfolding fits
+  pub list-short : length out < len → Listed xs out (Refused (record { number = 14; place = Nowhere })) out
+  unfolding judged
   list-short h =
-      let e : leb (length (listing xs)) (length out) ≡ false = lt-leb (length (listing xs)) (length out) (omega (arith, p .next)) in
+      let v : refused 14 none ≡ listVerdict xs out =
+      sym (has-room xs out false (lt-leb (length (listing xs)) (length out) (omega (arith, p .next)))) in
       record {
-        count = sym (ap (λ (f : Bool). cond f (length (listing xs)) 0) e);
-        buffer = sym (ap (λ (f : Bool). cond f (put out 0 (listing xs)) out) e);
+        verdict = v;
+        long = ap (λ (u : Verdict). unlessRefused u (length (listing xs)) 0) v;
+        buffer = ap (λ (u : Verdict). unlessRefused u (put out 0 (listing xs)) out) v;
         most = p .few;
       }
 
-  pub list-copied : {after : List ℕ} → len ≤ length out → after ≡ put out 0 (take (len - 0) (drop 0 t')) → Listed xs out len after
-  unfolding fits
+  pub list-copied : {after : List ℕ} → len ≤ length out → after ≡ put out 0 (take (len - 0) (drop 0 t')) → Listed xs out (Written len) after
+  unfolding judged
   list-copied h q =
-      let e : leb (length (listing xs)) (length out) ≡ true = le-leb (length (listing xs)) (length out) (omega (arith, p .next)) in
+      let v : done ≡ listVerdict xs out = sym (has-room xs out true (le-leb (length (listing xs)) (length out) (omega (arith, p .next)))) in
       let k : len ≡ length (listing xs) = omega (arith, p .next) in
       record {
-        count = k ∙ sym (ap (λ (f : Bool). cond f (length (listing xs)) 0) e);
+        verdict = v;
+        long = k ∙ ap (λ (u : Verdict). unlessRefused u (length (listing xs)) 0) v;
         buffer = q ∙ ap (put out 0) (ap (λ (m : ℕ). take m t') (sub-zero len) ∙ p .front)
-            ∙ sym (ap (λ (f : Bool). cond f (put out 0 (listing xs)) out) e);
+            ∙ ap (λ (u : Verdict). unlessRefused u (put out 0 (listing xs)) out) v;
         most = p .few;
       }
 
--- the count is one of bytes of the buffer
-pub listed-count : {xs out after : List ℕ} {r : ℕ} → Listed xs out r after → r ≤ length out
-unfolding fits
-listed-count {xs} {out} {after} {r} g = by-room (leb (length (listing xs)) (length out)) refl (g .count)
+-- the length that is answered is one of bytes of the buffer
+pub listed-length : {xs out after : List ℕ} {answer : Listing} (r : ℕ) → Listed xs out answer after → answer ≡ Written r → r ≤ length out
+unfolding judged
+listed-length {xs} {out} {after} {answer} r g w = by-room (leb (length (listing xs)) (length out)) refl
   where
-    by-room : (f : Bool) → leb (length (listing xs)) (length out) ≡ f → r ≡ cond f (length (listing xs)) 0 → r ≤ length out
-    by-room true e q = omega (arith, leb-true (length (listing xs)) (length out) e)
-    by-room false e q = omega arith
+    by-room : (b : Bool) → leb (length (listing xs)) (length out) ≡ b → r ≤ length out
+    by-room true e =
+        omega (arith, leb-true (length (listing xs)) (length out) e, sym (ap listingBytes w) ∙ g .long ∙ ap (λ (u : Verdict). unlessRefused u (length (listing xs)) 0) (has-room xs out true e))
+    by-room false e =
+        omega (arith, sym (ap listingBytes w) ∙ g .long ∙ ap (λ (u : Verdict). unlessRefused u (length (listing xs)) 0) (has-room xs out false e))

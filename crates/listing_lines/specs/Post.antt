@@ -1,20 +1,33 @@
 -- What the listing in a lent buffer ensures.
 use Prim.Native.Nat.{ℕ, _≤_}
 use mathlib.Core.Path.{_≡_}
-use mathlib.Core.Bool.{Bool, cond}
-use mathlib.Core.List.{List}
+use mathlib.Core.List.{List, [], _∷_}
 use lib.ListN.{length}
-use lib.Dec.{leb}
+use Rattle.counts.specs.Verdict.{Verdict, done, unlessRefused}
+use Rattle.counts.specs.Said.{refusalOf}
 use Rattle.sequences.specs.Lists.{put}
+use Rattle.checks.specs.Checks.{judged, holds}
 use Rattle.listing_lines.specs.Lines.{listing}
+use Rattle.listing_lines.specs.declared.Listing.{Listing}
+use Rattle.listing_lines.specs.declared.Listing.the-variants.{Refused, Written}
 
--- whether the lines have room: "A buffer to be written is shorter than the result needs" otherwise
-unfoldable pub fits : List ℕ → List ℕ → Bool
-fits input out = leb (length (listing input)) (length out)
+-- "14. A buffer to be written is shorter than the result needs.": the one refusal of a listing
+unfoldable pub listVerdict : List ℕ → List ℕ → Verdict
+listVerdict input out = judged (record { number = 14; right = holds out (length (listing input)) } ∷ []) done
 
--- the lines stand at the front of the buffer, with other bytes as they were, and r is their length; no listing is empty, so 0 says
--- that they had no room, and then no byte changed. A buffer of 9,371 bytes has room for every listing.
-pub record Listed (input out : List ℕ) (r : ℕ) (after : List ℕ) : Type 0 where
-  pub count : r ≡ cond (fits input out) (length (listing input)) 0
-  pub buffer : after ≡ cond (fits input out) (put out 0 (listing input)) out
+-- the verdict and the length that each case of the answer stands for
+abbrev pub listingVerdict : Listing → Verdict
+listingVerdict (Refused r) = refusalOf r
+listingVerdict (Written k) = done
+
+abbrev pub listingBytes : Listing → ℕ
+listingBytes (Refused r) = 0
+listingBytes (Written k) = k
+
+-- the lines stand at the front of the buffer, with other bytes as they were, and their length is the answer; after a refusal no byte
+-- changed. A buffer of 9,371 bytes has room for every listing.
+pub record Listed (input out : List ℕ) (answer : Listing) (after : List ℕ) : Type 0 where
+  pub verdict : listingVerdict answer ≡ listVerdict input out
+  pub long : listingBytes answer ≡ unlessRefused (listVerdict input out) (length (listing input)) 0
+  pub buffer : after ≡ unlessRefused (listVerdict input out) (put out 0 (listing input)) out
   pub most : length (listing input) ≤ 9371

@@ -7,11 +7,19 @@ mod text;
 use crate::build::read;
 use crate::lines::put_lines;
 use crate::text::put_text;
+use counts::Place;
+use counts::Refusal;
 ghost use mathlib.Core.Path.{_≡_};
 ghost use lib.ListN.{length};
 ghost use Rattle.listing_lines.specs.Lines.{listing};
 ghost use Rattle.listing_lines.specs.Inner.{Put, Rooms};
 ghost use Rattle.listing_lines.specs.Post.{Listed};
+
+// What a listing answers: a refusal, or the length of its lines.
+pub enum Listing {
+    Refused(Refusal),
+    Written(usize),
+}
 
 // Inner: the lines into a buffer that has room for those of every input.
 fn put_listing(
@@ -41,20 +49,23 @@ fn list_on(
     signatures: &mut [u8],
     bitfield: &mut [u8],
     content: &mut [u8],
-) -> usize
+) -> Listing
     requires { ⌜ (length (now text) ≡ 9371) × Rooms (now tree) (now signatures) (now bitfield) (now content) ⌝ }
     ensures { λ r. ⌜ Listed (now (input .entry)) (now (out .entry)) r (now (out .exit)) ⌝ }
 {
     let len = put_listing(input, text, tree, signatures, bitfield, content);
     if out.len() < len {
-        return 0;
+        return Listing::Refused(Refusal {
+            number: 14,
+            place: Place::Nowhere,
+        });
     }
     sequences::copy_to(out, 0, &text[0..len]);
-    len
+    Listing::Written(len)
 }
 
-// The listing of an input at the front of a buffer, and its length; 0 where the buffer is too short, which then keeps its bytes.
-pub fn list(input: &[u8], out: &mut [u8]) -> usize
+// The listing of an input at the front of a buffer, and its length; refusal 14 where the buffer is too short, which then keeps its bytes.
+pub fn list(input: &[u8], out: &mut [u8]) -> Listing
     ensures { λ r. ⌜ Listed (now (input .entry)) (now (out .entry)) r (now (out .exit)) ⌝ }
 {
     let mut text = [0u8; 9371];

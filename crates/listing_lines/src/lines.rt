@@ -41,15 +41,14 @@ fn start_of(tree: &[u8], c: ChunkNumber) -> ByteOffset
     requires { ⌜ Printable (now tree) (c .0) ⌝ }
     ensures { λ r. ⌜ r .0 ≡ storedStart (now (tree .entry)) (c .0) ⌝ }
 {
-    let k = c.0;
-    let mut sum: u64 = 0;
-    let mut j: u64 = 0;
-    while j < k {
-        let size = files::entries::stored_size(tree, tree_index::leaf_index(ChunkNumber(j)));
-        sum += size;
-        j += 1;
+    let mut start = ByteOffset(0);
+    let mut j = ChunkNumber(0);
+    while j.0 < c.0 {
+        let size = files::entries::stored_size(tree, tree_index::leaf_index(j));
+        start = ByteOffset(start.0 + size);
+        j = ChunkNumber(j.0 + 1);
     }
-    ByteOffset(sum)
+    start
 }
 
 // The line of a tree entry.
@@ -74,11 +73,11 @@ fn put_entries(out: &mut [u8], at: usize, tree: &[u8], n: u64) -> usize
     ensures { λ r. ⌜ Put (now (out .entry)) at 8890 (storedEntries (now (tree .entry)) n) r (now (out .exit)) ⌝ }
 {
     let mut next = at;
-    let mut i: u64 = 0;
-    while i + 1 < 2 * n {
-        let behind = put_entry(out, next, tree, n, TreeIndex(i));
+    let mut i = TreeIndex(0);
+    while i.0 + 1 < 2 * n {
+        let behind = put_entry(out, next, tree, n, i);
         next = behind;
-        i += 1;
+        i = TreeIndex(i.0 + 1);
     }
     next
 }

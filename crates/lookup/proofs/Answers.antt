@@ -1,124 +1,141 @@
 -- What lookups and reads answer: on a register that belongs to a chunk sequence, and on every one that passes the checks 2 to 6.
 -- Assumes nothing.
-use Prim.Native.Nat.{ℕ, suc, _+_, _-_, _*_, _^_, _≤_, _<_}
+use Prim.Native.Nat.{ℕ, zero, suc, _+_, _-_, _*_, _^_, _≤_, _<_}
 use mathlib.Core.Path.{_≡_, refl, sym, ap, ap₂, _∙_, subst}
-use mathlib.Core.Bool.{Bool, true, cond}
-use mathlib.Core.List.{List, [], _∷_, _++_, map}
-use native.Mathlib.Nat.{mul-one, le-antisymm, le-dest, lt-of-not-le, le-of-suc-le-suc, lt-irrefl, zero-add}
+use mathlib.Core.Bool.{Bool, true, false, cond}
+use mathlib.Core.List.{List, [], _∷_, _++_}
+use native.Mathlib.Nat.{mul-one, le-antisymm, le-dest, lt-of-not-le, le-of-suc-le-suc, lt-irrefl, zero-add, div-eq-of-lt-le}
 use native.Mathlib.Omega.{arith}
 use borrow.Author.Tests.{lt-ltb, le-ltb}
-use lib.Dec.{ltb}
 use lib.ListN.{length, getD, take, length-take}
 use lib.Seq.{getD-take}
 use Rattle.counts.specs.Verdict.{Verdict, none, tree, done, refused}
 use Rattle.sequences.specs.Lists.{part, total, sameList}
 use Rattle.sequences.proofs.Lists.{length-part, run-ext}
-use Rattle.tree_index.specs.Tree.{index, filled, roots}
+use Rattle.tree_index.specs.Tree.{index, filled}
 use Rattle.tree_index.proofs.Index.{index-leaf}
 use Rattle.tree_index.proofs.Filled.{block-end, end-filled}
-use Rattle.files.specs.Sizes.{mostChunks, longestChunk}
+use Rattle.files.specs.Sizes.{mostChunks}
 use Rattle.files.specs.Messages.{HashFunction, leafMessage}
 use Rattle.files.specs.Images.{dataSize}
 use Rattle.files.specs.Nodes.{leaf}
-use Rattle.files.specs.Stored.{storedSize, storedHash, storedRootSizes, storedChunk}
+use Rattle.files.specs.Stored.{storedSize, storedHash, storedChunk}
 use Rattle.files.specs.Belongs.{Register, Within, Belongs}
 use Rattle.files.proofs.Spans.{span, span-add, span-none, span-one, span-all, chunk-inside}
 use Rattle.files.proofs.Nodes.{nodeAt-hash, message-leaf}
 use Rattle.files.proofs.OfImage.{stored-span, stored-leaf-size, stored-start, stored-chunk, stored-node-hash}
-use Rattle.checks.specs.Checks.{Check, judged, registerChecks}
+use Rattle.checks.specs.Checks.{judged, registerChecks}
 use Rattle.checks.proofs.Judged.{judged-append}
 use Rattle.checks.proofs.Passed.{Passed, passes, passed, same-of}
-use Rattle.lookup.specs.Descent.{Ending, stopped, reached, chunkWithin, byteWithin, descent}
+use Rattle.lookup.specs.Descent.{Ending, stopped, reached, chunkWithin, byteWithin}
 use Rattle.lookup.specs.Lookup.{refusal, found, stopRefused, foundUnless, chunkOf, startOf, toChunk, toByte, placeVerdict, byteVerdict, placeOf, byteAt}
 use Rattle.lookup.specs.Read.{chunkBytes, andThen, partUnless, readVerdict, readPart}
-use Rattle.lookup.specs.Answers.{startIn, HasByte, Answers, AnswersForAll, Lies, Stops, atLeaf, atParent, LookupsStayInside, LookupsStayInsideForAll}
-use Rattle.lookup.proofs.Descents.{Ground, Ends, ends, chunk-order, byte-order, left-first, right-end, left-inside, twice}
+use Rattle.lookup.specs.Answers.{startIn, HasByte, Answers, AnswersForAll, Right, HoldsChunk, HoldsByte, Lies, Stops, LookupsStayInside, LookupsStayInsideForAll}
+use Rattle.lookup.proofs.Descents.{Steps, Landed, Halted, Ends, ends, chunk-order, byte-order, left-first, right-end, left-inside, twice}
 
 -- ---- the verdicts
 
--- a register's checks, and one more behind them
-one-more : (r : Register) (c : Check) (next : Verdict) → Passed r → judged (registerChecks r ++ (c ∷ [])) next ≡ cond (c .right) next (refused (c .number) none)
+-- a check 9 behind those of a register
+nine : (r : Register) (b : Bool) (next : Verdict) → Passed r
+    → judged (registerChecks r ++ (record { number = 9; right = b } ∷ [])) next ≡ cond b next (refused 9 none)
 unfolding judged
-one-more r c next p = judged-append (registerChecks r) (c ∷ []) next ∙ passes r (judged (c ∷ []) next) p
+nine r b next p =
+    judged-append (registerChecks r) (record { number = 9; right = b } ∷ []) next ∙ passes r (judged (record { number = 9; right = b } ∷ []) next) p
 
-pub place-verdict : (r : Register) (c : ℕ) → Passed r → c < r .n → placeVerdict r c ≡ stopRefused (toChunk r c)
+nine-passed : (r : Register) {b : Bool} (next : Verdict) → Passed r → b ≡ true
+    → judged (registerChecks r ++ (record { number = 9; right = b } ∷ [])) next ≡ next
+nine-passed r {b} next p e = nine r b next p ∙ ap (λ (x : Bool). cond x next (refused 9 none)) e
+
+nine-refused : (r : Register) {b : Bool} (next : Verdict) → Passed r → b ≡ false
+    → judged (registerChecks r ++ (record { number = 9; right = b } ∷ [])) next ≡ refused 9 none
+nine-refused r {b} next p e = nine r b next p ∙ ap (λ (x : Bool). cond x next (refused 9 none)) e
+
+place-verdict : (r : Register) (c : ℕ) → Passed r → c < r .n → placeVerdict r c ≡ stopRefused (toChunk r c)
 unfolding placeVerdict
-place-verdict r c p h =
-    one-more r (record { number = 9; right = ltb c (r .n) }) (stopRefused (toChunk r c)) p
-    ∙ ap (λ (b : Bool). cond b (stopRefused (toChunk r c)) (refused 9 none)) (lt-ltb c (r .n) h)
+place-verdict r c p h = nine-passed r (stopRefused (toChunk r c)) p (lt-ltb c (r .n) h)
 
-pub no-place : (r : Register) (c : ℕ) → Passed r → r .n ≤ c → placeVerdict r c ≡ refused 9 none
+no-place : (r : Register) (c : ℕ) → Passed r → r .n ≤ c → placeVerdict r c ≡ refused 9 none
 unfolding placeVerdict
-no-place r c p h =
-    one-more r (record { number = 9; right = ltb c (r .n) }) (stopRefused (toChunk r c)) p
-    ∙ ap (λ (b : Bool). cond b (stopRefused (toChunk r c)) (refused 9 none)) (le-ltb c (r .n) h)
+no-place r c p h = nine-refused r (stopRefused (toChunk r c)) p (le-ltb c (r .n) h)
 
-pub byte-verdict : (r : Register) (b : ℕ) → Passed r → b < r .size → byteVerdict r b ≡ stopRefused (toByte r b)
+byte-verdict : (r : Register) (b : ℕ) → Passed r → b < r .size → byteVerdict r b ≡ stopRefused (toByte r b)
 unfolding byteVerdict
-byte-verdict r b p h =
-    one-more r (record { number = 9; right = ltb b (r .size) }) (stopRefused (toByte r b)) p
-    ∙ ap (λ (x : Bool). cond x (stopRefused (toByte r b)) (refused 9 none)) (lt-ltb b (r .size) h)
+byte-verdict r b p h = nine-passed r (stopRefused (toByte r b)) p (lt-ltb b (r .size) h)
 
-pub no-byte : (r : Register) (b : ℕ) → Passed r → r .size ≤ b → byteVerdict r b ≡ refused 9 none
+no-byte : (r : Register) (b : ℕ) → Passed r → r .size ≤ b → byteVerdict r b ≡ refused 9 none
 unfolding byteVerdict
-no-byte r b p h =
-    one-more r (record { number = 9; right = ltb b (r .size) }) (stopRefused (toByte r b)) p
-    ∙ ap (λ (x : Bool). cond x (stopRefused (toByte r b)) (refused 9 none)) (le-ltb b (r .size) h)
+no-byte r b p h = nine-refused r (stopRefused (toByte r b)) p (le-ltb b (r .size) h)
 
 -- ---- every register that passes the checks
 
--- nothing is known of starts, and nothing of where a descent stops
-pub any-ground : (t : List ℕ) (n : ℕ) → Ground t n (λ p s. Unit {0}) (λ i. Unit {0})
-any-ground t n = record { step = λ d k s h a. tt; leaf = λ k h l. tt; parent = λ d k h l. tt }
+-- nothing is known of starts
+pub any-start : (t : List ℕ) (n : ℕ) → Steps t n (λ p s. Unit {0})
+any-start t n d k s h a = tt
 
 few : (n : ℕ) → n ≤ mostChunks → n < 2 ^ 21
 few n h = omega arith
 
 module _ (r : Register) (p : Passed r) where
-  sums : total (map (storedSize (r .tree)) (roots (r .n))) ≡ r .size
-  unfolding storedRootSizes
-  sums = p .adds
-
-  pub chunk-lands : (At : ℕ → ℕ → Type 0) (Stop : ℕ → Type 0) → Ground (r .tree) (r .n) At Stop → At 0 0 → (c : ℕ) → c < r .n
-      → Ends (r .tree) (r .n) (λ p s. p ≤ c) (λ p s. c < p) At Stop 0 (r .size) (toChunk r c)
+  chunk-lands : (At : ℕ → ℕ → Type 0) → Steps (r .tree) (r .n) At → At 0 0 → (c : ℕ) → c < r .n
+      → Ends (r .tree) (r .n) (λ p s. p ≤ c) (λ p s. c < p) At (toChunk r c)
   unfolding toChunk
-  chunk-lands At Stop g a c h =
-      subst (λ (e : ℕ). Ends (r .tree) (r .n) (λ p s. p ≤ c) (λ p s. c < p) At Stop 0 e (descent (chunkWithin c) (r .tree) (r .n))) sums
-      (ends (chunkWithin c) (r .tree) (r .n) (λ p s. p ≤ c) (λ p s. c < p) At Stop (chunk-order c) g (few (r .n) (p .count)) a (omega arith) h)
+  chunk-lands At g a c h =
+      ends (chunkWithin c) (r .tree) (r .n) (λ p s. p ≤ c) (λ p s. c < p) At (chunk-order c) g (few (r .n) (p .count)) a (omega arith) h
 
-  pub byte-lands : (At : ℕ → ℕ → Type 0) (Stop : ℕ → Type 0) → Ground (r .tree) (r .n) At Stop → At 0 0 → (b : ℕ) → b < r .size
-      → Ends (r .tree) (r .n) (λ p s. s ≤ b) (λ p s. b < s) At Stop 0 (r .size) (toByte r b)
+  byte-lands : (At : ℕ → ℕ → Type 0) → Steps (r .tree) (r .n) At → At 0 0 → (b : ℕ) → b < r .size
+      → Ends (r .tree) (r .n) (λ p s. s ≤ b) (λ p s. b < s) At (toByte r b)
   unfolding toByte
-  byte-lands At Stop g a b h =
-      subst (λ (e : ℕ). Ends (r .tree) (r .n) (λ p s. s ≤ b) (λ p s. b < s) At Stop 0 e (descent (byteWithin b) (r .tree) (r .n))) sums
-      (ends (byteWithin b) (r .tree) (r .n) (λ p s. s ≤ b) (λ p s. b < s) At Stop (byte-order b) g (few (r .n) (p .count)) a (omega arith)
-      (subst (λ (e : ℕ). b < e) (sym sums) h))
+  byte-lands At g a b h =
+      ends (byteWithin b) (r .tree) (r .n) (λ p s. s ≤ b) (λ p s. b < s) At (byte-order b) g (few (r .n) (p .count)) a (omega arith)
+      (subst (λ (e : ℕ). b < e) (sym (p .adds)) h)
+
+  -- a leaf that is reached, whatever was sought
+  lies : {Lo Hi At : ℕ → ℕ → Type 0} {k start : ℕ} → Landed (r .tree) (r .n) Lo Hi At k start → Lies r k start
+  lies {k = k} l =
+      let m = l .met in
+      record { below = omega (arith, m .inside); inside = omega (arith, m .to, p .adds); visited = m .visited; fits = l .fits }
+
+  stop-there : {Lo Hi At : ℕ → ℕ → Type 0} {i : ℕ} (Has : ℕ → ℕ → ℕ → Type 0)
+      → ((d k s : ℕ) → Lo (k * 2 ^ d) s → Hi ((k + 1) * 2 ^ d) (s + storedSize (r .tree) (index d k)) → Has d k s)
+      → Halted (r .tree) (r .n) Lo Hi At i → Stops r Has i
+  stop-there Has has l =
+      record {
+        d = l .d;
+        k = l .k;
+        start = l .start;
+        here = l .here;
+        visited = l .met .visited;
+        has = has (l .d) (l .k) (l .start) (l .met .low) (l .met .high);
+        wrong = l .wrong;
+      }
 
   pub stays-inside : LookupsStayInside r
   unfolding chunkBytes
   stays-inside = record { chunk = at-chunk; byte = at-byte; chunkStops = chunk-stops; byteStops = byte-stops; read = in-read }
     where
+      to-chunk : (c : ℕ) → c < r .n → (x : Ending) → toChunk r c ≡ x → Ends (r .tree) (r .n) (λ p s. p ≤ c) (λ p s. c < p) (λ p s. Unit {0}) x
+      to-chunk c h x e =
+          subst (Ends (r .tree) (r .n) (λ p s. p ≤ c) (λ p s. c < p) (λ p s. Unit {0})) e
+          (chunk-lands (λ p s. Unit {0}) (any-start (r .tree) (r .n)) tt c h)
+
+      to-byte : (b : ℕ) → b < r .size → (x : Ending) → toByte r b ≡ x → Ends (r .tree) (r .n) (λ p s. s ≤ b) (λ p s. b < s) (λ p s. Unit {0}) x
+      to-byte b h x e =
+          subst (Ends (r .tree) (r .n) (λ p s. s ≤ b) (λ p s. b < s) (λ p s. Unit {0})) e
+          (byte-lands (λ p s. Unit {0}) (any-start (r .tree) (r .n)) tt b h)
+
       at-chunk : (c : ℕ) → c < r .n → (k start : ℕ) → toChunk r c ≡ reached k start → (k ≡ c) × Lies r k start
       at-chunk c h k start e =
-          let l = subst (Ends (r .tree) (r .n) (λ p s. p ≤ c) (λ p s. c < p) (λ p s. Unit {0}) (λ i. Unit {0}) 0 (r .size)) e (chunk-lands (λ p s. Unit {0}) (λ i. Unit {0}) (any-ground (r .tree) (r .n)) tt c h) in
-          (omega (arith, l .low, l .high), record { below = l .below; inside = l .to })
+          let l = to-chunk c h (reached k start) e in
+          (omega (arith, l .met .low, l .met .high), lies l)
 
-      at-byte : (b : ℕ) → b < r .size → (k start : ℕ) → toByte r b ≡ reached k start → (start ≤ b) × (b < start + storedSize (r .tree) (index 0 k)) × Lies r k start
-      at-byte b h k start e =
-          let l = subst (Ends (r .tree) (r .n) (λ p s. s ≤ b) (λ p s. b < s) (λ p s. Unit {0}) (λ i. Unit {0}) 0 (r .size)) e (byte-lands (λ p s. Unit {0}) (λ i. Unit {0}) (any-ground (r .tree) (r .n)) tt b h) in
-          (l .low, l .high, record { below = l .below; inside = l .to })
+      at-byte : (b : ℕ) → b < r .size → (k start : ℕ) → toByte r b ≡ reached k start → HoldsByte (r .tree) b 0 k start × Lies r k start
+      at-byte b h k start e = let l = to-byte b h (reached k start) e in ((l .met .low, l .met .high), lies l)
 
-      -- the ground that tells of stops
-      stops : Ground (r .tree) (r .n) (λ p s. Unit {0}) (Stops r)
-      stops = record { step = λ d k s h a. tt; leaf = atLeaf; parent = atParent }
+      chunk-stops : (c : ℕ) → c < r .n → (i : ℕ) → toChunk r c ≡ stopped i → Stops r (HoldsChunk c) i
+      chunk-stops c h i e = stop-there (HoldsChunk c) (λ d k s lo hi. sym (div-eq-of-lt-le (2 ^ d) lo hi)) (to-chunk c h (stopped i) e)
 
-      chunk-stops : (c : ℕ) → c < r .n → (i : ℕ) → toChunk r c ≡ stopped i → Stops r i
-      chunk-stops c h i e =
-          subst (Ends (r .tree) (r .n) (λ p s. p ≤ c) (λ p s. c < p) (λ p s. Unit {0}) (Stops r) 0 (r .size)) e (chunk-lands (λ p s. Unit {0}) (Stops r) stops tt c h)
-
-      byte-stops : (b : ℕ) → b < r .size → (i : ℕ) → toByte r b ≡ stopped i → Stops r i
-      byte-stops b h i e =
-          subst (Ends (r .tree) (r .n) (λ p s. s ≤ b) (λ p s. b < s) (λ p s. Unit {0}) (Stops r) 0 (r .size)) e (byte-lands (λ p s. Unit {0}) (Stops r) stops tt b h)
+      byte-stops : (b : ℕ) → b < r .size → (i : ℕ) → toByte r b ≡ stopped i → Stops r (HoldsByte (r .tree) b) i
+      byte-stops b h i e = stop-there (HoldsByte (r .tree) b) (λ d k s lo hi. (lo, hi)) (to-byte b h (stopped i) e)
 
       in-read : (c : ℕ) → c < r .n → (k start : ℕ) → toChunk r c ≡ reached k start → length (chunkBytes r c) ≡ storedSize (r .tree) (index 0 c)
       in-read c h k start e =
@@ -164,50 +181,51 @@ module _ (F : List ℕ → List ℕ) (hf : HashFunction F) (cs : List (List ℕ)
   leaf-of : (k : ℕ) → k < r .n → storedSize (r .tree) (index 0 k) ≡ length (getD cs k [])
   leaf-of k h = ap (storedSize (r .tree)) (index-leaf k) ∙ stored-leaf-size F hf cs w r b k h
 
-  ground : Ground (r .tree) (r .n) (λ k s. s ≡ span cs 0 k) (λ i. ⊥)
-  ground = record { step = step; leaf = leaf-fits; parent = parent-fits }
-    where
-      step : (d k s : ℕ) → (k + 1) * 2 ^ d ≤ r .n → s ≡ span cs 0 (k * 2 ^ d) → s + storedSize (r .tree) (index d k) ≡ span cs 0 ((k + 1) * 2 ^ d)
-      step d k s h e =
-          ap₂ _+_ e (span-of d k h ∙ ap (λ (a : ℕ). span cs a (2 ^ d)) (sym (zero-add (k * 2 ^ d))))
-          ∙ sym (ap (span cs 0) (block-end d k) ∙ span-add cs 0 (k * 2 ^ d) (2 ^ d))
+  starts : Steps (r .tree) (r .n) (λ k s. s ≡ span cs 0 k)
+  starts d k s h e =
+      ap₂ _+_ e (span-of d k h ∙ ap (λ (a : ℕ). span cs a (2 ^ d)) (sym (zero-add (k * 2 ^ d))))
+      ∙ sym (ap (span cs 0) (block-end d k) ∙ span-add cs 0 (k * 2 ^ d) (2 ^ d))
 
-      leaf-fits : (k : ℕ) → k < r .n → longestChunk < storedSize (r .tree) (index 0 k) → ⊥
-      leaf-fits k h l = omega (arith, leaf-of k h, w .short k)
+  -- no node is wrong
+  all-right : (d k : ℕ) → (k + 1) * 2 ^ d ≤ r .n → Right (r .tree) d k
+  all-right zero k h = omega (arith, leaf-of k (omega arith), w .short k)
+  all-right (suc d) k h =
+      span-of (suc d) k h
+      ∙ ap (span cs (k * 2 ^ suc d)) (twice d)
+      ∙ span-add cs (k * 2 ^ suc d) (2 ^ d) (2 ^ d)
+      ∙ sym
+      (ap₂ _+_
+      (span-of d (2 * k) (left-inside d k (r .n) h) ∙ ap (λ (a : ℕ). span cs a (2 ^ d)) (left-first d k))
+      (span-of d (2 * k + 1) (subst (λ (x : ℕ). x ≤ r .n) (sym (right-end d k)) h) ∙ ap (λ (a : ℕ). span cs a (2 ^ d)) (block-end d (2 * k) ∙ ap (λ (x : ℕ). x + 2 ^ d) (left-first d k))))
 
-      parent-fits : (d k : ℕ) → (k + 1) * 2 ^ suc d ≤ r .n
-          → (storedSize (r .tree) (index (suc d) k) ≡ storedSize (r .tree) (index d (2 * k)) + storedSize (r .tree) (index d (2 * k + 1)) → ⊥) → ⊥
-      parent-fits d k h f =
-          f
-          (span-of (suc d) k h
-          ∙ ap (span cs (k * 2 ^ suc d)) (twice d)
-          ∙ span-add cs (k * 2 ^ suc d) (2 ^ d) (2 ^ d)
-          ∙ sym
-          (ap₂ _+_
-          (span-of d (2 * k) (left-inside d k (r .n) h) ∙ ap (λ (a : ℕ). span cs a (2 ^ d)) (left-first d k))
-          (span-of d (2 * k + 1) (subst (λ (x : ℕ). x ≤ r .n) (sym (right-end d k)) h) ∙ ap (λ (a : ℕ). span cs a (2 ^ d)) (block-end d (2 * k) ∙ ap (λ (x : ℕ). x + 2 ^ d) (left-first d k)))))
+  never-stops : {Lo Hi At : ℕ → ℕ → Type 0} {i : ℕ} → Halted (r .tree) (r .n) Lo Hi At i → ⊥
+  never-stops l = l .wrong (all-right (l .d) (l .k) (l .met .inside))
+
+  starts-at : {Lo Hi : ℕ → ℕ → Type 0} {k s : ℕ} → Landed (r .tree) (r .n) Lo Hi (λ k s. s ≡ span cs 0 k) k s → s ≡ span cs 0 k
+  starts-at {k = k} l = l .met .at ∙ ap (span cs 0) (mul-one k)
 
   -- the descent to a chunk
   to-chunk : (c : ℕ) → c < r .n → toChunk r c ≡ reached c (span cs 0 c)
-  to-chunk c h = must (toChunk r c) (chunk-lands r p (λ k s. s ≡ span cs 0 k) (λ i. ⊥) ground (sym (span-none cs 0)) c h)
+  to-chunk c h = must (toChunk r c) (chunk-lands r p (λ k s. s ≡ span cs 0 k) starts (sym (span-none cs 0)) c h)
     where
-      must : (x : Ending) → Ends (r .tree) (r .n) (λ p s. p ≤ c) (λ p s. c < p) (λ k s. s ≡ span cs 0 k) (λ i. ⊥) 0 (r .size) x → x ≡ reached c (span cs 0 c)
-      must (stopped i) l = absurd l
+      must : (x : Ending) → Ends (r .tree) (r .n) (λ p s. p ≤ c) (λ p s. c < p) (λ k s. s ≡ span cs 0 k) x → x ≡ reached c (span cs 0 c)
+      must (stopped i) l = absurd (never-stops l)
       must (reached k s) l =
-          let e : k ≡ c = omega (arith, l .low, l .high) in
-          ap₂ reached e (l .at ∙ ap (span cs 0) e)
+          let e : k ≡ c = omega (arith, l .met .low, l .met .high) in
+          ap₂ reached e (starts-at l ∙ ap (span cs 0) e)
 
   -- the descent to a byte
   to-byte : (x : ℕ) → x < r .size → (k : ℕ) × HasByte cs x k × (toByte r x ≡ reached k (startIn cs k))
-  to-byte x h = must (toByte r x) (byte-lands r p (λ k s. s ≡ span cs 0 k) (λ i. ⊥) ground (sym (span-none cs 0)) x h)
+  to-byte x h = must (toByte r x) (byte-lands r p (λ k s. s ≡ span cs 0 k) starts (sym (span-none cs 0)) x h)
     where
-      must : (y : Ending) → Ends (r .tree) (r .n) (λ p s. s ≤ x) (λ p s. x < s) (λ k s. s ≡ span cs 0 k) (λ i. ⊥) 0 (r .size) y
+      must : (y : Ending) → Ends (r .tree) (r .n) (λ p s. s ≤ x) (λ p s. x < s) (λ k s. s ≡ span cs 0 k) y
           → (k : ℕ) × HasByte cs x k × (y ≡ reached k (startIn cs k))
-      must (stopped i) l = absurd l
+      must (stopped i) l = absurd (never-stops l)
       must (reached k s) l =
-          let below : k < length cs = subst (λ (n : ℕ). k < n) (b .count) (l .below) in
-          let e : startIn cs k ≡ s = start-span cs k (omega arith) ∙ sym (l .at) in
-          (k, record { below = below; from = omega (arith, l .low); to = omega (arith, l .high, leaf-of k (l .below)) }, ap (reached k) (sym e))
+          let in-r : k < r .n = omega (arith, l .met .inside) in
+          let below : k < length cs = subst (λ (n : ℕ). k < n) (b .count) in-r in
+          let e : startIn cs k ≡ s = start-span cs k (omega arith) ∙ sym (starts-at l) in
+          (k, record { below = below; from = omega (arith, l .met .low); to = omega (arith, l .met .high, leaf-of k in-r) }, ap (reached k) (sym e))
 
   chunk-bytes : (c : ℕ) → c < r .n → chunkBytes r c ≡ getD cs c []
   unfolding chunkBytes storedChunk

@@ -10,7 +10,7 @@ use borrow.Author.Tests.{lt-ltb, le-ltb, ltb-true}
 use lib.Dec.{ltb}
 use lib.ListN.{length, take, drop}
 use Rattle.counts.specs.Verdict.{Spot, Verdict, none, tree, done, refused}
-use Rattle.sequences.specs.Lists.{part, total, sameList}
+use Rattle.sequences.specs.Lists.{part, sameList}
 use Rattle.tree_index.specs.Tree.{index}
 use Rattle.tree_index.proofs.Filled.{end-filled}
 use Rattle.files.specs.Messages.{leafMessage}
@@ -21,53 +21,49 @@ use Rattle.checks.specs.Checks.{Check, judged, registerChecks}
 use Rattle.checks.proofs.Judged.{judged-append, judged-refused}
 use Rattle.checks.proofs.Passed.{all-must, passes, passed}
 use Rattle.lookup.specs.Descent.{Ending, stopped, reached, chunkWithin, byteWithin, descent}
-use Rattle.lookup.specs.Lookup.{refusal, found, stopRefused, foundUnless, chunkOf, startOf, toChunk, toByte, placeVerdict, byteVerdict, placeOf, byteAt}
+use Rattle.lookup.specs.Lookup.{Found, refusal, found, stopRefused, foundUnless, chunkOf, startOf, toChunk, toByte, placeVerdict, byteVerdict, placeOf, byteAt}
 use Rattle.lookup.specs.Steps.{Searched, SearchedFor, placeIn, byteIn}
 use Rattle.lookup.specs.Read.{chunkBytes, andThen, partUnless, readVerdict, readPart}
 use Rattle.lookup.specs.Said.{readFound}
 use Rattle.lookup.proofs.Descents.{Ends, ends, byte-order}
 use Rattle.lookup.proofs.Visits.{filled-entry}
-use Rattle.lookup.proofs.Answers.{any-ground, stays-inside}
+use Rattle.lookup.proofs.Answers.{any-start, stays-inside}
 
 -- ---- after the checks 2 to 6
 
 -- what they refuse is refused, whatever comes behind them
-refused-anyway : (r : Register) (cs : List Check) (next : Verdict) (m : ℕ) (at : Spot) → refused m at ≡ judged (registerChecks r) done
-    → judged (registerChecks r ++ cs) next ≡ refused m at
-refused-anyway r cs next m at e =
-    judged-append (registerChecks r) cs next ∙ judged-refused (registerChecks r) (judged cs next) m at (sym e)
+found-refused-before : (r : Register) (cs : List Check) (next : Verdict) (a b m : ℕ) (at : Spot) → refused m at ≡ judged (registerChecks r) done
+    → refusal m at ≡ foundUnless (judged (registerChecks r ++ cs) next) a b
+found-refused-before r cs next a b m at e =
+    sym
+    (ap (λ (v : Verdict). foundUnless v a b)
+    (judged-append (registerChecks r) cs next ∙ judged-refused (registerChecks r) (judged cs next) m at (sym e)))
 
-passed-on : (r : Register) (cs : List Check) (next : Verdict) → done ≡ judged (registerChecks r) done
-    → judged (registerChecks r ++ cs) next ≡ judged cs next
-passed-on r cs next e = judged-append (registerChecks r) cs next ∙ passes r (judged cs next) (passed r done (sym e) .0)
+-- and what passes them is judged by the checks behind them
+found-passed : (r : Register) (cs : List Check) (next : Verdict) (a b : ℕ) → done ≡ judged (registerChecks r) done
+    → foundUnless (judged cs next) a b ≡ foundUnless (judged (registerChecks r ++ cs) next) a b
+found-passed r cs next a b e =
+    sym (ap (λ (v : Verdict). foundUnless v a b) (judged-append (registerChecks r) cs next ∙ passes r (judged cs next) (passed r done (sym e) .0)))
 
 pub place-refused : (r : Register) (c m : ℕ) (at : Spot) → refused m at ≡ judged (registerChecks r) done → refusal m at ≡ placeOf r c
 unfolding placeOf placeVerdict
-place-refused r c m at e =
-    sym
-    (ap (λ (v : Verdict). foundUnless v (startOf (toChunk r c)) (storedSize (r .tree) (index 0 c)))
-    (refused-anyway r (record { number = 9; right = ltb c (r .n) } ∷ []) (stopRefused (toChunk r c)) m at e))
+place-refused r c =
+    found-refused-before r (record { number = 9; right = ltb c (r .n) } ∷ []) (stopRefused (toChunk r c)) (startOf (toChunk r c)) (storedSize (r .tree) (index 0 c))
 
 pub place-passed : (r : Register) (c : ℕ) → done ≡ judged (registerChecks r) done → placeIn (r .tree) (r .n) c ≡ placeOf r c
 unfolding placeOf placeVerdict placeIn toChunk
-place-passed r c e =
-    sym
-    (ap (λ (v : Verdict). foundUnless v (startOf (toChunk r c)) (storedSize (r .tree) (index 0 c)))
-    (passed-on r (record { number = 9; right = ltb c (r .n) } ∷ []) (stopRefused (toChunk r c)) e))
+place-passed r c =
+    found-passed r (record { number = 9; right = ltb c (r .n) } ∷ []) (stopRefused (toChunk r c)) (startOf (toChunk r c)) (storedSize (r .tree) (index 0 c))
 
 pub byte-refused : (r : Register) (b m : ℕ) (at : Spot) → refused m at ≡ judged (registerChecks r) done → refusal m at ≡ byteAt r b
 unfolding byteAt byteVerdict
-byte-refused r b m at e =
-    sym
-    (ap (λ (v : Verdict). foundUnless v (chunkOf (toByte r b)) (b - startOf (toByte r b)))
-    (refused-anyway r (record { number = 9; right = ltb b (r .size) } ∷ []) (stopRefused (toByte r b)) m at e))
+byte-refused r b =
+    found-refused-before r (record { number = 9; right = ltb b (r .size) } ∷ []) (stopRefused (toByte r b)) (chunkOf (toByte r b)) (b - startOf (toByte r b))
 
 pub byte-passed : (r : Register) (b : ℕ) → done ≡ judged (registerChecks r) done → byteIn (r .tree) (r .n) (r .size) b ≡ byteAt r b
 unfolding byteAt byteVerdict byteIn toByte
-byte-passed r b e =
-    sym
-    (ap (λ (v : Verdict). foundUnless v (chunkOf (toByte r b)) (b - startOf (toByte r b)))
-    (passed-on r (record { number = 9; right = ltb b (r .size) } ∷ []) (stopRefused (toByte r b)) e))
+byte-passed r b =
+    found-passed r (record { number = 9; right = ltb b (r .size) } ∷ []) (stopRefused (toByte r b)) (chunkOf (toByte r b)) (b - startOf (toByte r b))
 
 pub searched : (r : Register) → done ≡ judged (registerChecks r) done → r .size < 2 ^ 64 → SearchedFor (r .tree) (r .n) (r .size)
 searched r e h =
@@ -79,35 +75,37 @@ searched r e h =
 
 -- ---- the lookups
 
--- a check 9 and what comes behind it
-nine : (b : Bool) (next : Verdict) → judged (record { number = 9; right = b } ∷ []) next ≡ cond b next (refused 9 none)
-unfolding judged
-nine b next = refl
+-- a check 9, and a descent that ends at x and gives a and b
+module _ (ok : Bool) (x : Ending) (a b : ℕ) where
+  abbrev answer : Found
+  answer = foundUnless (judged (record { number = 9; right = ok } ∷ []) (stopRefused x)) a b
+
+  by : (v : Verdict) → cond ok (stopRefused x) (refused 9 none) ≡ v → foundUnless v a b ≡ answer
+  unfolding judged
+  by v e = sym (ap (λ (y : Verdict). foundUnless y a b) e)
+
+  at-nine : ok ≡ false → refusal 9 none ≡ answer
+  at-nine e = by (refused 9 none) (ap (λ (y : Bool). cond y (stopRefused x) (refused 9 none)) e)
+
+  ended : ok ≡ true → (y : Ending) → y ≡ x → foundUnless (stopRefused y) a b ≡ answer
+  ended e y f = by (stopRefused y) (ap (λ (z : Bool). cond z (stopRefused x) (refused 9 none)) e ∙ ap stopRefused (sym f))
 
 module _ (t : List ℕ) (n c : ℕ) where
-  ending : Ending
+  abbrev ending : Ending
   ending = descent (chunkWithin c) t n
 
-  place-by : (v : Verdict) → judged (record { number = 9; right = ltb c n } ∷ []) (stopRefused ending) ≡ v
-      → foundUnless v (startOf ending) (storedSize t (index 0 c)) ≡ placeIn t n c
-  unfolding placeIn ending
-  place-by v e = sym (ap (λ (x : Verdict). foundUnless x (startOf ending) (storedSize t (index 0 c))) e)
-
   pub place-above : n ≤ c → refusal 9 none ≡ placeIn t n c
-  place-above h = place-by (refused 9 none) (nine (ltb c n) (stopRefused ending) ∙ ap (λ (b : Bool). cond b (stopRefused ending) (refused 9 none)) (le-ltb c n h))
-
-  below : c < n → (x : Ending) → x ≡ ending → judged (record { number = 9; right = ltb c n } ∷ []) (stopRefused ending) ≡ stopRefused x
-  below h x e =
-      nine (ltb c n) (stopRefused ending) ∙ ap (λ (b : Bool). cond b (stopRefused ending) (refused 9 none)) (lt-ltb c n h) ∙ ap stopRefused (sym e)
+  unfolding placeIn
+  place-above h = at-nine (ltb c n) ending (startOf ending) (storedSize t (index 0 c)) (le-ltb c n h)
 
   pub place-stopped : c < n → (i : ℕ) → stopped i ≡ descent (chunkWithin c) t n → refusal 10 (tree i) ≡ placeIn t n c
-  unfolding ending stopRefused
-  place-stopped h i e = place-by (refused 10 (tree i)) (below h (stopped i) e)
+  unfolding placeIn stopRefused
+  place-stopped h i = ended (ltb c n) ending (startOf ending) (storedSize t (index 0 c)) (lt-ltb c n h) (stopped i)
 
   pub place-reached : c < n → (k s z : ℕ) → reached k s ≡ descent (chunkWithin c) t n → z ≡ storedSize t (index 0 c) → found s z ≡ placeIn t n c
-  unfolding ending stopRefused
+  unfolding placeIn stopRefused
   place-reached h k s z e f =
-      ap₂ found (ap startOf e) f ∙ place-by done (below h (reached k s) e)
+      ap₂ found (ap startOf e) f ∙ ended (ltb c n) ending (startOf ending) (storedSize t (index 0 c)) (lt-ltb c n h) (reached k s) e
 
   -- the leaf of a chunk that is there lies within the tree file
   pub leaf-in : Searched t n → c < n → (c < 2097152) × EntryIn t (index 0 c)
@@ -116,38 +114,31 @@ module _ (t : List ℕ) (n c : ℕ) where
       (omega arith, filled-entry t n (index 0 c) (p .roots .count) (p .roots .inside) (end-filled n 0 c (omega (arith, mul-one (c + 1)))))
 
 module _ (t : List ℕ) (n size b : ℕ) where
-  byte-ending : Ending
+  abbrev byte-ending : Ending
   byte-ending = descent (byteWithin b) t n
 
-  byte-by : (v : Verdict) → judged (record { number = 9; right = ltb b size } ∷ []) (stopRefused byte-ending) ≡ v
-      → foundUnless v (chunkOf byte-ending) (b - startOf byte-ending) ≡ byteIn t n size b
-  unfolding byteIn byte-ending
-  byte-by v e = sym (ap (λ (x : Verdict). foundUnless x (chunkOf byte-ending) (b - startOf byte-ending)) e)
-
   pub byte-above : size ≤ b → refusal 9 none ≡ byteIn t n size b
-  byte-above h =
-      byte-by (refused 9 none) (nine (ltb b size) (stopRefused byte-ending) ∙ ap (λ (x : Bool). cond x (stopRefused byte-ending) (refused 9 none)) (le-ltb b size h))
-
-  byte-below : b < size → (x : Ending) → x ≡ byte-ending → judged (record { number = 9; right = ltb b size } ∷ []) (stopRefused byte-ending) ≡ stopRefused x
-  byte-below h x e =
-      nine (ltb b size) (stopRefused byte-ending) ∙ ap (λ (x : Bool). cond x (stopRefused byte-ending) (refused 9 none)) (lt-ltb b size h) ∙ ap stopRefused (sym e)
+  unfolding byteIn
+  byte-above h = at-nine (ltb b size) byte-ending (chunkOf byte-ending) (b - startOf byte-ending) (le-ltb b size h)
 
   pub byte-stopped : b < size → (i : ℕ) → stopped i ≡ descent (byteWithin b) t n → refusal 10 (tree i) ≡ byteIn t n size b
-  unfolding byte-ending stopRefused
-  byte-stopped h i e = byte-by (refused 10 (tree i)) (byte-below h (stopped i) e)
+  unfolding byteIn stopRefused
+  byte-stopped h i = ended (ltb b size) byte-ending (chunkOf byte-ending) (b - startOf byte-ending) (lt-ltb b size h) (stopped i)
 
   pub byte-reached : b < size → (k s : ℕ) → reached k s ≡ descent (byteWithin b) t n → found k (b - s) ≡ byteIn t n size b
-  unfolding byte-ending stopRefused
-  byte-reached h k s e = ap (λ (x : Ending). found (chunkOf x) (b - startOf x)) e ∙ byte-by done (byte-below h (reached k s) e)
+  unfolding byteIn stopRefused
+  byte-reached h k s e =
+      ap (λ (x : Ending). found (chunkOf x) (b - startOf x)) e
+      ∙ ended (ltb b size) byte-ending (chunkOf byte-ending) (b - startOf byte-ending) (lt-ltb b size h) (reached k s) e
 
   -- the chunk that is reached does not begin behind the byte
   pub byte-from : SearchedFor t n size → b < size → (k s : ℕ) → reached k s ≡ descent (byteWithin b) t n → s ≤ b
   unfolding storedRootSizes
   byte-from p h k s e =
       let few : n ≤ 1048576 = p .searched .roots .count in
-      subst (Ends t n (λ q x. x ≤ b) (λ q x. b < x) (λ q x. Unit {0}) (λ i. Unit {0}) 0 (total (storedRootSizes t n))) (sym e)
-      (ends (byteWithin b) t n (λ q x. x ≤ b) (λ q x. b < x) (λ q x. Unit {0}) (λ i. Unit {0}) (byte-order b) (any-ground t n) (omega arith) tt (omega arith)
-      (subst (λ (x : ℕ). b < x) (sym (p .adds)) h)) .low
+      subst (Ends t n (λ q x. x ≤ b) (λ q x. b < x) (λ q x. Unit {0})) (sym e)
+      (ends (byteWithin b) t n (λ q x. x ≤ b) (λ q x. b < x) (λ q x. Unit {0}) (byte-order b) (any-start t n) (omega arith) tt (omega arith)
+      (subst (λ (x : ℕ). b < x) (sym (p .adds)) h)) .met .low
 
 -- ---- the reads
 
@@ -159,10 +150,14 @@ found-refused : (v : Verdict) (a b m : ℕ) (at : Spot) → refusal m at ≡ fou
 found-refused done a b m at e = let z : _≡_ {A = ℕ} 0 1 = cc in absurd (omega arith)
 found-refused (refused k s) a b m at e = cc
 
-done-reached : (x : Ending) → stopRefused x ≡ done → (k : ℕ) × (s : ℕ) × (x ≡ reached k s)
+pub done-reached : (x : Ending) → stopRefused x ≡ done → (k : ℕ) × (s : ℕ) × (x ≡ reached k s)
 unfolding stopRefused
 done-reached (stopped i) e = let z : _≡_ {A = ℕ} 0 1 = cc in absurd (omega arith)
 done-reached (reached k s) e = (k, s, refl)
+
+pub done-first : (v : Verdict) (x : Verdict) → andThen v x ≡ done → v ≡ done
+done-first done x e = refl
+done-first (refused m at) x e = e
 
 -- the place of a chunk that was found
 pub record Placing (r : Register) (c start size : ℕ) : Type 0 where
@@ -237,10 +232,6 @@ module _ (F : List ℕ → List ℕ) (r : Register) (c : ℕ) where
   verified-other start size p bytes e f = verified-by (refused 10 (tree (index 0 c))) (read-by start size p bytes e false f)
 
   -- ---- what a read hands back
-
-  done-first : (v : Verdict) (x : Verdict) → andThen v x ≡ done → v ≡ done
-  done-first done x e = refl
-  done-first (refused m at) x e = e
 
   -- the part that was verified lies within the data
   pub record Lying (from end : ℕ) : Type 0 where

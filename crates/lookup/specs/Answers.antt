@@ -2,13 +2,13 @@
 --
 -- The notions in it: `HashFunction` (files, Messages), `Register`, `Within` and `Belongs` (files, Belongs), `dataSize` (files, Images),
 -- `judged` and `registerChecks` (checks, Checks), `placeOf` and `byteAt` (Lookup), `readVerdict` and `readPart` (Read).
-use Prim.Native.Nat.{ℕ, suc, _+_, _-_, _*_, _^_, _≤_, _<_}
+use Prim.Native.Nat.{ℕ, zero, suc, _+_, _-_, _*_, _/_, _^_, _≤_, _<_}
 use mathlib.Core.Path.{_≡_}
-use mathlib.Core.Logic.{_≢_}
-use mathlib.Core.List.{List, []}
+use mathlib.Core.List.{List, [], _∷_, _++_, map}
 use lib.ListN.{length, getD, take}
 use Rattle.counts.specs.Verdict.{none, done, refused}
-use Rattle.tree_index.specs.Tree.{index}
+use Rattle.sequences.specs.Lists.{total}
+use Rattle.tree_index.specs.Tree.{index, roots}
 use Rattle.files.specs.Sizes.{longestChunk}
 use Rattle.files.specs.Messages.{HashFunction}
 use Rattle.files.specs.Images.{dataSize}
@@ -51,29 +51,56 @@ AnswersForAll =
     (F : List ℕ → List ℕ) → HashFunction F → (cs : List (List ℕ)) → Within cs → (r : Register) → Belongs F r cs
     → judged (registerChecks r) done ≡ done → Answers F r cs
 
+-- a node at which a lookup does not stop: a leaf of at most 65,536 bytes, a parent whose length is the sum of its children's
+abbrev pub Right : List ℕ → ℕ → ℕ → Type 0
+Right t zero k = storedSize t (index 0 k) ≤ longestChunk
+Right t (suc d) k = storedSize t (index (suc d) k) ≡ storedSize t (index d (2 * k)) + storedSize t (index d (2 * k + 1))
+
+-- "walk from a root down .. through stored lengths": the block k of 2^d chunks may be visited among n chunks, and its bytes begin at `start`.
+-- A root's begin behind the lengths of the roots before it. From a parent that was visited, and is right, the way goes on to either child; the
+-- right one's bytes begin behind the left one's.
+pub data Visits (t : List ℕ) (n : ℕ) : ℕ → ℕ → ℕ → Type 0 where
+  fromRoot : (before after : List ℕ) (d k : ℕ) → roots n ≡ before ++ (index d k ∷ after) → Visits t n d k (total (map (storedSize t) before))
+  toLeft : (d k start : ℕ) → Visits t n (suc d) k start → Right t (suc d) k → Visits t n d (2 * k) start
+  toRight : (d k start : ℕ) → Visits t n (suc d) k start → Right t (suc d) k
+      → Visits t n d (2 * k + 1) (start + storedSize t (index d (2 * k)))
+
+-- the block k of 2^d chunks has chunk c; the one whose bytes begin at `start` has the byte at offset b
+abbrev pub HoldsChunk : ℕ → ℕ → ℕ → ℕ → Type 0
+HoldsChunk c d k start = k ≡ c / 2 ^ d
+
+abbrev pub HoldsByte : List ℕ → ℕ → ℕ → ℕ → ℕ → Type 0
+HoldsByte t b d k start = (start ≤ b) × (b < start + storedSize t (index d k))
+
 -- a leaf that a descent reaches in a register, its bytes beginning at `start`
 pub record Lies (r : Register) (k start : ℕ) : Type 0 where
   pub below : k < r .n
   -- they lie within the data
   pub inside : start + storedSize (r .tree) (index 0 k) ≤ r .size
+  -- every node on the way to it is right, and so is the leaf
+  pub visited : Visits (r .tree) (r .n) 0 k start
+  pub fits : Right (r .tree) 0 k
 
--- a tree index at which a lookup may stop: "a visited parent whose length isn't the sum of its children's, or a visited leaf above 65,536"
-pub data Stops (r : Register) : ℕ → Type 0 where
-  atLeaf : (k : ℕ) → k < r .n → longestChunk < storedSize (r .tree) (index 0 k) → Stops r (index 0 k)
-  atParent : (d k : ℕ) → (k + 1) * 2 ^ suc d ≤ r .n
-      → storedSize (r .tree) (index (suc d) k) ≢ storedSize (r .tree) (index d (2 * k)) + storedSize (r .tree) (index d (2 * k + 1))
-      → Stops r (index (suc d) k)
+-- a tree index at which a lookup stops: "a visited parent whose length isn't the sum of its children's, or a visited leaf above 65,536". It is
+-- that of the block which has what is sought at its depth; all above it are right
+pub record Stops (r : Register) (Has : ℕ → ℕ → ℕ → Type 0) (i : ℕ) : Type 0 where
+  pub d : ℕ
+  pub k : ℕ
+  pub start : ℕ
+  pub here : i ≡ index d k
+  pub visited : Visits (r .tree) (r .n) d k start
+  pub has : Has d k start
+  pub wrong : Right (r .tree) d k → ⊥
 
 -- what is claimed of every register that passes the checks 2 to 6, whatever else its tree file holds
 pub record LookupsStayInside (r : Register) : Type 0 where
   -- the descent to a chunk reaches this chunk or none
   pub chunk : (c : ℕ) → c < r .n → (k start : ℕ) → toChunk r c ≡ reached k start → (k ≡ c) × Lies r k start
   -- the descent to a byte reaches a chunk whose bytes contain it, or none
-  pub byte : (b : ℕ) → b < r .size → (k start : ℕ) → toByte r b ≡ reached k start
-      → (start ≤ b) × (b < start + storedSize (r .tree) (index 0 k)) × Lies r k start
-  -- a descent stops nowhere else than the scope says
-  pub chunkStops : (c : ℕ) → c < r .n → (i : ℕ) → toChunk r c ≡ stopped i → Stops r i
-  pub byteStops : (b : ℕ) → b < r .size → (i : ℕ) → toByte r b ≡ stopped i → Stops r i
+  pub byte : (b : ℕ) → b < r .size → (k start : ℕ) → toByte r b ≡ reached k start → HoldsByte (r .tree) b 0 k start × Lies r k start
+  -- a descent stops nowhere else than on the way to what is sought, at the first node that is wrong
+  pub chunkStops : (c : ℕ) → c < r .n → (i : ℕ) → toChunk r c ≡ stopped i → Stops r (HoldsChunk c) i
+  pub byteStops : (b : ℕ) → b < r .size → (i : ℕ) → toByte r b ≡ stopped i → Stops r (HoldsByte (r .tree) b) i
   -- what a read hands back is as long as the leaf says
   pub read : (c : ℕ) → c < r .n → (k start : ℕ) → toChunk r c ≡ reached k start
       → length (chunkBytes r c) ≡ storedSize (r .tree) (index 0 c)

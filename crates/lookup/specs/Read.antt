@@ -28,8 +28,8 @@ module _ (F : List ℕ → List ℕ) where
       (cond (sameList (storedHash (r .tree) (index 0 c)) (F (leafMessage (chunkBytes r c)))) done (refused 10 (tree (index 0 c))))
 
   abbrev pub partUnless : Verdict → List ℕ → List ℕ
-  partUnless done part = part
-  partUnless (refused m at) part = []
+  partUnless done bytes = bytes
+  partUnless (refused m at) bytes = []
 
   -- the chunk; nothing after a refusal
   unfoldable pub readPart : Register → ℕ → List ℕ

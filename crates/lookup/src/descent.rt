@@ -33,7 +33,7 @@ pub fn is_within(sought: Sought, i: TreeIndex, start: ByteOffset, size: u64) -> 
     ensures { λ r. ⌜ r ≡ withinOf sought (depth (i .0)) (block (i .0)) (start .0) size ⌝ }
 {
     match sought {
-        Sought::Chunk(c) => !tree_index::is_filled(c.0, i),
+        Sought::Chunk(c) => !tree_index::ends_before(i, c),
         Sought::Byte(b) => b.0 < start.0 + size,
     }
 }

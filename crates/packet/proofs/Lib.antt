@@ -10,3 +10,4 @@ pub mod Makes
 pub mod Pieces
 pub mod Answers
 pub mod Inside
+pub mod Short

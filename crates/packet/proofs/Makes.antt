@@ -1,51 +1,41 @@
 -- What making a packet answers and writes.
 -- Assumes nothing.
 use Prim.Native.Nat.{ℕ, _+_, _-_, _≤_, _<_}
-use mathlib.Core.Path.{_≡_, refl, sym, ap, ap₂, _∙_, subst}
-use mathlib.Core.Bool.{Bool, true, false, cond}
+use mathlib.Core.Path.{_≡_, sym, ap, ap₂, _∙_, subst}
+use mathlib.Core.Bool.{Bool, true, false}
 use mathlib.Core.List.{List, [], _∷_, _++_}
 use native.Mathlib.Omega.{arith}
 use lib.Dec.{leb, ltb}
-use lib.ListN.{length, take, drop}
+use lib.ListN.{length}
 use borrow.Author.Tests.{le-leb, lt-leb, ltb-true}
-use Rattle.counts.specs.Verdict.{Verdict, Spot, none, done, refused}
+use Rattle.counts.specs.Verdict.{Verdict, none, done}
 use Rattle.counts.specs.Said.{refusalOf}
 use Rattle.counts.specs.declared.Refusal.{Refusal}
 use Rattle.counts.specs.declared.Place.the-variants.{Nowhere}
-use Rattle.sequences.specs.Lists.{part, put, sameList}
+use Rattle.sequences.specs.Lists.{put}
 use Rattle.tree_index.specs.Tree.{index}
 use Rattle.files.specs.Sizes.{longestChunk}
 use Rattle.files.specs.Stored.{storedSize}
 use Rattle.files.specs.Belongs.{Register}
 use Rattle.checks.specs.Checks.{Check, judged, registerChecks, holds}
 use Rattle.checks.proofs.Judged.{judged-append}
-use Rattle.checks.proofs.Passed.{Passed, passed, all-must}
-use Rattle.lookup.specs.Descent.{Ending, stopped, reached}
-use Rattle.lookup.specs.Lookup.{stopRefused, startOf, toChunk, placeVerdict}
+use Rattle.checks.proofs.Passed.{passed, all-must}
+use Rattle.lookup.specs.Lookup.{stopRefused, toChunk, placeVerdict}
 use Rattle.lookup.specs.Read.{andThen, chunkBytes, readVerdict, readPart, partUnless}
-use Rattle.lookup.proofs.Descents.{Ends}
-use Rattle.lookup.proofs.Answers.{any-ground, chunk-lands, stays-inside}
+use Rattle.lookup.proofs.Answers.{stays-inside}
+use Rattle.lookup.proofs.Calls.{done-reached, done-first}
 use Rattle.packet.specs.Packet.{packetOf, roomOr14, outUnless, lengthUnless, makeVerdict, madeLength, afterMake}
-use Rattle.packet.specs.Parts.{ChunkOf, packetWith, Readable}
-use Rattle.packet.specs.Made.{madeVerdict, madeBytes, roomFor, MadeAs, MadeOf}
+use Rattle.packet.specs.Parts.{packetWith, Readable}
+use Rattle.packet.specs.Made.{roomFor, MadeAs, MadeOf}
 use Rattle.packet.specs.declared.making.Made.{Made}
 use Rattle.packet.specs.declared.making.Made.the-variants.{Refused, Length}
 
 -- ---- a chunk that is read may go into a packet
 
-first-done : (v x : Verdict) → andThen v x ≡ done → v ≡ done
-first-done done x e = refl
-first-done (refused m at) x e = e
-
-has-reached : (x : Ending) → stopRefused x ≡ done → (k : ℕ) × (s : ℕ) × (x ≡ reached k s)
-unfolding stopRefused
-has-reached (stopped i) e = let z : _≡_ {A = ℕ} 0 1 = cc in absurd (omega arith)
-has-reached (reached k s) e = (k, s, refl)
-
 module _ (F : List ℕ → List ℕ) (r : Register) (c : ℕ) (e : done ≡ readVerdict F r c) where
   placed : placeVerdict r c ≡ done
   unfolding readVerdict
-  placed = first-done (placeVerdict r c) _ (sym e)
+  placed = done-first (placeVerdict r c) _ (sym e)
 
   pub readable : (bytes : List ℕ) → bytes ≡ chunkBytes r c → Readable (r .tree) (r .n) c bytes
   unfolding placeVerdict
@@ -55,11 +45,9 @@ module _ (F : List ℕ → List ℕ) (r : Register) (c : ℕ) (e : done ≡ read
       let p = a .0 in
       let b = all-must (check ∷ []) (stopRefused (toChunk r c)) (a .1) in
       let h : c < r .n = ltb-true c (r .n) (b .0 .0) in
-      let q = has-reached (toChunk r c) (b .1) in
-      let l = subst (Ends (r .tree) (r .n) (λ p s. p ≤ c) (λ p s. c < p) (λ p s. Unit {0}) (λ i. Unit {0}) 0 (r .size)) (q .2)
-      (chunk-lands r p (λ p s. Unit {0}) (λ i. Unit {0}) (any-ground (r .tree) (r .n)) tt c h) in
-      let same : q .0 ≡ c = omega (arith, l .low, l .high) in
-      let short : storedSize (r .tree) (index 0 c) ≤ longestChunk = subst (λ (x : ℕ). storedSize (r .tree) (index 0 x) ≤ longestChunk) same (l .short) in
+      let q = done-reached (toChunk r c) (b .1) in
+      let l = stays-inside r p .chunk c h (q .0) (q .1) (q .2) in
+      let short : storedSize (r .tree) (index 0 c) ≤ longestChunk = subst (λ (x : ℕ). storedSize (r .tree) (index 0 x) ≤ longestChunk) (l .0) (l .1 .fits) in
       record {
         chunk = record { count = p .count; below = h };
         inside = p .tree;

@@ -5,30 +5,30 @@ use mathlib.Core.Path.{_≡_, refl, sym, ap, ap₂, _∙_, subst}
 use mathlib.Core.Bool.{Bool, true, false, cond}
 use mathlib.Core.Logic.{_⊎_, inl, inr}
 use mathlib.Core.List.{List, [], _∷_, _++_, map, append-assoc}
-use native.Mathlib.Nat.{zero-add, add-zero, add-suc, le-refl, le-trans, le-dest, mul-le-mul-right, mul-assoc, mul-comm, div-lt-iff-lt-mul}
+use native.Mathlib.Nat.{zero-add, add-zero, add-suc, le-refl, le-trans, mul-le-mul-right, mul-assoc, div-lt-iff-lt-mul}
 use native.Mathlib.Numerals.{add-one, one-add}
 use native.Mathlib.Omega.{arith}
-use lib.Dec.{leb, ltb, eqb}
+use lib.Dec.{ltb}
 use lib.ListN.{length, getD, set, take, drop, replicate, length-append, List·getD-append}
 use lib.Pow.{pow-pos, shr-shr}
-use borrow.Author.Tests.{ltb-true, ltb-false, leb-true}
+use borrow.Author.Tests.{leb-true}
 use Rattle.sequences.specs.Lists.{part, put, run, joined}
 use Rattle.sequences.specs.Numbers.{be}
-use Rattle.sequences.proofs.Lists.{length-part, length-put, put-nil, put-one, length-run, getD-run, joined-run-suc}
+use Rattle.sequences.proofs.Lists.{length-part, put-nil, put-one, length-run, getD-run, joined-run-suc}
 use Rattle.sequences.proofs.Numbers.{length-be}
 use Rattle.tree_index.specs.Tree.{index, depth, block, filled, roots}
 use Rattle.tree_index.proofs.Index.{pow-twice}
 use Rattle.tree_index.proofs.Filled.{end-filled}
 use Rattle.tree_index.proofs.Roots.{bit, root-filled}
-use Rattle.files.specs.Sizes.{mostChunks, longestChunk, entryPlace, usedTree}
+use Rattle.files.specs.Sizes.{mostChunks, entryPlace, usedTree}
 use Rattle.files.specs.Within.{EntryIn, EntriesIn}
 use Rattle.files.specs.ByValue.{padded}
-use Rattle.files.proofs.ByValue.{gathered, padded-none, padded-turn}
+use Rattle.files.proofs.ByValue.{gathered}
 use Rattle.files.proofs.Places.{put-next}
 use Rattle.lookup.proofs.Visits.{filled-entry}
 use Rattle.packet.specs.Packet.{rootAbove, beside, siblings, otherRoots, section}
 use Rattle.packet.specs.Parts.{placeAbove, ChunkOf, skipped, siblingRow, otherRow, entriesAt, packetWith, Readable}
-use Rattle.packet.proofs.Above.{place-root, place-below, Spans, root-spans, others-cut, cut-run, other-count, few-siblings, few-others}
+use Rattle.packet.proofs.Above.{place-root, place-below, root-spans, others-cut, cut-run, other-count, few-siblings, few-others}
 
 -- ---- the siblings are filled
 
@@ -198,26 +198,6 @@ module _ (t is out₀ : List ℕ) (at : ℕ) where
             ∙ ap (put out₀ at) (sym (entries-suc t is j));
         long = l ∙ w .long;
       }
-
--- ---- arrays of indexes
-
-pub sibling-turn : (c h v : ℕ) (l : List ℕ) → h < 20 → l ≡ padded 0 h (siblingRow c h) → v ≡ index h (beside (c / 2 ^ h))
-    → set l h v ≡ padded 0 (h + 1) (siblingRow c (h + 1))
-unfolding siblingRow
-sibling-turn c h v l g e f = padded-turn 0 (λ d. index d (beside (c / 2 ^ d))) h v l g e f
-
-pub sibling-none : (c : ℕ) → replicate 20 0 ≡ padded 0 0 (siblingRow c 0)
-unfolding siblingRow
-sibling-none c = padded-none 0 (λ d. index d (beside (c / 2 ^ d)))
-
-pub other-turn : (is : List ℕ) (k j v : ℕ) (l : List ℕ) → j < 20 → l ≡ padded 0 j (otherRow is k j) → v ≡ getD is (skipped k j) 0
-    → set l j v ≡ padded 0 (j + 1) (otherRow is k (j + 1))
-unfolding otherRow
-other-turn is k j v l g e f = padded-turn 0 (λ i. getD is (skipped k i) 0) j v l g e f
-
-pub other-none : (is : List ℕ) (k : ℕ) → replicate 20 0 ≡ padded 0 0 (otherRow is k 0)
-unfolding otherRow
-other-none is k = padded-none 0 (λ i. getD is (skipped k i) 0)
 
 -- ---- the packet's sections
 

@@ -2,7 +2,8 @@
 -- passes the check under the sequence's root hash, and the check gives the very chunk back.
 --
 -- The notions in it: `HashFunction` (files, Messages), `Register`, `Within` and `Belongs` (files, Belongs), `rootHashFor` (files, Images),
--- `judged` and `registerChecks` (checks, Checks), `packetOf` and `makeVerdict` (Packet), `packetVerdict` and `checkedChunk` (Check).
+-- `judged` and `registerChecks` (checks, Checks), `chunkBytes` and `readVerdict` (lookup, Read), `packetOf`, `packetExtra` and `makeVerdict`
+-- (Packet), `packetVerdict` and `checkedChunk` (Check).
 use Prim.Native.Nat.{ℕ, _+_, _*_, _≤_, _<_}
 use mathlib.Core.Path.{_≡_}
 use mathlib.Core.List.{List, []}
@@ -10,10 +11,12 @@ use lib.ListN.{length, getD}
 use Rattle.counts.specs.Verdict.{done}
 use Rattle.sequences.specs.Lists.{part}
 use Rattle.files.specs.Messages.{HashFunction}
+use Rattle.files.specs.Sizes.{mostChunks}
 use Rattle.files.specs.Images.{rootHashFor}
 use Rattle.files.specs.Belongs.{Register, Within, Belongs}
 use Rattle.checks.specs.Checks.{judged, registerChecks}
-use Rattle.packet.specs.Packet.{siblings, otherRoots, packetOf, makeVerdict}
+use Rattle.lookup.specs.Read.{chunkBytes, readVerdict}
+use Rattle.packet.specs.Packet.{siblings, otherRoots, packetOf, packetExtra, makeVerdict}
 use Rattle.packet.specs.Check.{chunkLength, packetVerdict, checkedChunk}
 
 -- what is claimed of a register that passes the checks 2 to 6 and belongs to cs, and of its chunk i
@@ -42,3 +45,15 @@ pub record PartStaysInside (F : List ℕ → List ℕ) (p : List ℕ) (n i : ℕ
 abbrev pub PartStaysInsideForAll : Type 0
 PartStaysInsideForAll =
     (F : List ℕ → List ℕ) (p : List ℕ) (n i : ℕ) (root : List ℕ) → packetVerdict F p n i root ≡ done → PartStaysInside F p n i root
+
+-- what is claimed of the packet of chunk i of every register, whatever its buffers hold
+pub record PacketStaysShort (r : Register) (i : ℕ) : Type 0 where
+  -- 1,048,576 chunks have one root, with 20 siblings below it; fewer have at most 19 siblings and 19 other roots
+  pub few : length (siblings (r .n) i) + length (otherRoots (r .n) i) ≤ 38
+  pub short : length (packetOf r i) ≤ length (chunkBytes r i) + packetExtra
+  -- so a buffer with room for the chunk and so many bytes more is never too short: making the packet says what the read says
+  pub room : (F : List ℕ → List ℕ) (out : List ℕ) → length (chunkBytes r i) + packetExtra ≤ length out
+      → makeVerdict F r i out ≡ readVerdict F r i
+
+abbrev pub PacketStaysShortForAll : Type 0
+PacketStaysShortForAll = (r : Register) → r .n ≤ mostChunks → (i : ℕ) → i < r .n → PacketStaysShort r i

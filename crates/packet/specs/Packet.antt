@@ -46,6 +46,10 @@ packetOf r c =
     be 4 (length (chunkBytes r c))
     ++ (chunkBytes r c ++ (section (r .tree) (siblings (r .n) c) ++ section (r .tree) (otherRoots (r .n) c)))
 
+-- what a packet has beside its chunk's bytes, at most: the 4-byte length, the two 1-byte counts, and 38 entries
+unfoldable pub packetExtra : ℕ
+packetExtra = 4 + 1 + 1 + 40 * 38
+
 abbrev pub roomOr14 : Bool → Verdict
 roomOr14 true = done
 roomOr14 false = refused 14 none

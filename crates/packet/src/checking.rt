@@ -137,7 +137,7 @@ fn climb(packet: &[u8], at: usize, count: usize, chunk: ChunkNumber, leaf: Node)
     ensures { λ r. ⌜ entryOf r ≡ climbed nodeHash (chunk .0) (entryOf leaf) (entriesIn (now (packet .entry)) at count) ⌝ }
 {
     let mut node = leaf;
-    let mut k = chunk.0;
+    let mut k = tree_index::block_over(chunk, 0);
     let mut j: usize = 0;
     while j < count {
         let beside = entry_node(packet, at + 40 * j);

@@ -20,7 +20,7 @@ pub fn root_place(n: u64, chunk: ChunkNumber) -> usize
     let indexes = tree_index::root_indexes(n);
     let mut j: usize = 0;
     while j < count {
-        if !tree_index::is_filled(chunk.0, indexes[j]) {
+        if !tree_index::ends_before(indexes[j], chunk) {
             return j;
         }
         j += 1;
@@ -67,7 +67,7 @@ pub fn sibling_indexes(chunk: ChunkNumber, count: u32) -> [TreeIndex; 20]
     let mut found = [TreeIndex(0); 20];
     let mut h: u32 = 0;
     while h < count {
-        let k = beside(chunk.0 >> h);
+        let k = beside(tree_index::block_over(chunk, h));
         let at = h as usize;
         found[at] = tree_index::node_index(h, k);
         h += 1;

@@ -6,7 +6,7 @@ use native.Mathlib.Nat.{mul-comm, mod-eq-of-lt, lt-of-le-of-lt, le-of-suc-le-suc
 use native.Mathlib.Omega.{arith}
 use lib.Dec.{leb}
 use lib.Pow.{shl-exact, shr-le}
-use Rattle.tree_index.specs.Tree.{index, depth, block, filled, leftChild, rightChild, parent}
+use Rattle.tree_index.specs.Tree.{index, depth, block, filled, leftChild, rightChild}
 use Rattle.tree_index.proofs.Index.{depth-index, block-index, index-of, by-coordinates, index-leaf, index-sum, index-closed, pow-below, pow-le-index}
 use Rattle.tree_index.proofs.Filled.{block-end}
 
@@ -49,7 +49,3 @@ left-word i d k r e f g = g ∙ ap₂ (λ (x y : ℕ). index (x - 1) (2 * y)) e 
 pub right-word : (i d k r : ℕ) → d ≡ depth i → k ≡ block i → r ≡ index (d - 1) (2 * k + 1) → r ≡ rightChild i
 unfolding rightChild
 right-word i d k r e f g = g ∙ ap₂ (λ (x y : ℕ). index (x - 1) (2 * y + 1)) e f
-
-pub parent-word : (i d k r : ℕ) → d ≡ depth i → k ≡ block i → r ≡ index (d + 1) (k / 2) → r ≡ parent i
-unfolding parent
-parent-word i d k r e f g = g ∙ ap₂ (λ (x y : ℕ). index (x + 1) (y / 2)) e f

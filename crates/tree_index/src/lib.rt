@@ -80,16 +80,6 @@ pub fn right_child(i: TreeIndex) -> TreeIndex
     node_index(d - 1, 2 * k + 1)
 }
 
-// The parent of a node. Inner.
-pub fn parent(i: TreeIndex) -> TreeIndex
-    requires { ⌜ i .0 < 4194304 ⌝ }
-    ensures { λ r. ⌜ r .0 ≡ tree.parent (i .0) ⌝ }
-{
-    let d = depth(i);
-    let k = block(i);
-    node_index(d + 1, k / 2)
-}
-
 // Whether all chunks of an index's block are among n. Inner.
 pub fn is_filled(n: u64, i: TreeIndex) -> bool
     requires { ⌜ i .0 < 4194304 ⌝ }
@@ -101,12 +91,28 @@ pub fn is_filled(n: u64, i: TreeIndex) -> bool
     end <= n
 }
 
+// Whether all chunks of an index's block stand before a chunk. Inner.
+pub fn ends_before(i: TreeIndex, c: ChunkNumber) -> bool
+    requires { ⌜ i .0 < 4194304 ⌝ }
+    ensures { λ r. ⌜ r ≡ tree.filled (c .0) (i .0) ⌝ }
+{
+    is_filled(c.0, i)
+}
+
 // How many roots n chunks have: a root for each one bit of n. Inner.
 pub fn root_count(n: u64) -> usize
     requires { ⌜ n ≤ 1048576 ⌝ }
     ensures { λ r. ⌜ r ≡ length (tree.roots n) ⌝ }
 {
     u64::count_ones(n) as usize
+}
+
+// Which block of 2^d chunks a chunk is in. Inner.
+pub fn block_over(c: ChunkNumber, d: u32) -> u64
+    requires { ⌜ d < 64 ⌝ }
+    ensures { λ r. ⌜ r ≡ c .0 / 2 ^ d ⌝ }
+{
+    c.0 >> d
 }
 
 // How many parents a chunk completes. Inner.

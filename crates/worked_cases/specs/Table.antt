@@ -1,9 +1,11 @@
 -- "[T] marks cases proved of the definitions, all of them rows of one table that a sole statement covers".
-use Prim.Native.Nat.{ℕ}
+use Prim.Native.Nat.{ℕ, _+_}
 use mathlib.Core.Path.{_≡_}
+use mathlib.Core.Bool.{cond}
 use mathlib.Core.List.{List, [], _∷_, _++_, map}
 use lib.ListN.{length, getD}
-use Rattle.tree_index.specs.Tree.{roots, parent, leftChild, rightChild, filledBy}
+use Rattle.counts.specs.Verdict.{none}
+use Rattle.tree_index.specs.Tree.{roots, parent, leftChild, rightChild, filled, entries, filledBy}
 use Rattle.bitfield.specs.Image.{dataBytes, heldBelow}
 use Rattle.bitfield.specs.Index.{indexBytes}
 use Rattle.sequences.specs.Lists.{run, zeros, joined}
@@ -14,13 +16,25 @@ use Rattle.files.specs.Belongs.{Register}
 use Rattle.lookup.specs.Lookup.{Found, refusal, found, byteAt}
 use Rattle.listing_lines.specs.Lines.{listing}
 
--- a case: the numbers that a definition gives, and those that the scope prints
+-- what a definition gives: numbers, or a lookup's answer, whose refusal has its place
+pub data Shown : Type 0 where
+  numbers : List ℕ → Shown
+  answer : Found → Shown
+
+-- a case: what a definition gives, and what the scope prints
 pub record Row : Type 0 where
-  pub given : List ℕ
-  pub printed : List ℕ
+  pub given : Shown
+  pub printed : Shown
 
 abbrev pub row : List ℕ → List ℕ → Row
-row given printed = record { given = given; printed = printed }
+row given printed = record { given = numbers given; printed = numbers printed }
+
+abbrev pub lookedUp : Found → Found → Row
+lookedUp given printed = record { given = answer given; printed = answer printed }
+
+-- the tree indexes that are filled among n + 1 chunks and not among n
+unfoldable pub newlyFilled : ℕ → List ℕ
+newlyFilled n = joined (run (λ i. cond (filled (n + 1) i) (cond (filled n i) [] (i ∷ [])) []) 0 (entries (n + 1)))
 
 -- Index bytes of the first entry of a register of n chunks, at the places is
 unfoldable pub indexOf : ℕ → List ℕ → List ℕ
@@ -42,11 +56,6 @@ registerOf cs =
       s = length cs;
       size = dataSize cs;
     }
-
--- what a lookup answers, as numbers: two, or the refusal's
-abbrev pub numbersOf : Found → List ℕ
-numbersOf (found a b) = a ∷ b ∷ []
-numbersOf (refusal m at) = m ∷ []
 
 -- the listing's input for chunks
 unfoldable pub inputFor : List (List ℕ) → List ℕ
@@ -70,8 +79,8 @@ table =
     ∷ row (roots 6) (3 ∷ 9 ∷ []) ∷ row (roots 7) (3 ∷ 9 ∷ 12 ∷ []) ∷ row (roots 8) (7 ∷ [])
     -- "Parent of 2 is 1, of 5 is 3; children of 3 are 1 and 5."
     ∷ row (parent 2 ∷ parent 5 ∷ []) (1 ∷ 3 ∷ []) ∷ row (leftChild 3 ∷ rightChild 3 ∷ []) (1 ∷ 5 ∷ [])
-    -- "Appending the fourth chunk fills tree indexes 5, 6 and 3.": from the leaf upward 6, 5, 3
-    ∷ row (filledBy 3) (6 ∷ 5 ∷ 3 ∷ [])
+    -- "Appending the fourth chunk fills tree indexes 5, 6 and 3.": from the leaf upward 6, 5, 3; and these alone are filled then and not before
+    ∷ row (filledBy 3) (6 ∷ 5 ∷ 3 ∷ []) ∷ row (newlyFilled 3) (3 ∷ 5 ∷ 6 ∷ [])
     -- "n = 10: Index bytes 0, 1, 3 are hex 80, 80, 80; byte 2 is 0."
     ∷ row (indexOf 10 (0 ∷ 1 ∷ 3 ∷ 2 ∷ [])) (0x80 ∷ 0x80 ∷ 0x80 ∷ 0 ∷ [])
     -- "n = 16: byte 0 is C0, byte 1 is 80. n = 64: byte 0 is FF, byte 1 is AA. n = 128: bytes 0, 1, 2 are FF, byte 3 is AA."
@@ -80,8 +89,8 @@ table =
     -- "Bitfield size for n = 0, 8192, 8193: 32, 3360, 6688."
     ∷ row (usedBitfield 0 ∷ usedBitfield 8192 ∷ usedBitfield 8193 ∷ []) (32 ∷ 3360 ∷ 6688 ∷ [])
     -- "Lengths 2, 0, 3: offset 1 gives chunk 0 and 1; offset 2 gives chunk 2 and 0; offset 5 gives 9."
-    ∷ row (numbersOf (byteAt (registerOf three) 1)) (0 ∷ 1 ∷ []) ∷ row (numbersOf (byteAt (registerOf three) 2)) (2 ∷ 0 ∷ [])
-    ∷ row (numbersOf (byteAt (registerOf three) 5)) (9 ∷ [])
+    ∷ lookedUp (byteAt (registerOf three) 1) (found 0 1) ∷ lookedUp (byteAt (registerOf three) 2) (found 2 0)
+    ∷ lookedUp (byteAt (registerOf three) 5) (refusal 9 none)
     -- "For the chunks AB, empty, CDE" the listing prints the six lines that `printedLines` has
     ∷ row (listing (inputFor three)) printedLines ∷ []
 

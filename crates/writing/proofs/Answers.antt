@@ -4,7 +4,7 @@ use mathlib.Core.Path.{_≡_, sym, ap, ap₂, _∙_}
 use mathlib.Core.List.{List}
 use native.Mathlib.Omega.{arith}
 use lib.ListN.{length}
-use Rattle.counts.specs.Verdict.{Verdict, none, done, refused}
+use Rattle.counts.specs.Verdict.{Verdict, none, done, refused, unlessRefused}
 use Rattle.counts.specs.Said.{said}
 use Rattle.counts.specs.declared.Refusal.{Refusal}
 use Rattle.counts.specs.declared.Answer.{Answer}
@@ -15,11 +15,12 @@ use Rattle.files.specs.Sizes.{usedSignatures}
 use Rattle.files.specs.Stored.{storedRootMessage}
 use Rattle.files.specs.Within.{RootsIn}
 use Rattle.files.specs.Belongs.{Buffers, Register, buffersOf}
+use borrow.Author.Tests.{leb-true}
 use Rattle.checks.specs.Checks.{judged, laterChecks, registerChecks}
-use Rattle.checks.proofs.Later.{later-done}
+use Rattle.checks.proofs.Judged.{judged-done}
 use Rattle.checks.proofs.Passed.{passed}
 use Rattle.checks.proofs.Steps.{signed-le}
-use Rattle.writing.specs.Start.{startVerdict, started, afterStart, unlessRefused}
+use Rattle.writing.specs.Start.{startVerdict, started, afterStart}
 use Rattle.writing.specs.Append.{appendVerdict, appendedRegister, rootUnlessRefused, appendRoot, afterAppend}
 use Rattle.writing.specs.Sign.{signVerdict, signedRegister, afterSign}
 use Rattle.writing.specs.RootHash.{rootVerdict, rootAnswer}
@@ -33,7 +34,8 @@ use Rattle.writing.proofs.Verdicts.{append-passed, sign-passed}
 
 -- what 4 gives to 14
 pub data-inside : (r : Register) (a : Answer) → a ≡ Done → said a ≡ judged (laterChecks r) done → r .size ≤ length (r .content)
-data-inside r a p e = later-done r done (sym e ∙ ap said p) .content-long
+unfolding laterChecks
+data-inside r a p e = leb-true _ _ (judged-done (laterChecks r) done (sym e ∙ ap said p) .0 .1 .1 .1 .1 .0)
 
 -- what is left to the part that writes
 pub store-fits : (r : Register) (chunk : List ℕ) (a : Answer) → a ≡ Done → said a ≡ appendVerdict r chunk

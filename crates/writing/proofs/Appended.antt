@@ -1,5 +1,5 @@
--- An append to a register that belongs to a chunk sequence gives one that belongs to the sequence with the chunk at its end, answers
--- that sequence's root hash, and leaves the bytes behind the used ones.
+-- An append to a register that belongs to a chunk sequence gives one that belongs to the sequence with the chunk at its end, and answers
+-- that sequence's root hash; an append to any register leaves the bytes behind the used ones.
 -- Assumes nothing.
 use Prim.Native.Nat.{ℕ, _+_, _*_, _≤_, _<_}
 use mathlib.Core.Path.{_≡_, refl, sym, ap, _∙_, subst}
@@ -9,6 +9,7 @@ use native.Mathlib.Omega.{arith}
 use lib.ListN.{length, take, drop}
 use Rattle.sequences.specs.Lists.{part, put, Bytes}
 use Rattle.sequences.proofs.Lists.{drop-put}
+use Rattle.tree_index.specs.Tree.{depth}
 use Rattle.bitfield.specs.Image.{entryCount, entriesOf}
 use Rattle.bitfield.specs.Append.{appended, bitsPlace}
 use Rattle.bitfield.proofs.Image.{length-entries}
@@ -16,15 +17,18 @@ use Rattle.bitfield.proofs.Append.{entries-after, appended-image}
 use Rattle.files.specs.Headers.{bitfieldHeader}
 use Rattle.files.specs.Sizes.{mostChunks, usedTree, usedBitfield}
 use Rattle.files.specs.Messages.{HashFunction}
+use Rattle.files.specs.Nodes.{leaf}
 use Rattle.files.specs.Images.{bitfieldImage, rootHashFor}
 use Rattle.files.specs.Stored.{storedRootMessage}
-use Rattle.files.specs.Belongs.{Register, Within, Belongs}
+use Rattle.files.specs.Belongs.{Register, Lent, Within, Belongs}
 use Rattle.files.proofs.OfImage.{bitfieldHeader-length, stored-root-message}
 use Rattle.files.proofs.ToImage.{header-cut}
 use Rattle.writing.specs.Append.{appendedRegister}
 use Rattle.writing.specs.Fits.{AppendFits}
 use Rattle.writing.proofs.Written.{take-put-end, length-snoc, dataSize-snoc, dataImage-snoc, within-snoc}
-use Rattle.writing.proofs.Tree.{appended-tree, appended-rest}
+use Rattle.writing.proofs.Made.{made, new-made, made-long}
+use Rattle.writing.proofs.Bits.{bits-rest}
+use Rattle.writing.proofs.Tree.{appended-tree, tree-rest}
 
 -- ---- the bitfield
 
@@ -43,12 +47,6 @@ module _ (xs : List ℕ) (n : ℕ) (few : n < mostChunks) (room : usedBitfield (
       ap (take (32 + 3328 * entryCount (n + 1))) bits-put
       ∙ take-put-end xs 32 (3328 * entryCount (n + 1)) (entriesOf (n + 1)) (length-entries (n + 1)) (omega arith)
       ∙ ap (λ (h : List ℕ). h ++ entriesOf (n + 1)) (cut .0)
-
-  pub bits-rest : drop (usedBitfield (n + 1)) (appended xs n) ≡ drop (usedBitfield (n + 1)) xs
-  unfolding usedBitfield
-  bits-rest =
-      ap (drop (32 + 3328 * entryCount (n + 1))) bits-put
-      ∙ drop-put (32 + 3328 * entryCount (n + 1)) xs 32 (entriesOf (n + 1)) (omega (arith, length-entries (n + 1))) (omega arith)
 
 -- ---- the register
 
@@ -73,14 +71,19 @@ module _ (F : List ℕ → List ℕ) (hf : HashFunction F) (cs : List (List ℕ)
   unfolding rootHashFor
   append-root = ap F (stored-root-message F hf (cs ++ (c ∷ [])) longer-within (appendedRegister F r c) append-belongs)
 
-  -- the bytes behind the used ones
+-- ---- any register
+
+-- the bytes behind the used ones stay
+module _ (F : List ℕ → List ℕ) (hf : HashFunction F) (r : Register) (l : Lent r) (c : List ℕ) (p : Bytes c) (a : AppendFits r c) where
   pub append-tree-rest : drop (usedTree (r .n + 1)) (appendedRegister F r c .tree) ≡ drop (usedTree (r .n + 1)) (r .tree)
   unfolding appendedRegister
-  append-tree-rest = appended-rest F hf cs w r b c longer-within (a .tree)
+  append-tree-rest =
+      tree-rest F (r .tree) (r .n) c (λ i. made F (r .tree) (r .n) (leaf F c) (depth i)) (λ i. made-long F hf (r .tree) (r .n) c (l .tree) p (depth i))
+      (new-made F (r .tree) (r .n) c) (a .fewer) (a .tree)
 
   pub append-bitfield-rest : drop (usedBitfield (r .n + 1)) (appendedRegister F r c .bitfield) ≡ drop (usedBitfield (r .n + 1)) (r .bitfield)
   unfolding appendedRegister
-  append-bitfield-rest = bits-rest (r .bitfield) (r .n) (a .fewer) (a .bitfield) (b .bitfield)
+  append-bitfield-rest = bits-rest (r .bitfield) (r .n) (a .fewer) (a .bitfield)
 
   pub append-content-rest : drop (r .size + length c) (appendedRegister F r c .content) ≡ drop (r .size + length c) (r .content)
   unfolding appendedRegister

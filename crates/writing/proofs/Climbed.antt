@@ -7,19 +7,18 @@ use mathlib.Core.List.{List, [], _∷_, map, map-append}
 use native.Mathlib.Nat.{add-zero, zero-add, add-suc, suc-add}
 use native.Mathlib.Numerals.{add-one}
 use native.Mathlib.Omega.{arith}
-use lib.ListN.{length, length-append}
+use lib.ListN.{length}
 use lib.Pow.{pow-pos}
 use Rattle.sequences.specs.Lists.{put, run, total}
-use Rattle.sequences.specs.Numbers.{be}
-use Rattle.sequences.proofs.Numbers.{length-be}
 use Rattle.tree_index.specs.Tree.{index, filled, completed, filledBy, entries, roots}
 use Rattle.tree_index.proofs.Filled.{block-end, end-filled, filled-below}
 use Rattle.tree_index.proofs.Appended.{completed-end, newly-filled, newly-hole}
 use Rattle.tree_index.proofs.Roots.{siblings, completed-half, carried}
 use Rattle.files.specs.Sizes.{mostChunks, entryPlace, usedTree}
-use Rattle.files.specs.Nodes.{Entry, entryBytes, leaf, parentOf}
+use Rattle.files.specs.Nodes.{Entry, entryBytes, parentOf}
 use Rattle.files.specs.Stored.{storedHash, storedSize, storedRootSizes}
 use Rattle.files.specs.Within.{EntryIn}
+use Rattle.files.proofs.Nodes.{entryBytes-length}
 use Rattle.files.proofs.OfImage.{entry-inside}
 use Rattle.files.proofs.Spans.{total-append}
 use Rattle.files.proofs.Written.{entry-length, other-hash, other-size}
@@ -27,6 +26,7 @@ use Rattle.blake2b.specs.Hash.{nodeHash}
 use Rattle.blake2b.proofs.Laws.{node-length}
 use Rattle.writing.specs.Append.{storedEntry, sibling, withEntries, climb}
 use Rattle.writing.specs.Inner.{place}
+use Rattle.writing.proofs.Made.{made, climb-made}
 use Rattle.writing.proofs.Tree.{never}
 
 -- ---- where the nodes stand
@@ -66,29 +66,16 @@ filled-in t n i few room f =
 
 -- ---- the entries
 
--- the entry that the append makes at the depth d, over the leaf e
-unfoldable pub made : List ℕ → ℕ → Entry → ℕ → Entry
-made t n e zero = e
-made t n e (suc d) = parentOf nodeHash (storedEntry t (sibling n d)) (made t n e d)
-
-pub made-first : (t : List ℕ) (n : ℕ) (e : Entry) → e ≡ made t n e 0
+pub made-first : (t : List ℕ) (n : ℕ) (e : Entry) → e ≡ made nodeHash t n e 0
 unfolding made
 made-first t n e = refl
 
--- they are those of the definition
-climb-made : (t : List ℕ) (n : ℕ) (e : Entry) (d k : ℕ) → climb nodeHash t n d k (made t n e d) ≡ run (made t n e) d (suc k)
-unfolding climb run made
-climb-made t n e d zero = refl
-climb-made t n e d (suc k) =
-    ap (λ (l : List Entry). made t n e d ∷ l)
-    (ap (λ (x : ℕ). climb nodeHash t n x k (parentOf nodeHash (storedEntry t (sibling n d)) (made t n e d))) (add-one d) ∙ climb-made t n e (suc d) k)
-
 -- each is an entry of 40 bytes where the leaf is
-made-long : (t : List ℕ) (n : ℕ) (e : Entry) → length (e .hash) ≡ 32 → (d : ℕ) → length (entryBytes (made t n e d)) ≡ 40
-unfolding entryBytes made parentOf
-made-long t n e l d = length-append (made t n e d .hash) (be 8 (made t n e d .size)) ∙ omega (arith, hash-long d, length-be 8 (made t n e d .size))
+made-long : (t : List ℕ) (n : ℕ) (e : Entry) → length (e .hash) ≡ 32 → (d : ℕ) → length (entryBytes (made nodeHash t n e d)) ≡ 40
+unfolding made parentOf
+made-long t n e l d = entryBytes-length (made nodeHash t n e d) (hash-long d)
   where
-    hash-long : (d : ℕ) → length (made t n e d .hash) ≡ 32
+    hash-long : (d : ℕ) → length (made nodeHash t n e d .hash) ≡ 32
     hash-long zero = l
     hash-long (suc d) = node-length _
 
@@ -106,17 +93,17 @@ beside-suc t n d k =
     ∙ total-append (map f (siblings n (suc d) k)) (f (index d ((n + 1) / 2 ^ d - 2)) ∷ [])
     ∙ ap (λ (x : ℕ). total (map f (siblings n (suc d) k)) + x) (add-zero (f (index d ((n + 1) / 2 ^ d - 2))))
 
-made-size : (t : List ℕ) (n : ℕ) (e : Entry) (d k : ℕ) → made t n e d .size + beside t n d k ≡ e .size + beside t n 0 (d + k)
+made-size : (t : List ℕ) (n : ℕ) (e : Entry) (d k : ℕ) → made nodeHash t n e d .size + beside t n d k ≡ e .size + beside t n 0 (d + k)
 unfolding made parentOf storedEntry
 made-size t n e zero k = ap (λ (x : ℕ). e .size + beside t n 0 x) (sym (zero-add k))
 made-size t n e (suc d) k =
-    let rec : made t n e d .size + beside t n d (suc k) ≡ e .size + beside t n 0 (d + suc k) = made-size t n e d (suc k) in
+    let rec : made nodeHash t n e d .size + beside t n d (suc k) ≡ e .size + beside t n 0 (d + suc k) = made-size t n e d (suc k) in
     let same : beside t n 0 (d + suc k) ≡ beside t n 0 (suc d + k) = ap (beside t n 0) (add-suc d k ∙ sym (suc-add d k)) in
     omega (arith, rec, same, beside-suc t n d k)
 
 -- "by 6 their sum fits": a parent is no longer than the stored roots and the leaf together
 pub sum-le : (t : List ℕ) (n : ℕ) (e : Entry) (d : ℕ) → n < mostChunks → d < completed n
-    → storedSize t (sibling n d) + made t n e d .size ≤ total (storedRootSizes t n) + e .size
+    → storedSize t (sibling n d) + made nodeHash t n e d .size ≤ total (storedRootSizes t n) + e .size
 unfolding beside storedRootSizes
 sum-le t n e d few h =
     let r = carried n few in
@@ -133,7 +120,7 @@ sum-le t n e d few h =
 
 -- u is the file t with the entries of the depths below d; what is filled among n chunks stands as it did
 pub record Going (t : List ℕ) (n : ℕ) (e : Entry) (d : ℕ) (u : List ℕ) : Type 0 where
-  pub rest : withEntries u (run (place n) d (completed n + 1 - d)) (run (made t n e) d (completed n + 1 - d))
+  pub rest : withEntries u (run (place n) d (completed n + 1 - d)) (run (made nodeHash t n e) d (completed n + 1 - d))
       ≡ withEntries t (filledBy n) (climb nodeHash t n 0 (completed n) e)
   pub hash : (i : ℕ) → filled n i ≡ true → storedHash u i ≡ storedHash t i
   pub size : (i : ℕ) → filled n i ≡ true → storedSize u i ≡ storedSize t i
@@ -145,19 +132,19 @@ going-none t n e =
     let all : completed n + 1 - 0 ≡ completed n + 1 = omega arith in
     record {
       rest =
-          ap (λ (c : ℕ). withEntries t (run (λ d. index d ((n + 1) / 2 ^ d - 1)) 0 c) (run (made t n e) 0 c)) all
+          ap (λ (c : ℕ). withEntries t (run (λ d. index d ((n + 1) / 2 ^ d - 1)) 0 c) (run (made nodeHash t n e) 0 c)) all
           ∙ ap (withEntries t (run (λ d. index d ((n + 1) / 2 ^ d - 1)) 0 (completed n + 1)))
-          (ap (run (made t n e) 0) (add-one (completed n)) ∙ sym (climb-made t n e 0 (completed n)));
+          (ap (run (made nodeHash t n e) 0) (add-one (completed n)) ∙ sym (climb-made nodeHash t n e 0 (completed n)));
       hash = λ i f. refl;
       size = λ i f. refl;
       long = refl;
     }
 
 pub going-next : (t : List ℕ) (n : ℕ) (e : Entry) (d : ℕ) (u v : List ℕ) → n < mostChunks → d ≤ completed n → usedTree (n + 1) ≤ length t
-    → length (e .hash) ≡ 32 → Going t n e d u → v ≡ put u (entryPlace (place n d)) (entryBytes (made t n e d)) → Going t n e (d + 1) v
+    → length (e .hash) ≡ 32 → Going t n e d u → v ≡ put u (entryPlace (place n d)) (entryBytes (made nodeHash t n e d)) → Going t n e (d + 1) v
 unfolding withEntries run
 going-next t n e d u v few h room l g q =
-    let long : length (entryBytes (made t n e d)) ≡ 40 = made-long t n e l d in
+    let long : length (entryBytes (made nodeHash t n e d)) ≡ 40 = made-long t n e l d in
     let inside : entryPlace (place n d) + 40 ≤ length u =
     filled-in u n (place n d) few (omega (arith, g .long)) (place-new n d few h) .inside
     in
@@ -169,13 +156,13 @@ going-next t n e d u v few h room l g q =
     let left' : completed n + 1 - (d + 1) ≡ k = omega arith in
     record {
       rest =
-          ap₂ (λ (x c : ℕ). withEntries v (run (place n) x c) (run (made t n e) x c)) (add-one d) left'
-          ∙ ap (λ (x : List ℕ). withEntries x (run (place n) (suc d) k) (run (made t n e) (suc d) k)) q
-          ∙ sym (ap (λ (c : ℕ). withEntries u (run (place n) d c) (run (made t n e) d c)) left)
+          ap₂ (λ (x c : ℕ). withEntries v (run (place n) x c) (run (made nodeHash t n e) x c)) (add-one d) left'
+          ∙ ap (λ (x : List ℕ). withEntries x (run (place n) (suc d) k) (run (made nodeHash t n e) (suc d) k)) q
+          ∙ sym (ap (λ (c : ℕ). withEntries u (run (place n) d c) (run (made nodeHash t n e) d c)) left)
           ∙ g .rest;
-      hash = λ i f. ap (λ (x : List ℕ). storedHash x i) q ∙ other-hash u (place n d) (entryBytes (made t n e d)) long inside i (apart i f) ∙ g .hash i f;
-      size = λ i f. ap (λ (x : List ℕ). storedSize x i) q ∙ other-size u (place n d) (entryBytes (made t n e d)) long inside i (apart i f) ∙ g .size i f;
-      long = ap length q ∙ entry-length u (place n d) (entryBytes (made t n e d)) long inside ∙ g .long;
+      hash = λ i f. ap (λ (x : List ℕ). storedHash x i) q ∙ other-hash u (place n d) (entryBytes (made nodeHash t n e d)) long inside i (apart i f) ∙ g .hash i f;
+      size = λ i f. ap (λ (x : List ℕ). storedSize x i) q ∙ other-size u (place n d) (entryBytes (made nodeHash t n e d)) long inside i (apart i f) ∙ g .size i f;
+      long = ap length q ∙ entry-length u (place n d) (entryBytes (made nodeHash t n e d)) long inside ∙ g .long;
     }
 
 pub going-all : (t : List ℕ) (n : ℕ) (e : Entry) (d : ℕ) (u : List ℕ) → d ≡ completed n → Going t n e (d + 1) u
@@ -183,28 +170,28 @@ pub going-all : (t : List ℕ) (n : ℕ) (e : Entry) (d : ℕ) (u : List ℕ) �
 unfolding withEntries run
 going-all t n e d u h g =
     let none : completed n + 1 - (d + 1) ≡ 0 = omega arith in
-    sym (ap (λ (c : ℕ). withEntries u (run (place n) (d + 1) c) (run (made t n e) (d + 1) c)) none) ∙ g .rest
+    sym (ap (λ (c : ℕ). withEntries u (run (place n) (d + 1) c) (run (made nodeHash t n e) (d + 1) c)) none) ∙ g .rest
 
 -- the entry above, read out of the file on the way
 pub above-made : (t : List ℕ) (n : ℕ) (e : Entry) (d : ℕ) (u : List ℕ) (x y : Entry) → n < mostChunks → d < completed n → Going t n e (d + 1) u
-    → x ≡ made t n e d → y ≡ parentOf nodeHash (storedEntry u (sibling n d)) x → y ≡ made t n e (d + 1)
+    → x ≡ made nodeHash t n e d → y ≡ parentOf nodeHash (storedEntry u (sibling n d)) x → y ≡ made nodeHash t n e (d + 1)
 unfolding storedEntry made
 above-made t n e d u x y few h g p q =
     let f : filled n (sibling n d) ≡ true = sibling-filled n d few h in
     q
     ∙ ap₂ (parentOf nodeHash)
     (ap₂ (λ (a : List ℕ) (b : ℕ). record { hash = a; size = b }) (g .hash (sibling n d) f) (g .size (sibling n d) f)) p
-    ∙ ap (made t n e) (sym (add-one d))
+    ∙ ap (made nodeHash t n e) (sym (add-one d))
 
 -- and its length fits
 pub above-fits : (t : List ℕ) (n : ℕ) (e : Entry) (d : ℕ) (u : List ℕ) (x : Entry) → n < mostChunks → d < completed n
-    → total (storedRootSizes t n) + e .size < 2 ^ 64 → Going t n e (d + 1) u → x ≡ made t n e d → storedSize u (sibling n d) + x .size < 2 ^ 64
+    → total (storedRootSizes t n) + e .size < 2 ^ 64 → Going t n e (d + 1) u → x ≡ made nodeHash t n e d → storedSize u (sibling n d) + x .size < 2 ^ 64
 above-fits t n e d u x few h m g p =
-    let s : x .size ≡ made t n e d .size = ap (λ (y : Entry). y .size) p in
+    let s : x .size ≡ made nodeHash t n e d .size = ap (λ (y : Entry). y .size) p in
     omega (arith, sum-le t n e d few h, g .size (sibling n d) (sibling-filled n d few h), s)
 
 -- one entry more, of the value x
 pub going-step : (t : List ℕ) (n : ℕ) (e : Entry) (d : ℕ) (u v : List ℕ) (x : Entry) → n < mostChunks → d ≤ completed n → usedTree (n + 1) ≤ length t
-    → length (e .hash) ≡ 32 → Going t n e d u → x ≡ made t n e d → v ≡ put u (entryPlace (place n d)) (entryBytes x) → Going t n e (d + 1) v
+    → length (e .hash) ≡ 32 → Going t n e d u → x ≡ made nodeHash t n e d → v ≡ put u (entryPlace (place n d)) (entryBytes x) → Going t n e (d + 1) v
 going-step t n e d u v x few h room l g p q =
     going-next t n e d u v few h room l g (q ∙ ap (λ (y : Entry). put u (entryPlace (place n d)) (entryBytes y)) p)

@@ -30,18 +30,26 @@ or-left : (x y : Bool) → x ≡ true → x || y ≡ true
 or-left true y e = refl
 or-left false y e = let z : _≡_ {A = ℕ} 0 1 = cc in absurd (omega arith)
 
+pub among-head : (x : ℕ) (is : List ℕ) → among x (x ∷ is) ≡ true
+unfolding among
+among-head x is = or-left (eqb x x) (among x is) (eq-eqb x x refl)
+
+pub among-tail : (y x : ℕ) (is : List ℕ) → among y is ≡ true → among y (x ∷ is) ≡ true
+unfolding among
+among-tail y x is e = or-right (eqb y x) (among y is) e
+
 module _ (f : ℕ → Entry) (long : (i : ℕ) → length (entryBytes (f i)) ≡ 40) where
   -- the indexes is all lie within the first m bytes
   Inside : ℕ → List ℕ → Type 0
   Inside m is = (x : ℕ) → among x is ≡ true → entryPlace x + 40 ≤ m
 
   inside-head : (m x : ℕ) (is : List ℕ) → Inside m (x ∷ is) → entryPlace x + 40 ≤ m
-  unfolding among Inside
-  inside-head m x is h = h x (or-left (eqb x x) (among x is) (eq-eqb x x refl))
+  unfolding Inside
+  inside-head m x is h = h x (among-head x is)
 
   inside-tail : (m x : ℕ) (is : List ℕ) → Inside m (x ∷ is) → Inside m is
-  unfolding among Inside
-  inside-tail m x is h = λ y e. h y (or-right (eqb y x) (among y is) e)
+  unfolding Inside
+  inside-tail m x is h = λ y e. h y (among-tail y x is e)
 
   pub with-length : (t : List ℕ) (is : List ℕ) → ((x : ℕ) → among x is ≡ true → entryPlace x + 40 ≤ length t) → length (withEntries t is (map f is)) ≡ length t
   unfolding withEntries Inside

@@ -4,8 +4,10 @@ pub mod Written
 pub mod Started
 pub mod Entries
 pub mod Climb
+pub mod Made
 pub mod Tree
 pub mod Verdicts
+pub mod Bits
 pub mod Appended
 pub mod Signed
 pub mod Lent

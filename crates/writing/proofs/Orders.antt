@@ -6,7 +6,7 @@ use mathlib.Core.List.{List, [], _∷_, _++_}
 use borrow.Author.Tests.{lt-ltb, le-ltb}
 use lib.Dec.{leb, ltb, eqb}
 use lib.ListN.{length}
-use Rattle.counts.specs.Verdict.{Spot, Verdict, none, done, refused}
+use Rattle.counts.specs.Verdict.{Spot, Verdict, none, done, refused, unlessRefused}
 use Rattle.counts.specs.Said.{said, spotOf}
 use Rattle.counts.specs.declared.Refusal.{Refusal}
 use Rattle.counts.specs.declared.Answer.{Answer}
@@ -16,7 +16,6 @@ use Rattle.files.specs.Belongs.{Buffers, Register}
 use Rattle.checks.specs.Checks.{Check, judged, holds, laterChecks, registerChecks}
 use Rattle.checks.proofs.Passed.{AllRight}
 use Rattle.checks.proofs.Judged.{judged-append, judged-refused, judged-right, judged-done}
-use Rattle.writing.specs.Start.{unlessRefused}
 use Rattle.writing.specs.Append.{ownChecks, appendChecks, appendVerdict}
 use Rattle.writing.specs.Sign.{ownSignChecks, signChecks, signVerdict}
 
@@ -49,7 +48,7 @@ left-refused v x y m at e = ap (λ (u : Verdict). unlessRefused u x y) e
 
 -- ---- an append
 
-append-order : (r : Register) (chunk : List ℕ)
+pub append-order : (r : Register) (chunk : List ℕ)
     → appendVerdict r chunk ≡ cond (ltb (r .n) mostChunks) (judged (laterChecks r) (judged (ownChecks r chunk) done)) (refused 2 none)
 unfolding appendVerdict appendChecks judged
 append-order r chunk =
@@ -84,7 +83,7 @@ own-answered r chunk v a b c d e p q s t u w = rw (p, q, s, t, u) w
 
 -- ---- a stored signature
 
-sign-order : (r : Register) → signVerdict r ≡ judged (registerChecks r) (judged (ownSignChecks (r .signatures) (r .n) (r .s)) done)
+pub sign-order : (r : Register) → signVerdict r ≡ judged (registerChecks r) (judged (ownSignChecks (r .signatures) (r .n) (r .s)) done)
 unfolding signVerdict signChecks
 sign-order r = judged-append (registerChecks r) (ownSignChecks (r .signatures) (r .n) (r .s)) done
 

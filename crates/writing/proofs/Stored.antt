@@ -1,8 +1,8 @@
 -- The steps of the part of an append that writes. Assumes nothing.
-use Prim.Native.Nat.{ℕ, zero, suc, _+_, _-_, _*_, _/_, _^_, _≤_, _<_}
+use Prim.Native.Nat.{ℕ, _+_, _-_, _*_, _/_, _^_, _≤_, _<_}
 use mathlib.Core.Path.{_≡_, refl, sym, ap, ap₂, _∙_, subst}
 use mathlib.Core.Bool.{Bool, true, false, cond}
-use mathlib.Core.List.{List, _∷_, _++_}
+use mathlib.Core.List.{List, _++_}
 use native.Mathlib.Omega.{arith}
 use lib.ListN.{length, getD, take, drop}
 use Rattle.sequences.specs.Lists.{part, put, total, zeros}
@@ -26,6 +26,7 @@ use Rattle.files.proofs.Written.{other-hash, other-size}
 use Rattle.writing.specs.Append.{storedEntry, sibling, withHole, withEntries, climb, newEntries, appendedTree}
 use Rattle.writing.proofs.Tree.{by-hole, forty, hole-room, hole-length}
 use Rattle.writing.specs.Inner.{place, HeadersPut, FilledFits, StoreFits, StorePost}
+use Rattle.writing.proofs.Made.{climb-same}
 use Rattle.writing.proofs.Climbed.{sibling-filled, place-new, filled-in}
 
 -- ---- the new hole
@@ -73,16 +74,12 @@ module _ (t : List ℕ) (n : ℕ) (room : usedTree (n + 1) ≤ length t) where
 
   -- and what is made of the siblings
   hole-climb : n < mostChunks → (k d : ℕ) (e : Entry) → d + k ≤ completed n → climb nodeHash (withHole t n) n d k e ≡ climb nodeHash t n d k e
-  unfolding climb storedEntry
-  hole-climb few zero d e h = refl
-  hole-climb few (suc k) d e h =
-      let f : filled n (sibling n d) ≡ true = sibling-filled n d few (omega arith) in
-      let same : storedEntry (withHole t n) (sibling n d) ≡ storedEntry t (sibling n d) =
-      ap₂ (λ (a : List ℕ) (b : ℕ). record { hash = a; size = b }) (hole-hash (sibling n d) f) (hole-size (sibling n d) f)
-      in
-      ap (λ (l : List Entry). e ∷ l)
-      (ap (λ (x : Entry). climb nodeHash (withHole t n) n (d + 1) k (parentOf nodeHash x e)) same
-      ∙ hole-climb few k (d + 1) (parentOf nodeHash (storedEntry t (sibling n d)) e) (omega arith))
+  unfolding storedEntry
+  hole-climb few =
+      climb-same nodeHash (withHole t n) t n
+      (λ d h.
+      let f : filled n (sibling n d) ≡ true = sibling-filled n d few h in
+      ap₂ (λ (a : List ℕ) (b : ℕ). record { hash = a; size = b }) (hole-hash (sibling n d) f) (hole-size (sibling n d) f))
 
   -- the hole, and then the entries
   pub stored-tree : (u v chunk : List ℕ) (e : Entry) → n < mostChunks → e ≡ leaf nodeHash chunk → u ≡ withHole t n

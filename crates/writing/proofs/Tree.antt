@@ -13,16 +13,16 @@ use Rattle.tree_index.specs.Tree.{filled, filledBy, entries}
 use Rattle.tree_index.proofs.Filled.{filled-below, filled-leaf, hole-past}
 use Rattle.tree_index.proofs.Appended.{filledBy-filled, filled-suc}
 use Rattle.files.specs.Headers.{treeHeader}
-use Rattle.files.specs.Sizes.{entryPlace, usedTree}
+use Rattle.files.specs.Sizes.{mostChunks, entryPlace, usedTree}
 use Rattle.files.specs.Messages.{HashFunction}
-use Rattle.files.specs.Nodes.{entryBytes, entryAt, treeEntries}
+use Rattle.files.specs.Nodes.{Entry, entryBytes, entryAt, treeEntries}
 use Rattle.files.specs.Images.{treeImage, leaves}
 use Rattle.files.specs.Belongs.{Register, Within, Belongs}
 use Rattle.files.proofs.Nodes.{leaves-length, entryAt-filled, entryAt-hole, entry-length}
 use Rattle.files.proofs.OfImage.{treeHeader-length, entry-inside, stored-entry}
 use Rattle.files.proofs.Written.{entry-header, other-entry, same-entry, entry-length as put-length}
 use Rattle.files.proofs.ToImage.{header-cut, hole-zeros, tree-of-entries}
-use Rattle.writing.specs.Append.{withHole, withEntries, appendedTree}
+use Rattle.writing.specs.Append.{withHole, withEntries, newEntries, appendedTree}
 use Rattle.writing.proofs.Written.{length-snoc}
 use Rattle.writing.proofs.Entries.{put-entry-rest, with-length, with-front, with-rest, with-among, with-other}
 use Rattle.writing.proofs.Climb.{nodeAt-snoc, new-entries}
@@ -95,47 +95,83 @@ only-hole n i h l e =
     go true q d = omega (arith, ltb-true i (2 * n) q)
     go false q d = absurd (d (omega (arith, ltb-false i (2 * n) q)))
 
+-- ---- the file on any register, where the new entries are those that a function f gives for their indexes, of 40 bytes each
+
+module _ (F : List ℕ → List ℕ) (t : List ℕ) (n : ℕ) (c : List ℕ) (f : ℕ → Entry) (long : (i : ℕ) → length (entryBytes (f i)) ≡ 40)
+    (new : newEntries F t n c ≡ map f (filledBy n)) (few : n < mostChunks) (room : usedTree (n + 1) ≤ length t) where
+  hole-long : length (withHole t n) ≡ length t
+  hole-long = hole-length t n room
+
+  inside : (x : ℕ) → among x (filledBy n) ≡ true → entryPlace x + 40 ≤ length (withHole t n)
+  inside x e = omega (arith, new-inside t n room (omega arith) x e, hole-long)
+
+  pub tree-entries : appendedTree F t n c ≡ withEntries (withHole t n) (filledBy n) (map f (filledBy n))
+  unfolding appendedTree
+  tree-entries = ap (withEntries (withHole t n) (filledBy n)) new
+
+  pub tree-length : length (appendedTree F t n c) ≡ length t
+  tree-length = ap length tree-entries ∙ with-length f long (withHole t n) (filledBy n) inside ∙ hole-long
+
+  -- the bytes behind the entries of n + 1 chunks stay
+  pub tree-rest : drop (usedTree (n + 1)) (appendedTree F t n c) ≡ drop (usedTree (n + 1)) t
+  tree-rest =
+      ap (drop (usedTree (n + 1))) tree-entries
+      ∙ with-rest f long (usedTree (n + 1)) (withHole t n) (filledBy n) (omega (arith, hole-long)) (new-inside t n room (omega arith))
+      ∙ hole-rest t n room
+
+  pub tree-front : take 32 (appendedTree F t n c) ≡ take 32 t
+  tree-front = ap (take 32) tree-entries ∙ with-front f long (withHole t n) (filledBy n) inside ∙ hole-front t n room
+
+  -- what is not filled anew
+  pub unchanged : (i : ℕ) → among i (filledBy n) ≡ false → filled (n + 1) i ≡ filled n i
+  unchanged i e = filled-suc n i (omega arith) ∙ or-false (filled n i) (among i (filledBy n)) e
+
+  -- an entry is new, old, or the new hole
+  pub tree-new : (i : ℕ) → among i (filledBy n) ≡ true → part (appendedTree F t n c) (entryPlace i) 40 ≡ entryBytes (f i)
+  tree-new i e = ap (λ (u : List ℕ). part u (entryPlace i) 40) tree-entries ∙ with-among f long (withHole t n) (filledBy n) i inside e
+
+  kept : (i : ℕ) → among i (filledBy n) ≡ false → part (appendedTree F t n c) (entryPlace i) 40 ≡ part (withHole t n) (entryPlace i) 40
+  kept i e = ap (λ (u : List ℕ). part u (entryPlace i) 40) tree-entries ∙ with-other f long (withHole t n) (filledBy n) i inside e
+
+  pub tree-old : (i : ℕ) → among i (filledBy n) ≡ false → i < entries n → part (appendedTree F t n c) (entryPlace i) 40 ≡ part t (entryPlace i) 40
+  tree-old i e l = kept i e ∙ hole-other t n room i l
+
+  pub tree-hole : (i : ℕ) → among i (filledBy n) ≡ false → entries n ≤ i → i < entries (n + 1) → part (appendedTree F t n c) (entryPlace i) 40 ≡ zeros 40
+  tree-hole i e l h =
+      let q : filled (n + 1) i ≡ false = unchanged i e ∙ hole-past n i l in
+      let at : i ≡ 2 * n - 1 = only-hole n i l h q in
+      kept i e ∙ ap (λ (j : ℕ). part (withHole t n) (entryPlace j) 40) at ∙ hole-here t n room (ap (filled (n + 1)) (sym at) ∙ q)
+
+-- ---- on a register that belongs to a chunk sequence
+
 module _ (F : List ℕ → List ℕ) (hf : HashFunction F) (cs : List (List ℕ)) (w : Within cs) (r : Register) (b : Belongs F r cs) (c : List ℕ)
     (v : Within (cs ++ (c ∷ []))) (room : usedTree (r .n + 1) ≤ length (r .tree)) where
   count : r .n + 1 ≡ length (cs ++ (c ∷ []))
   count = ap (λ (m : ℕ). m + 1) (b .count) ∙ sym (length-snoc cs c)
 
-  few : r .n < 1048576
+  few : r .n < mostChunks
   few = omega (arith, count, v .count)
 
-  small : r .n + 1 < 2 ^ 64
-  small = omega (arith, few)
+  -- the entries that the image has at the new indexes
+  abbrev entry : ℕ → Entry
+  entry = entryAt F (leaves F (cs ++ (c ∷ [])))
 
-  long : (i : ℕ) → length (entryBytes (entryAt F (leaves F (cs ++ (c ∷ []))) i)) ≡ 40
+  long : (i : ℕ) → length (entryBytes (entry i)) ≡ 40
   long = entry-length F hf (cs ++ (c ∷ [])) v
 
-  hole-long : length (withHole (r .tree) (r .n)) ≡ length (r .tree)
-  hole-long = hole-length (r .tree) (r .n) room
+  new : newEntries F (r .tree) (r .n) c ≡ map entry (filledBy (r .n))
+  new = new-entries F hf cs w r b c (omega (arith, few))
 
-  inside : (x : ℕ) → among x (filledBy (r .n)) ≡ true → entryPlace x + 40 ≤ length (withHole (r .tree) (r .n))
-  inside x e = omega (arith, new-inside (r .tree) (r .n) room small x e, hole-long)
-
-  -- the file, with the entries that the image has at the new indexes
-  pub appended-entries : appendedTree F (r .tree) (r .n) c
-      ≡ withEntries (withHole (r .tree) (r .n)) (filledBy (r .n)) (map (entryAt F (leaves F (cs ++ (c ∷ [])))) (filledBy (r .n)))
-  unfolding appendedTree
-  appended-entries = ap (withEntries (withHole (r .tree) (r .n)) (filledBy (r .n))) (new-entries F hf cs w r b c small)
+  pub appended-entries : appendedTree F (r .tree) (r .n) c ≡ withEntries (withHole (r .tree) (r .n)) (filledBy (r .n)) (map entry (filledBy (r .n)))
+  appended-entries = tree-entries F (r .tree) (r .n) c entry long new few room
 
   pub appended-length : length (appendedTree F (r .tree) (r .n) c) ≡ length (r .tree)
-  appended-length = ap length appended-entries ∙ with-length (entryAt F (leaves F (cs ++ (c ∷ [])))) long (withHole (r .tree) (r .n)) (filledBy (r .n)) inside ∙ hole-long
-
-  pub appended-rest : drop (usedTree (r .n + 1)) (appendedTree F (r .tree) (r .n) c) ≡ drop (usedTree (r .n + 1)) (r .tree)
-  appended-rest =
-      ap (drop (usedTree (r .n + 1))) appended-entries
-      ∙ with-rest (entryAt F (leaves F (cs ++ (c ∷ [])))) long (usedTree (r .n + 1)) (withHole (r .tree) (r .n)) (filledBy (r .n)) (omega (arith, hole-long))
-      (new-inside (r .tree) (r .n) room small)
-      ∙ hole-rest (r .tree) (r .n) room
+  appended-length = tree-length F (r .tree) (r .n) c entry long new few room
 
   appended-front : take 32 (appendedTree F (r .tree) (r .n) c) ≡ treeHeader
   unfolding treeImage usedTree
   appended-front =
-      ap (take 32) appended-entries ∙ with-front (entryAt F (leaves F (cs ++ (c ∷ [])))) long (withHole (r .tree) (r .n)) (filledBy (r .n)) inside
-      ∙ hole-front (r .tree) (r .n) room
+      tree-front F (r .tree) (r .n) c entry long new few room
       ∙ header-cut (r .tree) treeHeader (treeEntries F (leaves F cs)) 32 (40 * entries (r .n)) treeHeader-length (omega arith) (b .tree) .0
 
   -- which indexes are filled, over each of the two sequences
@@ -145,47 +181,40 @@ module _ (F : List ℕ → List ℕ) (hf : HashFunction F) (cs : List (List ℕ)
   filled-new : (i : ℕ) (t : Bool) → filled (r .n + 1) i ≡ t → filled (length (leaves F (cs ++ (c ∷ [])))) i ≡ t
   filled-new i t e = ap (λ (m : ℕ). filled m i) (leaves-length F (cs ++ (c ∷ [])) ∙ sym count) ∙ e
 
-  -- what is not filled anew
-  unchanged : (i : ℕ) → among i (filledBy (r .n)) ≡ false → filled (r .n + 1) i ≡ filled (r .n) i
-  unchanged i e = filled-suc (r .n) i (omega (arith, few)) ∙ or-false (filled (r .n) i) (among i (filledBy (r .n))) e
+  still : (i : ℕ) → among i (filledBy (r .n)) ≡ false → filled (r .n + 1) i ≡ filled (r .n) i
+  still = unchanged F (r .tree) (r .n) c entry long new few room
 
-  old-entry : (i : ℕ) → among i (filledBy (r .n)) ≡ false → entryAt F (leaves F cs) i ≡ entryAt F (leaves F (cs ++ (c ∷ []))) i
+  old-entry : (i : ℕ) → among i (filledBy (r .n)) ≡ false → entryAt F (leaves F cs) i ≡ entry i
   old-entry i e = split (filled (r .n) i) refl
     where
-      split : (t : Bool) → filled (r .n) i ≡ t → entryAt F (leaves F cs) i ≡ entryAt F (leaves F (cs ++ (c ∷ []))) i
+      split : (t : Bool) → filled (r .n) i ≡ t → entryAt F (leaves F cs) i ≡ entry i
       split true q =
           entryAt-filled F (leaves F cs) i (filled-old i true q)
           ∙ sym (nodeAt-snoc F cs c i (ap (λ (m : ℕ). filled m i) (sym (b .count)) ∙ q))
-          ∙ sym (entryAt-filled F (leaves F (cs ++ (c ∷ []))) i (filled-new i true (unchanged i e ∙ q)))
+          ∙ sym (entryAt-filled F (leaves F (cs ++ (c ∷ []))) i (filled-new i true (still i e ∙ q)))
       split false q =
-          entryAt-hole F (leaves F cs) i (filled-old i false q) ∙ sym (entryAt-hole F (leaves F (cs ++ (c ∷ []))) i (filled-new i false (unchanged i e ∙ q)))
+          entryAt-hole F (leaves F cs) i (filled-old i false q) ∙ sym (entryAt-hole F (leaves F (cs ++ (c ∷ []))) i (filled-new i false (still i e ∙ q)))
 
   -- an entry that is not filled anew
   kept-entry : (i : ℕ) → i < entries (r .n + 1) → among i (filledBy (r .n)) ≡ false
-      → part (withHole (r .tree) (r .n)) (entryPlace i) 40 ≡ entryBytes (entryAt F (leaves F (cs ++ (c ∷ []))) i)
+      → part (appendedTree F (r .tree) (r .n) c) (entryPlace i) 40 ≡ entryBytes (entry i)
   kept-entry i h e = split (ltb i (entries (r .n))) refl
     where
-      split : (t : Bool) → ltb i (entries (r .n)) ≡ t → part (withHole (r .tree) (r .n)) (entryPlace i) 40 ≡ entryBytes (entryAt F (leaves F (cs ++ (c ∷ []))) i)
+      split : (t : Bool) → ltb i (entries (r .n)) ≡ t → part (appendedTree F (r .tree) (r .n) c) (entryPlace i) 40 ≡ entryBytes (entry i)
       split true q =
           let l : i < entries (r .n) = ltb-true i (entries (r .n)) q in
-          hole-other (r .tree) (r .n) room i l ∙ stored-entry F hf cs w r b i l ∙ ap entryBytes (old-entry i e)
+          tree-old F (r .tree) (r .n) c entry long new few room i e l ∙ stored-entry F hf cs w r b i l ∙ ap entryBytes (old-entry i e)
       split false q =
           let l : entries (r .n) ≤ i = ltb-false i (entries (r .n)) q in
-          let f : filled (r .n + 1) i ≡ false = unchanged i e ∙ hole-past (r .n) i l in
-          let at : i ≡ 2 * r .n - 1 = only-hole (r .n) i l h f in
-          ap (λ (j : ℕ). part (withHole (r .tree) (r .n)) (entryPlace j) 40) at
-          ∙ hole-here (r .tree) (r .n) room (ap (filled (r .n + 1)) (sym at) ∙ f)
-          ∙ sym (ap entryBytes (entryAt-hole F (leaves F (cs ++ (c ∷ []))) i (filled-new i false f)) ∙ hole-zeros)
+          tree-hole F (r .tree) (r .n) c entry long new few room i e l h
+          ∙ sym (ap entryBytes (entryAt-hole F (leaves F (cs ++ (c ∷ []))) i (filled-new i false (still i e ∙ hole-past (r .n) i l))) ∙ hole-zeros)
 
-  appended-entry : (i : ℕ) → i < entries (r .n + 1) → part (appendedTree F (r .tree) (r .n) c) (entryPlace i) 40 ≡ entryBytes (entryAt F (leaves F (cs ++ (c ∷ []))) i)
-  appended-entry i h = ap (λ (t : List ℕ). part t (entryPlace i) 40) appended-entries ∙ split (among i (filledBy (r .n))) refl
+  appended-entry : (i : ℕ) → i < entries (r .n + 1) → part (appendedTree F (r .tree) (r .n) c) (entryPlace i) 40 ≡ entryBytes (entry i)
+  appended-entry i h = split (among i (filledBy (r .n))) refl
     where
-      split : (t : Bool) → among i (filledBy (r .n)) ≡ t
-          → part (withEntries (withHole (r .tree) (r .n)) (filledBy (r .n)) (map (entryAt F (leaves F (cs ++ (c ∷ [])))) (filledBy (r .n)))) (entryPlace i) 40
-          ≡ entryBytes (entryAt F (leaves F (cs ++ (c ∷ []))) i)
-      split true e = with-among (entryAt F (leaves F (cs ++ (c ∷ [])))) long (withHole (r .tree) (r .n)) (filledBy (r .n)) i inside e
-      split false e =
-          with-other (entryAt F (leaves F (cs ++ (c ∷ [])))) long (withHole (r .tree) (r .n)) (filledBy (r .n)) i inside e ∙ kept-entry i h e
+      split : (t : Bool) → among i (filledBy (r .n)) ≡ t → part (appendedTree F (r .tree) (r .n) c) (entryPlace i) 40 ≡ entryBytes (entry i)
+      split true e = tree-new F (r .tree) (r .n) c entry long new few room i e
+      split false e = kept-entry i h e
 
   pub appended-tree : take (usedTree (r .n + 1)) (appendedTree F (r .tree) (r .n) c) ≡ treeImage F (cs ++ (c ∷ []))
   appended-tree = tree-of-entries F (cs ++ (c ∷ [])) (appendedTree F (r .tree) (r .n) c) (r .n + 1) count appended-front appended-entry

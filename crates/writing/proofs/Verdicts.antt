@@ -59,7 +59,7 @@ passed-append r chunk c p =
 
 -- ---- a stored signature
 
-one-owed : (n s : ℕ) → signedRight n s ≡ true → (s ≡ n → ⊥) → s + 1 ≡ n
+pub one-owed : (n s : ℕ) → signedRight n s ≡ true → (s ≡ n → ⊥) → s + 1 ≡ n
 one-owed n s h d = split (eqb s n) refl h
   where
     split : (b : Bool) → eqb s n ≡ b → (b || eqb (s + 1) n) ≡ true → s + 1 ≡ n

@@ -1,7 +1,7 @@
 -- Start: "only lent four buffers and writes the three headers; its one refusal is 14".
 use Prim.Native.Nat.{ℕ}
 use mathlib.Core.List.{List, [], _∷_}
-use Rattle.counts.specs.Verdict.{Verdict, done, refused}
+use Rattle.counts.specs.Verdict.{Verdict, done, unlessRefused}
 use Rattle.sequences.specs.Lists.{put}
 use Rattle.files.specs.Headers.{treeHeader, signaturesHeader, bitfieldHeader}
 use Rattle.files.specs.Belongs.{Buffers, Register}
@@ -38,11 +38,6 @@ startedRegister b =
       s = 0;
       size = 0;
     }
-
--- what is left in buffers that held `before`, where the call would write `written`: "No lent byte changes" after a refusal
-abbrev pub unlessRefused : Verdict → Buffers → Buffers → Buffers
-unlessRefused done written before = written
-unlessRefused (refused m at) written before = before
 
 unfoldable pub afterStart : Buffers → Buffers
 afterStart b = unlessRefused (startVerdict b) (started b) b

@@ -1,7 +1,6 @@
 // An append: "adds one chunk, writes the leaf, every completed parent and the new hole, if any, sets the bits, regenerates the
 // Index of the new chunk's bitfield entry (zeroed first if it is new), and answers the new root hash".
 use counts::Answer;
-use counts::ChunkNumber;
 ghost use mathlib.Core.Path.{_≡_};
 ghost use Prim.Native.Nat.{_+_, _≤_, _<_};
 ghost use lib.ListN.{length};
@@ -107,7 +106,7 @@ fn clear_hole(tree: &mut [u8], n: u64)
     if n == 0 {
         return;
     }
-    let i = tree_index::parent_before(ChunkNumber(n));
+    let i = tree_index::parent_before(counts::chunk_behind(n));
     if tree_index::is_filled(n + 1, i) {
         return;
     }
@@ -119,7 +118,7 @@ fn put_node(tree: &mut [u8], n: u64, d: u32, node: Node)
     requires { ⌜ NodeFits (now tree) n d ⌝ }
     ensures { λ _. ⌜ now (tree .exit) ≡ put (now (tree .entry)) (entryPlace (place n d)) (entryBytes (entryOf node)) ⌝ }
 {
-    let i = tree_index::node_ending(ChunkNumber(n), d);
+    let i = tree_index::node_ending(counts::chunk_behind(n), d);
     let hash = node.hash;
     files::entries::write_entry(tree, i, &hash, node.size);
 }
@@ -147,7 +146,7 @@ fn write_filled(tree: &mut [u8], n: u64, leaf: Node)
         withEntries (now (tree .entry)) (filledBy n) (climb nodeHash (now (tree .entry)) n 0 (completed n) (entryOf leaf))
         ⌝ }
 {
-    let last = tree_index::completed(ChunkNumber(n));
+    let last = tree_index::completed(counts::chunk_behind(n));
     let mut node = leaf;
     let mut d: u32 = 0;
     while d < last {
@@ -188,7 +187,7 @@ fn store(
             size: chunk.len() as u64,
         },
     );
-    bitfield::append_bits(bitfield, ChunkNumber(n));
+    bitfield::append_bits(bitfield, counts::chunk_behind(n));
     files::roots::stored_root_hash(tree, n + 1)
 }
 

@@ -12,13 +12,9 @@ use Rattle.bitfield.proofs.Levels.{length-index}
 use Rattle.bitfield.proofs.regenerate.Statement.{statement}
 use Rattle.bitfield.proofs.regenerate.Tie as tie
 
-mul-at : tie.Need-mul-at
+entry-place-requires : tie.Need-entry-place-requires
 unfolding bitsPlace
-mul-at c = omega arith
-
-add-at : tie.Need-add-at
-unfolding bitsPlace
-add-at c = omega arith
+entry-place-requires c κs = omega arith
 
 add-end : tie.Need-add-end
 unfolding bitsPlace
@@ -36,17 +32,21 @@ copy-to-requires : tie.Need-copy-to-requires
 unfolding bitsPlace
 copy-to-requires c κs = omega (arith, ap length (c .before .before .index-of .ensures) ∙ length-index _)
 
-together : (xs zs bs : List ℕ) (e : ℕ) → zs ≡ put xs (32 + 3328 * e + 3072) bs
-    → bs ≡ indexBytes (take (32 + 3328 * e + 1024 - (32 + 3328 * e)) (drop (32 + 3328 * e) xs)) → zs ≡ regenerated xs e
-unfolding regenerated bitsPlace part
-together xs zs bs e p q =
-    let r : 32 + 3328 * e + 1024 - (32 + 3328 * e) ≡ 1024 = omega arith in
-    p ∙ ap (put xs (32 + 3328 * e + 3072)) (q ∙ ap (λ (k : ℕ). indexBytes (take k (drop (32 + 3328 * e) xs))) r)
+together : (xs zs bs : List ℕ) (e at : ℕ) → at ≡ bitsPlace e → zs ≡ put xs (at + 3072) bs
+    → bs ≡ indexBytes (take (at + 1024 - at) (drop at xs)) → zs ≡ regenerated xs e
+unfolding regenerated part
+together xs zs bs e at f p q =
+    let r : at + 1024 - at ≡ 1024 = omega arith in
+    p ∙ ap (put xs (at + 3072)) (q ∙ ap (λ (k : ℕ). indexBytes (take k (drop at xs))) r)
+    ∙ ap (λ (x : ℕ). put xs (x + 3072) (indexBytes (take 1024 (drop x xs)))) f
 
 returns : tie.Need-returns
-returns c = together _ _ _ _ (c .before .before .copy-to .ensures) (c .before .before .before .before .before .index-of .ensures)
+returns c =
+    together _ _ _ _ _ (c .before .before .before .before .before .before .before .before .entry-place .ensures) (c .before .before .copy-to .ensures)
+    (c .before .before .before .before .before .index-of .ensures)
 
 pub regenerate-spec : {M : Type 1} → statement M
 regenerate-spec =
-    tie.close (tie.spec mul-at add-at add-end (λ c. search needs) (λ c. search needs) part-index-of-end (λ c κs. search needs)
-    add-copy-to (λ c. search needs) copy-to-requires (λ c. search needs) returns)
+    tie.close
+    (tie.spec entry-place-requires add-end (λ c. search needs) (λ c. search needs) part-index-of-end (λ c κs. search needs) add-copy-to
+    (λ c. search needs) copy-to-requires (λ c. search needs) returns)

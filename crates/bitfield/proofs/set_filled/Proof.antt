@@ -21,9 +21,10 @@ abbrev μ-loop : tie.MeasureT-loop
 μ-loop xs₀ c last d₀ xs d = last + 1 - d
 
 -- the node stands before the leaf of the chunk behind it, so its bit lies in the file
-inside : (n d i k : ℕ) → n < 1048576 → d ≤ completed n → i ≡ index d ((n + 1) / 2 ^ d - 1) → bitsPlace (n / 8192 + 1) ≤ k → bitsPlace (i / 16384 + 1) ≤ k
+inside : (n d i k : ℕ) → n < 1048576 → d ≤ completed n → i ≡ index d ((n + 1) / 2 ^ d - 1)
+    → bitsPlace (n / 8192 + 1) ≤ k → (b : ℕ) → b ≡ i / 16384 → bitsPlace (b + 1) ≤ k
 unfolding bitsPlace
-inside n d i k few h e room = omega (arith, filled-place n d (omega arith) h, width-le n d (omega arith) h, pow-pos d)
+inside n d i k few h e room b f = omega (arith, filled-place n d (omega arith) h, width-le n d (omega arith) h, pow-pos d)
 
 end : (xs : List ℕ) (n d : ℕ) → d ≡ completed n + 1 → setTreeBits xs (filledFirst n d) ≡ setTreeBits xs (filledBy n)
 end xs n d e = ap (λ (t : ℕ). setTreeBits xs (filledFirst n t)) e ∙ ap (setTreeBits xs) (all-bits n)
@@ -42,9 +43,9 @@ set-tree-bit-requires : tie.Need-set-tree-bit-requires Inv-loop μ-loop
 set-tree-bit-requires c κs =
     let in-loop = c .before .before .before in
     let start = in-loop .before .before .before .before in (
-      refl,
+      c .entry-of-index .ensures,
       inside (start .args .c .0) (in-loop .before .loop .d) _ _ (start .pre .0) (below in-loop) (c .before .before .node-ending .ensures)
-          (omega (arith, start .pre .1, in-loop .before .loop .inv .2)),
+          (omega (arith, start .pre .1, in-loop .before .loop .inv .2)) _ (c .entry-of-index .ensures),
     )
 
 add-d : tie.Need-add-d Inv-loop μ-loop
@@ -76,5 +77,5 @@ returns c =
 pub set-filled-spec : {M : Type 1} → statement M
 set-filled-spec =
     tie.close
-    (tie.spec Inv-loop μ-loop (λ c κs. search needs) loop-holds node-ending-requires set-tree-bit-requires add-d (λ c. search needs) loop-again
+    (tie.spec Inv-loop μ-loop (λ c κs. search needs) loop-holds node-ending-requires (λ c κs. search needs) set-tree-bit-requires add-d (λ c. search needs) loop-again
     (λ c. search needs) returns)

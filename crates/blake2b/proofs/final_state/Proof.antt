@@ -13,10 +13,10 @@ use Rattle.blake2b.proofs.final_state.Statement.{statement}
 use Rattle.blake2b.proofs.final_state.Tie as tie
 
 abbrev Inv-loop : tie.InvT-loop
-Inv-loop length prefix body total h₀ p₀ h p = (p % 128 ≡ 0) × (p ≤ total - 1) × (stateWords h ≡ after (initial length) (prefix ++ body) (p / 128))
+Inv-loop nn prefix body total h₀ p₀ h p = (p % 128 ≡ 0) × (p ≤ total - 1) × (stateWords h ≡ after (initial nn) (prefix ++ body) (p / 128))
 
 abbrev μ-loop : tie.MeasureT-loop
-μ-loop length prefix body total h₀ p₀ h p = total - p
+μ-loop nn prefix body total h₀ p₀ h p = total - p
 
 loop-holds : tie.Need-loop-holds Inv-loop μ-loop
 unfolding after
@@ -28,7 +28,7 @@ loop-again c =
     let a = l .before .before .before .before .args in (
       omega arith,
       omega arith,
-      after-more (initial (a .length)) (a .prefix .now ++ a .body .now) (l .loop .p) (stateWords (l .loop .h)) (blockWords (c .before .block-at .result))
+      after-more (initial (a .nn)) (a .prefix .now ++ a .body .now) (l .loop .p) (stateWords (l .loop .h)) (blockWords (c .before .block-at .result))
           (stateWords (c .compress .result)) (l .loop .inv .0) (l .loop .inv .2) (c .before .block-at .ensures) (c .compress .ensures),
     )
 
@@ -36,7 +36,7 @@ returns : tie.Need-returns Inv-loop μ-loop
 returns c =
     let l = c .before .before .before in
     let a = l .before .before .before .before .args in
-    final-at (a .length) (a .prefix .now ++ a .body .now) (l .loop .p) _ (stateWords (l .loop .h)) (blockWords (c .before .block-at2 .result))
+    final-at (a .nn) (a .prefix .now ++ a .body .now) (l .loop .p) _ (stateWords (l .loop .h)) (blockWords (c .before .block-at2 .result))
     (stateWords (c .compress2 .result)) (l .loop .inv .0) (l .loop .inv .1) (omega arith) (sym (length-append (a .prefix .now) (a .body .now)))
     (l .loop .inv .2) (c .before .block-at2 .ensures) (c .compress2 .ensures)
 

@@ -10,18 +10,18 @@ use Rattle.blake2b.proofs.hash.Tie as tie
 returns : tie.Need-returns
 returns c =
     let a = c .before .before .before .args in
-    as-refused (a .length) (a .message .now) (c .refused .result) (low (a .length) (omega arith)) (c .refused .ensures)
+    as-refused (a .nn) (a .message .now) (c .refused .result) (low (a .nn) (omega arith)) (c .refused .ensures)
 
 returns-2 : tie.Need-returns-2
 returns-2 c =
     let a = c .before .before .before .before .args in
-    as-refused (a .length) (a .message .now) (c .refused2 .result) (high (a .length) (omega arith)) (c .refused2 .ensures)
+    as-refused (a .nn) (a .message .now) (c .refused2 .result) (high (a .nn) (omega arith)) (c .refused2 .ensures)
 
 returns-3 : tie.Need-returns-3
 returns-3 c =
     let a = c .before .before .before .before .before .before .args in
-    as-done (a .length) (a .message .now) (stateWords (c .before .final-state .result)) (c .digest-bytes .result)
-    (right (a .length) (omega arith) (omega arith)) (c .before .final-state .ensures) (c .digest-bytes .ensures)
+    as-done (a .nn) (a .message .now) (stateWords (c .before .final-state .result)) (c .digest-bytes .result)
+    (right (a .nn) (omega arith) (omega arith)) (c .before .final-state .ensures) (c .digest-bytes .ensures)
 
 pub hash-spec : {M : Type 1} → statement M
 hash-spec =

@@ -1,18 +1,18 @@
 -- `listing::list_on` meets its contract. Assumes nothing.
 use native.Mathlib.Omega.{arith}
 use borrow.Author.Needs.{needs}
-use Rattle.listing_lines.proofs.Listed.{listed-count}
+use Rattle.listing_lines.proofs.Listed.{listed-length}
 use Rattle.listing.proofs.list_on.Statement.{statement}
 use Rattle.listing.proofs.list_on.Tie as tie
-use Rattle.listing.proofs.list_on.Reads as reads
-use Rattle.listing.proofs.list_on.Lts as lts
 
 part-write-all-end : tie.Need-part-write-all-end
-part-write-all-end c = omega (arith, listed-count (c .before .before .before .list .ensures))
+part-write-all-end c =
+    let k = c .before .before .len .given in
+    omega (arith, listed-length (k .0 .0) (c .before .before .before .before .before .before .list .ensures) (k .1))
 
 pub list-on-spec : {M : Type 1} → statement M
 list-on-spec =
     tie.close
     (tie.spec (λ c κs. search needs) (λ c. search needs) (λ c. search needs) (λ c. search needs) (λ c κs. search needs)
-    (λ c. search needs) (λ c. search needs) part-write-all-end (λ c κs. search needs) (λ c. search needs) (λ c. search needs)
-    (λ c. search needs))
+    (λ c. search needs) (λ c. search needs) (λ c. search needs) part-write-all-end (λ c κs. search needs) (λ c. search needs)
+    (λ c. search needs) (λ c. search needs) (λ c. search needs) (λ c. search needs) (λ c. search needs) (λ c. search needs))

@@ -1,12 +1,23 @@
--- `audit::bits::data_byte` meets its contract.  Assumes nothing.
-use Rattle.bitfield.specs.Bits.{byteOf}
+-- `audit::bits::data_byte` meets its contract. Assumes nothing.
+use native.Mathlib.Nat.{add-zero}
+use mathlib.Core.Path.{_∙_, ap}
 use borrow.Author.Needs.{needs}
+use Rattle.bitfield.specs.Bits.{byteOf}
+use Rattle.bitfield.specs.Image.{heldBelow}
+use Rattle.audit.specs.Bytes.{eight}
 use Rattle.audit.proofs.bits.data_byte.Statement.{statement}
 use Rattle.audit.proofs.bits.data_byte.Tie as tie
 
 returns : tie.Need-returns
 unfolding byteOf
-returns c = c .byte-of .ensures
+returns c =
+    let f = c .before .before .before .before .before .before .before .before in
+    let a = f .before .args in
+    c .byte-of .ensures
+    ∙ (λ j. eight ((f .held-behind .ensures ∙ ap (heldBelow (a .n)) (add-zero (a .c .0))) j) (c .before .before .before .before .before .before .before .held-behind2 .ensures j) (c .before .before .before .before .before .before .held-behind3 .ensures j) (c .before .before .before .before .before .held-behind4 .ensures j) (c .before .before .before .before .held-behind5 .ensures j) (c .before .before .before .held-behind6 .ensures j) (c .before .before .held-behind7 .ensures j) (c .before .held-behind8 .ensures j))
 
 pub data-byte-spec : {M : Type 1} → statement M
-data-byte-spec = tie.close (tie.spec (λ c. search needs) (λ c. search needs) (λ c. search needs) (λ c. search needs) (λ c. search needs) (λ c. search needs) (λ c. search needs) (λ c κs. search needs) returns)
+data-byte-spec =
+    tie.close
+    (tie.spec (λ c κs. search needs) (λ c κs. search needs) (λ c κs. search needs) (λ c κs. search needs) (λ c κs. search needs)
+    (λ c κs. search needs) (λ c κs. search needs) (λ c κs. search needs) (λ c κs. search needs) returns)

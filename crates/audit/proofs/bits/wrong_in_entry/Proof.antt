@@ -3,55 +3,92 @@ use Prim.Native.Nat.{_+_, _*_, _-_}
 use Rattle.audit.proofs.Bytes.{Passing, entry-room, part-long, index-by, passing-start, passing-next, passing-found, passing-done}
 use Rattle.counts.specs.Said.{said}
 use borrow.Author.Needs.{needs}
-use mathlib.Core.Path.{_∙_, sym, refl}
+use mathlib.Core.Path.{_∙_, sym}
 use native.Mathlib.Omega.{arith}
 use Rattle.audit.proofs.bits.wrong_in_entry.Statement.{statement}
 use Rattle.audit.proofs.bits.wrong_in_entry.Tie as tie
 
 abbrev Inv-loop : tie.InvT-loop
-Inv-loop xs n e at from end index j₀ j = Passing xs n e at j index
+Inv-loop xs n e at from end index j₀ j = Passing xs n e (at .0) j index
 
 abbrev μ-loop : tie.MeasureT-loop
 μ-loop xs n e at from end index j₀ j = 3328 - j
 
-mul-at : tie.Need-mul-at Inv-loop μ-loop
-mul-at c = let a = c .before .args in let w = entry-room (a .xs .now) (a .n) (a .e) (c .before .pre) in omega (arith, w .0, w .1)
-
-add-at : tie.Need-add-at Inv-loop μ-loop
-add-at c = let a = c .before .args in let w = entry-room (a .xs .now) (a .n) (a .e) (c .before .pre) in omega (arith, w .0, w .1)
+entry-offset-requires : tie.Need-entry-offset-requires Inv-loop μ-loop
+entry-offset-requires c κs =
+    let a = c .before .args in
+    entry-room (a .xs .now) (a .n) (a .e) (c .before .pre) .0
 
 add-end : tie.Need-add-end Inv-loop μ-loop
-add-end c = let a = c .before .args in let w = entry-room (a .xs .now) (a .n) (a .e) (c .before .pre) in omega (arith, w .0, w .1)
+add-end c =
+    let a = c .before .before .args in
+    let o = c .entry-offset in
+    let w = entry-room (a .xs .now) (a .n) (a .e) (c .before .before .pre) in
+    omega (arith, w .0, w .1, o .ensures)
 
 part-index-of-end : tie.Need-part-index-of-end Inv-loop μ-loop
-part-index-of-end c = let a = c .before .args in let w = entry-room (a .xs .now) (a .n) (a .e) (c .before .pre) in omega (arith, w .0, w .1)
+part-index-of-end c =
+    let a = c .before .before .args in
+    let o = c .entry-offset in
+    let w = entry-room (a .xs .now) (a .n) (a .e) (c .before .before .pre) in
+    omega (arith, w .0, w .1, o .ensures)
 
 index-of-requires : tie.Need-index-of-requires Inv-loop μ-loop
-index-of-requires c κs = let a = c .before .before .args in let w = entry-room (a .xs .now) (a .n) (a .e) (c .before .before .pre) in part-long (a .xs .now) (32 + 3328 * a .e) (32 + 3328 * a .e + 1024 - (32 + 3328 * a .e)) (omega (arith, w .1)) (omega arith)
+index-of-requires c κs =
+    let a = c .before .before .before .args in
+    let o = c .before .entry-offset in
+    let w = entry-room (a .xs .now) (a .n) (a .e) (c .before .before .before .pre) in
+    part-long (a .xs .now) (o .result .0) (o .result .0 + 1024 - (o .result .0)) (omega (arith, w .1, o .ensures)) (omega arith)
 
 loop-holds : tie.Need-loop-holds Inv-loop μ-loop
-loop-holds c = let a = c .before .before .before .args in passing-start (a .xs .now) (a .n) (a .e) (32 + 3328 * a .e) (c .index-of .result) refl (index-by (a .xs .now) (a .e) (32 + 3328 * a .e + 1024 - (32 + 3328 * a .e)) (c .index-of .result) (omega arith) (c .index-of .ensures))
+loop-holds c =
+    let a = c .before .before .before .before .args in
+    let o = c .before .before .entry-offset in
+    passing-start (a .xs .now) (a .n) (a .e) (o .result .0) (c .index-of .result) (o .ensures) (index-by (a .xs .now) (a .e) (o .result .0) (o .result .0 + 1024 - o .result .0) (c .index-of .result) (o .ensures) (omega arith) (c .index-of .ensures))
 
 add-place : tie.Need-add-place Inv-loop μ-loop
-add-place c = let a = c .before .before .before .before .before .args in let w = entry-room (a .xs .now) (a .n) (a .e) (c .before .before .before .before .before .pre) in omega (arith, w .0, w .1)
+add-place c =
+    let a = c .before .before .before .before .before .before .before .args in
+    let o = c .before .before .before .before .before .entry-offset in
+    let w = entry-room (a .xs .now) (a .n) (a .e) (c .before .before .before .before .before .before .before .pre) in
+    omega (arith, w .0, w .1, o .ensures)
 
 shared-slice-read-if1 : tie.Need-shared-slice-read-if1 Inv-loop μ-loop
-shared-slice-read-if1 c = let a = c .before .before .before .before .before .before .args in let w = entry-room (a .xs .now) (a .n) (a .e) (c .before .before .before .before .before .before .pre) in omega (arith, w .0, w .1)
+shared-slice-read-if1 c =
+    let a = c .before .before .before .before .before .before .before .before .args in
+    let o = c .before .before .before .before .before .before .entry-offset in
+    let w = entry-room (a .xs .now) (a .n) (a .e) (c .before .before .before .before .before .before .before .before .pre) in
+    omega (arith, w .0, w .1, o .ensures)
 
 expected-byte-requires : tie.Need-expected-byte-requires Inv-loop μ-loop
-expected-byte-requires c κs = let a = c .before .before .before .before .before .before .before .args in (entry-room (a .xs .now) (a .n) (a .e) (c .before .before .before .before .before .before .before .pre) .0, omega (arith, c .before .before .loop-test .taken))
+expected-byte-requires c κs =
+    let a = c .before .before .before .before .before .before .before .before .before .args in
+    (entry-room (a .xs .now) (a .n) (a .e) (c .before .before .before .before .before .before .before .before .before .pre) .0, omega (arith, c .before .before .before .loop-test .taken))
 
-add-t22 : tie.Need-add-t22 Inv-loop μ-loop
-add-t22 c = let a = c .before .before .before .before .before .before .before .before .before .args in let w = entry-room (a .xs .now) (a .n) (a .e) (c .before .before .before .before .before .before .before .before .before .pre) in omega (arith, w .0, w .1)
+add-t21 : tie.Need-add-t21 Inv-loop μ-loop
+add-t21 c =
+    let a = c .before .before .before .before .before .before .before .before .before .before .before .before .args in
+    let o = c .before .before .before .before .before .before .before .before .before .before .entry-offset in
+    let w = entry-room (a .xs .now) (a .n) (a .e) (c .before .before .before .before .before .before .before .before .before .before .before .before .pre) in
+    omega (arith, w .0, w .1, o .ensures)
 
 returns : tie.Need-returns Inv-loop μ-loop
-returns c = let a = c .before .before .before .before .before .before .before .before .before .before .args in passing-found (a .xs .now) (a .n) (a .e) (32 + 3328 * a .e) (c .before .before .before .before .before .before .before .index-of .result) (c .before .before .before .before .before .before .loop .j) (c .before .before .before .before .before .before .loop .inv) (c .before .before .before .before .before .before .before .before .before .before .pre) (said (c .refuse-byte .result)) (omega (arith, c .before .before .before .before .before .loop-test .taken)) (λ z. c .before .if1 .taken (z ∙ sym (c .before .before .expected-byte .ensures))) (c .refuse-byte .ensures)
+returns c =
+    let a = c .before .before .before .before .before .before .before .before .before .before .before .before .before .args in
+    let o = c .before .before .before .before .before .before .before .before .before .before .before .entry-offset in
+    passing-found (a .xs .now) (a .n) (a .e) (o .result .0) (c .before .before .before .before .before .before .before .before .before .index-of .result) (c .before .before .before .before .before .before .before .before .loop .j) (c .before .before .before .before .before .before .before .before .loop .inv) (c .before .before .before .before .before .before .before .before .before .before .before .before .before .pre) (said (c .refuse-byte .result)) (omega (arith, c .before .before .before .before .before .before .before .loop-test .taken)) (λ z. c .before .before .if1 .taken (z ∙ sym (c .before .before .before .expected-byte .ensures))) (c .refuse-byte .ensures)
 
 loop-again : tie.Need-loop-again Inv-loop μ-loop
-loop-again c = let a = c .before .before .before .before .before .before .before .before .before .args in passing-next (a .xs .now) (a .n) (a .e) (32 + 3328 * a .e) (c .before .before .before .before .before .before .index-of .result) (c .before .before .before .before .before .loop .j) (c .before .before .before .before .before .loop .inv) (omega (arith, c .before .before .before .before .loop-test .taken)) (c .if1 .left ∙ c .before .expected-byte .ensures)
+loop-again c =
+    let a = c .before .before .before .before .before .before .before .before .before .before .before .args in
+    let o = c .before .before .before .before .before .before .before .before .before .entry-offset in
+    passing-next (a .xs .now) (a .n) (a .e) (o .result .0) (c .before .before .before .before .before .before .before .index-of .result) (c .before .before .before .before .before .before .loop .j) (c .before .before .before .before .before .before .loop .inv) (omega (arith, c .before .before .before .before .before .loop-test .taken)) (c .if1 .left ∙ c .before .expected-byte .ensures)
 
 returns-2 : tie.Need-returns-2 Inv-loop μ-loop
-returns-2 c = let a = c .before .before .before .before .before .args in passing-done (a .xs .now) (a .n) (a .e) (32 + 3328 * a .e) (c .before .before .index-of .result) (c .before .loop .j) (c .before .loop .inv) (c .before .before .before .before .before .pre) (omega (arith, c .loop-test .left))
+returns-2 c =
+    let a = c .before .before .before .before .before .before .args in
+    let o = c .before .before .before .before .entry-offset in
+    passing-done (a .xs .now) (a .n) (a .e) (o .result .0) (c .before .before .index-of .result) (c .before .loop .j) (c .before .loop .inv) (c .before .before .before .before .before .before .pre) (omega (arith, c .loop-test .left))
 
 pub wrong-in-entry-spec : {M : Type 1} → statement M
-wrong-in-entry-spec = tie.close (tie.spec Inv-loop μ-loop mul-at add-at add-end (λ c. search needs) (λ c. search needs) part-index-of-end index-of-requires loop-holds add-place shared-slice-read-if1 expected-byte-requires add-t22 (λ c κs. search needs) returns (λ c. search needs) (λ c. search needs) loop-again returns-2)
+wrong-in-entry-spec = tie.close (tie.spec Inv-loop μ-loop entry-offset-requires add-end (λ c. search needs) (λ c. search needs) part-index-of-end index-of-requires loop-holds add-place shared-slice-read-if1 expected-byte-requires add-t21 (λ c κs. search needs) returns (λ c. search needs) (λ c. search needs) loop-again returns-2)

@@ -12,8 +12,8 @@ use Rattle.lookup.proofs.descent.is_within.Tie as tie
 enum-known-sought : tie.Need-enum-known-sought
 enum-known-sought c = search needs
 
-is-filled-requires : tie.Need-is-filled-requires
-is-filled-requires c κs = search needs
+ends-before-requires : tie.Need-ends-before-requires
+ends-before-requires c κs = search needs
 
 enum-known-sought-2 : tie.Need-enum-known-sought-2
 enum-known-sought-2 c = search needs
@@ -25,7 +25,7 @@ returns : tie.Need-returns
 returns c =
     let a = c .before .before .before .before .args in
     let k = c .before .before .sought .given in
-    ap not (c .is-filled .ensures)
+    ap not (c .ends-before .ensures)
     ∙ chunk-within (k .0 .0 .0) (a .i .0) (a .start .0) (a .size)
     ∙ sym (ap (λ s. withinOf s (depth (a .i .0)) (block (a .i .0)) (a .start .0) (a .size)) (k .1))
 
@@ -40,7 +40,7 @@ is-within-spec =
     tie.close
     (tie.spec
     enum-known-sought
-    is-filled-requires
+    ends-before-requires
     enum-known-sought-2
     add-result
     returns

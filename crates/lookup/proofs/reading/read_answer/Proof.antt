@@ -1,10 +1,4 @@
 -- `lookup::reading::read_answer` meets its contract: each arm knows which register is named. Assumes nothing.
-use mathlib.Core.Path.{sym, ap, _∙_}
-use Rattle.blake2b.specs.Hash.{nodeHash}
-use Rattle.checks.specs.Given.{registerOf}
-use Rattle.lookup.specs.Read.{named, readVerdict}
-use Rattle.lookup.specs.Said.{nameOf}
-use Rattle.lookup.specs.declared.reading.Name.{Name}
 use borrow.Author.Needs.{needs}
 use Rattle.lookup.proofs.reading.read_answer.Statement.{statement}
 use Rattle.lookup.proofs.reading.read_answer.Tie as tie
@@ -22,18 +16,10 @@ answer-one-requires-2 : tie.Need-answer-one-requires-2
 answer-one-requires-2 c κs = search needs
 
 returns : tie.Need-returns
-returns c =
-    let a = c .before .before .before .before .before .before .before .before .before .before .before .args in
-    let m = registerOf (a .mtree .now) (a .msignatures .now) (a .mbitfield .now) (a .mdata .now) (a .mn) (a .ms) (a .msize) in
-    let d = registerOf (a .ctree .now) (a .csignatures .now) (a .cbitfield .now) (a .cdata .now) (a .cn) (a .cs) (a .csize) in
-    c .answer-one .ensures ∙ sym (ap (λ (x : Name). readVerdict nodeHash (named (nameOf x) m d) (a .chunk .0)) (c .before .enum-told .given .1))
+returns c = rw (c .before .enum-told .given .1) (c .answer-one .ensures)
 
 returns-2 : tie.Need-returns-2
-returns-2 c =
-    let a = c .before .before .before .before .before .before .before .before .before .before .before .args in
-    let m = registerOf (a .mtree .now) (a .msignatures .now) (a .mbitfield .now) (a .mdata .now) (a .mn) (a .ms) (a .msize) in
-    let d = registerOf (a .ctree .now) (a .csignatures .now) (a .cbitfield .now) (a .cdata .now) (a .cn) (a .cs) (a .csize) in
-    c .answer-one2 .ensures ∙ sym (ap (λ (x : Name). readVerdict nodeHash (named (nameOf x) m d) (a .chunk .0)) (c .before .enum-told2 .given .1))
+returns-2 c = rw (c .before .enum-told2 .given .1) (c .answer-one2 .ensures)
 
 pub read-answer-spec : {M : Type 1} → statement M
 read-answer-spec =

@@ -1,59 +1,39 @@
 -- `packet::checking::sizes_in_turn` meets its contract. Assumes nothing.
-use Prim.Native.Nat.{ℕ, zero-le, _+_, _-_, _*_, _≤_, _<_}
-use mathlib.Core.Path.{_≡_, sym, ap, _∙_}
-use native.Mathlib.Omega.{arith}
-use Rattle.sequences.specs.Lists.{run}
+use Prim.Native.Nat.{_-_}
+use mathlib.Core.Path.{ap, refl}
+use borrow.Author.Needs.{needs}
 use Rattle.files.specs.Nodes.{Entry}
-use Rattle.files.specs.ByValue.{padded}
-use Rattle.files.proofs.ByValue.{padded-none, padded-turn}
+use Rattle.files.proofs.ByValue.{Filling, filling-none, filling-next, filling-all}
 use Rattle.packet.specs.Parts.{turnEntry, sizeRow, entryOf}
 use Rattle.packet.proofs.Climb.{turn-in}
-use borrow.Author.Needs.{needs}
 use Rattle.packet.proofs.checking.sizes_in_turn.Statement.{statement}
 use Rattle.packet.proofs.checking.sizes_in_turn.Tie as tie
 
 abbrev Inv-loop : tie.InvT-loop
-Inv-loop packet at place node count sizes₀ j₀ sizes j = (j ≤ count) × (sizes ≡ padded 0 j (sizeRow packet at place (entryOf node) j))
+Inv-loop packet at place node count sizes₀ j₀ sizes j = Filling 0 (λ i. turnEntry packet at place (entryOf node) i .size) count j sizes
 
 abbrev μ-loop : tie.MeasureT-loop
 μ-loop packet at place node count sizes₀ j₀ sizes j = count - j
 
 loop-holds : tie.Need-loop-holds Inv-loop μ-loop
-unfolding sizeRow
-loop-holds c =
-    let a = c .before .args in
-    (zero-le, padded-none 0 (λ i. turnEntry (a .packet .now) (a .at) (a .place) (entryOf (a .node)) i .size))
+loop-holds c = filling-none _ _ _ (c .before .pre .few)
 
 in-turn-requires : tie.Need-in-turn-requires Inv-loop μ-loop
 in-turn-requires c κs =
-    let a = c .before .before .before .args in
-    turn-in (a .packet .now) (a .at) (a .place) (a .count) (c .before .loop .j) (c .before .before .before .pre) (c .loop-test .taken)
+    let a = c .before .before .before .args in turn-in (a .packet .now) (a .at) (a .place) (a .count) (c .before .loop .j) (c .before .before .before .pre) (c .loop-test .taken)
 
 loop-again : tie.Need-loop-again Inv-loop μ-loop
-unfolding sizeRow
 loop-again c =
-    let a = c .before .before .before .before .args in
     let l = c .before .before .loop in
-    let h : l .j < 20 = omega (arith, c .before .before .before .before .pre .few) in (
-      omega arith,
-      padded-turn 0 (λ i. turnEntry (a .packet .now) (a .at) (a .place) (entryOf (a .node)) i .size) (l .j) (c .in-turn .result .size) (l .sizes) h
-          (l .inv .1) (ap (λ (e : Entry). e .size) (c .in-turn .ensures)),
-    )
+    filling-next _ _ _ (l .j) (l .sizes) (l .inv) _ (c .in-turn .result .size) (c .before .loop-test .taken)
+    (ap (λ (e : Entry). e .size) (c .in-turn .ensures)) refl
 
 returns : tie.Need-returns Inv-loop μ-loop
-returns c =
-    let a = c .before .before .before .args in
-    let e : c .before .loop .j ≡ a .count = omega arith in
-    c .before .loop .inv .1 ∙ ap (λ (i : ℕ). padded 0 i (sizeRow (a .packet .now) (a .at) (a .place) (entryOf (a .node)) i)) e
+unfolding sizeRow
+returns c = filling-all _ _ _ _ _ (c .before .loop .inv) (c .loop-test .left)
 
 pub sizes-in-turn-spec : {M : Type 1} → statement M
 sizes-in-turn-spec =
     tie.close
-    (tie.spec
-    Inv-loop
-    μ-loop
-    loop-holds
-    in-turn-requires
-    (λ c. search needs) (λ c. search needs) (λ c. search needs) (λ c. search needs)
-    loop-again
-    returns)
+    (tie.spec Inv-loop μ-loop loop-holds in-turn-requires (λ c. search needs) (λ c. search needs) (λ c. search needs) (λ c. search needs)
+    loop-again returns)

@@ -1,22 +1,24 @@
 -- `packet::path::other_indexes` meets its contract. Assumes nothing.
-use Prim.Native.Nat.{ℕ, zero-le, _+_, _-_, _≤_, _<_}
-use mathlib.Core.Path.{_≡_, sym, ap, _∙_, subst}
+use Prim.Native.Nat.{ℕ, _-_, _<_}
+use mathlib.Core.Path.{sym, ap, _∙_, subst}
 use native.Mathlib.Omega.{arith}
 use lib.ListN.{length, getD}
+use Rattle.sequences.specs.Lists.{run}
 use Rattle.tree_index.specs.Tree.{roots}
 use Rattle.tree_index.specs.Numbers.{numbers}
 use Rattle.tree_index.proofs.Numbers.{numbers-set}
 use Rattle.tree_index.proofs.Roots.{length-roots-le}
 use Rattle.files.specs.ByValue.{padded}
+use Rattle.files.proofs.ByValue.{Filling, filling-none, filling-next, filling-all}
 use Rattle.packet.specs.Parts.{skipped, otherRow}
 use Rattle.packet.proofs.Above.{root-in}
-use Rattle.packet.proofs.Rows.{skipped-below, other-none, other-turn}
+use Rattle.packet.proofs.Rows.{skipped-below}
 use borrow.Author.Needs.{needs}
 use Rattle.packet.proofs.path.other_indexes.Statement.{statement}
 use Rattle.packet.proofs.path.other_indexes.Tie as tie
 
 abbrev Inv-loop : tie.InvT-loop
-Inv-loop n place indexes count found₀ j₀ found j = (j ≤ count) × (numbers found ≡ padded 0 j (otherRow (roots n) place j))
+Inv-loop n place indexes count found₀ j₀ found j = Filling 0 (λ i. getD (roots n) (skipped place i) 0) count j (numbers found)
 
 abbrev μ-loop : tie.MeasureT-loop
 μ-loop n place indexes count found₀ j₀ found j = count - j
@@ -34,7 +36,7 @@ sub-count c = omega (arith, c .root-count .ensures)
 
 loop-holds : tie.Need-loop-holds Inv-loop μ-loop
 unfolding numbers
-loop-holds c = let a = c .before .before .args in (zero-le, other-none (roots (a .n)) (a .place))
+loop-holds c = filling-none _ _ _ (omega (arith, c .root-count .ensures, length-roots-le (c .before .before .args .n) (c .before .before .pre .0)))
 
 skipping-requires : tie.Need-skipping-requires Inv-loop μ-loop
 skipping-requires c κs = omega (arith, c .before .before .root-count .ensures, length-roots-le (c .before .before .before .before .args .n) (c .before .before .before .before .pre .0))
@@ -61,18 +63,16 @@ loop-again c =
     let g : l .j < length (roots (a .n)) - 1 = subst (λ (x : ℕ). l .j < x - 1) (m .ensures) (c .before .before .loop-test .taken) in
     let s : q .result < length (roots (a .n)) =
     subst (λ (x : ℕ). x < length (roots (a .n))) (sym (q .ensures)) (skipped-below (a .place) (l .j) (length (roots (a .n))) g (c .before .before .before .before .before .before .pre .1)) in
-    let k : l .j < 20 = omega (arith, length-roots-le (a .n) (c .before .before .before .before .before .before .pre .0)) in (
-      omega arith,
-      numbers-set (l .found) (l .j) (getD (is .result) (q .result) (record { 0 = 0 }))
-          ∙ other-turn (roots (a .n)) (a .place) (l .j) (getD (is .result) (q .result) (record { 0 = 0 }) .0) (numbers (l .found)) k (l .inv .1)
-          (root-in (is .result) (a .n) (q .result) (is .ensures) s ∙ ap (λ (i : ℕ). getD (roots (a .n)) i 0) (q .ensures)),
-    )
+    filling-next _ _ _ (l .j) (numbers (l .found)) (l .inv) _ (getD (is .result) (q .result) (record { 0 = 0 }) .0) (c .before .before .loop-test .taken)
+    (root-in (is .result) (a .n) (q .result) (is .ensures) s ∙ ap (λ (i : ℕ). getD (roots (a .n)) i 0) (q .ensures))
+    (numbers-set (l .found) (l .j) (getD (is .result) (q .result) (record { 0 = 0 })))
 
 returns : tie.Need-returns Inv-loop μ-loop
+unfolding otherRow
 returns c =
     let a = c .before .before .before .before .args in
-    let e : c .before .loop .j ≡ length (roots (a .n)) - 1 = omega (arith, c .before .before .root-count .ensures) in
-    c .before .loop .inv .1 ∙ ap (λ (i : ℕ). padded 0 i (otherRow (roots (a .n)) (a .place) i)) e
+    filling-all _ _ _ _ _ (c .before .loop .inv) (c .loop-test .left)
+    ∙ ap (λ (i : ℕ). padded 0 (i - 1) (run (λ j. getD (roots (a .n)) (skipped (a .place) j) 0) 0 (i - 1))) (c .before .before .root-count .ensures)
 
 pub other-indexes-spec : {M : Type 1} → statement M
 other-indexes-spec =

@@ -21,14 +21,14 @@ abbrev μ-loop : tie.MeasureT-loop
 loop-holds : tie.Need-loop-holds Inv-loop μ-loop
 loop-holds c = let a = c .before .before .args in seeking-none (roots (a .n)) (a .chunk .0)
 
-mul-is-filled : tie.Need-mul-is-filled Inv-loop μ-loop
-mul-is-filled c = omega (arith, c .before .before .before .root-count .ensures, length-roots-le (c .before .before .before .before .args .n) (c .before .before .before .before .pre))
+mul-ends-before : tie.Need-mul-ends-before Inv-loop μ-loop
+mul-ends-before c = omega (arith, c .before .before .before .root-count .ensures, length-roots-le (c .before .before .before .before .args .n) (c .before .before .before .before .pre))
 
-array-copy-out-is-filled : tie.Need-array-copy-out-is-filled Inv-loop μ-loop
-array-copy-out-is-filled c = omega (arith, c .before .before .before .root-count .ensures, length-roots-le (c .before .before .before .before .args .n) (c .before .before .before .before .pre))
+array-copy-out-ends-before : tie.Need-array-copy-out-ends-before Inv-loop μ-loop
+array-copy-out-ends-before c = omega (arith, c .before .before .before .root-count .ensures, length-roots-le (c .before .before .before .before .args .n) (c .before .before .before .before .pre))
 
-is-filled-requires : tie.Need-is-filled-requires Inv-loop μ-loop
-is-filled-requires c κs =
+ends-before-requires : tie.Need-ends-before-requires Inv-loop μ-loop
+ends-before-requires c κs =
     let a = c .before .before .before .before .before .args in
     let is = c .before .before .before .root-indexes in
     root-small (is .result) (a .n) (c .before .before .loop .j) (c .before .before .before .before .before .pre) (is .ensures)
@@ -41,7 +41,7 @@ returns c =
     let j = c .before .before .before .before .loop .j in
     let h : j < length (roots (a .n)) = subst (λ (x : ℕ). j < x) (c .before .before .before .before .before .before .root-count .ensures) (c .before .before .before .loop-test .taken) in
     seeking-found (roots (a .n)) (a .chunk .0) j (placeAbove (roots (a .n)) (a .chunk .0)) (c .before .before .before .before .loop .inv) h
-    (ap (filled (a .chunk .0)) (sym (root-in (is .result) (a .n) j (is .ensures) h)) ∙ sym (c .before .is-filled .ensures) ∙ not-true _ (c .if1 .taken))
+    (ap (filled (a .chunk .0)) (sym (root-in (is .result) (a .n) j (is .ensures) h)) ∙ sym (c .before .ends-before .ensures) ∙ not-true _ (c .if1 .taken))
 
 loop-again : tie.Need-loop-again Inv-loop μ-loop
 loop-again c =
@@ -50,7 +50,7 @@ loop-again c =
     let j = c .before .before .before .before .loop .j in
     let h : j < length (roots (a .n)) = subst (λ (x : ℕ). j < x) (c .before .before .before .before .before .before .root-count .ensures) (c .before .before .before .loop-test .taken) in
     seeking-next (roots (a .n)) (a .chunk .0) j (placeAbove (roots (a .n)) (a .chunk .0)) (c .before .before .before .before .loop .inv) h
-    (ap (filled (a .chunk .0)) (sym (root-in (is .result) (a .n) j (is .ensures) h)) ∙ sym (c .before .is-filled .ensures) ∙ not-false _ (c .if1 .left))
+    (ap (filled (a .chunk .0)) (sym (root-in (is .result) (a .n) j (is .ensures) h)) ∙ sym (c .before .ends-before .ensures) ∙ not-false _ (c .if1 .left))
 
 returns-2 : tie.Need-returns-2 Inv-loop μ-loop
 returns-2 c =
@@ -66,9 +66,9 @@ root-place-spec =
     μ-loop
     (λ c κs. search needs) (λ c κs. search needs)
     loop-holds
-    mul-is-filled
-    array-copy-out-is-filled
-    is-filled-requires
+    mul-ends-before
+    array-copy-out-ends-before
+    ends-before-requires
     returns
     (λ c. search needs) (λ c. search needs)
     loop-again

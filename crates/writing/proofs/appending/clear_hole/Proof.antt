@@ -1,22 +1,34 @@
 -- `writing::appending::clear_hole` meets its contract. Assumes nothing.
+use Prim.Native.Nat.{ℕ, _-_, _*_}
+use mathlib.Core.Path.{ap, _∙_}
 use borrow.Author.Needs.{needs}
 use Rattle.writing.proofs.Stored.{no-hole-first, no-hole, a-hole, hole-in}
 use Rattle.writing.proofs.appending.clear_hole.Statement.{statement}
 use Rattle.writing.proofs.appending.clear_hole.Tie as tie
 
+-- the entry before the leaf of a chunk
+abbrev before : ℕ → ℕ
+before n = 2 * n - 1
+
 returns : tie.Need-returns
 returns c = let a = c .before .before .args in no-hole-first (a .tree .now) (a .n) (c .if1 .taken)
 
 returns-2 : tie.Need-returns-2
-returns-2 c = let a = c .before .before .before .before .before .args in no-hole (a .tree .now) (a .n) _ _ (c .before .before .parent-before .ensures) (c .before .is-filled .ensures) (c .if2 .taken)
+returns-2 c =
+    let a = c .before .before .before .before .before .before .args in
+    no-hole (a .tree .now) (a .n) _ _ (c .before .before .parent-before .ensures ∙ ap before (c .before .before .before .chunk-behind .ensures)) (c .before .is-filled .ensures) (c .if2 .taken)
 
 clear-entry-requires : tie.Need-clear-entry-requires
-clear-entry-requires c κs = let s = c .before .before .before .before .before .before in hole-in (s .args .tree .now) (s .args .n) _ (s .pre .0) (s .pre .1) (c .before .before .before .parent-before .ensures)
+clear-entry-requires c κs =
+    let a = c .before .before .before .before .before .before .before .args in
+    hole-in (a .tree .now) (a .n) _ (c .before .before .before .before .before .before .before .pre .0) (c .before .before .before .before .before .before .before .pre .1) (c .before .before .before .parent-before .ensures ∙ ap before (c .before .before .before .before .chunk-behind .ensures))
 
 returns-3 : tie.Need-returns-3
-returns-3 c = let a = c .before .before .before .before .before .before .before .before .before .args in a-hole (a .tree .now) (a .n) _ _ (c .before .before .before .before .before .before .parent-before .ensures) (c .before .before .before .before .before .is-filled .ensures) _ (c .before .before .before .before .if2 .left) (c .before .before .clear-entry .ensures)
+returns-3 c =
+    let a = c .before .before .before .before .before .before .before .before .before .before .args in
+    a-hole (a .tree .now) (a .n) _ _ (c .before .before .before .before .before .before .parent-before .ensures ∙ ap before (c .before .before .before .before .before .before .before .chunk-behind .ensures)) (c .before .before .before .before .before .is-filled .ensures) _ (c .before .before .before .before .if2 .left) (c .before .before .clear-entry .ensures)
 
 pub clear-hole-spec : {M : Type 1} → statement M
 clear-hole-spec =
     tie.close
-    (tie.spec returns (λ c κs. search needs) (λ c. search needs) (λ c κs. search needs) returns-2 clear-entry-requires (λ c. search needs) returns-3)
+    (tie.spec returns (λ c κs. search needs) (λ c κs. search needs) (λ c. search needs) (λ c κs. search needs) returns-2 clear-entry-requires (λ c. search needs) returns-3)

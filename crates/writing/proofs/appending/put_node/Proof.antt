@@ -1,17 +1,30 @@
 -- `writing::appending::put_node` meets its contract. Assumes nothing.
+use Prim.Native.Nat.{ℕ, _+_, _-_, _/_, _^_, _≤_, _<_}
+use mathlib.Core.Path.{sym, ap, subst, _∙_}
 use borrow.Author.Needs.{needs}
+use Rattle.tree_index.specs.Tree.{index, completed}
 use Rattle.writing.proofs.Stored.{place-in, node-put}
 use Rattle.writing.proofs.appending.put_node.Statement.{statement}
 use Rattle.writing.proofs.appending.put_node.Tie as tie
 
+-- the node of 2^d chunks that ends with a chunk
+abbrev ending : ℕ → ℕ → ℕ
+ending d n = index d ((n + 1) / 2 ^ d - 1)
+
 node-ending-requires : tie.Need-node-ending-requires
-node-ending-requires c κs = let s = c .before in (s .pre .few, s .pre .depth)
+node-ending-requires c κs =
+    let a = c .before .before .args in
+    subst (λ (m : ℕ). (m < 1048576) × (a .d ≤ completed m)) (sym (c .chunk-behind .ensures)) (c .before .before .pre .few, c .before .before .pre .depth)
 
 write-entry-requires : tie.Need-write-entry-requires
-write-entry-requires c κs = let s = c .before .before .before .before .before in place-in (s .args .tree .now) (s .args .n) (s .args .d) _ (s .pre .few) (s .pre .depth) (s .pre .room) (c .before .before .before .node-ending .ensures)
+write-entry-requires c κs =
+    let a = c .before .before .before .before .before .before .args in
+    place-in (a .tree .now) (a .n) (a .d) _ (c .before .before .before .before .before .before .pre .few) (c .before .before .before .before .before .before .pre .depth) (c .before .before .before .before .before .before .pre .room) (c .before .before .before .node-ending .ensures ∙ ap (ending (a .d)) (c .before .before .before .before .chunk-behind .ensures))
 
 returns : tie.Need-returns
-returns c = let a = c .before .before .before .before .before .before .before .before .args in node-put (a .tree .now) _ (a .node .hash) (a .n) (a .d) (a .node .size) _ (c .before .before .before .before .before .before .node-ending .ensures) (c .before .before .write-entry .ensures)
+returns c =
+    let a = c .before .before .before .before .before .before .before .before .before .args in
+    node-put (a .tree .now) _ (a .node .hash) (a .n) (a .d) (a .node .size) _ (c .before .before .before .before .before .before .node-ending .ensures ∙ ap (ending (a .d)) (c .before .before .before .before .before .before .before .chunk-behind .ensures)) (c .before .before .write-entry .ensures)
 
 pub put-node-spec : {M : Type 1} → statement M
-put-node-spec = tie.close (tie.spec node-ending-requires write-entry-requires (λ c. search needs) returns)
+put-node-spec = tie.close (tie.spec (λ c κs. search needs) node-ending-requires write-entry-requires (λ c. search needs) returns)

@@ -1,0 +1,20 @@
+-- `gate_audits::damages::each_place` is safe and ends: each buffer keeps its length.
+use borrow.Author.Needs.{needs}
+use Prim.Native.Nat.{_-_}
+use Rattle.gate_samples.specs.Kept.{Kept}
+use Rattle.gate_audits.proofs.damages.each_place.Statement.{statement}
+use Rattle.gate_audits.proofs.damages.each_place.Tie as tie
+
+abbrev Inv-loop : tie.InvT-loop
+Inv-loop tree₀ signatures₀ bitfield₀ data₀ told list count mask image k₀ tree signatures bitfield «data» k =
+    Kept tree₀ signatures₀ bitfield₀ data₀ tree signatures bitfield «data»
+
+abbrev μ-loop : tie.MeasureT-loop
+μ-loop tree₀ signatures₀ bitfield₀ data₀ told list count mask image k₀ tree signatures bitfield «data» k = count - k
+
+pub each-place-spec : {M : Type 1} → statement M
+each-place-spec =
+    tie.close
+    (tie.spec Inv-loop μ-loop (λ c κs. search needs) (λ c. search needs) (λ c κs. search needs) (λ c κs. search needs)
+    (λ c κs. search needs) (λ c. search needs) (λ c. search needs) (λ c. search needs) (λ c. search needs) (λ c. search needs)
+    (λ c. search needs) (λ c. search needs) (λ c. search needs))

@@ -1,0 +1,20 @@
+-- `gate_registers::stages` is safe and ends: each buffer keeps its length.
+use borrow.Author.Needs.{needs}
+use Prim.Native.Nat.{_-_}
+use Rattle.gate_samples.specs.Kept.{Kept}
+use Rattle.gate_registers.proofs.stages.Statement.{statement}
+use Rattle.gate_registers.proofs.stages.Tie as tie
+
+abbrev Inv-loop : tie.InvT-loop
+Inv-loop tree₀ signatures₀ bitfield₀ data₀ last span n₀ size₀ tree signatures bitfield «data» n size =
+    Kept tree₀ signatures₀ bitfield₀ data₀ tree signatures bitfield «data»
+
+abbrev μ-loop : tie.MeasureT-loop
+μ-loop tree₀ signatures₀ bitfield₀ data₀ last span n₀ size₀ tree signatures bitfield «data» n size = last - n
+
+pub stages-spec : {M : Type 1} → statement M
+stages-spec =
+    tie.close
+    (tie.spec Inv-loop μ-loop (λ c. search needs) (λ c. search needs) (λ c κs. search needs) (λ c. search needs)
+    (λ c. search needs) (λ c. search needs) (λ c. search needs) (λ c. search needs) (λ c. search needs) (λ c. search needs)
+    (λ c. search needs))

@@ -1,0 +1,2 @@
+-- What no call looks at, as a statement.
+pub mod UsedBytes

@@ -1,0 +1,114 @@
+/* Empty buffers from C: each call, with each of its buffers NULL and of length 0 in turn, answers what it answers for an empty buffer that is
+ * not NULL. The archive's own calls are declared nonnull, so the sanitizers that tests/run builds this with see each NULL that is handed on. */
+#include <inttypes.h>
+#include <stdio.h>
+#include <stdlib.h>
+#include <string.h>
+
+#include "sleep_register.h"
+
+enum { TREE, SIGNATURES, BITFIELD, DATA, BUFFERS, ROOM = 32 + 3328 };
+
+typedef struct {
+    uint8_t *at[BUFFERS];
+    size_t length[BUFFERS];
+    uint64_t n, s, size;
+} lent;
+
+#define IMAGES(r)                                                                                                               \
+    (r).at[TREE], (r).length[TREE], (r).at[SIGNATURES], (r).length[SIGNATURES], (r).at[BITFIELD], (r).length[BITFIELD],         \
+        (r).at[DATA], (r).length[DATA]
+#define REGISTER(r) IMAGES(r), (r).n, (r).s, (r).size
+
+static uint8_t images[BUFFERS][ROOM], signature[64], packet[SLEEP_PACKET_EXTRA], root[32];
+static uint64_t packet_length, tried;
+
+/* The register of n empty chunks: its data buffer has length 0. */
+static lent empty_chunks(uint64_t n) {
+    lent r = {{images[TREE], images[SIGNATURES], images[BITFIELD], NULL}, {ROOM, ROOM, ROOM, 0}, 0, 0, 0};
+    uint64_t failed = sleep_start(IMAGES(r)).number;
+    while (r.n < n) {
+        failed |= sleep_append(REGISTER(r), NULL, 0, root).number;
+        r.n += 1;
+        failed |= sleep_store_signature(REGISTER(r), signature).number;
+        r.s += 1;
+    }
+    if (failed) exit((puts("a register of empty chunks can't be written"), 1));
+    return r;
+}
+
+/* Each call on a register, by the number that it answers; the comparing walk by its outcome. */
+static uint64_t start(lent r) { return sleep_start(IMAGES(r)).number; }
+static uint64_t append(lent r) { return sleep_append(REGISTER(r), NULL, 0, root).number; }
+static uint64_t append_a(lent r) { return sleep_append(REGISTER(r), (const uint8_t *)"a", 1, root).number; }
+static uint64_t store(lent r) { return r.s -= r.n > 0, sleep_store_signature(REGISTER(r), signature).number; }
+static uint64_t root_hash(lent r) { return sleep_root_hash(REGISTER(r), root).number; }
+static uint64_t audit(lent r) { return sleep_audit(REGISTER(r)).number; }
+static uint64_t place(lent r) { uint64_t out[2]; return sleep_place(REGISTER(r), 2, out).number; }
+static uint64_t byte(lent r) { uint64_t out[2]; return sleep_byte(REGISTER(r), 0, out).number; }
+static uint64_t verified(lent r) { uint64_t out[2]; return sleep_read(REGISTER(r), 2, out).number; }
+static uint64_t make(lent r) { return sleep_make_packet(REGISTER(r), 2, packet, sizeof packet, &packet_length).number; }
+static uint64_t make_in_nothing(lent r) { uint64_t length; return sleep_make_packet(REGISTER(r), 2, NULL, 0, &length).number; }
+static uint64_t compare_first(lent r) { lent b = empty_chunks(3); return sleep_compare(REGISTER(r), REGISTER(b)).outcome; }
+static uint64_t compare_second(lent r) { lent a = empty_chunks(3); return sleep_compare(REGISTER(a), REGISTER(r)).outcome; }
+
+static void expect(const char *call, int buffer, uint64_t answered, uint64_t expected) {
+    tried += 1;
+    if (answered != expected) {
+        printf("%s, buffer %d empty: answered %" PRIu64 ", expected %" PRIu64 "\n", call, buffer, answered, expected);
+        exit(1);
+    }
+}
+
+/* `without` is the answer where tree, signatures or bitfield is empty, `done` where the data are. */
+static void each_buffer(const char *name, uint64_t (*call)(lent), uint64_t without, uint64_t done) {
+    static uint8_t some[1];
+    for (int b = TREE; b < BUFFERS; b++) {
+        lent r = empty_chunks(3);
+        r.at[b] = NULL;
+        r.length[b] = 0;
+        expect(name, b, call(r), b == DATA ? done : without);
+        r = empty_chunks(3);
+        r.at[b] = some;
+        r.length[b] = 0;
+        expect(name, b, call(r), b == DATA ? done : without);
+    }
+}
+
+int main(void) {
+    uint8_t digest[64], again[32];
+    uint64_t out[2];
+    lent r, nothing = {{NULL, NULL, NULL, NULL}, {0, 0, 0, 0}, 0, 0, 0};
+    static const uint8_t of_nothing[4] = {0x0e, 0x57, 0x51, 0xc0}; /* BLAKE2b-256 of the empty message begins so */
+
+    expect("hash", 0, sleep_hash(32, NULL, 0, digest), 0);
+    expect("hash", 0, (uint64_t)memcmp(digest, of_nothing, sizeof of_nothing), 0);
+    sleep_hash_parts(NULL, 0, NULL, 0, again);
+    expect("hash_parts", 0, (uint64_t)memcmp(digest, again, 32), 0);
+    sleep_hash_parts(digest, 1, NULL, 0, again);
+    sleep_hash_parts(NULL, 0, digest, 1, root);
+    expect("hash_parts", 1, (uint64_t)memcmp(root, again, 32), 0);
+
+    each_buffer("start", start, 14, 0);
+    each_buffer("append", append, 4, 0);
+    each_buffer("append of a byte", append_a, 4, 14);
+    each_buffer("store_signature", store, 4, 0);
+    each_buffer("root_hash", root_hash, 4, 0);
+    each_buffer("audit", audit, 4, 0);
+    each_buffer("place", place, 4, 0);
+    each_buffer("byte", byte, 4, 9);
+    each_buffer("read", verified, 4, 0);
+    each_buffer("make_packet", make, 4, 0);
+    each_buffer("make_packet in no room", make_in_nothing, 4, 14);
+    each_buffer("compare, the first", compare_first, SLEEP_FIRST_REFUSED, SLEEP_EQUAL);
+    each_buffer("compare, the second", compare_second, SLEEP_SECOND_REFUSED, SLEEP_EQUAL);
+    expect("all four", 0, start(nothing) + audit(nothing) + append(nothing), 14 + 4 + 4);
+
+    r = empty_chunks(3);
+    expect("root_hash", 0, root_hash(r), 0);
+    expect("make_packet", 0, make(r), 0);
+    expect("check_packet", 0, sleep_check_packet(packet, packet_length, 3, 2, root, out).number, 0);
+    expect("check_packet", 0, sleep_check_packet(NULL, 0, 3, 2, root, out).number, 12);
+    printf("empty buffers: %" PRIu64 " answers as expected\n", tried);
+    return 0;
+}

@@ -1,0 +1,168 @@
+/* The most stack that each call takes, held to the header's SLEEP_STACK_..: a call runs on a stack of its own that was painted, and what is no
+ * longer paint was taken. The calls are made while a register grows to GROWN chunks, at its first chunks and where bitfield entries begin, on
+ * whole and on damaged images, and then on a tree of the greatest depth and one with the most roots, that hold a path alone.
+ * Link it with -z now, so that no symbol is looked up on the painted stack. */
+#include <inttypes.h>
+#include <stdio.h>
+#include <stdlib.h>
+#include <string.h>
+#include <ucontext.h>
+
+#include "sleep_register.h"
+
+enum { GROWN = 16386, MOST = SLEEP_MOST_CHUNKS, STACK = 32768, PAINT = 0xa5, DATA = 8 * GROWN + 3 * SLEEP_LONGEST_CHUNK };
+
+static uint8_t tree[32 + 40 * (2 * MOST - 1)], signatures[32 + 64 * MOST], bitfield[32 + 3328 * (MOST / 8192)], data[DATA];
+static uint64_t n, s, size;
+#define REGISTER tree, sizeof tree, signatures, sizeof signatures, bitfield, sizeof bitfield, data, sizeof data, n, s, size
+
+static uint8_t chunk[SLEEP_LONGEST_CHUNK], packet[SLEEP_LONGEST_CHUNK + SLEEP_PACKET_EXTRA], root[32], digest[64];
+static uint64_t chunk_length, sought, packet_length, out[2], number, outcome;
+
+static void start(void) { number = sleep_start(tree, sizeof tree, signatures, sizeof signatures, bitfield, sizeof bitfield, data, DATA).number; }
+static void hash(void) { number = sleep_hash(64, chunk, sizeof chunk, digest); }
+static void hash_parts(void) { sleep_hash_parts(chunk, 9, chunk, sizeof chunk, digest); }
+static void append(void) { number = sleep_append(REGISTER, chunk, chunk_length, root).number; }
+static void store_signature(void) { number = sleep_store_signature(REGISTER, digest).number; }
+static void root_hash(void) { number = sleep_root_hash(REGISTER, root).number; }
+static void audit(void) { number = sleep_audit(REGISTER).number; }
+static void place(void) { number = sleep_place(REGISTER, sought, out).number; }
+static void byte(void) { number = sleep_byte(REGISTER, sought, out).number; }
+static void verified_read(void) { number = sleep_read(REGISTER, sought, out).number; }
+static void make_packet(void) { number = sleep_make_packet(REGISTER, sought, packet, sizeof packet, &packet_length).number; }
+static void check_packet(void) { number = sleep_check_packet(packet, packet_length, n, sought, root, out).number; }
+static void compare(void) { outcome = sleep_compare(REGISTER, REGISTER).outcome; }
+
+enum { START, HASH, HASH_PARTS, APPEND, STORE_SIGNATURE, ROOT_HASH, AUDIT, PLACE, BYTE, READ, MAKE_PACKET, CHECK_PACKET, COMPARE, CALLS };
+
+static struct {
+    const char *name;
+    void (*call)(void);
+    size_t most, taken;
+} calls[CALLS] = {
+    {"sleep_start", start, SLEEP_STACK_START, 0},
+    {"sleep_hash", hash, SLEEP_STACK_HASH, 0},
+    {"sleep_hash_parts", hash_parts, SLEEP_STACK_HASH_PARTS, 0},
+    {"sleep_append", append, SLEEP_STACK_APPEND, 0},
+    {"sleep_store_signature", store_signature, SLEEP_STACK_STORE_SIGNATURE, 0},
+    {"sleep_root_hash", root_hash, SLEEP_STACK_ROOT_HASH, 0},
+    {"sleep_audit", audit, SLEEP_STACK_AUDIT, 0},
+    {"sleep_place", place, SLEEP_STACK_PLACE, 0},
+    {"sleep_byte", byte, SLEEP_STACK_BYTE, 0},
+    {"sleep_read", verified_read, SLEEP_STACK_READ, 0},
+    {"sleep_make_packet", make_packet, SLEEP_STACK_MAKE_PACKET, 0},
+    {"sleep_check_packet", check_packet, SLEEP_STACK_CHECK_PACKET, 0},
+    {"sleep_compare", compare, SLEEP_STACK_COMPARE, 0},
+};
+
+/* One call on the painted stack. The frame that makes the call counts too, so the figure is never too low. */
+static void measure(int which, uint64_t expected) {
+    static _Alignas(64) uint8_t stack[STACK];
+    static ucontext_t here, there;
+    static size_t left;
+    memset(stack, PAINT, STACK);
+    getcontext(&there);
+    there.uc_stack.ss_sp = stack;
+    there.uc_stack.ss_size = STACK;
+    there.uc_link = &here;
+    number = 0;
+    makecontext(&there, calls[which].call, 0);
+    swapcontext(&here, &there);
+    for (left = 0; left < STACK && stack[left] == PAINT;) left++;
+    if (STACK - left > calls[which].taken) calls[which].taken = STACK - left;
+    if (number != expected) {
+        printf("%s at n = %" PRIu64 ": answered %" PRIu64 ", expected %" PRIu64 "\n", calls[which].name, n, number, expected);
+        exit(1);
+    }
+}
+
+/* Every call that reads the register, for the first, a middle, the last and no chunk. */
+static void measure_reads(void) {
+    const uint64_t some[4] = {0, n / 2, n - 1, n};
+    measure(ROOT_HASH, 0);
+    measure(AUDIT, 0);
+    measure(COMPARE, 0);
+    for (int k = 0; k < 4; k++) {
+        sought = some[k];
+        measure(PLACE, sought < n ? 0 : 9);
+        measure(READ, sought < n ? 0 : 9);
+        measure(MAKE_PACKET, sought < n ? 0 : 9);
+        if (sought < n) measure(CHECK_PACKET, 0);
+        sought = k < 3 ? some[k] * (size - 1) / n : size;
+        if (size > 0) measure(BYTE, k < 3 ? 0 : 9);
+    }
+}
+
+/* A wrong byte in the last leaf's hash and in the bitfield's last byte. */
+static void measure_damage(void) {
+    uint8_t *const wrong[2] = {tree + 32 + 40 * (2 * n - 2), bitfield + 32 + 3328 * ((n + 8191) / 8192) - 1};
+    for (int k = 0; k < 2; k++) {
+        *wrong[k] ^= 1;
+        measure(AUDIT, k == 0 ? 10 : 11);
+        measure(COMPARE, 0);
+        sought = n - 1;
+        measure(READ, k == 0 ? 10 : 0);
+        *wrong[k] ^= 1;
+    }
+}
+
+/* A register from nothing, chunk by chunk. */
+static void grow(void) {
+    measure(START, 0);
+    while (n < GROWN) {
+        chunk_length = n == 1 || n == 8191 || n == GROWN - 2 ? sizeof chunk : n % 8;
+        chunk[0] = (uint8_t)n;
+        measure(APPEND, 0);
+        n += 1;
+        size += chunk_length;
+        measure(APPEND, 8);
+        measure(STORE_SIGNATURE, 0);
+        s += 1;
+        if (n < 8 || n % 8192 == 8191 || n % 8192 < 3) {
+            measure_reads();
+            measure_damage();
+        }
+    }
+}
+
+/* The tree of MOST chunks, where chunk 0 has one byte and all others none: only the lengths above chunk 0 and its leaf hash are there. A
+ * lookup goes all the way down; a packet has all siblings, whose hashes don't give the root hash. */
+static void measure_depth(void) {
+    static const uint8_t one[9] = {0, 0, 0, 0, 0, 0, 0, 0, 1};
+    memset(tree, 0, 32 + 80 * GROWN);
+    n = s = MOST;
+    size = 1;
+    start();
+    sleep_hash_parts(one, sizeof one, data, 1, tree + 32);
+    for (uint64_t block = 1; block <= MOST; block *= 2) tree[32 + 40 * (block - 1) + 39] = 1;
+    measure(ROOT_HASH, 0);
+    for (sought = 0; sought < n; sought += n - 1) measure(PLACE, 0);
+    sought = 0;
+    measure(BYTE, 0);
+    measure(READ, 0);
+    measure(MAKE_PACKET, 0);
+    measure(CHECK_PACKET, 13);
+    measure(APPEND, 2);
+    measure(STORE_SIGNATURE, 8);
+    n = s = MOST - 1;
+    measure(ROOT_HASH, 0);
+    measure(READ, 0);
+    measure(MAKE_PACKET, 0);
+    measure(CHECK_PACKET, 13);
+    measure(AUDIT, 10);
+    measure(COMPARE, 0);
+    measure(APPEND, 0);
+}
+
+int main(void) {
+    int failed = 0;
+    measure(HASH, 0);
+    measure(HASH_PARTS, 0);
+    grow();
+    measure_depth();
+    for (int k = 0; k < CALLS; k++) {
+        printf("%-22s %5zu of %5zu bytes of stack\n", calls[k].name, calls[k].taken, calls[k].most);
+        if (calls[k].taken > calls[k].most) failed = 1;
+    }
+    return failed;
+}

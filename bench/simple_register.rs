@@ -353,11 +353,14 @@ impl Register {
         Ok((start, length))
     }
 
-    /// The chunk that has a byte, and the byte's offset in it.
+    /// The chunk that has a byte, and the byte's offset in it; at the data's end n and 0.
     pub fn byte(&self, offset: u64) -> Result<(u64, u64), u64> {
         self.check()?;
-        if offset >= self.data.len() as u64 {
+        if offset > self.data.len() as u64 {
             return Err(9);
+        }
+        if offset == self.data.len() as u64 {
+            return Ok((self.n as u64, 0));
         }
         let mut start = 0;
         for root in roots(self.n) {

@@ -184,7 +184,7 @@ impl<'a> Register<'a> {
         answer.result((out[0], out[1]))
     }
 
-    /// The chunk that has the byte at an offset, and the offset less its start.
+    /// The chunk that has the byte at an offset, and the offset less its start; at the data size n and 0.
     pub fn byte(&self, offset: u64) -> Result<Pair, Refusal> {
         let mut out = [0; 2];
         let answer = reading!(sleep_byte, self, offset, out.as_mut_ptr());

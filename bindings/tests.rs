@@ -24,7 +24,8 @@ fn worked_case() {
     assert_eq!(register.audit(), Ok(()));
     assert_eq!(register.byte(1), Ok((0, 1)));
     assert_eq!(register.byte(2), Ok((2, 0)));
-    assert_eq!(register.byte(5), refused(9, Place::None));
+    assert_eq!(register.byte(5), Ok((3, 0)));
+    assert_eq!(register.byte(6), refused(9, Place::None));
     assert_eq!(register.place(1), Ok((2, 0)));
     assert_eq!(register.read(2), Ok(&b"CDE"[..]));
     assert_eq!(register.read(3), refused(9, Place::None));

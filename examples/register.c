@@ -44,6 +44,8 @@ static void read_back(const store *r, uint64_t chunk) {
     printf("chunk %" PRIu64 ": %" PRIu64 " bytes from %" PRIu64 ": %.*s\n", chunk, part[1], part[0], (int)part[1], r->data + part[0]);
     expect("byte", sleep_byte(LENT(r), COUNTS(r), 9, part).number, 0);
     printf("byte 9: chunk %" PRIu64 ", its byte %" PRIu64 "\n", part[0], part[1]);
+    expect("the end of the data", sleep_byte(LENT(r), COUNTS(r), r->size, part).number, 0);
+    expect("the chunk behind the last", part[0], r->n);
     expect("a chunk that isn't there", sleep_read(LENT(r), COUNTS(r), r->n, part).number, 9);
 }
 

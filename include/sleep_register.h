@@ -52,7 +52,7 @@
  *     6       the stored root lengths don't add up to size                                 none
  *     7       the chunk to append is longer than 65,536 bytes                              none
  *     8       an append while a signature is owed, or a signature while none is            none
- *     9       the chunk number is not below n, or the byte offset is not below size        none
+ *     9       the chunk number is not below n, or the byte offset is above size            none
  *     10      a lookup meets wrong lengths, a read another leaf hash, or the audit
  *             a wrong tree entry (the lowest)                                              tree index
  *     11      the audit finds a wrong byte in the bitfield (the lowest)                    byte offset in the bitfield image
@@ -163,7 +163,8 @@ sleep_answer sleep_audit(SLEEP_REGISTER_READ) SLEEP_NOT_NULL;
 sleep_answer sleep_place(SLEEP_REGISTER_READ, uint64_t chunk, uint64_t out[2]) SLEEP_NOT_NULL;
 
 /* out[0]: the number of the chunk that has the byte at an offset of data, never of an empty chunk; out[1]: which byte of that chunk it is,
- * from 0. Nothing is hashed. Refusals: 2 to 6, 9, 10. */
+ * from 0. At the offset size, the end of the data, out is n and 0, whatever lengths the tree holds, and 0 and 0 in an empty register.
+ * Nothing is hashed. Refusals: 2 to 6, 9 for an offset above size, 10. */
 sleep_answer sleep_byte(SLEEP_REGISTER_READ, uint64_t offset, uint64_t out[2]) SLEEP_NOT_NULL;
 
 /* A verified read: the chunk's part of data, as sleep_place gives it, after its bytes were hashed where they lie and their hash was found to

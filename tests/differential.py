@@ -3,7 +3,7 @@
 usage: python3 tests/differential.py LIBRARY [CALLS [SEED]]
 
 LIBRARY is the archive linked as a shared object. Registers grow by valid calls; between those, calls are made on damaged copies: bytes
-changed in a buffer, wrong n, s or size, shortened buffers, numbers out of range. Packets are made and checked, whole and damaged, and
+changed in a buffer, wrong n, s or size, shortened buffers, numbers at their bound and out of range. Packets are made and checked, whole and damaged, and
 registers compared with copies, with other cuts of the same bytes, with one more empty chunk and with damaged ones. One in fifty calls
 is on registers of 16,383 to 16,386 chunks, where the third bitfield entry begins and the tree gets its deepest hole. No pair of chunk
 sequences that collide under BLAKE2b is known, so those two answers of the comparing walk stand in no call here.
@@ -50,7 +50,7 @@ class Calls:
     """Each call of the library beside the model's."""
 
     def __init__(self, library, seed):
-        self.library, self.random, self.calls, self.refusals = library, random.Random(seed), {}, {}
+        self.library, self.random, self.calls, self.refusals, self.ends = library, random.Random(seed), {}, {}, 0
 
     def total(self):
         return sum(self.calls.values())
@@ -100,6 +100,7 @@ class Calls:
         self.call('place', [r], [chunk, self.result(16, numbers)], lambda: model.place_lookup(r, chunk))
 
     def byte(self, r, offset):
+        self.ends += offset == r.size
         self.call('byte', [r], [offset, self.result(16, numbers)], lambda: model.byte_lookup(r, offset))
 
     def read(self, r, chunk):
@@ -373,6 +374,7 @@ def main(path, calls=100000, seed=20170901):
     while run.total() < calls:
         run.life(calls)
     print('calls: ' + ', '.join('%s %d' % pair for pair in sorted(run.calls.items())))
+    print('byte lookups at the data size: %d' % run.ends)
     print('refusals: ' + ', '.join('%d: %d' % pair for pair in sorted(run.refusals.items())))
     print('differential: %d calls agree with the model' % run.total())
 

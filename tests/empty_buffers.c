@@ -96,7 +96,7 @@ int main(void) {
     each_buffer("root_hash", root_hash, 4, 0);
     each_buffer("audit", audit, 4, 0);
     each_buffer("place", place, 4, 0);
-    each_buffer("byte", byte, 4, 9);
+    each_buffer("byte", byte, 4, 0);
     each_buffer("read", verified, 4, 0);
     each_buffer("make_packet", make, 4, 0);
     each_buffer("make_packet in no room", make_in_nothing, 4, 14);

@@ -237,15 +237,17 @@ def read(register, k):
     return chunk
 
 def find_byte(register, p):
-    """The chunk that has the byte at p, and the offset within it."""
+    """The chunk that has the byte at p, and the offset within it; at the data size n and 0."""
     first_checks(register)                          # step 1
-    refuse_unless(p < register.size, 9)             # step 2
-    rest, above = p, iter(roots(register.n))        # step 3
+    refuse_unless(p <= register.size, 9)            # step 2
+    if p == register.size:                          # step 3
+        return register.n, 0
+    rest, above = p, iter(roots(register.n))        # step 4
     i = next(above)
     while rest >= register.length(i):
         rest -= register.length(i)
         i = next(above)
-    while i % 2:                                    # step 4
+    while i % 2:                                    # step 5
         left, right = children(i)
         refuse_unless(register.length(i) == register.length(left) + register.length(right), 10, "tree", i)
         if rest < register.length(left):
@@ -253,8 +255,8 @@ def find_byte(register, p):
         else:
             rest -= register.length(left)
             i = right
-    refuse_unless(register.length(i) <= MAX_CHUNK, 10, "tree", i)   # step 5
-    return i // 2, rest                             # step 6
+    refuse_unless(register.length(i) <= MAX_CHUNK, 10, "tree", i)   # step 6
+    return i // 2, rest                             # step 7
 
 
 # --- packets
@@ -530,6 +532,8 @@ def register_differs(register, root):
         k, rest = find_byte(register, p)
         if find(register, k)[0] + rest != p or rest >= len(described[k]):
             return f"the chunk of byte {p}"
+    if find_byte(register, register.size) != (n, 0) or answer(find_byte, register, register.size + 1) != "refused 9":
+        return "the end of the data"
     for name in FILES:
         if register.files[name] != bytes(written(n).files[name]):
             return f"{name}: not what the writer leaves"
@@ -607,8 +611,8 @@ def all_packets_differ():
     return None
 
 ASKED = [["3"], ["3", "tree", "112", "50"], ["3", "tree", "231", "04"], ["3", "signatures", "31", "01"], ["7", "signatures", "415", "00"],
-         ["10", "tree", "191", "07"], ["10", "tree", "632", "01"], ["10", "bitfield", "33", "e0"]]
-QUESTIONS = {"audit": 8, "told": 5, "place": 6, "byte": 5, "read": 4}
+         ["10", "tree", "191", "07"], ["10", "tree", "791", "0a"], ["10", "tree", "632", "01"], ["10", "bitfield", "33", "e0"]]
+QUESTIONS = {"audit": 9, "told": 5, "place": 6, "byte": 8, "read": 4}
 
 def answers_differ(text):
     registers = {register.n: register for register, _, _ in registers_in(text)}

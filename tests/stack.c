@@ -88,8 +88,10 @@ static void measure_reads(void) {
         measure(READ, sought < n ? 0 : 9);
         measure(MAKE_PACKET, sought < n ? 0 : 9);
         if (sought < n) measure(CHECK_PACKET, 0);
-        sought = k < 3 ? some[k] * (size - 1) / n : size;
-        if (size > 0) measure(BYTE, k < 3 ? 0 : 9);
+        sought = k < 3 && size > 0 ? some[k] * (size - 1) / n : size;
+        measure(BYTE, 0);
+        sought = size + 1;
+        measure(BYTE, 9);
     }
 }
 

@@ -121,7 +121,7 @@ def answers():
     for numbers in ((3, 2, 5), (1048577, 1, 5), (3, 1, 2000), (3, 3, 2000), (3, 3, 4)):
         print('told', *numbers, said(audit(told(r, *numbers))))
     places(r, 0, 1, 2, 3)
-    some_bytes(r, 1, 2, 5)
+    some_bytes(r, 1, 2, 5, 6)
     reads(r, 2, 3)
     reads(asked(3, 'tree', 112, 0x50), 0, 1)
     asked(3, 'tree', 231, 4)
@@ -130,6 +130,7 @@ def answers():
     r = asked(10, 'tree', 191, 7)
     places(r, 0, 8)
     some_bytes(r, 0, 30)
+    some_bytes(asked(10, 'tree', 791, 10), 44, 45)
     asked(10, 'tree', 632, 1)
     asked(10, 'bitfield', 33, 0xe0)
 

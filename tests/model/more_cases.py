@@ -49,12 +49,14 @@ def agreement():
         yield 'images of %d' % n, [x[:u] for x, u in zip(images_of(r), used)], list(images_of(image))
         yield 'bytes past the images', [bytes(x[u:]) for x, u in zip(images_of(r), used)], [b'\xa5' * 7] * 4
         yield 'audit of %d' % n, (audit(r), compare(r, image)), (('done',), ('equal',))
+        yield 'end of %d' % n, byte_lookup(r, r.size), ('done', n, 0)
         starts = [sum(map(len, chunks[:k])) for k in range(n)]
         for k in range(n):
             yield 'place', place_lookup(r, k), ('done', starts[k], len(chunks[k]))
             yield 'read', read(None, r, 'content', k), ('done', chunks[k])
             for b in range(len(chunks[k])):
                 yield 'byte', byte_lookup(r, starts[k] + b), ('done', k, b)
+            yield 'behind the end', byte_lookup(r, r.size + 1 + k), refused(9)
             packet = bytearray(2000)
             length = make_packet(r, k, packet)[1]
             yield 'packet', check_packet(packet[:length], n, k, root_hash(r)[1]), ('done', chunks[k])
@@ -87,7 +89,7 @@ def refusals():
     none = register_of([])
     yield 'signature of nothing', store_signature(none, bytes(64)), refused(8)
     yield 'empty', (audit(none), root_hash(none)), (('done',), ('done', node_hash(b'\2')))
-    yield 'empty', (place_lookup(none, 0), byte_lookup(none, 0)), (refused(9), refused(9))
+    yield 'empty', (place_lookup(none, 0), byte_lookup(none, 0), byte_lookup(none, 1)), (refused(9), ('done', 0, 0), refused(9))
     yield 's', audit(told(none, s=2 ** 64 - 1)), refused(3)
     yield 'size without chunks', (audit(told(none, size=1)), audit(spoilt_size(none))), (refused(4), refused(6))
     r = register_of(chunk_list(6))  # lengths 0 5 3 1 6 4, roots 3 and 9
@@ -110,6 +112,9 @@ def refusals():
     inner = spoilt(r, 'tree', HEADER + ENTRY * 5 + 39)
     yield 'lookup stops', [place_lookup(inner, k)[1:] for k in (0, 3)], [(10, ('tree', 3))] * 2
     yield 'lookup elsewhere', place_lookup(inner, 4), ('done', 9, 6)
+    last = spoilt(r, 'tree', HEADER + ENTRY * 10 + 39)
+    yield 'no walk to the end', [byte_lookup(last, r.size - k) for k in (1, 0)], [refused(10, ('tree', 9)), ('done', 6, 0)]
+    yield 'end of a register that is refused', byte_lookup(spoilt(r, 'bitfield', 31), r.size), refused(5)
     yield 'long leaf', long_leaf(), refused(10, ('tree', 0))
     yield 'read of other bytes', read(spoilt(r, 'data', 3), None, 'metadata', 1), refused(10, ('tree', 2))
     for data in (b'', b'\0\0\0', be(4, 65), be(4, 0) + b'x', be(4, 1), be(4, 1) + be(4, 4097) + bytes(4097)):

@@ -333,9 +333,12 @@ place_lookup = call(place_of)
 
 @call
 def byte_lookup(r, offset):
-    """The chunk whose bytes contain the offset, and the offset less the chunk's start; never an empty chunk."""
+    """The chunk whose bytes contain the offset, and the offset less the chunk's start; never an empty chunk.  At the
+    data size it is n and 0, without a walk, also in an empty register."""
     check_register(r)
-    refuse_if(offset >= r.size, 9)
+    refuse_if(offset > r.size, 9)
+    if offset == r.size:
+        return r.n, 0
     start_of_root = 0
     for root in roots(r.n):
         if offset < start_of_root + r.node(root)[1]:
@@ -491,8 +494,10 @@ def table():
     for n, expected in ((0, 32), (8192, 3360), (8193, 6688)):
         yield 'bitfield size of %d' % n, (used_sizes(n, n, 0)[2], len(bitfield_image(n))), (expected, expected)
     r = register_of([b'AB', b'', b'CDE'])
-    for offset, expected in ((1, ('done', 0, 1)), (2, ('done', 2, 0)), (5, refused(9))):
+    for offset, expected in ((1, ('done', 0, 1)), (2, ('done', 2, 0)), (5, ('done', 3, 0)), (6, refused(9))):
         yield 'byte lookup of %d' % offset, byte_lookup(r, offset), expected
+    yield 'end of no chunks', byte_lookup(register_of([]), 0), ('done', 0, 0)
+    yield 'end behind empty chunks', byte_lookup(register_of([b'A', b'', b'']), 1), ('done', 3, 0)
     listed = b'chunks 3 bytes 5 roots 1 4\n0 leaf 0 2\n1 parent 0 2\n2 leaf 2 0\n3 hole 0 0\n4 leaf 2 3\n'
     yield 'listing', listing(be(4, 3) + be(4, 2) + b'AB' + be(4, 0) + be(4, 3) + b'CDE'), listed
 

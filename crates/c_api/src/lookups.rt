@@ -51,7 +51,8 @@ pub extern "C" fn sleep_place(
     }
 }
 
-// The chunk whose bytes contain an offset, and the offset less its start; never an empty chunk.
+// The chunk whose bytes contain an offset, and the offset less its start; never an empty chunk. At the data size n and 0, also in an empty
+// register.
 #[no_mangle]
 pub extern "C" fn sleep_byte(
     tree: &[u8],

@@ -14,6 +14,7 @@ pub fn all() {
     asked(3, 1, 31, 1);
     asked(7, 1, 415, 0);
     asked(10, 0, 191, 7);
+    asked(10, 0, 791, 10);
     asked(10, 0, 632, 1);
     asked(10, 2, 33, 0xe0);
 }
@@ -93,6 +94,7 @@ fn questions(tree: &[u8], signatures: &[u8], bitfield: &[u8], data: &[u8], told:
         0 => as_it_is(tree, signatures, bitfield, data, told),
         112 => wrong_right_child(tree, signatures, bitfield, data, told),
         191 => wrong_length(tree, signatures, bitfield, data, told),
+        791 => wrong_last_root(tree, signatures, bitfield, data, told),
         _ => {}
     }
 }
@@ -138,6 +140,7 @@ fn bytes(tree: &[u8], signatures: &[u8], bitfield: &[u8], data: &[u8], told: Tol
     byte(tree, signatures, bitfield, data, told, 1);
     byte(tree, signatures, bitfield, data, told, 2);
     byte(tree, signatures, bitfield, data, told, 5);
+    byte(tree, signatures, bitfield, data, told, 6);
 }
 
 // No parent's hash is looked at by a read.
@@ -152,6 +155,12 @@ fn wrong_length(tree: &[u8], signatures: &[u8], bitfield: &[u8], data: &[u8], to
     place(tree, signatures, bitfield, data, told, 8);
     byte(tree, signatures, bitfield, data, told, 0);
     byte(tree, signatures, bitfield, data, told, 30);
+}
+
+// The last byte, and the end of the data, to which no lookup goes down.
+fn wrong_last_root(tree: &[u8], signatures: &[u8], bitfield: &[u8], data: &[u8], told: Told) {
+    byte(tree, signatures, bitfield, data, told, 44);
+    byte(tree, signatures, bitfield, data, told, 45);
 }
 
 // The audit under other numbers.

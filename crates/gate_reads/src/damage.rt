@@ -37,7 +37,8 @@ pub fn hash_byte(k: u64) -> usize
     }
 }
 
-// The lengths of up to four entries changed so that they agree with each other, be it only modulo 2^64.
+// The lengths of up to four entries changed so that they agree with each other, be it only modulo 2^64; or, in the case 8, the length of a
+// child of the last of 12 chunks' roots.
 pub fn change(tree: &mut [u8], k: u64) {
     change_two(tree, k, 0, 1);
     change_two(tree, k, 2, 3);
@@ -68,6 +69,7 @@ fn changed_entry(k: u64, j: u64) -> u64
         4 => up_to_root(j, 0),
         5 => up_to_root(j, 2),
         6 => two(j, 20, 1000),
+        8 => two(j, 21, 1000),
         _ => two(j, 4, 6),
     }
 }

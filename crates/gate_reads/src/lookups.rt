@@ -24,7 +24,7 @@ pub fn three(tree: &[u8], signatures: &[u8], bitfield: &[u8], data: &[u8]) {
 // byte, and lengths changed together.
 pub fn all(tree: &mut [u8], signatures: &[u8], bitfield: &[u8], data: &[u8]) {
     let mut k = 0;
-    while k < 90 {
+    while k < 91 {
         case(tree, signatures, bitfield, data, k);
         k += 1;
     }

@@ -27,6 +27,11 @@ pub fn changed(k: u64) -> Told {
             s: 11,
             size: 65551,
         },
+        8 => Told {
+            n: 12,
+            s: 12,
+            size: 18,
+        },
         _ => Told {
             n: 13,
             s: 13,

@@ -6,7 +6,7 @@ use mathlib.Core.Bool.{Bool, true, false, cond}
 use mathlib.Core.List.{List, [], _∷_, _++_}
 use native.Mathlib.Nat.{mul-one, le-antisymm, le-dest, lt-of-not-le, le-of-suc-le-suc, lt-irrefl, zero-add, div-eq-of-lt-le}
 use native.Mathlib.Omega.{arith}
-use borrow.Author.Tests.{lt-ltb, le-ltb}
+use borrow.Author.Tests.{lt-ltb, le-ltb, le-leb, lt-leb, eq-eqb, ne-eqb}
 use lib.ListN.{length, getD, take, length-take}
 use lib.Seq.{getD-take}
 use Rattle.counts.specs.Verdict.{Verdict, none, tree, done, refused}
@@ -27,8 +27,8 @@ use Rattle.files.proofs.OfImage.{stored-span, stored-leaf-size, stored-start, s
 use Rattle.checks.specs.Checks.{judged, registerChecks}
 use Rattle.checks.proofs.Judged.{judged-append}
 use Rattle.checks.proofs.Passed.{Passed, passes, passed, same-of}
-use Rattle.lookup.specs.Descent.{Ending, stopped, reached, chunkWithin, byteWithin}
-use Rattle.lookup.specs.Lookup.{refusal, found, stopRefused, foundUnless, chunkOf, startOf, toChunk, toByte, placeVerdict, byteVerdict, placeOf, byteAt}
+use Rattle.lookup.specs.Descent.{Ending, stopped, reached, chunkWithin, byteWithin, descent}
+use Rattle.lookup.specs.Lookup.{refusal, found, stopRefused, foundUnless, chunkOf, startOf, toChunk, byteEnding, toByte, placeVerdict, byteVerdict, placeOf, byteAt}
 use Rattle.lookup.specs.Read.{chunkBytes, andThen, partUnless, readVerdict, readPart}
 use Rattle.lookup.specs.Answers.{startIn, HasByte, Answers, AnswersForAll, Right, HoldsChunk, HoldsByte, Lies, Stops, LookupsStayInside, LookupsStayInsideForAll}
 use Rattle.lookup.proofs.Descents.{Steps, Landed, Halted, Ends, ends, chunk-order, byte-order, left-first, right-end, left-inside, twice}
@@ -58,13 +58,33 @@ no-place : (r : Register) (c : ℕ) → Passed r → r .n ≤ c → placeVerdict
 unfolding placeVerdict
 no-place r c p h = nine-refused r (stopRefused (toChunk r c)) p (le-ltb c (r .n) h)
 
-byte-verdict : (r : Register) (b : ℕ) → Passed r → b < r .size → byteVerdict r b ≡ stopRefused (toByte r b)
+byte-verdict : (r : Register) (b : ℕ) → Passed r → b ≤ r .size → byteVerdict r b ≡ stopRefused (toByte r b)
 unfolding byteVerdict
-byte-verdict r b p h = nine-passed r (stopRefused (toByte r b)) p (lt-ltb b (r .size) h)
+byte-verdict r b p h = nine-passed r (stopRefused (toByte r b)) p (le-leb b (r .size) h)
 
-no-byte : (r : Register) (b : ℕ) → Passed r → r .size ≤ b → byteVerdict r b ≡ refused 9 none
-unfolding byteVerdict
-no-byte r b p h = nine-refused r (stopRefused (toByte r b)) p (le-ltb b (r .size) h)
+-- where a byte lookup ends: at the data size, and below it
+pub at-end : (t : List ℕ) (n size b : ℕ) → b ≡ size → byteEnding t n size b ≡ reached n size
+unfolding byteEnding
+at-end t n size b e = ap (λ (x : Bool). elim x [ true ↦ reached n size | false ↦ descent (byteWithin b) t n ]) (eq-eqb b size e)
+
+pub not-at-end : (t : List ℕ) (n size b : ℕ) → (b ≡ size → ⊥) → byteEnding t n size b ≡ descent (byteWithin b) t n
+unfolding byteEnding
+not-at-end t n size b h = ap (λ (x : Bool). elim x [ true ↦ reached n size | false ↦ descent (byteWithin b) t n ]) (ne-eqb b size h)
+
+byte-at-end : (r : Register) → Passed r → byteAt r (r .size) ≡ found (r .n) 0
+unfolding byteAt toByte stopRefused
+byte-at-end r p =
+    let e = at-end (r .tree) (r .n) (r .size) (r .size) refl in
+    ap (λ (v : Verdict). foundUnless v (chunkOf (toByte r (r .size))) (r .size - startOf (toByte r (r .size))))
+    (byte-verdict r (r .size) p (omega arith) ∙ ap stopRefused e)
+    ∙ ap (λ (x : Ending). found (chunkOf x) (r .size - startOf x)) e
+    ∙ ap (found (r .n)) (let z : r .size - r .size ≡ 0 = omega arith in z)
+
+no-byte : (r : Register) (b : ℕ) → Passed r → r .size < b → byteAt r b ≡ refusal 9 none
+unfolding byteAt byteVerdict
+no-byte r b p h =
+    ap (λ (v : Verdict). foundUnless v (chunkOf (toByte r b)) (b - startOf (toByte r b)))
+    (nine-refused r (stopRefused (toByte r b)) p (lt-leb b (r .size) h))
 
 -- ---- every register that passes the checks
 
@@ -86,8 +106,9 @@ module _ (r : Register) (p : Passed r) where
       → Ends (r .tree) (r .n) (λ p s. s ≤ b) (λ p s. b < s) At (toByte r b)
   unfolding toByte
   byte-lands At g a b h =
-      ends (byteWithin b) (r .tree) (r .n) (λ p s. s ≤ b) (λ p s. b < s) At (byte-order b) g (few (r .n) (p .count)) a (omega arith)
-      (subst (λ (e : ℕ). b < e) (sym (p .adds)) h)
+      subst (Ends (r .tree) (r .n) (λ p s. s ≤ b) (λ p s. b < s) At) (sym (not-at-end (r .tree) (r .n) (r .size) b (λ e. omega arith)))
+      (ends (byteWithin b) (r .tree) (r .n) (λ p s. s ≤ b) (λ p s. b < s) At (byte-order b) g (few (r .n) (p .count)) a (omega arith)
+      (subst (λ (e : ℕ). b < e) (sym (p .adds)) h))
 
   -- a leaf that is reached, whatever was sought
   lies : {Lo Hi At : ℕ → ℕ → Type 0} {k start : ℕ} → Landed (r .tree) (r .n) Lo Hi At k start → Lies r k start
@@ -111,7 +132,7 @@ module _ (r : Register) (p : Passed r) where
 
   pub stays-inside : LookupsStayInside r
   unfolding chunkBytes
-  stays-inside = record { chunk = at-chunk; byte = at-byte; chunkStops = chunk-stops; byteStops = byte-stops; read = in-read }
+  stays-inside = record { chunk = at-chunk; byte = at-byte; chunkStops = chunk-stops; byteStops = byte-stops; end = byte-at-end r p; noByte = λ b. no-byte r b p; read = in-read }
     where
       to-chunk : (c : ℕ) → c < r .n → (x : Ending) → toChunk r c ≡ x → Ends (r .tree) (r .n) (λ p s. p ≤ c) (λ p s. c < p) (λ p s. Unit {0}) x
       to-chunk c h x e =
@@ -261,7 +282,7 @@ module _ (F : List ℕ → List ℕ) (hf : HashFunction F) (cs : List (List ℕ)
 
   pub answered : Answers F r cs
   unfolding placeOf byteAt readVerdict readPart stopRefused
-  answered = record { place = at-place; noPlace = no-place-at; byte = at-byte; one = one-chunk; noOther = no-other; noByte = no-byte-at; readDone = done-at; read = read-at; noRead = no-read-at }
+  answered = record { place = at-place; noPlace = no-place-at; byte = at-byte; one = one-chunk; noOther = no-other; end = end-at; noByte = no-byte-at; readDone = done-at; read = read-at; noRead = no-read-at }
     where
       at-place : (i : ℕ) → i < length cs → placeOf r i ≡ found (startIn cs i) (length (getD cs i []))
       at-place i h =
@@ -279,16 +300,18 @@ module _ (F : List ℕ → List ℕ) (hf : HashFunction F) (cs : List (List ℕ)
           let h : x < r .size = has-size x k q in
           let g = to-byte x h in
           let e : g .0 ≡ k = no-other x (g .0) k (g .1) q in
-          ap (λ (v : Verdict). foundUnless v (chunkOf (toByte r x)) (x - startOf (toByte r x))) (byte-verdict r x p h ∙ ap stopRefused (g .2))
+          ap (λ (v : Verdict). foundUnless v (chunkOf (toByte r x)) (x - startOf (toByte r x))) (byte-verdict r x p (omega arith) ∙ ap stopRefused (g .2))
           ∙ ap (λ (y : Ending). found (chunkOf y) (x - startOf y)) (g .2)
           ∙ ap (λ (j : ℕ). found j (x - startIn cs j)) e
 
       one-chunk : (x : ℕ) → x < dataSize cs → (k : ℕ) × HasByte cs x k
       one-chunk x h = let g = to-byte x (subst (λ (s : ℕ). x < s) (sym (b .total)) h) in (g .0, g .1)
 
-      no-byte-at : (x : ℕ) → dataSize cs ≤ x → byteAt r x ≡ refusal 9 none
-      no-byte-at x h =
-          ap (λ (v : Verdict). foundUnless v (chunkOf (toByte r x)) (x - startOf (toByte r x))) (no-byte r x p (subst (λ (s : ℕ). s ≤ x) (sym (b .total)) h))
+      end-at : byteAt r (dataSize cs) ≡ found (length cs) 0
+      end-at = subst (λ (s : ℕ). byteAt r s ≡ found (length cs) 0) (b .total) (byte-at-end r p ∙ ap (λ (n : ℕ). found n 0) (b .count))
+
+      no-byte-at : (x : ℕ) → dataSize cs < x → byteAt r x ≡ refusal 9 none
+      no-byte-at x h = no-byte r x p (subst (λ (s : ℕ). s < x) (sym (b .total)) h)
 
       done-at : (i : ℕ) → i < length cs → readVerdict F r i ≡ done
       done-at i h = read-done i (below-n i h)

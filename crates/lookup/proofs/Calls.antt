@@ -4,10 +4,10 @@ use Prim.Native.Nat.{ℕ, _+_, _-_, _^_, _≤_, _<_}
 use mathlib.Core.Path.{_≡_, refl, sym, ap, ap₂, _∙_, subst}
 use mathlib.Core.Bool.{Bool, true, false, cond}
 use mathlib.Core.List.{List, [], _∷_, _++_}
-use native.Mathlib.Nat.{mul-one}
+use native.Mathlib.Nat.{mul-one, lt-of-not-le}
 use native.Mathlib.Omega.{arith}
-use borrow.Author.Tests.{lt-ltb, le-ltb, ltb-true}
-use lib.Dec.{ltb}
+use borrow.Author.Tests.{lt-ltb, le-ltb, le-leb, lt-leb, ltb-true}
+use lib.Dec.{leb, ltb}
 use lib.ListN.{length, take, drop}
 use Rattle.counts.specs.Verdict.{Spot, Verdict, none, tree, done, refused}
 use Rattle.sequences.specs.Lists.{part, sameList}
@@ -21,13 +21,13 @@ use Rattle.checks.specs.Checks.{Check, judged, registerChecks}
 use Rattle.checks.proofs.Judged.{judged-append, judged-refused}
 use Rattle.checks.proofs.Passed.{all-must, passes, passed}
 use Rattle.lookup.specs.Descent.{Ending, stopped, reached, chunkWithin, byteWithin, descent}
-use Rattle.lookup.specs.Lookup.{Found, refusal, found, stopRefused, foundUnless, chunkOf, startOf, toChunk, toByte, placeVerdict, byteVerdict, placeOf, byteAt}
+use Rattle.lookup.specs.Lookup.{Found, refusal, found, stopRefused, foundUnless, chunkOf, startOf, toChunk, byteEnding, toByte, placeVerdict, byteVerdict, placeOf, byteAt}
 use Rattle.lookup.specs.Steps.{Searched, SearchedFor, placeIn, byteIn}
 use Rattle.lookup.specs.Read.{chunkBytes, andThen, partUnless, readVerdict, readPart}
 use Rattle.lookup.specs.Said.{readFound}
 use Rattle.lookup.proofs.Descents.{Ends, ends, byte-order}
 use Rattle.lookup.proofs.Visits.{filled-entry}
-use Rattle.lookup.proofs.Answers.{any-start, stays-inside}
+use Rattle.lookup.proofs.Answers.{any-start, at-end, not-at-end, stays-inside}
 
 -- ---- after the checks 2 to 6
 
@@ -58,12 +58,12 @@ place-passed r c =
 pub byte-refused : (r : Register) (b m : ℕ) (at : Spot) → refused m at ≡ judged (registerChecks r) done → refusal m at ≡ byteAt r b
 unfolding byteAt byteVerdict
 byte-refused r b =
-    found-refused-before r (record { number = 9; right = ltb b (r .size) } ∷ []) (stopRefused (toByte r b)) (chunkOf (toByte r b)) (b - startOf (toByte r b))
+    found-refused-before r (record { number = 9; right = leb b (r .size) } ∷ []) (stopRefused (toByte r b)) (chunkOf (toByte r b)) (b - startOf (toByte r b))
 
 pub byte-passed : (r : Register) (b : ℕ) → done ≡ judged (registerChecks r) done → byteIn (r .tree) (r .n) (r .size) b ≡ byteAt r b
 unfolding byteAt byteVerdict byteIn toByte
 byte-passed r b =
-    found-passed r (record { number = 9; right = ltb b (r .size) } ∷ []) (stopRefused (toByte r b)) (chunkOf (toByte r b)) (b - startOf (toByte r b))
+    found-passed r (record { number = 9; right = leb b (r .size) } ∷ []) (stopRefused (toByte r b)) (chunkOf (toByte r b)) (b - startOf (toByte r b))
 
 pub searched : (r : Register) → done ≡ judged (registerChecks r) done → r .size < 2 ^ 64 → SearchedFor (r .tree) (r .n) (r .size)
 searched r e h =
@@ -115,30 +115,41 @@ module _ (t : List ℕ) (n c : ℕ) where
 
 module _ (t : List ℕ) (n size b : ℕ) where
   abbrev byte-ending : Ending
-  byte-ending = descent (byteWithin b) t n
+  byte-ending = byteEnding t n size b
 
-  pub byte-above : size ≤ b → refusal 9 none ≡ byteIn t n size b
+  pub byte-above : size < b → refusal 9 none ≡ byteIn t n size b
   unfolding byteIn
-  byte-above h = at-nine (ltb b size) byte-ending (chunkOf byte-ending) (b - startOf byte-ending) (le-ltb b size h)
+  byte-above h = at-nine (leb b size) byte-ending (chunkOf byte-ending) (b - startOf byte-ending) (lt-leb b size h)
 
-  pub byte-stopped : b < size → (i : ℕ) → stopped i ≡ descent (byteWithin b) t n → refusal 10 (tree i) ≡ byteIn t n size b
-  unfolding byteIn stopRefused
-  byte-stopped h i = ended (ltb b size) byte-ending (chunkOf byte-ending) (b - startOf byte-ending) (lt-ltb b size h) (stopped i)
+  byte-ended : b ≤ size → (x : Ending) → x ≡ byte-ending → foundUnless (stopRefused x) (chunkOf x) (b - startOf x) ≡ byteIn t n size b
+  unfolding byteIn
+  byte-ended h x e =
+      ap (λ (y : Ending). foundUnless (stopRefused x) (chunkOf y) (b - startOf y)) e
+      ∙ ended (leb b size) byte-ending (chunkOf byte-ending) (b - startOf byte-ending) (le-leb b size h) x e
 
-  pub byte-reached : b < size → (k s : ℕ) → reached k s ≡ descent (byteWithin b) t n → found k (b - s) ≡ byteIn t n size b
-  unfolding byteIn stopRefused
-  byte-reached h k s e =
-      ap (λ (x : Ending). found (chunkOf x) (b - startOf x)) e
-      ∙ ended (ltb b size) byte-ending (chunkOf byte-ending) (b - startOf byte-ending) (lt-ltb b size h) (reached k s) e
+  pub byte-end : b ≡ size → found n 0 ≡ byteIn t n size b
+  unfolding stopRefused
+  byte-end e =
+      let z : 0 ≡ b - size = omega arith in
+      ap (found n) z ∙ byte-ended (omega arith) (reached n size) (sym (at-end t n size b e))
+
+  pub byte-stopped : b ≤ size → (b ≡ size → ⊥) → (i : ℕ) → stopped i ≡ descent (byteWithin b) t n → refusal 10 (tree i) ≡ byteIn t n size b
+  unfolding stopRefused
+  byte-stopped h d i e = byte-ended h (stopped i) (e ∙ sym (not-at-end t n size b d))
+
+  pub byte-reached : b ≤ size → (b ≡ size → ⊥) → (k s : ℕ) → reached k s ≡ descent (byteWithin b) t n → found k (b - s) ≡ byteIn t n size b
+  unfolding stopRefused
+  byte-reached h d k s e = byte-ended h (reached k s) (e ∙ sym (not-at-end t n size b d))
 
   -- the chunk that is reached does not begin behind the byte
-  pub byte-from : SearchedFor t n size → b < size → (k s : ℕ) → reached k s ≡ descent (byteWithin b) t n → s ≤ b
+  pub byte-from : SearchedFor t n size → b ≤ size → (b ≡ size → ⊥) → (k s : ℕ) → reached k s ≡ descent (byteWithin b) t n → s ≤ b
   unfolding storedRootSizes
-  byte-from p h k s e =
+  byte-from p h d k s e =
+      let below : b < size = lt-of-not-le (λ l. d (omega arith)) in
       let few : n ≤ 1048576 = p .searched .roots .count in
       subst (Ends t n (λ q x. x ≤ b) (λ q x. b < x) (λ q x. Unit {0})) (sym e)
       (ends (byteWithin b) t n (λ q x. x ≤ b) (λ q x. b < x) (λ q x. Unit {0}) (byte-order b) (any-start t n) (omega arith) tt (omega arith)
-      (subst (λ (x : ℕ). b < x) (sym (p .adds)) h)) .met .low
+      (subst (λ (x : ℕ). b < x) (sym (p .adds)) below)) .met .low
 
 -- ---- the reads
 

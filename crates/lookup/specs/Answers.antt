@@ -39,7 +39,9 @@ pub record Answers (F : List ℕ → List ℕ) (r : Register) (cs : List (List �
   -- each offset below the data size is in one chunk, and in no other
   pub one : (b : ℕ) → b < dataSize cs → (k : ℕ) × HasByte cs b k
   pub noOther : (b k l : ℕ) → HasByte cs b k → HasByte cs b l → k ≡ l
-  pub noByte : (b : ℕ) → dataSize cs ≤ b → byteAt r b ≡ refusal 9 none
+  -- "a byte lookup at the data size answers chunk number n and 0, also in an empty register. 9 remains for larger offsets."
+  pub end : byteAt r (dataSize cs) ≡ found (length cs) 0
+  pub noByte : (b : ℕ) → dataSize cs < b → byteAt r b ≡ refusal 9 none
   -- "reading gives back the very chunks"
   pub readDone : (i : ℕ) → i < length cs → readVerdict F r i ≡ done
   pub read : (i : ℕ) → i < length cs → readPart F r i ≡ getD cs i []
@@ -101,6 +103,9 @@ pub record LookupsStayInside (r : Register) : Type 0 where
   -- a descent stops nowhere else than on the way to what is sought, at the first node that is wrong
   pub chunkStops : (c : ℕ) → c < r .n → (i : ℕ) → toChunk r c ≡ stopped i → Stops r (HoldsChunk c) i
   pub byteStops : (b : ℕ) → b < r .size → (i : ℕ) → toByte r b ≡ stopped i → Stops r (HoldsByte (r .tree) b) i
+  -- at the data size there is no descent, so nothing stops it: n and 0
+  pub end : byteAt r (r .size) ≡ found (r .n) 0
+  pub noByte : (b : ℕ) → r .size < b → byteAt r b ≡ refusal 9 none
   -- what a read hands back is as long as the leaf says
   pub read : (c : ℕ) → c < r .n → (k start : ℕ) → toChunk r c ≡ reached k start
       → length (chunkBytes r c) ≡ storedSize (r .tree) (index 0 c)

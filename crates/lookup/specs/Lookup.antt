@@ -1,7 +1,8 @@
 -- The place lookup and the byte lookup.
 use Prim.Native.Nat.{ℕ, _-_}
-use mathlib.Core.List.{[], _∷_, _++_}
-use lib.Dec.{ltb}
+use mathlib.Core.Bool.{true, false}
+use mathlib.Core.List.{List, [], _∷_, _++_}
+use lib.Dec.{leb, ltb, eqb}
 use Rattle.counts.specs.Verdict.{Spot, Verdict, tree, done, refused}
 use Rattle.tree_index.specs.Tree.{index}
 use Rattle.files.specs.Stored.{storedSize}
@@ -37,23 +38,28 @@ startOf (reached k start) = start
 unfoldable pub toChunk : Register → ℕ → Ending
 toChunk r c = descent (chunkWithin c) (r .tree) (r .n)
 
--- the descent to the byte at offset b
-unfoldable pub toByte : Register → ℕ → Ending
-toByte r b = descent (byteWithin b) (r .tree) (r .n)
+-- where a byte lookup ends, in a tree file of n chunks: the descent to the byte at offset b. "From now on a byte lookup at the data size answers
+-- chunk number n and 0, also in an empty register": no walk is made there, where a chunk behind the last would begin
+unfoldable pub byteEnding : List ℕ → ℕ → ℕ → ℕ → Ending
+byteEnding t n size b = elim (eqb b size) [ true ↦ reached n size | false ↦ descent (byteWithin b) t n ]
 
--- "9. The chunk number is not below n, or the byte offset is not below the data size."
+unfoldable pub toByte : Register → ℕ → Ending
+toByte r b = byteEnding (r .tree) (r .n) (r .size) b
+
+-- "9. The chunk number is not below n"
 unfoldable pub placeVerdict : Register → ℕ → Verdict
 placeVerdict r c =
     judged (registerChecks r ++ (record { number = 9; right = ltb c (r .n) } ∷ [])) (stopRefused (toChunk r c))
 
+-- of a byte offset "9 remains for larger offsets" than the data size
 unfoldable pub byteVerdict : Register → ℕ → Verdict
 byteVerdict r b =
-    judged (registerChecks r ++ (record { number = 9; right = ltb b (r .size) } ∷ [])) (stopRefused (toByte r b))
+    judged (registerChecks r ++ (record { number = 9; right = leb b (r .size) } ∷ [])) (stopRefused (toByte r b))
 
 -- "A place lookup gives start and length of chunk i."
 unfoldable pub placeOf : Register → ℕ → Found
 placeOf r c = foundUnless (placeVerdict r c) (startOf (toChunk r c)) (storedSize (r .tree) (index 0 c))
 
--- "A byte lookup gives the chunk whose bytes contain offset b, and b less its start."
+-- "A byte lookup gives the chunk whose bytes contain offset b, and b less its start."; at the data size n and 0
 unfoldable pub byteAt : Register → ℕ → Found
 byteAt r b = foundUnless (byteVerdict r b) (chunkOf (toByte r b)) (b - startOf (toByte r b))

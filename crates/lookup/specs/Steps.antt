@@ -4,7 +4,7 @@ use mathlib.Core.Path.{_≡_}
 use mathlib.Core.Bool.{Bool}
 use mathlib.Core.List.{List, [], _∷_}
 use lib.ListN.{length}
-use lib.Dec.{ltb}
+use lib.Dec.{leb, ltb}
 use Rattle.sequences.specs.Lists.{total}
 use Rattle.tree_index.specs.Tree.{index, depth, block}
 use Rattle.files.specs.Sizes.{mostChunks, usedTree}
@@ -12,7 +12,7 @@ use Rattle.files.specs.Stored.{storedSize, storedRootSizes}
 use Rattle.files.specs.Within.{RootsIn}
 use Rattle.checks.specs.Checks.{judged}
 use Rattle.lookup.specs.Descent.{Ending, stopped, reached, chunkWithin, byteWithin, descend, descent}
-use Rattle.lookup.specs.Lookup.{Found, stopRefused, foundUnless, chunkOf, startOf}
+use Rattle.lookup.specs.Lookup.{Found, stopRefused, foundUnless, chunkOf, startOf, byteEnding}
 use Rattle.lookup.specs.declared.descent.Sought.{Sought}
 use Rattle.lookup.specs.declared.descent.Sought.the-variants.{Chunk, Byte}
 use Rattle.lookup.specs.declared.descent.Ending.{Ending as CodeEnding}
@@ -55,8 +55,8 @@ placeIn tree n c =
 
 unfoldable pub byteIn : List ℕ → ℕ → ℕ → ℕ → Found
 byteIn tree n size b =
-    foundUnless (judged (record { number = 9; right = ltb b size } ∷ []) (stopRefused (descent (byteWithin b) tree n)))
-    (chunkOf (descent (byteWithin b) tree n)) (b - startOf (descent (byteWithin b) tree n))
+    foundUnless (judged (record { number = 9; right = leb b size } ∷ []) (stopRefused (byteEnding tree n size b)))
+    (chunkOf (byteEnding tree n size b)) (b - startOf (byteEnding tree n size b))
 
 -- where the descent ends that goes on from a step
 abbrev pub followed : (ℕ → ℕ → ℕ → ℕ → Bool) → List ℕ → Step → Ending

@@ -18,7 +18,8 @@ pub enum Placed {
     At(ByteOffset, u64),
 }
 
-// What a byte lookup answers: the chunk whose bytes contain the offset, and the offset less its start.
+// What a byte lookup answers: the chunk whose bytes contain the offset, and the offset less its start; at the data size the count of chunks,
+// as the number of the chunk behind the last, and 0.
 pub enum Located {
     Refused(Refusal),
     In(ChunkNumber, u64),
@@ -72,16 +73,19 @@ pub fn place(
     }
 }
 
-// Inner: the chunk of a byte, in a register that passes the checks 2 to 6.
+// Inner: the chunk of a byte, in a register that passes the checks 2 to 6. At the data size nothing is walked.
 fn locate_in(tree: &[u8], n: u64, size: u64, offset: ByteOffset) -> Located
     requires { ⌜ SearchedFor (now tree) n size ⌝ }
     ensures { λ r. ⌜ locatedOf r ≡ byteIn (now (tree .entry)) n size (offset .0) ⌝ }
 {
-    if size <= offset.0 {
+    if size < offset.0 {
         return Located::Refused(Refusal {
             number: 9,
             place: Place::Nowhere,
         });
+    }
+    if offset.0 == size {
+        return Located::In(counts::chunk_behind(n), 0);
     }
     match super::descent::from_roots(tree, n, Sought::Byte(offset)) {
         Ending::Stopped(i) => Located::Refused(Refusal {
@@ -92,7 +96,8 @@ fn locate_in(tree: &[u8], n: u64, size: u64, offset: ByteOffset) -> Located
     }
 }
 
-// The chunk whose bytes contain an offset, and the offset less its start; never an empty chunk.
+// The chunk whose bytes contain an offset, and the offset less its start; never an empty chunk. At the data size n and 0, also in an empty
+// register.
 pub fn locate(
     tree: &[u8],
     signatures: &[u8],

@@ -22,7 +22,7 @@ use Rattle.checks.specs.Checks.{Check, judged, registerChecks}
 use Rattle.checks.proofs.Judged.{judged-append}
 use Rattle.checks.proofs.Passed.{Passed, all-must, passed, passes}
 use Rattle.lookup.specs.Descent.{Ending, stopped, reached, chunkWithin, byteWithin, descend, fromRoots, descent}
-use Rattle.lookup.specs.Lookup.{stopRefused, foundUnless, chunkOf, startOf, toChunk, toByte, placeVerdict, byteVerdict, placeOf, byteAt}
+use Rattle.lookup.specs.Lookup.{stopRefused, foundUnless, chunkOf, startOf, toChunk, byteEnding, toByte, placeVerdict, byteVerdict, placeOf, byteAt}
 use Rattle.lookup.specs.Read.{chunkBytes, andThen, readVerdict, partUnless, readPart}
 use Rattle.lookup.specs.Said.{readFound}
 use Rattle.lookup.proofs.Descents.{left-inside, right-end}
@@ -75,8 +75,8 @@ unfolding toChunk
 chunk-cut r c = descent-cut (chunkWithin c) (r .tree) (r .n)
 
 byte-cut : (r : Register) (b : ℕ) → toByte (cut r) b ≡ toByte r b
-unfolding toByte
-byte-cut r b = descent-cut (byteWithin b) (r .tree) (r .n)
+unfolding toByte byteEnding
+byte-cut r b = ap (choose (eqb b (r .size)) (reached (r .n) (r .size))) (descent-cut (byteWithin b) (r .tree) (r .n))
 
 -- ---- the lookups
 
@@ -175,5 +175,5 @@ module _ (r : Register) (c : ℕ) where
 pub byte-at-cut : (r : Register) (b : ℕ) → byteAt (cut r) b ≡ byteAt r b
 unfolding byteAt byteVerdict
 byte-at-cut r b =
-    λ i. foundUnless (judged (checks-cut r i ++ (record { number = 9; right = ltb b (r .size) } ∷ [])) (stopRefused (byte-cut r b i)))
+    λ i. foundUnless (judged (checks-cut r i ++ (record { number = 9; right = leb b (r .size) } ∷ [])) (stopRefused (byte-cut r b i)))
     (chunkOf (byte-cut r b i)) (b - startOf (byte-cut r b i))

@@ -88,9 +88,12 @@ table =
     ∷ row (indexOf 128 (0 ∷ 1 ∷ 2 ∷ 3 ∷ [])) (0xFF ∷ 0xFF ∷ 0xFF ∷ 0xAA ∷ [])
     -- "Bitfield size for n = 0, 8192, 8193: 32, 3360, 6688."
     ∷ row (usedBitfield 0 ∷ usedBitfield 8192 ∷ usedBitfield 8193 ∷ []) (32 ∷ 3360 ∷ 6688 ∷ [])
-    -- "Lengths 2, 0, 3: offset 1 gives chunk 0 and 1; offset 2 gives chunk 2 and 0; offset 5 gives 9."
+    -- "Lengths 2, 0, 3: offset 1 gives chunk 0 and 1; offset 2 gives chunk 2 and 0"; "offset 5 becomes chunk 3 and 0", and "9 remains for larger
+    -- offsets"
     ∷ lookedUp (byteAt (registerOf three) 1) (found 0 1) ∷ lookedUp (byteAt (registerOf three) 2) (found 2 0)
-    ∷ lookedUp (byteAt (registerOf three) 5) (refusal 9 none)
+    ∷ lookedUp (byteAt (registerOf three) 5) (found 3 0) ∷ lookedUp (byteAt (registerOf three) 6) (refusal 9 none)
+    -- "also in an empty register"; and behind empty chunks, of the lengths 1, 0, 0
+    ∷ lookedUp (byteAt (registerOf []) 0) (found 0 0) ∷ lookedUp (byteAt (registerOf ((65 ∷ []) ∷ [] ∷ [] ∷ [])) 1) (found 3 0)
     -- "For the chunks AB, empty, CDE" the listing prints the six lines that `printedLines` has
     ∷ row (listing (inputFor three)) printedLines ∷ []
 

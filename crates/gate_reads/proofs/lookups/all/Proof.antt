@@ -7,10 +7,10 @@ use Rattle.gate_reads.proofs.lookups.all.Statement.{statement}
 use Rattle.gate_reads.proofs.lookups.all.Tie as tie
 
 abbrev Inv-loop : tie.InvT-loop
-Inv-loop tree₀ signatures bitfield «data» k₀ tree k = (k ≤ 90) × (length tree ≡ length tree₀)
+Inv-loop tree₀ signatures bitfield «data» k₀ tree k = (k ≤ 91) × (length tree ≡ length tree₀)
 
 abbrev μ-loop : tie.MeasureT-loop
-μ-loop tree₀ signatures bitfield «data» k₀ tree k = 90 - k
+μ-loop tree₀ signatures bitfield «data» k₀ tree k = 91 - k
 
 pub all-spec : {M : Type 1} → statement M
 all-spec =

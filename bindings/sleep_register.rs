@@ -101,6 +101,8 @@ extern "C" {
     #[rustfmt::skip]
     fn sleep_make_packet(t: In, tl: usize, g: In, gl: usize, b: In, bl: usize, d: In, dl: usize, n: u64, s: u64, size: u64,
         chunk: u64, out: Out, out_length: usize, length: *mut u64) -> Answer;
+    fn sleep_group(bytes: In, bytes_length: usize, out: Out, out_length: usize) -> Answer;
+    fn sleep_ungroup(bytes: In, bytes_length: usize, out: Out, out_length: usize) -> Answer;
     fn sleep_check_packet(packet: In, packet_length: usize, n: u64, chunk: u64, root: In, out: *mut u64) -> Answer;
     #[rustfmt::skip]
     fn sleep_compare(t: In, tl: usize, g: In, gl: usize, b: In, bl: usize, d: In, dl: usize, n: u64, s: u64, size: u64,
@@ -138,6 +140,16 @@ pub fn hash_parts(prefix: &[u8], body: &[u8]) -> [u8; 32] {
     let mut out = [0; 32];
     unsafe { sleep_hash_parts(prefix.as_ptr(), prefix.len(), body.as_ptr(), body.len(), out.as_mut_ptr()) };
     out
+}
+
+/// The bytes grouped, at the front of `out`, which keeps its rest.
+pub fn group(bytes: &[u8], out: &mut [u8]) -> Result<(), Refusal> {
+    unsafe { sleep_group(bytes.as_ptr(), bytes.len(), out.as_mut_ptr(), out.len()) }.result(())
+}
+
+/// Grouped bytes as they were before, at the front of `out`, which keeps its rest.
+pub fn ungroup(bytes: &[u8], out: &mut [u8]) -> Result<(), Refusal> {
+    unsafe { sleep_ungroup(bytes.as_ptr(), bytes.len(), out.as_mut_ptr(), out.len()) }.result(())
 }
 
 /// The chunk in a packet that shows it to be chunk number `chunk` of the `n` chunks under a root hash.

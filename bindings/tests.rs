@@ -1,7 +1,7 @@
 //! The wrapper over the proved library, called as a program would. `tests/run` builds and runs it.
 mod sleep_register;
 
-use sleep_register::{check_packet, hash, hash_parts, Comparison, Place, Refusal, Store, PACKET_EXTRA};
+use sleep_register::{check_packet, group, hash, hash_parts, ungroup, Comparison, Place, Refusal, Store, PACKET_EXTRA};
 
 fn refused<T>(number: u64, place: Place) -> Result<T, Refusal> {
     Err(Refusal { number, place })
@@ -117,4 +117,19 @@ fn comparisons() {
     let refusal = Refusal { number: 11, place: Place::BitfieldByte(32) };
     assert_eq!(first.register().compare(&second.register()), Comparison::SecondRefused(refusal));
     assert_eq!(second.register().compare(&first.register()), Comparison::FirstRefused(refusal));
+}
+
+/// Two words that rise by 1, and three bytes: the difference's bytes stand with those of the first word.
+#[test]
+fn grouped_and_back() {
+    let bytes = [1, 2, 3, 4, 1, 2, 3, 5, 9, 8, 7];
+    let (mut out, mut back) = ([6; 12], [6; 12]);
+    assert_eq!(group(&bytes, &mut out), Ok(()));
+    assert_eq!(out, [1, 0, 2, 0, 3, 0, 4, 1, 9, 8, 7, 6]);
+    assert_eq!(ungroup(&out[..11], &mut back), Ok(()));
+    assert_eq!(back[..11], bytes);
+    assert_eq!(back[11], 6);
+    assert_eq!(group(&bytes, &mut out[..10]), refused(14, Place::None));
+    assert_eq!(ungroup(&[0; 65537], &mut out), refused(7, Place::None));
+    assert_eq!(out, [1, 0, 2, 0, 3, 0, 4, 1, 9, 8, 7, 6]);
 }

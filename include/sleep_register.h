@@ -50,7 +50,8 @@
  *     4       a buffer is shorter than its used size                                       none
  *     5       a header differs from its 32 bytes                                           none
  *     6       the stored root lengths don't add up to size                                 none
- *     7       the chunk to append is longer than 65,536 bytes                              none
+ *     7       the chunk to append, or the bytes to group or ungroup, are longer than
+ *             65,536 bytes                                                                 none
  *     8       an append while a signature is owed, or a signature while none is            none
  *     9       the chunk number is not below n, or the byte offset is above size            none
  *     10      a lookup meets wrong lengths, a read another leaf hash, or the audit
@@ -86,6 +87,8 @@ extern "C" {
  * Calls that give or judge a root hash have the roots and the root message in arrays with room for 20 roots, some 1 KiB each, which are
  * passed by value; the comparing walk has two root messages at once. */
 #define SLEEP_STACK_START 512u
+#define SLEEP_STACK_GROUP 512u
+#define SLEEP_STACK_UNGROUP 512u
 #define SLEEP_STACK_STORE_SIGNATURE 2048u
 #define SLEEP_STACK_HASH 3072u
 #define SLEEP_STACK_HASH_PARTS 3072u
@@ -186,6 +189,15 @@ sleep_comparison sleep_compare(SLEEP_REGISTER_READ, const uint8_t *tree2, size_t
                                size_t signatures2_length, const uint8_t *bitfield2, size_t bitfield2_length, const uint8_t *data2,
                                size_t data2_length, uint64_t n2, uint64_t s2, uint64_t size2) SLEEP_NOT_NULL;
 
+/* Coordinates grouped before storing: each word of 4 big-endian bytes but the first becomes its difference from the word before, modulo
+ * 2^32; then come all first bytes, all second bytes, and so on, and the up to 3 bytes that remain, unchanged. The result has the length of
+ * bytes and stands at the front of out, whose rest is as it was. Refusals: 7, 14. */
+sleep_answer sleep_group(const uint8_t *bytes, size_t bytes_length, uint8_t *out, size_t out_length) SLEEP_NOT_NULL;
+
+/* The way back: what sleep_group made of some bytes becomes these bytes, at the front of out. Every byte string is taken, and sleep_group
+ * undoes this call as well. Refusals: 7, 14. */
+sleep_answer sleep_ungroup(const uint8_t *bytes, size_t bytes_length, uint8_t *out, size_t out_length) SLEEP_NOT_NULL;
+
 /* EMPTY BUFFERS
  *   The archive's own calls take no NULL, even where a length is 0. So from here on, in C and C++, the name of each call stands for an inline
  *   front, sleep_.._front, which looks at the lengths: for an empty buffer it hands on a pointer that is not NULL, and everything else as it
@@ -258,6 +270,14 @@ static inline sleep_comparison sleep_compare_front(SLEEP_REGISTER_READ, const ui
                          size2);
 }
 
+static inline sleep_answer sleep_group_front(const uint8_t *bytes, size_t bytes_length, uint8_t *out, size_t out_length) {
+    return sleep_group(SLEEP_LENT(bytes), SLEEP_LENT(out));
+}
+
+static inline sleep_answer sleep_ungroup_front(const uint8_t *bytes, size_t bytes_length, uint8_t *out, size_t out_length) {
+    return sleep_ungroup(SLEEP_LENT(bytes), SLEEP_LENT(out));
+}
+
 #undef SLEEP_REGISTER_LENT
 #undef SLEEP_LENT
 #define sleep_hash sleep_hash_front
@@ -273,6 +293,8 @@ static inline sleep_comparison sleep_compare_front(SLEEP_REGISTER_READ, const ui
 #define sleep_make_packet sleep_make_packet_front
 #define sleep_check_packet sleep_check_packet_front
 #define sleep_compare sleep_compare_front
+#define sleep_group sleep_group_front
+#define sleep_ungroup sleep_ungroup_front
 
 #ifdef __cplusplus
 }

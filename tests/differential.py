@@ -4,7 +4,8 @@ usage: python3 tests/differential.py LIBRARY [CALLS [SEED]]
 
 LIBRARY is the archive linked as a shared object. Registers grow by valid calls; between those, calls are made on damaged copies: bytes
 changed in a buffer, wrong n, s or size, shortened buffers, numbers at their bound and out of range. Packets are made and checked, whole and damaged, and
-registers compared with copies, with other cuts of the same bytes, with one more empty chunk and with damaged ones. One in fifty calls
+registers compared with copies, with other cuts of the same bytes, with one more empty chunk and with damaged ones. Bytes of any length about
+the limits are grouped and ungrouped, with and without room. One in fifty calls
 is on registers of 16,383 to 16,386 chunks, where the third bitfield entry begins and the tree gets its deepest hole. No pair of chunk
 sequences that collide under BLAKE2b is known, so those two answers of the comparing walk stand in no call here.
 """
@@ -16,6 +17,7 @@ import sys
 
 sys.dont_write_bytecode = True  # nothing generated lies beside the sources
 sys.path.insert(0, os.path.join(os.path.dirname(os.path.abspath(__file__)), 'model'))
+import coordinates
 import sleep_model as model
 from lent import NUMBER, Answer, Buffer, Comparison, Library, answer_of, comparison_of, numbers
 
@@ -126,6 +128,11 @@ class Calls:
         others = [Buffer(packet), n, chunk, Buffer(root, array=True), out]
         self.call('check_packet', [], others, lambda: model.check_packet(packet, n, chunk, root))
 
+    def group(self, name, data, room):
+        out = bytearray(self.random.randbytes(room))
+        others = [Buffer(data), Buffer(out, after=lambda: bytes(out))]
+        self.call(name, [], others, lambda: coordinates.CALLS[name](data, out))
+
     def compare(self, first, second):
         self.call('compare', [first, second], [], lambda: model.compare(first, second), Comparison)
 
@@ -151,6 +158,13 @@ class Run(Calls):
             self.hash_parts(self.message(), self.message())
         else:
             self.hash(self.random.choice((0, 1, 32, 64, 65, 2 ** 64 - 1, self.random.randrange(70))), self.message())
+
+    def grouping(self):
+        """Lengths with and without words and remaining bytes, at times about the longest; room for them, a byte less or more, or any."""
+        pick = self.random.randrange(40)
+        length = 65533 + pick if pick < 5 else self.random.randrange(self.random.choice((20, 600)))
+        room = self.random.choice((length, length, length + 1, max(length - 1, 0), self.random.randrange(700), 65540))
+        self.group(self.random.choice(('group', 'ungroup')), self.random.randbytes(length), room)
 
     # ---- packets
     def packing(self, r):
@@ -254,7 +268,9 @@ class Run(Calls):
         pick = self.random.randrange(100)
         if pick < 8:
             self.hashing()
-        elif pick < 20:
+        elif pick < 14:
+            self.grouping()
+        elif pick < 26:
             self.audit(r)
         else:
             self.looking(r)

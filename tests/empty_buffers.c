@@ -109,6 +109,10 @@ int main(void) {
     expect("make_packet", 0, make(r), 0);
     expect("check_packet", 0, sleep_check_packet(packet, packet_length, 3, 2, root, out).number, 0);
     expect("check_packet", 0, sleep_check_packet(NULL, 0, 3, 2, root, out).number, 12);
+    expect("group", 0, sleep_group(NULL, 0, NULL, 0).number, 0);
+    expect("group in no room", 0, sleep_group(packet, 1, NULL, 0).number, 14);
+    expect("ungroup", 0, sleep_ungroup(NULL, 0, NULL, 0).number, 0);
+    expect("ungroup in no room", 0, sleep_ungroup(packet, 1, NULL, 0).number, 14);
     printf("empty buffers: %" PRIu64 " answers as expected\n", tried);
     return 0;
 }

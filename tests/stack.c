@@ -31,9 +31,11 @@ static void byte(void) { number = sleep_byte(REGISTER, sought, out).number; }
 static void verified_read(void) { number = sleep_read(REGISTER, sought, out).number; }
 static void make_packet(void) { number = sleep_make_packet(REGISTER, sought, packet, sizeof packet, &packet_length).number; }
 static void check_packet(void) { number = sleep_check_packet(packet, packet_length, n, sought, root, out).number; }
+static void group(void) { number = sleep_group(chunk, sizeof chunk, packet, sizeof packet).number; }
+static void ungroup(void) { number = sleep_ungroup(chunk, sizeof chunk, packet, sizeof packet).number; }
 static void compare(void) { outcome = sleep_compare(REGISTER, REGISTER).outcome; }
 
-enum { START, HASH, HASH_PARTS, APPEND, STORE_SIGNATURE, ROOT_HASH, AUDIT, PLACE, BYTE, READ, MAKE_PACKET, CHECK_PACKET, COMPARE, CALLS };
+enum { START, HASH, HASH_PARTS, APPEND, STORE_SIGNATURE, ROOT_HASH, AUDIT, PLACE, BYTE, READ, MAKE_PACKET, CHECK_PACKET, COMPARE, GROUP, UNGROUP, CALLS };
 
 static struct {
     const char *name;
@@ -53,6 +55,8 @@ static struct {
     {"sleep_make_packet", make_packet, SLEEP_STACK_MAKE_PACKET, 0},
     {"sleep_check_packet", check_packet, SLEEP_STACK_CHECK_PACKET, 0},
     {"sleep_compare", compare, SLEEP_STACK_COMPARE, 0},
+    {"sleep_group", group, SLEEP_STACK_GROUP, 0},
+    {"sleep_ungroup", ungroup, SLEEP_STACK_UNGROUP, 0},
 };
 
 /* One call on the painted stack. The frame that makes the call counts too, so the figure is never too low. */
@@ -160,6 +164,8 @@ int main(void) {
     int failed = 0;
     measure(HASH, 0);
     measure(HASH_PARTS, 0);
+    measure(GROUP, 0);
+    measure(UNGROUP, 0);
     grow();
     measure_depth();
     for (int k = 0; k < CALLS; k++) {

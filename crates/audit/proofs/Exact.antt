@@ -12,14 +12,13 @@ use lib.Dec.{eqb}
 use lib.ListN.{length, getD, take, drop, length-append}
 use lib.Seq.{take-add, take-at, drop-at, ext-getD}
 use Rattle.sequences.specs.Lists.{part, run, joined}
-use Rattle.sequences.proofs.Lists.{length-part, length-run, getD-run}
+use Rattle.sequences.proofs.Lists.{length-part, length-run, getD-run, parts-joined}
 use Rattle.files.specs.Headers.{signaturesHeader}
 use Rattle.files.specs.Sizes.{usedSignatures}
 use Rattle.files.specs.Messages.{HashFunction}
 use Rattle.files.specs.Images.{signaturesImage}
 use Rattle.files.specs.Belongs.{Register, Lent, Within, Belongs}
 use Rattle.files.proofs.OfImage.{signaturesHeader-length, stored-chunk}
-use Rattle.files.proofs.ToImage.{parts-joined}
 use Rattle.checks.specs.Checks.{signedRight}
 use Rattle.audit.specs.Audit.{Accepted}
 use Rattle.audit.specs.Exact.{Imaged, AuditExact, AuditExactForAll}

@@ -2,6 +2,7 @@
 // reference to an array a pointer. include/sleep_register.h declares them.
 pub mod answers;
 pub mod comparing;
+pub mod grouping;
 pub mod hashing;
 pub mod lookups;
 pub mod packets;

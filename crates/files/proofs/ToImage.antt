@@ -1,30 +1,20 @@
 -- Bytes that say, place by place, what an image has there are that image.
 -- Assumes nothing.
-use Prim.Native.Nat.{ℕ, zero, suc, _+_, _*_, _≤_, _<_}
+use Prim.Native.Nat.{ℕ, _+_, _*_, _≤_, _<_}
 use mathlib.Core.Path.{_≡_, refl, sym, ap, ap₂, _∙_}
 use mathlib.Core.List.{List, _++_}
-use native.Mathlib.Nat.{zero-add, mul-zero, mul-suc}
 use native.Mathlib.Omega.{arith}
 use lib.ListN.{length, take, drop}
 use lib.Seq.{take-add, take-at, drop-at, length-take-le}
 use Rattle.sequences.specs.Lists.{part, run, joined, zeros}
 use Rattle.sequences.specs.Numbers.{be}
-use Rattle.sequences.proofs.Lists.{part-add, run-ext, joined-run-suc}
+use Rattle.sequences.proofs.Lists.{parts-joined, run-ext}
 use Rattle.tree_index.specs.Tree.{entries}
 use Rattle.files.specs.Headers.{treeHeader}
 use Rattle.files.specs.Sizes.{entryPlace, usedTree}
 use Rattle.files.specs.Nodes.{hole, entryBytes, entryAt, treeEntries}
 use Rattle.files.specs.Images.{treeImage, leaves}
 use Rattle.files.proofs.Nodes.{leaves-length}
-
--- e parts of m elements from place p on, one behind the other
-pub parts-joined : (xs : List ℕ) (p m e : ℕ) → joined (run (λ i. part xs (p + m * i) m) 0 e) ≡ part xs p (m * e)
-unfolding run joined part
-parts-joined xs p m zero = sym (ap (λ (k : ℕ). take k (drop p xs)) (mul-zero m))
-parts-joined xs p m (suc e) =
-    joined-run-suc (λ i. part xs (p + m * i) m) 0 e
-    ∙ ap₂ _++_ (parts-joined xs p m e) (ap (λ (i : ℕ). part xs (p + m * i) m) (zero-add e))
-    ∙ sym (part-add xs p (m * e) m) ∙ ap (part xs p) (sym (mul-suc m e))
 
 -- used bytes that are a header and what follows it, cut behind the header
 pub header-cut : (xs hs ys : List ℕ) (m k : ℕ) → length hs ≡ m → m ≤ length xs → take (m + k) xs ≡ hs ++ ys → (take m xs ≡ hs) × (part xs m k ≡ ys)

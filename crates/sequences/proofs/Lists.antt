@@ -1,7 +1,7 @@
 -- Laws of parts, places, runs, sums and lists one behind the other. Assumes nothing.
-use mathlib.Core.Path.{_≡_, refl, sym, ap, _∙_, subst}
+use mathlib.Core.Path.{_≡_, refl, sym, ap, ap₂, _∙_, subst}
 use Prim.Native.Nat.{ℕ, zero, suc, _+_, _-_, _*_, _<_, _≤_}
-use native.Mathlib.Nat.{add-zero, zero-add, add-suc, suc-add, add-assoc, le-refl, le-of-suc-le-suc, not-suc-le-zero, suc-mul, zero-mul}
+use native.Mathlib.Nat.{add-zero, zero-add, add-suc, suc-add, add-assoc, le-refl, le-of-suc-le-suc, not-suc-le-zero, suc-mul, zero-mul, mul-zero, mul-suc}
 use native.Mathlib.Omega.{arith}
 use mathlib.Core.Bool.{Bool, true, false, _&&_}
 use mathlib.Core.List.{List, [], _∷_, _++_, append-assoc, append-nil}
@@ -225,6 +225,15 @@ module _ {A : Type 0} where
   pub joined-run-suc : (f : ℕ → List A) (i k : ℕ) → joined (run f i (suc k)) ≡ joined (run f i k) ++ f (i + k)
   unfolding joined
   joined-run-suc f i k = ap joined (run-suc f i k) ∙ joined-append (run f i k) (f (i + k) ∷ []) ∙ ap (λ (r : List A). joined (run f i k) ++ r) (append-nil (f (i + k)))
+
+  -- e parts of m elements from place p on, one behind the other
+  pub parts-joined : (xs : List A) (p m e : ℕ) → joined (run (λ i. part xs (p + m * i) m) 0 e) ≡ part xs p (m * e)
+  unfolding run joined part
+  parts-joined xs p m zero = sym (ap (λ (k : ℕ). take k (drop p xs)) (mul-zero m))
+  parts-joined xs p m (suc e) =
+      joined-run-suc (λ i. part xs (p + m * i) m) 0 e
+      ∙ ap₂ _++_ (parts-joined xs p m e) (ap (λ (i : ℕ). part xs (p + m * i) m) (zero-add e))
+      ∙ sym (part-add xs p (m * e) m) ∙ ap (part xs p) (sym (mul-suc m e))
 
   -- lists of m elements each, from number i on
   module _ (f : ℕ → List A) (m : ℕ) (same : (j : ℕ) → length (f j) ≡ m) where

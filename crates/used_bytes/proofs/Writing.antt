@@ -13,7 +13,7 @@ use lib.ListN.{length, take, length-replicate}
 use lib.Seq.{take-take, take-add, length-take-le}
 use Rattle.counts.specs.Verdict.{Verdict, done, refused}
 use Rattle.sequences.specs.Lists.{part, put, zeros, joined, among, Bytes}
-use Rattle.sequences.proofs.Lists.{run-ext}
+use Rattle.sequences.proofs.Lists.{run-ext, parts-joined}
 use Rattle.tree_index.specs.Tree.{depth, completed, filledBy, entries}
 use Rattle.tree_index.proofs.Filled.{filled-below}
 use Rattle.bitfield.specs.Image.{entryCount}
@@ -26,7 +26,6 @@ use Rattle.files.specs.Nodes.{Entry, entryBytes, leaf}
 use Rattle.files.specs.Stored.{storedHash, storedSize, storedRootMessage}
 use Rattle.files.specs.Belongs.{Buffers, Register, Lent}
 use Rattle.files.proofs.Places.{put-rest}
-use Rattle.files.proofs.ToImage.{parts-joined}
 use Rattle.writing.specs.Start.{startedRegister, started}
 use Rattle.writing.specs.Append.{appendVerdict, storedEntry, sibling, newEntries, appendedTree, appendedRegister, rootUnlessRefused, appendRoot}
 use Rattle.writing.specs.Sign.{signVerdict, signedRegister}

@@ -1,0 +1,13 @@
+-- `c_api::grouping::sleep_ungroup` meets its contract.
+use borrow.Author.Needs.{needs}
+use Rattle.c_api.proofs.Laws.{coded}
+use Rattle.c_api.proofs.grouping.sleep_ungroup.Statement.{statement}
+use Rattle.c_api.proofs.grouping.sleep_ungroup.Tie as tie
+
+returns : tie.Need-returns
+returns c =
+    let called = c .before .before .before in
+    (coded _ _ _ (c .encode .ensures) (called .ungroup .ensures .answers), called .ungroup .ensures .buffer)
+
+pub sleep-ungroup-spec : {M : Type 1} → statement M
+sleep-ungroup-spec = tie.close (tie.spec (λ c κs. search needs) (λ c κs. search needs) (λ c. search needs) returns)

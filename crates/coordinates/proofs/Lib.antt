@@ -1,0 +1,5 @@
+-- Laws of grouping.
+pub mod Words
+pub mod Planes
+pub mod Calls
+pub mod Inverse

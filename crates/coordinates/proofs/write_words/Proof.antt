@@ -1,0 +1,71 @@
+-- The first i words stand at the front; a turn puts one more behind them.
+use borrow.Author.Needs.{needs}
+use mathlib.Core.Path.{_≡_, refl, sym, ap, ap₂, _∙_}
+use mathlib.Core.List.{List}
+use Prim.Native.Nat.{ℕ, _+_, _-_, _*_, _%_, _^_, _≤_}
+use native.Mathlib.Omega.{arith}
+use lib.ListN.{length}
+use Rattle.sequences.specs.Lists.{put}
+use Rattle.sequences.specs.Numbers.{be}
+use Rattle.sequences.proofs.Numbers.{length-be}
+use Rattle.coordinates.specs.Grouping.{words, restored}
+use Rattle.coordinates.proofs.Words.{prior, prior-next, words-none, words-more, gathered-lt, restored-is}
+use Rattle.coordinates.proofs.write_words.Statement.{statement}
+use Rattle.coordinates.proofs.write_words.Tie as tie
+
+abbrev Inv-loop : tie.InvT-loop
+Inv-loop bytes n out₀ word₀ i₀ out word i =
+    (i ≤ n) × (word ≡ prior (restored bytes) i) × (out ≡ put out₀ 0 (words (restored bytes) i)) × (length out ≡ length out₀)
+
+abbrev μ-loop : tie.MeasureT-loop
+μ-loop bytes n out₀ word₀ i₀ out word i = n - i
+
+loop-holds : tie.Need-loop-holds Inv-loop μ-loop
+unfolding prior
+loop-holds c = (search needs, refl, sym (words-none (c .before .before .args .out .now) (restored (c .before .before .args .bytes .now))), refl)
+
+gather-requires : tie.Need-gather-requires Inv-loop μ-loop
+gather-requires c κs = (c .before .before .before .before .pre .0, c .loop-test .taken)
+
+mul-copy-to : tie.Need-mul-copy-to Inv-loop μ-loop
+mul-copy-to c = omega arith
+
+copy-to-requires : tie.Need-copy-to-requires Inv-loop μ-loop
+copy-to-requires c κs = omega (arith, ap length (c .before .before .be32 .ensures), length-be 4 (c .before .before .before .wrapping-add-u32 .result))
+
+add-i : tie.Need-add-i Inv-loop μ-loop
+add-i c = omega arith
+
+loop-less : tie.Need-loop-less Inv-loop μ-loop
+loop-less c = omega arith
+
+loop-again : tie.Need-loop-again Inv-loop μ-loop
+loop-again c =
+    let sum = c .before .before .before .before .before .before in
+    let found = sum .before in
+    let at-loop = found .before .before in
+    let start = at-loop .before .before .before in
+    let g = start .args .bytes .now in
+    let i = at-loop .loop .i in
+    let e : sum .wrapping-add-u32 .result ≡ restored g i =
+    restored-is g i (sum .wrapping-add-u32 .result) (at-loop .loop .word) (at-loop .loop .inv .1)
+    (gathered-lt g i (λ j. at-loop .before .before .shared-slice-known .given j .fits))
+    (sum .wrapping-add-u32 .ensures ∙ ap (λ (x : ℕ). (at-loop .loop .word + x) % 2 ^ 32) (found .gather .ensures)) in (
+      search needs,
+      e ∙ sym (prior-next (restored g) i),
+      c .before .before .copy-to .ensures
+          ∙ ap₂ (λ (l d : List ℕ). put l (4 * i) d) (at-loop .loop .inv .2) (c .before .before .before .before .before .be32 .ensures ∙ ap (be 4) e)
+          ∙ words-more (start .args .out .now) (restored g) i,
+      c .before .before .copy-to .kept .0 ∙ at-loop .loop .inv .3,
+    )
+
+same-length : tie.Need-same-length Inv-loop μ-loop
+same-length c = c .before .loop .inv .3
+
+returns : tie.Need-returns Inv-loop μ-loop
+returns c = c .before .loop .inv .2 ∙ ap (λ (k : ℕ). put (c .before .before .before .before .args .out .now) 0 (words (restored (c .before .before .before .before .args .bytes .now)) k)) (omega arith)
+
+pub write-words-spec : {M : Type 1} → statement M
+write-words-spec =
+    tie.close (tie.spec Inv-loop μ-loop loop-holds gather-requires (λ c κs. search needs) (λ c κs. search needs) mul-copy-to
+    (λ c. search needs) copy-to-requires add-i loop-less loop-again same-length returns)

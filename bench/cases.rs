@@ -14,7 +14,7 @@ pub enum Case {
     Append,
 }
 
-/// The chunk counts and what is called there, from the largest down. What an append does beside its hashing follows from the parents that it
+/// The chunk counts and what is called there, from the largest down; each append is previewed first. What an append does beside its hashing follows from the parents that it
 /// completes, the roots that it leaves, and how far its bitfield entry is filled, whose Index it makes anew; so there are appends that have
 /// these three in common at very different n.
 pub const CASES: [(usize, Case); 15] = [

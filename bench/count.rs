@@ -40,7 +40,9 @@ fn main() {
                 }
             }
             Case::Append => {
-                store.append(&[9; LENGTH]).unwrap();
+                let seen = store.register().preview(&[9; LENGTH]);
+                println!("preview {n}");
+                assert_eq!(store.append(&[9; LENGTH]), seen);
                 println!("append {n}");
             }
         }

@@ -82,6 +82,9 @@ extern "C" {
     fn sleep_append(t: Out, tl: usize, g: In, gl: usize, b: Out, bl: usize, d: Out, dl: usize, n: u64, s: u64, size: u64,
         chunk: In, chunk_length: usize, root: Out) -> Answer;
     #[rustfmt::skip]
+    fn sleep_preview(t: In, tl: usize, g: In, gl: usize, b: In, bl: usize, d: In, dl: usize, n: u64, s: u64, size: u64,
+        chunk: In, chunk_length: usize, root: Out) -> Answer;
+    #[rustfmt::skip]
     fn sleep_store_signature(t: In, tl: usize, g: Out, gl: usize, b: In, bl: usize, d: In, dl: usize, n: u64, s: u64, size: u64,
         signature: In) -> Answer;
     #[rustfmt::skip]
@@ -182,6 +185,13 @@ impl<'a> Register<'a> {
     pub fn root_hash(&self) -> Result<[u8; 32], Refusal> {
         let mut root = [0; 32];
         let answer = reading!(sleep_root_hash, self, root.as_mut_ptr());
+        answer.result(root)
+    }
+
+    /// What an append of a chunk would give, its root hash, or its refusal; nothing is written.
+    pub fn preview(&self, chunk: &[u8]) -> Result<[u8; 32], Refusal> {
+        let mut root = [0; 32];
+        let answer = reading!(sleep_preview, self, chunk.as_ptr(), chunk.len(), root.as_mut_ptr());
         answer.result(root)
     }
 

@@ -41,6 +41,22 @@ fn append_gives_the_root_hash() {
 }
 
 #[test]
+fn a_preview_is_what_the_append_gives() {
+    let mut store = Store::with_room(17, 40);
+    store.start().unwrap();
+    for k in 0..17usize {
+        let chunk = vec![k as u8; k % 4];
+        let (before, seen) = (store.clone(), store.register().preview(&chunk));
+        assert_eq!(store, before);
+        assert_eq!(store.append(&chunk), seen);
+        assert_eq!(store.register().preview(&chunk), refused(8, Place::None));
+        store.store_signature(&[7; 64]).unwrap();
+    }
+    assert_eq!(store.register().preview(b""), refused(14, Place::None));
+    assert_eq!(store.register().preview(&[0; 65537]), refused(7, Place::None));
+}
+
+#[test]
 fn damage_is_found_where_it_is() {
     let mut store = filled(&[b"AB", b"", b"CDE"]);
     store.data[3] ^= 1;

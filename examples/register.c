@@ -1,5 +1,5 @@
-/* A register in fixed buffers: three pieces, their signatures, an audit, a verified read, a packet made and checked, and two registers
- * compared. Build and run: make -C examples */
+/* A register in fixed buffers: three pieces, each previewed, signed, appended and stored with its signature, an audit, a verified read, a packet
+ * made and checked, and two registers compared. Build and run: make -C examples */
 #include <inttypes.h>
 #include <stdio.h>
 #include <stdlib.h>
@@ -27,13 +27,22 @@ static void expect(const char *what, uint64_t answered, uint64_t expected) {
     }
 }
 
+/* Stands for a signing device. */
+static void sign(const uint8_t root[32], uint8_t signature[64]) {
+    memcpy(signature, root, 32);
+    memcpy(signature + 32, root, 32);
+}
+
+/* The signature is ready before the piece is stored: preview, sign, append, store. */
 static void add(store *r, const char *piece, uint8_t root[32]) {
-    uint8_t signature[64];
+    uint8_t signature[64], seen[32];
     size_t length = strlen(piece);
+    expect("preview", sleep_preview(LENT(r), COUNTS(r), (const uint8_t *)piece, length, seen).number, 0);
+    sign(seen, signature);
     expect("append", sleep_append(LENT(r), COUNTS(r), (const uint8_t *)piece, length, root).number, 0);
+    expect("the root hash that was previewed", (uint64_t)memcmp(root, seen, 32), 0);
     r->n += 1;
     r->size += length;
-    memset(signature, (int)r->n, sizeof signature); /* a signing device would sign the root hash here */
     expect("signature", sleep_store_signature(LENT(r), COUNTS(r), signature).number, 0);
     r->s += 1;
 }

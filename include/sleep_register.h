@@ -60,7 +60,8 @@
  *     12      a packet's counts aren't those of n and the chunk number, its chunk is
  *             over 65,536 bytes, or bytes lack or remain                                   none
  *     13      a packet's lengths add up to over 68,719,476,736, or its root hash differs   none
- *     14      a buffer to be written is shorter than the result needs                      none
+ *     14      a buffer to be written is shorter than the result needs; a preview judges
+ *             the buffers that the append would write                                      none
  *
  *   1 to 4, 7 to 9 and 14 point at the call: a number or a buffer that doesn't fit. 5 and 6 mean that the images are not those of a
  *   register with these numbers: other files, other numbers, or damage. 10 and 11 mean damage where the place says. 12 and 13 mean that a
@@ -100,6 +101,7 @@ extern "C" {
 #define SLEEP_STACK_ROOT_HASH 6144u
 #define SLEEP_STACK_CHECK_PACKET 6144u
 #define SLEEP_STACK_APPEND 6144u
+#define SLEEP_STACK_PREVIEW 6144u
 #define SLEEP_STACK_COMPARE 8192u
 
 enum { SLEEP_PLACE_NONE = 0, SLEEP_PLACE_TREE_INDEX = 1, SLEEP_PLACE_BITFIELD_BYTE = 2 };
@@ -150,6 +152,10 @@ sleep_answer sleep_start(uint8_t *tree, size_t tree_length, uint8_t *signatures,
 sleep_answer sleep_append(uint8_t *tree, size_t tree_length, const uint8_t *signatures, size_t signatures_length,
                           uint8_t *bitfield, size_t bitfield_length, uint8_t *data, size_t data_length, uint64_t n, uint64_t s,
                           uint64_t size, const uint8_t *chunk, size_t chunk_length, uint8_t root[32]) SLEEP_NOT_NULL;
+
+/* What sleep_append would answer to these arguments, and the root hash that it would give, and nothing is written: the signature can be made
+ * before the chunk is stored. Lend the buffers at the lengths that the append will have, since room is judged too. Refusals: 2 to 8, 14. */
+sleep_answer sleep_preview(SLEEP_REGISTER_READ, const uint8_t *chunk, size_t chunk_length, uint8_t root[32]) SLEEP_NOT_NULL;
 
 /* Stores the newest chunk's signature, 64 bytes that are not looked into. Refusals: 2 to 6, 8, 14. */
 sleep_answer sleep_store_signature(const uint8_t *tree, size_t tree_length, uint8_t *signatures, size_t signatures_length,
@@ -225,6 +231,10 @@ static inline sleep_answer sleep_append_front(uint8_t *tree, size_t tree_length,
     return sleep_append(SLEEP_REGISTER_LENT, SLEEP_LENT(chunk), root);
 }
 
+static inline sleep_answer sleep_preview_front(SLEEP_REGISTER_READ, const uint8_t *chunk, size_t chunk_length, uint8_t root[32]) {
+    return sleep_preview(SLEEP_REGISTER_LENT, SLEEP_LENT(chunk), root);
+}
+
 static inline sleep_answer sleep_store_signature_front(const uint8_t *tree, size_t tree_length, uint8_t *signatures,
                                                        size_t signatures_length, const uint8_t *bitfield, size_t bitfield_length,
                                                        const uint8_t *data, size_t data_length, uint64_t n, uint64_t s, uint64_t size,
@@ -284,6 +294,7 @@ static inline sleep_answer sleep_ungroup_front(const uint8_t *bytes, size_t byte
 #define sleep_hash_parts sleep_hash_parts_front
 #define sleep_start sleep_start_front
 #define sleep_append sleep_append_front
+#define sleep_preview sleep_preview_front
 #define sleep_store_signature sleep_store_signature_front
 #define sleep_root_hash sleep_root_hash_front
 #define sleep_audit sleep_audit_front

@@ -4,8 +4,9 @@ usage: python3 tests/differential.py LIBRARY [CALLS [SEED]]
 
 LIBRARY is the archive linked as a shared object. Registers grow by valid calls; between those, calls are made on damaged copies: bytes
 changed in a buffer, wrong n, s or size, shortened buffers, numbers at their bound and out of range. Packets are made and checked, whole and damaged, and
-registers compared with copies, with other cuts of the same bytes, with one more empty chunk and with damaged ones. Bytes of any length about
-the limits are grouped and ungrouped, with and without room. One in fifty calls
+registers compared with copies, with other cuts of the same bytes, with one more empty chunk and with damaged ones. On every register
+that is made, damaged or not, a preview is compared with the append on a copy. Bytes of any length about the limits are grouped and
+ungrouped, with and without room. One in fifty calls
 is on registers of 16,383 to 16,386 chunks, where the third bitfield entry begins and the tree gets its deepest hole. No pair of chunk
 sequences that collide under BLAKE2b is known, so those two answers of the comparing walk stand in no call here.
 """
@@ -52,7 +53,8 @@ class Calls:
     """Each call of the library beside the model's."""
 
     def __init__(self, library, seed):
-        self.library, self.random, self.calls, self.refusals, self.ends = library, random.Random(seed), {}, {}, 0
+        self.library, self.random, self.calls, self.refusals = library, random.Random(seed), {}, {}
+        self.ends = self.agreed = 0
 
     def total(self):
         return sum(self.calls.values())
@@ -85,8 +87,25 @@ class Calls:
     def start(self, r):
         self.call('start', [r], [], lambda: model.start(r))
 
+    def preview(self, r, chunk):
+        self.call('preview', [r], [Buffer(chunk), self.result(32, lambda root: root)], lambda: model.preview(r, chunk))
+
     def append(self, r, chunk):
+        """Every append is previewed first, on the same buffers."""
+        self.preview(r, chunk)
         self.call('append', [r], [Buffer(chunk), self.result(32, lambda root: root)], lambda: model.append(r, chunk))
+
+    def agree(self, r, chunk):
+        """A preview and an append on copies of one register: the same answer and result, and the preview changes no image."""
+        told, before = (r.n, r.s, r.size), self.random.randbytes(32)
+        def called(name):
+            lent, root = [Buffer(getattr(r, image)) for image in IMAGES], Buffer(before, array=True)
+            return lent, self.library.call(name, lent + list(told) + [Buffer(chunk), root]) + root.held()
+        lent, seen = called('preview')
+        for image, buffer in zip(IMAGES, lent):
+            self.same(image, 'preview', told, buffer.held(), buffer.before)
+        self.same('what the append gives', 'preview', told, seen, called('append')[1])
+        self.agreed += 1
 
     def sign(self, r):
         signature = self.random.randbytes(64)
@@ -244,6 +263,7 @@ class Run(Calls):
             pair = [r, model.register_of(chunks_of(r) + [b''])]
         else:
             pair = [r, self.damage(r)]
+        self.agree(pair[1], self.chunk())
         if self.random.random() < 0.5:
             pair.reverse()
         self.compare(*pair)
@@ -303,6 +323,7 @@ class Run(Calls):
                 name = self.random.choice(('n', 's', 'size'))
                 near = (getattr(r, name) + self.random.choice((-2, -1, 1, 2))) % 2 ** 64
                 setattr(r, name, self.random.choice((near, near, near, 0, 1048576, 1048577, 2 ** 64 - 1)))
+        self.agree(r, self.chunk())
         return r
 
     def damage_entry(self, r):
@@ -330,6 +351,7 @@ class Run(Calls):
         for _ in range(6 * most + 6):
             if self.total() >= calls:
                 return
+            self.agree(r, self.chunk())
             pick = self.random.randrange(40)
             owed = r.s < r.n if pick > 3 else self.random.random() < 0.5
             if pick < 16 and owed:
@@ -352,7 +374,10 @@ class Run(Calls):
         signatures, root, told = self.random.randbytes(64 * n), Buffer(bytes(32), array=True), 0
         answers = [self.library.call('start', lent)]
         for k, chunk in enumerate(chunks):
+            seen = Buffer(bytes(32), array=True)
+            answers.append(self.library.call('preview', lent + [k, k, told, Buffer(chunk), seen]))
             answers.append(self.library.call('append', lent + [k, k, told, Buffer(chunk), root]))
+            self.same('the root hash previewed', 'building', k, seen.held(), root.held())
             told += len(chunk)
             answers.append(self.library.call('store_signature', lent + [k + 1, k, told, Buffer(signatures[64 * k:64 * k + 64], array=True)]))
         self.same('an answer', 'building', n, b''.join(answers), numbers(0, 0, 0) * len(answers))
@@ -369,6 +394,7 @@ class Run(Calls):
         for name, more in zip(IMAGES, (400, 400, 3328, 400)):
             setattr(r, name, getattr(r, name) + self.random.randbytes(more))
         for _ in range(4):
+            self.agree(r, self.chunk())
             for _ in range(calls // 4):
                 damaged = self.random.random() < 0.3
                 self.looking(self.damage(r) if damaged else r)
@@ -392,7 +418,7 @@ def main(path, calls=100000, seed=20170901):
     print('calls: ' + ', '.join('%s %d' % pair for pair in sorted(run.calls.items())))
     print('byte lookups at the data size: %d' % run.ends)
     print('refusals: ' + ', '.join('%d: %d' % pair for pair in sorted(run.refusals.items())))
-    print('differential: %d calls agree with the model' % run.total())
+    print('differential: %d calls agree with the model, preview and append on %d registers' % (run.total(), run.agreed))
 
 
 if __name__ == '__main__':

@@ -41,6 +41,8 @@ static lent empty_chunks(uint64_t n) {
 static uint64_t start(lent r) { return sleep_start(IMAGES(r)).number; }
 static uint64_t append(lent r) { return sleep_append(REGISTER(r), NULL, 0, root).number; }
 static uint64_t append_a(lent r) { return sleep_append(REGISTER(r), (const uint8_t *)"a", 1, root).number; }
+static uint64_t preview(lent r) { return sleep_preview(REGISTER(r), NULL, 0, root).number; }
+static uint64_t preview_a(lent r) { return sleep_preview(REGISTER(r), (const uint8_t *)"a", 1, root).number; }
 static uint64_t store(lent r) { return r.s -= r.n > 0, sleep_store_signature(REGISTER(r), signature).number; }
 static uint64_t root_hash(lent r) { return sleep_root_hash(REGISTER(r), root).number; }
 static uint64_t audit(lent r) { return sleep_audit(REGISTER(r)).number; }
@@ -92,6 +94,8 @@ int main(void) {
     each_buffer("start", start, 14, 0);
     each_buffer("append", append, 4, 0);
     each_buffer("append of a byte", append_a, 4, 14);
+    each_buffer("preview", preview, 4, 0);
+    each_buffer("preview of a byte", preview_a, 4, 14);
     each_buffer("store_signature", store, 4, 0);
     each_buffer("root_hash", root_hash, 4, 0);
     each_buffer("audit", audit, 4, 0);

@@ -23,6 +23,7 @@ static void start(void) { number = sleep_start(tree, sizeof tree, signatures, si
 static void hash(void) { number = sleep_hash(64, chunk, sizeof chunk, digest); }
 static void hash_parts(void) { sleep_hash_parts(chunk, 9, chunk, sizeof chunk, digest); }
 static void append(void) { number = sleep_append(REGISTER, chunk, chunk_length, root).number; }
+static void preview(void) { number = sleep_preview(REGISTER, chunk, chunk_length, root).number; }
 static void store_signature(void) { number = sleep_store_signature(REGISTER, digest).number; }
 static void root_hash(void) { number = sleep_root_hash(REGISTER, root).number; }
 static void audit(void) { number = sleep_audit(REGISTER).number; }
@@ -35,7 +36,7 @@ static void group(void) { number = sleep_group(chunk, sizeof chunk, packet, size
 static void ungroup(void) { number = sleep_ungroup(chunk, sizeof chunk, packet, sizeof packet).number; }
 static void compare(void) { outcome = sleep_compare(REGISTER, REGISTER).outcome; }
 
-enum { START, HASH, HASH_PARTS, APPEND, STORE_SIGNATURE, ROOT_HASH, AUDIT, PLACE, BYTE, READ, MAKE_PACKET, CHECK_PACKET, COMPARE, GROUP, UNGROUP, CALLS };
+enum { START, HASH, HASH_PARTS, APPEND, PREVIEW, STORE_SIGNATURE, ROOT_HASH, AUDIT, PLACE, BYTE, READ, MAKE_PACKET, CHECK_PACKET, COMPARE, GROUP, UNGROUP, CALLS };
 
 static struct {
     const char *name;
@@ -46,6 +47,7 @@ static struct {
     {"sleep_hash", hash, SLEEP_STACK_HASH, 0},
     {"sleep_hash_parts", hash_parts, SLEEP_STACK_HASH_PARTS, 0},
     {"sleep_append", append, SLEEP_STACK_APPEND, 0},
+    {"sleep_preview", preview, SLEEP_STACK_PREVIEW, 0},
     {"sleep_store_signature", store_signature, SLEEP_STACK_STORE_SIGNATURE, 0},
     {"sleep_root_hash", root_hash, SLEEP_STACK_ROOT_HASH, 0},
     {"sleep_audit", audit, SLEEP_STACK_AUDIT, 0},
@@ -118,6 +120,7 @@ static void grow(void) {
     while (n < GROWN) {
         chunk_length = n == 1 || n == 8191 || n == GROWN - 2 ? sizeof chunk : n % 8;
         chunk[0] = (uint8_t)n;
+        measure(PREVIEW, 0);
         measure(APPEND, 0);
         n += 1;
         size += chunk_length;
@@ -157,6 +160,7 @@ static void measure_depth(void) {
     measure(CHECK_PACKET, 13);
     measure(AUDIT, 10);
     measure(COMPARE, 0);
+    measure(PREVIEW, 0);
     measure(APPEND, 0);
 }
 

@@ -9,6 +9,7 @@ F, from bytes to 32 bytes, is the hash of every leaf, parent and root message.  
 unless a caller puts another function in.  Numbers are whole numbers: no sum wraps.
 """
 
+import copy
 import functools
 import hashlib
 from dataclasses import dataclass
@@ -271,6 +272,10 @@ def append(r, chunk, F=node_hash):
     r.bitfield[at + DATA_BYTES + TREE_BYTES:at + BITFIELD_ENTRY] = index_bytes(r.bitfield[at:at + DATA_BYTES])
     r.n, r.size = r.n + 1, data
     return (F(r.root_message()),)
+
+def preview(r, chunk, F=node_hash):
+    """What an append would answer on a copy of the lent buffers, length for length; nothing is written."""
+    return append(copy.deepcopy(r), chunk, F)
 
 def put_filled(r, index, node):
     r.put(index, entry_bytes(node))

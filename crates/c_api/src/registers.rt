@@ -50,6 +50,28 @@ pub extern "C" fn sleep_append(
     super::answers::give_hash(answer, hash, root)
 }
 
+// What an append of the chunk would answer on a copy of the images; its root hash in `root`.
+#[no_mangle]
+pub extern "C" fn sleep_preview(
+    tree: &[u8],
+    signatures: &[u8],
+    bitfield: &[u8],
+    content: &[u8],
+    n: u64,
+    s: u64,
+    size: u64,
+    chunk: &[u8],
+    root: &mut [u8; 32],
+) -> SleepAnswer
+    ensures answers { λ r. ⌜ r ≡ encoded (appendVerdict (registerOf (now (tree .entry)) (now (signatures .entry)) (now (bitfield .entry)) (now (content .entry)) n s size) (now (chunk .entry))) ⌝ }
+    ensures gives { λ _. ⌜ now (root .exit) ≡ unlessRefused (appendVerdict (registerOf (now (tree .entry)) (now (signatures .entry)) (now (bitfield .entry)) (now (content .entry)) n s size) (now (chunk .entry))) (appendRoot nodeHash (registerOf (now (tree .entry)) (now (signatures .entry)) (now (bitfield .entry)) (now (content .entry)) n s size) (now (chunk .entry))) (now (root .entry)) ⌝ }
+{
+    let previewed = preview::preview(tree, signatures, bitfield, content, n, s, size, chunk);
+    let hash = previewed.root;
+    let answer = previewed.answer;
+    super::answers::give_hash(answer, hash, root)
+}
+
 // The signature of the newest chunk, which is owed where `s` is `n` - 1.
 #[no_mangle]
 pub extern "C" fn sleep_store_signature(

@@ -88,7 +88,7 @@ module _ {A : Type 0} where
   run-map f (x ∷ xs) =
       ap (λ (l : List A). f x ∷ l) (run-shift (λ j. f (getD (x ∷ xs) j 0)) 0 (length xs) ∙ run-map f xs)
 
-  mapped-at : (f : ℕ → A) (xs : List ℕ) (ys : List A) (d : A) (j : ℕ) → j < length xs → getD (map f xs ++ ys) j d ≡ f (getD xs j 0)
+  pub mapped-at : (f : ℕ → A) (xs : List ℕ) (ys : List A) (d : A) (j : ℕ) → j < length xs → getD (map f xs ++ ys) j d ≡ f (getD xs j 0)
   mapped-at f [] ys d j h = absurd (omega arith)
   mapped-at f (x ∷ xs) ys d zero h = refl
   mapped-at f (x ∷ xs) ys d (suc j) h = mapped-at f xs ys d j (le-of-suc-le-suc h)

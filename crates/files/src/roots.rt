@@ -50,7 +50,7 @@ fn hashes_at(tree: &[u8], indexes: [TreeIndex; 20], count: usize) -> [[u8; 32]; 
 }
 
 // Inner: the stored roots of the first n chunks, without their hashes.
-fn stored_roots(tree: &[u8], n: u64) -> Roots
+pub fn stored_roots(tree: &[u8], n: u64) -> Roots
     requires { ⌜ RootsIn (now tree) n ⌝ }
     ensures { λ r. ⌜ RootsOf (now (tree .entry)) n r ⌝ }
 {
@@ -65,7 +65,7 @@ fn stored_roots(tree: &[u8], n: u64) -> Roots
 }
 
 // Inner: the hashes of the stored roots of the first n chunks, and zeros behind them.
-fn stored_root_hashes(tree: &[u8], n: u64) -> [[u8; 32]; 20]
+pub fn stored_root_hashes(tree: &[u8], n: u64) -> [[u8; 32]; 20]
     requires { ⌜ RootsIn (now tree) n ⌝ }
     ensures { λ r. ⌜ r ≡ padded (zeros 32) (length (rootsOf n)) (map (storedHash (now (tree .entry))) (rootsOf n)) ⌝ }
 {

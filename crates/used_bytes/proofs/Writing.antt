@@ -33,7 +33,8 @@ use Rattle.writing.specs.Fits.{AppendFits}
 use Rattle.writing.proofs.Written.{take-put-end}
 use Rattle.writing.proofs.Started.{started-belongs, started-signatures}
 use Rattle.writing.proofs.Climbed.{sibling-filled}
-use Rattle.writing.proofs.Made.{made, new-made, made-long, climb-same}
+use Rattle.writing.specs.Inner.{made}
+use Rattle.writing.proofs.Made.{new-made, made-long, climb-same}
 use Rattle.writing.proofs.Tree.{tree-front, tree-new, tree-old, tree-hole}
 use Rattle.writing.proofs.Bits.{bits-front}
 use Rattle.writing.proofs.Verdicts.{append-passed, sign-passed}

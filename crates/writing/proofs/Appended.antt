@@ -26,7 +26,8 @@ use Rattle.files.proofs.ToImage.{header-cut}
 use Rattle.writing.specs.Append.{appendedRegister}
 use Rattle.writing.specs.Fits.{AppendFits}
 use Rattle.writing.proofs.Written.{take-put-end, length-snoc, dataSize-snoc, dataImage-snoc, within-snoc}
-use Rattle.writing.proofs.Made.{made, new-made, made-long}
+use Rattle.writing.specs.Inner.{made}
+use Rattle.writing.proofs.Made.{new-made, made-long}
 use Rattle.writing.proofs.Bits.{bits-rest}
 use Rattle.writing.proofs.Tree.{appended-tree, tree-rest}
 

@@ -25,8 +25,8 @@ use Rattle.files.proofs.Written.{entry-length, other-hash, other-size}
 use Rattle.blake2b.specs.Hash.{nodeHash}
 use Rattle.blake2b.proofs.Laws.{node-length}
 use Rattle.writing.specs.Append.{storedEntry, sibling, withEntries, climb}
-use Rattle.writing.specs.Inner.{place}
-use Rattle.writing.proofs.Made.{made, climb-made}
+use Rattle.writing.specs.Inner.{place, made}
+use Rattle.writing.proofs.Made.{climb-made}
 use Rattle.writing.proofs.Tree.{never}
 
 -- ---- where the nodes stand

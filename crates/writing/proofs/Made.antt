@@ -15,6 +15,7 @@ use Rattle.files.specs.Nodes.{Entry, entryBytes, leaf, parentOf}
 use Rattle.files.specs.Stored.{storedHash}
 use Rattle.files.proofs.Nodes.{leafMessage-bytes, parentMessage-bytes, entryBytes-length}
 use Rattle.writing.specs.Append.{storedEntry, sibling, climb, newEntries}
+use Rattle.writing.specs.Inner.{made}
 
 map-run : {A : Type 0} (f : ℕ → A) (g : ℕ → ℕ) (i k : ℕ) → map f (run g i k) ≡ run (λ j. f (g j)) i k
 unfolding run
@@ -22,39 +23,34 @@ map-run f g i zero = refl
 map-run f g i (suc k) = ap (λ l. f (g i) ∷ l) (map-run f g (suc i) k)
 
 module _ (F : List ℕ → List ℕ) where
-  -- the entry at the depth d, over the leaf e
-  unfoldable pub made : List ℕ → ℕ → Entry → ℕ → Entry
-  made t n e zero = e
-  made t n e (suc d) = parentOf F (storedEntry t (sibling n d)) (made t n e d)
-
   -- they are those of the definition
-  pub climb-made : (t : List ℕ) (n : ℕ) (e : Entry) (d k : ℕ) → climb F t n d k (made t n e d) ≡ run (made t n e) d (suc k)
+  pub climb-made : (t : List ℕ) (n : ℕ) (e : Entry) (d k : ℕ) → climb F t n d k (made F t n e d) ≡ run (made F t n e) d (suc k)
   unfolding climb run made
   climb-made t n e d zero = refl
   climb-made t n e d (suc k) =
-      ap (λ (l : List Entry). made t n e d ∷ l)
-      (ap (λ (x : ℕ). climb F t n x k (parentOf F (storedEntry t (sibling n d)) (made t n e d))) (add-one d) ∙ climb-made t n e (suc d) k)
+      ap (λ (l : List Entry). made F t n e d ∷ l)
+      (ap (λ (x : ℕ). climb F t n x k (parentOf F (storedEntry t (sibling n d)) (made F t n e d))) (add-one d) ∙ climb-made t n e (suc d) k)
 
   -- in the order of the indexes that the chunk n fills
-  pub new-made : (t : List ℕ) (n : ℕ) (c : List ℕ) → newEntries F t n c ≡ map (λ i. made t n (leaf F c) (depth i)) (filledBy n)
+  pub new-made : (t : List ℕ) (n : ℕ) (c : List ℕ) → newEntries F t n c ≡ map (λ i. made F t n (leaf F c) (depth i)) (filledBy n)
   unfolding newEntries filledBy made
   new-made t n c =
-      climb-made t n (leaf F c) 0 (completed n) ∙ ap (run (made t n (leaf F c)) 0) (sym (add-one (completed n)))
-      ∙ run-ext (made t n (leaf F c)) (λ d. made t n (leaf F c) (depth (index d ((n + 1) / 2 ^ d - 1)))) 0 (completed n + 1)
-      (λ d p q. ap (made t n (leaf F c)) (sym (depth-index d ((n + 1) / 2 ^ d - 1))))
-      ∙ sym (map-run (λ i. made t n (leaf F c) (depth i)) (λ d. index d ((n + 1) / 2 ^ d - 1)) 0 (completed n + 1))
+      climb-made t n (leaf F c) 0 (completed n) ∙ ap (run (made F t n (leaf F c)) 0) (sym (add-one (completed n)))
+      ∙ run-ext (made F t n (leaf F c)) (λ d. made F t n (leaf F c) (depth (index d ((n + 1) / 2 ^ d - 1)))) 0 (completed n + 1)
+      (λ d p q. ap (made F t n (leaf F c)) (sym (depth-index d ((n + 1) / 2 ^ d - 1))))
+      ∙ sym (map-run (λ i. made F t n (leaf F c) (depth i)) (λ d. index d ((n + 1) / 2 ^ d - 1)) 0 (completed n + 1))
 
   -- each has 40 bytes, where the tree file and the chunk hold bytes
   module _ (hf : HashFunction F) (t : List ℕ) (n : ℕ) (c : List ℕ) (q : Bytes t) (p : Bytes c) where
-    hashed : (d : ℕ) → (length (made t n (leaf F c) d .hash) ≡ 32) × Bytes (made t n (leaf F c) d .hash)
+    hashed : (d : ℕ) → (length (made F t n (leaf F c) d .hash) ≡ 32) × Bytes (made F t n (leaf F c) d .hash)
     unfolding made leaf parentOf storedEntry storedHash
     hashed zero = (hf .size _ (leafMessage-bytes c p), hf .byte _ (leafMessage-bytes c p))
     hashed (suc d) =
         let m = parentMessage-bytes _ _ _ (bytes-part t (entryPlace (sibling n d)) 32 q) (hashed d .1) in
         (hf .size _ m, hf .byte _ m)
 
-    pub made-long : (d : ℕ) → length (entryBytes (made t n (leaf F c) d)) ≡ 40
-    made-long d = entryBytes-length (made t n (leaf F c) d) (hashed d .0)
+    pub made-long : (d : ℕ) → length (entryBytes (made F t n (leaf F c) d)) ≡ 40
+    made-long d = entryBytes-length (made F t n (leaf F c) d) (hashed d .0)
 
   -- tree files that store the same siblings
   pub climb-same : (t u : List ℕ) (n : ℕ) → ((d : ℕ) → d < completed n → storedEntry t (sibling n d) ≡ storedEntry u (sibling n d))

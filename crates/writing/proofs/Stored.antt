@@ -58,11 +58,11 @@ module _ (t : List ℕ) (n : ℕ) (room : usedTree (n + 1) ≤ length t) where
   unfolding entries
   apart i f e = let h : i < 2 * n - 1 = filled-below n i f in omega arith
 
-  hole-hash : (i : ℕ) → filled n i ≡ true → storedHash (withHole t n) i ≡ storedHash t i
+  pub hole-hash : (i : ℕ) → filled n i ≡ true → storedHash (withHole t n) i ≡ storedHash t i
   hole-hash i f =
       by-hole (λ u. storedHash u i ≡ storedHash t i) t n (λ _. refl) (λ _. other-hash t (2 * n - 1) (zeros 40) forty (hole-room t n room) i (apart i f))
 
-  hole-size : (i : ℕ) → filled n i ≡ true → storedSize (withHole t n) i ≡ storedSize t i
+  pub hole-size : (i : ℕ) → filled n i ≡ true → storedSize (withHole t n) i ≡ storedSize t i
   hole-size i f =
       by-hole (λ u. storedSize u i ≡ storedSize t i) t n (λ _. refl) (λ _. other-size t (2 * n - 1) (zeros 40) forty (hole-room t n room) i (apart i f))
 

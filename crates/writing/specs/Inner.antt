@@ -1,5 +1,5 @@
 -- What the inner functions require and ensure.
-use Prim.Native.Nat.{ℕ, _+_, _-_, _/_, _^_, _≤_, _<_}
+use Prim.Native.Nat.{ℕ, zero, suc, _+_, _-_, _/_, _^_, _≤_, _<_}
 use mathlib.Core.Path.{_≡_}
 use mathlib.Core.List.{List, [], _∷_}
 use lib.ListN.{length}
@@ -9,10 +9,10 @@ use Rattle.bitfield.specs.Append.{appended}
 use Rattle.blake2b.specs.Hash.{nodeHash}
 use Rattle.files.specs.Headers.{treeHeader, signaturesHeader, bitfieldHeader}
 use Rattle.files.specs.Sizes.{mostChunks, longestChunk, usedTree, usedSignatures, usedBitfield}
-use Rattle.files.specs.Nodes.{Entry}
+use Rattle.files.specs.Nodes.{Entry, parentOf}
 use Rattle.files.specs.Stored.{storedSize, storedRootSizes, storedRootMessage}
 use Rattle.files.specs.Belongs.{Register}
-use Rattle.writing.specs.Append.{sibling, appendedTree}
+use Rattle.writing.specs.Append.{storedEntry, sibling, appendedTree}
 use Rattle.writing.specs.declared.appending.Node.{Node}
 
 -- ---- a start
@@ -32,6 +32,11 @@ place n d = index d ((n + 1) / 2 ^ d - 1)
 -- what a node by value holds
 abbrev pub entryOf : Node → Entry
 entryOf e = record { hash = e .hash; size = e .size }
+
+-- the entry that the append makes at the depth d, over the leaf e
+unfoldable pub made : (List ℕ → List ℕ) → List ℕ → ℕ → Entry → ℕ → Entry
+made F tree n e zero = e
+made F tree n e (suc d) = parentOf F (storedEntry tree (sibling n d)) (made F tree n e d)
 
 -- the chunk n completes a node at the depth d, and the tree file has room for the entries of n + 1 chunks
 pub record NodeFits (tree : List ℕ) (n d : ℕ) : Type 0 where

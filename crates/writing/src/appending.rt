@@ -24,9 +24,9 @@ pub struct Appended {
 }
 
 // A tree entry by value.
-struct Node {
-    hash: [u8; 32],
-    size: u64,
+pub struct Node {
+    pub hash: [u8; 32],
+    pub size: u64,
 }
 
 // Inner: the numbers 7, 8 and 14, of a register that passes 2 to 6.
@@ -70,7 +70,7 @@ fn judge_own(
 }
 
 // All checks of an append: "2. .. or an append finds n at 1,048,576", then 3 to 6, then its own. They only read.
-fn judge(
+pub fn judge(
     tree: &[u8],
     signatures: &[u8],
     bitfield: &[u8],
@@ -124,7 +124,7 @@ fn put_node(tree: &mut [u8], n: u64, d: u32, node: Node)
 }
 
 // Inner: the parent of a node that ends with the chunk n and of its left sibling, a stored root.
-fn above(tree: &[u8], n: u64, d: u32, node: Node) -> Node
+pub fn above(tree: &[u8], n: u64, d: u32, node: Node) -> Node
     requires { ⌜ AboveFits (now tree) n d (node .size) ⌝ }
     ensures { λ r. ⌜ entryOf r ≡ parentOf nodeHash (storedEntry (now (tree .entry)) (siblingOf n d)) (entryOf node) ⌝ }
 {

@@ -6,8 +6,7 @@ use native.Mathlib.Omega.{arith}
 use borrow.Author.Needs.{needs}
 use Rattle.tree_index.specs.Tree.{completed}
 use Rattle.blake2b.specs.Hash.{nodeHash}
-use Rattle.writing.specs.Inner.{entryOf}
-use Rattle.writing.proofs.Made.{made}
+use Rattle.writing.specs.Inner.{entryOf, made}
 use Rattle.writing.proofs.Climbed.{made-first, Going, going-none, going-step, going-all, above-made, above-fits}
 use Rattle.writing.proofs.appending.write_filled.Statement.{statement}
 use Rattle.writing.proofs.appending.write_filled.Tie as tie

@@ -1,0 +1,3 @@
+-- Laws of the preview.
+pub mod NewRoot
+pub mod Answers

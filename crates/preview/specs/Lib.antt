@@ -1,0 +1,2 @@
+-- The preview of an append.
+pub mod Preview

@@ -1,56 +1,45 @@
-//! Hashes 64 MiB in pieces of 65,536 bytes with the proved library and with a simple Rust implementation, in turns, and
-//! prints the lowest time of each, the speeds and their ratio. The digests of both are compared. Beside the time on the
-//! clock stands the processor's own, which other work on the computer disturbs less.
+//! Hashes 64 MiB with the proved library, with a simple Rust program and, where they are installed, with libsodium and libb2: whole messages of
+//! 65,536 bytes, leaf messages (a prefix of 9 bytes and such a piece) and messages of 73 bytes, as parents have. All digests are compared.
+//!
+//! Usage: hash [ROUNDS], or hash count PROGRAM KIND CALLS, which makes so many calls on one message, for callgrind to count.
 
+mod others;
 mod simple_blake2b;
 mod timing;
 
+use others::Digest;
 use simple_blake2b::Blake2b;
-use std::time::Instant;
-use timing::{cpu_seconds, Numbers};
+use timing::{timed, Numbers};
 
-const PIECE: usize = 65_536;
-const PIECES: usize = 1024;
-const ROUNDS: usize = 20;
-
-type Digest = [u8; 32];
+const MEBIBYTES: usize = 64;
+const ROUNDS: usize = 30;
 
 // The proved library's archive. A slice is a pointer and a length, a reference to an array a pointer.
 extern "C" {
     fn sleep_hash(length: u64, message: *const u8, message_len: usize, digest: *mut [u8; 64]) -> u64;
-    fn sleep_hash_parts(
-        prefix: *const u8,
-        prefix_len: usize,
-        body: *const u8,
-        body_len: usize,
-        out: *mut Digest,
-    );
+    fn sleep_hash_parts(prefix: *const u8, prefix_len: usize, body: *const u8, body_len: usize, out: *mut Digest);
 }
 
-/// The lowest times so far, in seconds.
-struct Lowest {
-    clock: f64,
-    cpu: f64,
+type Hash = fn(&[u8]) -> Digest;
+
+struct Program {
+    name: &'static str,
+    whole: Hash,
+    leaf: Hash,
+    parent: Hash,
 }
 
-const UNTIMED: Lowest = Lowest { clock: f64::INFINITY, cpu: f64::INFINITY };
-
-fn front(digest: [u8; 64]) -> Digest {
-    digest[..32].try_into().unwrap()
+struct Kind {
+    name: &'static str,
+    length: usize,
+    of: fn(&Program) -> Hash,
 }
 
-fn proved_whole(piece: &[u8]) -> Digest {
-    let mut digest = [0; 64];
-    let number = unsafe { sleep_hash(32, piece.as_ptr(), piece.len(), &mut digest) };
-    assert_eq!(number, 0, "the hash was refused");
-    front(digest)
-}
-
-fn simple_whole(piece: &[u8]) -> Digest {
-    let mut hash = Blake2b::new(32);
-    hash.update(piece);
-    front(hash.finish())
-}
+const KINDS: [Kind; 3] = [
+    Kind { name: "whole", length: 65_536, of: |program| program.whole },
+    Kind { name: "leaf", length: 65_536, of: |program| program.leaf },
+    Kind { name: "parent", length: 73, of: |program| program.parent },
+];
 
 /// What stands before a chunk in its leaf message: 00 and the chunk's length.
 fn leaf_prefix(piece: &[u8]) -> [u8; 9] {
@@ -59,71 +48,137 @@ fn leaf_prefix(piece: &[u8]) -> [u8; 9] {
     prefix
 }
 
-fn proved_leaf(piece: &[u8]) -> Digest {
-    let prefix = leaf_prefix(piece);
+fn front(digest: [u8; 64]) -> Digest {
+    digest[..32].try_into().unwrap()
+}
+
+fn proved_whole(message: &[u8]) -> Digest {
+    let mut digest = [0; 64];
+    let number = unsafe { sleep_hash(32, message.as_ptr(), message.len(), &mut digest) };
+    assert_eq!(number, 0, "the hash was refused");
+    front(digest)
+}
+
+fn proved_parts(prefix: &[u8], body: &[u8]) -> Digest {
     let mut out = [0; 32];
-    unsafe { sleep_hash_parts(prefix.as_ptr(), prefix.len(), piece.as_ptr(), piece.len(), &mut out) };
+    unsafe { sleep_hash_parts(prefix.as_ptr(), prefix.len(), body.as_ptr(), body.len(), &mut out) };
     out
 }
 
-fn simple_leaf(piece: &[u8]) -> Digest {
+fn simple_parts(prefix: &[u8], body: &[u8]) -> Digest {
     let mut hash = Blake2b::new(32);
-    hash.update(&leaf_prefix(piece));
-    hash.update(piece);
+    hash.update(prefix);
+    hash.update(body);
     front(hash.finish())
 }
 
-/// Hashes every piece, and keeps the lowest times.
-fn run(hash: fn(&[u8]) -> Digest, data: &[u8], digests: &mut [Digest], lowest: &mut Lowest) {
-    let (clock, cpu) = (Instant::now(), cpu_seconds());
-    for (piece, digest) in data.chunks_exact(PIECE).zip(digests.iter_mut()) {
-        *digest = hash(piece);
-    }
-    lowest.cpu = lowest.cpu.min(cpu_seconds() - cpu);
-    lowest.clock = lowest.clock.min(clock.elapsed().as_secs_f64());
+fn simple_whole(message: &[u8]) -> Digest {
+    let mut hash = Blake2b::new(32);
+    hash.update(message);
+    front(hash.finish())
 }
 
-/// Runs both in turns, prints their times, and answers whether all digests agree.
-fn compare(what: &str, proved: fn(&[u8]) -> Digest, simple: fn(&[u8]) -> Digest, data: &[u8], rounds: usize) -> bool {
-    let (mut ours, mut theirs) = (UNTIMED, UNTIMED);
-    // Filled with unlike values, so that a digest that was not written shows.
-    let (mut our_digests, mut their_digests) = (vec![[1; 32]; PIECES], vec![[2; 32]; PIECES]);
-    let mut differing = 0;
-    for _ in 0..rounds {
-        run(proved, data, &mut our_digests, &mut ours);
-        run(simple, data, &mut their_digests, &mut theirs);
-        differing += our_digests.iter().zip(&their_digests).filter(|(a, b)| a != b).count();
+/// The proved library first. Its parents go the way that a register's do.
+fn programs() -> Vec<Program> {
+    let proved = Program {
+        name: "proved",
+        whole: proved_whole,
+        leaf: |piece| proved_parts(&leaf_prefix(piece), piece),
+        parent: |message| proved_parts(&[], message),
+    };
+    let simple = Program {
+        name: "simple Rust",
+        whole: simple_whole,
+        leaf: |piece| simple_parts(&leaf_prefix(piece), piece),
+        parent: simple_whole,
+    };
+    #[allow(unused_mut)]
+    let mut all = vec![proved, simple];
+    #[cfg(sodium)]
+    {
+        use others::sodium::{parts, start, whole};
+        start();
+        all.push(Program { name: "libsodium", whole, leaf: |piece| parts(&leaf_prefix(piece), piece), parent: whole });
     }
-    let mebibytes = (PIECE * PIECES) as f64 / 1_048_576.0;
-    for (name, lowest) in [("proved     ", &ours), ("simple Rust", &theirs)] {
+    #[cfg(b2)]
+    {
+        use others::b2::{parts, whole};
+        all.push(Program { name: "libb2", whole, leaf: |piece| parts(&leaf_prefix(piece), piece), parent: whole });
+    }
+    all
+}
+
+/// Hashes every message of a part, and folds the digests into one.
+fn folded(hash: Hash, part: &[u8], length: usize) -> Digest {
+    part.chunks_exact(length).map(hash).fold([0; 32], |mut all, digest| {
+        all.iter_mut().zip(digest).for_each(|(to, byte)| *to = to.rotate_left(1) ^ byte);
+        all
+    })
+}
+
+/// Every program on every part of the data in turns. Prints the lowest round of each and what the proved library's is to it; and the same of the
+/// sums of each part's lowest times, which other work on the computer disturbs less.
+fn compare(kind: &Kind, programs: &[Program], data: &[u8], rounds: usize) {
+    let parts: Vec<&[u8]> = data.chunks(1 << 20).collect();
+    let mut lowest = vec![vec![f64::INFINITY; parts.len()]; programs.len()];
+    let mut lowest_round = vec![f64::INFINITY; programs.len()];
+    for round in 0..rounds {
+        let mut taken = vec![0.0; programs.len()];
+        for (at, part) in parts.iter().enumerate() {
+            let mut first = None;
+            // each round another program is the first to touch the part
+            for turn in round..round + programs.len() {
+                let which = turn % programs.len();
+                let (digest, seconds) = timed(|| folded((kind.of)(&programs[which]), part, kind.length));
+                assert_eq!(*first.get_or_insert(digest), digest, "{}: the digests of {} DIFFER", kind.name, programs[which].name);
+                lowest[which][at] = lowest[which][at].min(seconds);
+                taken[which] += seconds;
+            }
+        }
+        lowest_round.iter_mut().zip(taken).for_each(|(lowest, taken)| *lowest = lowest.min(taken));
+    }
+    println!("{} messages of {} bytes", kind.name, kind.length);
+    let sums: Vec<f64> = lowest.iter().map(|lowest| lowest.iter().sum()).collect();
+    for (which, program) in programs.iter().enumerate() {
+        let (round, sum) = (lowest_round[which], sums[which]);
         println!(
-            "{what}: {name}  lowest {:.1} ms, {:.0} MiB/s  (processor {:.1} ms, {:.0} MiB/s)",
-            lowest.clock * 1e3,
-            mebibytes / lowest.clock,
-            lowest.cpu * 1e3,
-            mebibytes / lowest.cpu
+            "  {:<12}{:>7.1} ms{:>6.0} MiB/s, proved to it {:.3}   part by part{:>7.1} ms, proved to it {:.3}",
+            program.name,
+            round * 1e3,
+            MEBIBYTES as f64 / round,
+            lowest_round[0] / round,
+            sum * 1e3,
+            sums[0] / sum
         );
     }
-    println!(
-        "{what}: proved / simple Rust, by lowest time  {:.3}  (processor {:.3})",
-        ours.clock / theirs.clock,
-        ours.cpu / theirs.cpu
-    );
-    match differing {
-        0 => println!("{what}: the digests agree"),
-        _ => println!("{what}: {differing} of {} digests DIFFER", rounds * PIECES),
+}
+
+fn count(words: &[String]) {
+    let programs = programs();
+    let Some(program) = programs.iter().find(|program| program.name == words[0]) else {
+        return;
+    };
+    let kind = KINDS.iter().find(|kind| kind.name == words[1]).expect("a kind of message");
+    let message = Numbers(1).bytes(kind.length);
+    for _ in 0..words[2].parse().expect("CALLS is a number") {
+        std::hint::black_box((kind.of)(program)(std::hint::black_box(&message)));
     }
-    differing == 0
 }
 
 fn main() {
-    let rounds = timing::rounds(ROUNDS);
-    let data = Numbers(1).bytes(PIECE * PIECES);
-    println!("64 MiB in {PIECES} pieces of {PIECE} bytes, {rounds} rounds in turns");
-    println!("the buffers were filled (not cleared) before");
-    let whole = compare("whole messages", proved_whole, simple_whole, &data, rounds);
-    let leaves = compare("leaf messages", proved_leaf, simple_leaf, &data, rounds);
-    if !(whole && leaves) {
-        std::process::exit(1);
+    let words: Vec<String> = std::env::args().skip(1).collect();
+    if words.first().is_some_and(|word| word == "count") {
+        return count(&words[1..]);
     }
+    let (rounds, programs, data) = (timing::rounds(ROUNDS), programs(), Numbers(1).bytes(MEBIBYTES << 20));
+    println!("{MEBIBYTES} MiB, {rounds} rounds in turns, by the processor's clock: the lowest round, and the lowest time of each MiB, summed");
+    for (installed, name) in [(cfg!(sodium), "libsodium"), (cfg!(b2), "libb2")] {
+        if !installed {
+            println!("{name} is not installed and left out");
+        }
+    }
+    for kind in &KINDS {
+        compare(kind, &programs, &data, rounds);
+    }
+    println!("the digests agree");
 }

@@ -1,7 +1,7 @@
 -- Blocks by their bytes, and the states after them by the place of a block.
 -- Assumes nothing.
 use mathlib.Core.Path.{_≡_, sym, ap, _∙_}
-use mathlib.Core.Bool.{true, false}
+use mathlib.Core.Bool.{Bool, true, false}
 use mathlib.Core.List.{List, _++_}
 use Prim.Native.Nat.{ℕ, suc, _+_, _-_, _*_, _/_, _%_, _≤_, _<_, max}
 use native.Mathlib.Nat.{add-zero, zero-add, add-assoc}
@@ -40,23 +40,27 @@ block-body x y p h =
 
 -- a block that was gathered has the words of the message
 pub block-piece : (d : List ℕ) (p : ℕ) (r : List ℕ) → Piece d p r → block r 0 ≡ block d p
-block-piece d p r h = block-same r d 0 p (λ j k. ap (λ (i : ℕ). getD r i 0) (zero-add j) ∙ h j k)
+block-piece d p r h = block-same r d 0 p (λ j k. ap (λ (i : ℕ). getD r i 0) (zero-add j) ∙ h .holds j k)
+
+-- a block goes in, whose words are those of another
+pub of-block : (h b m : List ℕ) (t : ℕ) (f : Bool) {r : List ℕ} → r ≡ F h b t f → b ≡ m → r ≡ F h m t f
+of-block h b m t f e g = e ∙ ap (λ (x : List ℕ). F h x t f) g
 
 -- a block goes in, which starts at the place p and is not the last
-pub after-more : (h d : List ℕ) (p : ℕ) (s b r : List ℕ) → p % 128 ≡ 0 → s ≡ after h d (p / 128) → b ≡ block d p → r ≡ F s b (p + 128) false
+pub after-more : (h d : List ℕ) (p : ℕ) (s r : List ℕ) → p % 128 ≡ 0 → s ≡ after h d (p / 128) → r ≡ F s (block d p) (p + 128) false
     → r ≡ after h d ((p + 128) / 128)
 unfolding after
-after-more h d p s b r e f g k =
+after-more h d p s r e f g =
     let e₁ : (p + 128) / 128 ≡ suc (p / 128) = omega arith in
     let e₂ : 128 * (p / 128) ≡ p = omega arith in
     let e₃ : 128 * (p / 128 + 1) ≡ p + 128 = omega arith in
     cc
 
 -- the last block goes in: it starts at the place p, not past the message's end, and holds the rest
-pub final-at : (nn : ℕ) (d : List ℕ) (p n : ℕ) (s b r : List ℕ) → p % 128 ≡ 0 → p ≤ n - 1 → n ≤ p + 128 → n ≡ length d
-    → s ≡ after (initial nn) d (p / 128) → b ≡ block d p → r ≡ F s b n true → r ≡ final nn d
+pub final-at : (nn : ℕ) (d : List ℕ) (p n : ℕ) (s r : List ℕ) → p % 128 ≡ 0 → p ≤ n - 1 → n ≤ p + 128 → n ≡ length d
+    → s ≡ after (initial nn) d (p / 128) → r ≡ F s (block d p) n true → r ≡ final nn d
 unfolding final blocks
-final-at nn d p n s b r e h k l f g u =
+final-at nn d p n s r e h k l f g =
     let e₁ : max 1 ((length d + 127) / 128) - 1 ≡ p / 128 = omega arith in
     let e₂ : 128 * (p / 128) ≡ p = omega arith in
     rw (e₁, e₂) (cc)

@@ -36,16 +36,16 @@ digest-of : (nn : ℕ) (d : List ℕ) (t : Bool) → lengthRight nn ≡ t → di
 unfolding digest
 digest-of nn d t e = ap (λ (b : Bool). digestIf b nn d) e
 
--- the bytes of the last state over zeros are the hash and then zeros
-hash-from : (nn : ℕ) (d s b : List ℕ) → s ≡ final nn d → b ≡ over 64 (bytes s) nn → b ≡ blake2b nn d ++ replicate (64 - nn) 0
+-- the first bytes of the last state over zeros are the hash and then zeros
+hash-from : (nn : ℕ) (d s t b : List ℕ) → s ≡ final nn d → t ≡ bytes s → b ≡ over 64 t nn → b ≡ blake2b nn d ++ replicate (64 - nn) 0
 unfolding blake2b
-hash-from nn d s b e f = f ∙ ap (λ (x : List ℕ). over 64 (bytes x) nn) e
+hash-from nn d s t b e f g = g ∙ ap (λ (x : List ℕ). over 64 x nn) (f ∙ ap bytes e)
 
 pub as-refused : (nn : ℕ) (d : List ℕ) (r : Hashed) → lengthRight nn ≡ false → Refused r → HashedAs nn d r
 as-refused nn d r e f =
     record { answers = f .answers ∙ sym (verdict-of nn false e); hashes = f .zeros ∙ sym (digest-of nn d false e) }
 
-pub as-done : (nn : ℕ) (d s b : List ℕ) → lengthRight nn ≡ true → s ≡ final nn d → b ≡ over 64 (bytes s) nn
-    → HashedAs nn d (record { answer = Done; digest = b })
-as-done nn d s b e f g =
-    record { answers = sym (verdict-of nn true e); hashes = hash-from nn d s b f g ∙ sym (digest-of nn d true e) }
+pub as-done : (nn : ℕ) (d s t b : List ℕ) → lengthRight nn ≡ true → s ≡ final nn d → t ≡ bytes s → b ≡ over 64 t nn
+    → HashedAs nn d (record { digest = b; answer = Done })
+as-done nn d s t b e f g h =
+    record { answers = sym (verdict-of nn true e); hashes = hash-from nn d s t b f g h ∙ sym (digest-of nn d true e) }

@@ -46,21 +46,27 @@ pub going-done : (b : List ℕ) (from : ℕ) (s : List ℕ) (p n : ℕ) (out : L
     → Going b from s p n out → Filled b from s p out
 going-done b from s p n out e blank g =
     record {
+      long = g .long;
       kept = g .kept;
       filled =
           λ j h.
           ⊎-elim (λ (l : j < n). g .passed j l)
           (λ (l : n ≤ j).
-          g .ahead (from + j) (omega arith) ∙ blank (from + j) (omega arith) h ∙ sym (List·getD-eq-default s 0 (omega arith)))
+          g .ahead (from + j) (omega arith) ∙ blank .zeros (from + j) (omega arith) h ∙ sym (List·getD-eq-default s 0 (omega arith)))
           (order j n);
     }
 
 -- the message's bytes from p on, where p is in the body
 pub piece-body : (x y : List ℕ) (p : ℕ) (b r : List ℕ) → length x ≤ p → Filled b 0 y (p - length x) r → Piece (x ++ y) p r
-piece-body x y p b r h f j l =
-    let e : length x + (p - length x + j) ≡ p + j = omega arith in
-    ap (λ (i : ℕ). getD r i 0) (sym (zero-add j)) ∙ f .filled j (omega arith) ∙ sym (getD-append-add x y (p - length x + j) 0)
-    ∙ ap (λ (i : ℕ). getD (x ++ y) i 0) e
+piece-body x y p b r h f =
+    record {
+      long = f .long;
+      holds =
+          λ j l.
+          let e : length x + (p - length x + j) ≡ p + j = omega arith in
+          ap (λ (i : ℕ). getD r i 0) (sym (zero-add j)) ∙ f .filled j (omega arith) ∙ sym (getD-append-add x y (p - length x + j) 0)
+          ∙ ap (λ (i : ℕ). getD (x ++ y) i 0) e;
+    }
 
 -- the message's bytes from p on, where p is in the prefix, of which m bytes have gone into q
 module _ (x y : List ℕ) (p : ℕ) (b q : List ℕ) (m : ℕ) (h : p < length x) (f : Filled b 0 x p q) (e : m ≡ min 128 (length x - p)) where
@@ -69,15 +75,20 @@ module _ (x y : List ℕ) (p : ℕ) (b q : List ℕ) (m : ℕ) (h : p < length x
 
   -- what the prefix leaves of the block is blank
   pub blank-after : Blank q m
-  blank-after k l u = in-prefix k u ∙ List·getD-eq-default x 0 (omega arith)
+  blank-after = record { long = f .long; zeros = λ k l u. in-prefix k u ∙ List·getD-eq-default x 0 (omega arith) }
 
   pub piece-prefix : (r : List ℕ) → Filled q m y 0 r → Piece (x ++ y) p r
-  piece-prefix r g j l =
-      ⊎-elim
-      (λ (u : j < m). g .kept j u ∙ in-prefix j l ∙ sym (List·getD-append x y 0 (p + j) (omega arith)))
-      (λ (u : m ≤ j).
-      let e₁ : j ≡ m + (j - m) = omega arith in
-      let e₂ : length x + (0 + (j - m)) ≡ p + j = omega arith in
-      ap (λ (i : ℕ). getD r i 0) e₁ ∙ g .filled (j - m) (omega arith) ∙ sym (getD-append-add x y (0 + (j - m)) 0)
-      ∙ ap (λ (i : ℕ). getD (x ++ y) i 0) e₂)
-      (order j m)
+  piece-prefix r g =
+      record {
+        long = g .long;
+        holds =
+            λ j l.
+            ⊎-elim
+            (λ (u : j < m). g .kept j u ∙ in-prefix j l ∙ sym (List·getD-append x y 0 (p + j) (omega arith)))
+            (λ (u : m ≤ j).
+            let e₁ : j ≡ m + (j - m) = omega arith in
+            let e₂ : length x + (0 + (j - m)) ≡ p + j = omega arith in
+            ap (λ (i : ℕ). getD r i 0) e₁ ∙ g .filled (j - m) (omega arith) ∙ sym (getD-append-add x y (0 + (j - m)) 0)
+            ∙ ap (λ (i : ℕ). getD (x ++ y) i 0) e₂)
+            (order j m);
+      }

@@ -1,31 +1,55 @@
 -- The compression's parts put together.
-use Prim.Native.Nat.{ℕ, _/_, _%_, _^_, _<_}
+use Prim.Native.Nat.{ℕ, zero, suc, _+_, _/_, _%_, _^_, _<_}
 use mathlib.Core.Path.{_≡_, ap, ap₂, sym, _∙_}
 use mathlib.Core.Bool.{Bool}
 use mathlib.Core.List.{List, [], _∷_, _++_}
 use native.Mathlib.Nat.{mod-eq-of-lt}
 use native.Mathlib.Omega.{arith}
 use lib.Bits.{bitXor, xor-zero-r}
+use lib.ListN.{length, drop, drop-of-length-le}
+use lib.Seq.{drop-cons}
 use Rattle.compression.specs.Constants.{IV}
 use Rattle.compression.specs.Mixing.{at}
 use Rattle.compression.specs.Compression.{round, row, rounds, flagged, start, folded, F}
 
--- eight words of the state, and IV with p, q and r for its words 4, 5 and 6
-abbrev vector : List ℕ → ℕ → ℕ → ℕ → List ℕ
-vector h p q r = h ++ at IV 0 ∷ at IV 1 ∷ at IV 2 ∷ at IV 3 ∷ p ∷ q ∷ r ∷ at IV 7 ∷ []
+-- the words of a list, one after the other
+words : ℕ → ℕ → List ℕ → List ℕ
+words i zero h = []
+words i (suc k) h = at h i ∷ words (suc i) k h
+
+words-all : (i k : ℕ) (h : List ℕ) → length h ≡ i + k → words i k h ≡ drop i h
+unfolding words
+words-all i zero h e = sym (drop-of-length-le h {i = i} (omega arith))
+words-all i (suc k) h e = ap (λ (t : List ℕ). at h i ∷ t) (words-all (suc i) k h (omega arith)) ∙ sym (drop-cons h i 0 (omega arith))
+
+-- a list of eight words is written out by its words
+pub eight-words : (h : List ℕ) → length h ≡ 8 → at h 0 ∷ at h 1 ∷ at h 2 ∷ at h 3 ∷ at h 4 ∷ at h 5 ∷ at h 6 ∷ at h 7 ∷ [] ≡ h
+unfolding words
+eight-words h e = words-all 0 8 h e
+
+-- IV with p, q and r for its words 4, 5 and 6 behind eight words of the state
+abbrev behind : List ℕ → ℕ → ℕ → ℕ → List ℕ
+behind h p q r = h ++ at IV 0 ∷ at IV 1 ∷ at IV 2 ∷ at IV 3 ∷ p ∷ q ∷ r ∷ at IV 7 ∷ []
 
 -- a counter of one word: its high word is 0, which changes nothing
-pub started : (h0 h1 h2 h3 h4 h5 h6 h7 t : ℕ) (f : Bool) {r : ℕ} →
+begun : (h0 h1 h2 h3 h4 h5 h6 h7 t : ℕ) (f : Bool) {r : ℕ} →
     let h : List ℕ = h0 ∷ h1 ∷ h2 ∷ h3 ∷ h4 ∷ h5 ∷ h6 ∷ h7 ∷ [] in
-    t < 2 ^ 64 → r ≡ flagged f (at IV 6) → vector h (bitXor (at IV 4) t) (at IV 5) r ≡ start h t f
+    t < 2 ^ 64 → r ≡ flagged f (at IV 6) → behind h (bitXor (at IV 4) t) (at IV 5) r ≡ start h t f
 unfolding start IV
-started h0 h1 h2 h3 h4 h5 h6 h7 t f {r} fits e =
+begun h0 h1 h2 h3 h4 h5 h6 h7 t f {r} fits e =
     let h : List ℕ = h0 ∷ h1 ∷ h2 ∷ h3 ∷ h4 ∷ h5 ∷ h6 ∷ h7 ∷ [] in
     let low : t ≡ t % 2 ^ 64 = sym (mod-eq-of-lt fits) in
     let none : 0 ≡ t / 2 ^ 64 % 2 ^ 64 = omega arith in
     let high : at IV 5 ≡ bitXor (at IV 5) (t / 2 ^ 64 % 2 ^ 64) = sym (xor-zero-r (at IV 5)) ∙ ap (bitXor (at IV 5)) none in
-    ap₂ (λ (p q : ℕ). vector h (bitXor (at IV 4) p) q r) low high
-    ∙ ap (vector h (bitXor (at IV 4) (t % 2 ^ 64)) (bitXor (at IV 5) (t / 2 ^ 64 % 2 ^ 64))) e
+    ap₂ (λ (p q : ℕ). behind h (bitXor (at IV 4) p) q r) low high
+    ∙ ap (behind h (bitXor (at IV 4) (t % 2 ^ 64)) (bitXor (at IV 5) (t / 2 ^ 64 % 2 ^ 64))) e
+
+-- the same of a state that is a list of eight words
+pub started : (h : List ℕ) (t : ℕ) (f : Bool) {r : ℕ} → length h ≡ 8 → t < 2 ^ 64 → r ≡ flagged f (at IV 6)
+    → behind (at h 0 ∷ at h 1 ∷ at h 2 ∷ at h 3 ∷ at h 4 ∷ at h 5 ∷ at h 6 ∷ at h 7 ∷ []) (bitXor (at IV 4) t) (at IV 5) r ≡ start h t f
+started h t f l fits e =
+    begun (at h 0) (at h 1) (at h 2) (at h 3) (at h 4) (at h 5) (at h 6) (at h 7) t f fits e
+    ∙ ap (λ (w : List ℕ). start w t f) (eight-words h l)
 
 -- the twelve rounds, from the vector after each
 pub twelve : (m v₀ : List ℕ) {v₁ v₂ v₃ v₄ v₅ v₆ v₇ v₈ v₉ v₁₀ v₁₁ v₁₂ : List ℕ}

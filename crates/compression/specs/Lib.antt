@@ -3,3 +3,4 @@ pub mod Constants
 pub mod Mixing
 pub mod Compression
 pub mod Words
+pub mod Rows

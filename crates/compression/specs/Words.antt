@@ -1,12 +1,7 @@
--- The declared vectors of words as lists.
+-- The declared message block as a list.
 use Prim.Native.Nat.{ℕ}
 use mathlib.Core.List.{List, [], _∷_}
-use Rattle.compression.specs.declared.State.{State}
 use Rattle.compression.specs.declared.Block.{Block}
-
--- the state: eight words
-abbrev pub stateWords : State → List ℕ
-stateWords h = h .h0 ∷ h .h1 ∷ h .h2 ∷ h .h3 ∷ h .h4 ∷ h .h5 ∷ h .h6 ∷ h .h7 ∷ []
 
 -- the message block: sixteen words
 abbrev pub blockWords : Block → List ℕ

@@ -2,21 +2,14 @@
 ghost use mathlib.Core.Path.{_≡_};
 ghost use mathlib.Core.List.{[], _∷_};
 ghost use Rattle.compression.specs.Compression.{F, flagged, folded, start};
-ghost use Rattle.compression.specs.Words.{stateWords, blockWords};
+ghost use Rattle.compression.specs.Rows.{vectorOf};
+ghost use Rattle.compression.specs.Words.{blockWords};
 
 mod mixing;
 mod rounds;
 
-pub struct State {
-    pub h0: u64,
-    pub h1: u64,
-    pub h2: u64,
-    pub h3: u64,
-    pub h4: u64,
-    pub h5: u64,
-    pub h6: u64,
-    pub h7: u64,
-}
+use mixing::Row;
+use mixing::Rows;
 
 pub struct Block {
     pub m0: u64,
@@ -45,52 +38,52 @@ fn with_flag(x: u64, last: bool) -> u64
 }
 
 // The working vector that the rounds begin with. The counter is one word here, so its high word is 0 and changes nothing.
-fn start_vector(h: State, t: u64, last: bool) -> [u64; 16]
-    ensures { λ r. ⌜ r ≡ start (stateWords h) t last ⌝ }
+fn start_vector(h: [u64; 8], t: u64, last: bool) -> Rows
+    ensures { λ r. ⌜ vectorOf r ≡ start h t last ⌝ }
 {
-    [
-        h.h0,
-        h.h1,
-        h.h2,
-        h.h3,
-        h.h4,
-        h.h5,
-        h.h6,
-        h.h7,
-        0x6a09_e667_f3bc_c908,
-        0xbb67_ae85_84ca_a73b,
-        0x3c6e_f372_fe94_f82b,
-        0xa54f_f53a_5f1d_36f1,
-        0x510e_527f_ade6_82d1 ^ t,
-        0x9b05_688c_2b3e_6c1f,
-        with_flag(0x1f83_d9ab_fb41_bd6b, last),
-        0x5be0_cd19_137e_2179,
-    ]
-}
-
-// Both halves of the working vector put into the state.
-fn folded_state(h: State, v: [u64; 16]) -> State
-    ensures { λ r. ⌜ stateWords r ≡
-        folded (stateWords h) v 0 ∷ folded (stateWords h) v 1 ∷ folded (stateWords h) v 2 ∷ folded (stateWords h) v 3
-        ∷ folded (stateWords h) v 4 ∷ folded (stateWords h) v 5 ∷ folded (stateWords h) v 6 ∷ folded (stateWords h) v 7 ∷ [] ⌝ }
-{
-    State {
-        h0: h.h0 ^ v[0] ^ v[8],
-        h1: h.h1 ^ v[1] ^ v[9],
-        h2: h.h2 ^ v[2] ^ v[10],
-        h3: h.h3 ^ v[3] ^ v[11],
-        h4: h.h4 ^ v[4] ^ v[12],
-        h5: h.h5 ^ v[5] ^ v[13],
-        h6: h.h6 ^ v[6] ^ v[14],
-        h7: h.h7 ^ v[7] ^ v[15],
+    Rows {
+        a: Row(h[0], h[1], h[2], h[3]),
+        b: Row(h[4], h[5], h[6], h[7]),
+        c: Row(
+            0x6a09_e667_f3bc_c908,
+            0xbb67_ae85_84ca_a73b,
+            0x3c6e_f372_fe94_f82b,
+            0xa54f_f53a_5f1d_36f1,
+        ),
+        d: Row(
+            0x510e_527f_ade6_82d1 ^ t,
+            0x9b05_688c_2b3e_6c1f,
+            with_flag(0x1f83_d9ab_fb41_bd6b, last),
+            0x5be0_cd19_137e_2179,
+        ),
     }
 }
 
-// F of the standard: the state h after the block m, with t bytes taken so far, and last where m is the last block.
-pub fn compress(h: State, m: Block, t: u64, last: bool) -> State
-    ensures { λ r. ⌜ stateWords r ≡ F (stateWords h) (blockWords m) t last ⌝ }
+// Both halves of the working vector put into the state.
+fn fold(h: &mut [u64; 8], v: Rows)
+    ensures { λ _. ⌜ now (h .exit) ≡
+        folded (now (h .entry)) (vectorOf v) 0 ∷ folded (now (h .entry)) (vectorOf v) 1 ∷ folded (now (h .entry)) (vectorOf v) 2
+        ∷ folded (now (h .entry)) (vectorOf v) 3 ∷ folded (now (h .entry)) (vectorOf v) 4 ∷ folded (now (h .entry)) (vectorOf v) 5
+        ∷ folded (now (h .entry)) (vectorOf v) 6 ∷ folded (now (h .entry)) (vectorOf v) 7 ∷ [] ⌝ }
 {
-    let mut v = start_vector(h, t, last);
-    rounds::twelve_rounds(&mut v, m);
-    folded_state(h, v)
+    *h = [
+        h[0] ^ v.a.0 ^ v.c.0,
+        h[1] ^ v.a.1 ^ v.c.1,
+        h[2] ^ v.a.2 ^ v.c.2,
+        h[3] ^ v.a.3 ^ v.c.3,
+        h[4] ^ v.b.0 ^ v.d.0,
+        h[5] ^ v.b.1 ^ v.d.1,
+        h[6] ^ v.b.2 ^ v.d.2,
+        h[7] ^ v.b.3 ^ v.d.3,
+    ];
+}
+
+// F of the standard: the state h after the block m, with t bytes taken so far, and last where m is the last block. The state is changed in
+// place: one that is handed over would be copied at each block.
+pub fn compress(h: &mut [u64; 8], m: Block, t: u64, last: bool)
+    ensures { λ _. ⌜ now (h .exit) ≡ F (now (h .entry)) (blockWords m) t last ⌝ }
+{
+    let v = start_vector(*h, t, last);
+    let w = rounds::twelve_rounds(v, m);
+    fold(h, w);
 }

@@ -1,181 +1,162 @@
-// RFC 7693, section 3.2: the twelve rounds. Each round is a function of its own with one call site, and its row of the message
-// schedule stands in it as literals: so the compiler sees every index, and a table that is read in here would be built at each use.
+// RFC 7693, section 3.2: the twelve rounds. Each round is a function of its own with one call site, so that it is inlined, and its row of
+// the message schedule stands in it as fields: a table that is read in here would be built at each use. A step takes the even places of
+// its half of the row and then the odd ones.
 use crate::Block;
-use crate::mixing::mix;
+use crate::mixing::Row;
+use crate::mixing::Rows;
+use crate::mixing::column_step;
+use crate::mixing::diagonal_step;
 ghost use mathlib.Core.Path.{_≡_};
 ghost use Rattle.compression.specs.Compression.{round, row, rounds};
+ghost use Rattle.compression.specs.Rows.{vectorOf};
 ghost use Rattle.compression.specs.Words.{blockWords};
 
-fn round_0(v: &mut [u64; 16], m: Block)
-    ensures { λ u. ⌜ now (v .exit) ≡ round (row 0) (blockWords m) (now (v .entry)) ⌝ }
+fn round_0(v: Rows, m: Block) -> Rows
+    ensures { λ r. ⌜ vectorOf r ≡ round (row 0) (blockWords m) (vectorOf v) ⌝ }
 {
-    mix(v, 0, 4, 8, 12, m.m0, m.m1);
-    mix(v, 1, 5, 9, 13, m.m2, m.m3);
-    mix(v, 2, 6, 10, 14, m.m4, m.m5);
-    mix(v, 3, 7, 11, 15, m.m6, m.m7);
-    mix(v, 0, 5, 10, 15, m.m8, m.m9);
-    mix(v, 1, 6, 11, 12, m.m10, m.m11);
-    mix(v, 2, 7, 8, 13, m.m12, m.m13);
-    mix(v, 3, 4, 9, 14, m.m14, m.m15);
+    let x = Row(m.m0, m.m2, m.m4, m.m6);
+    let y = Row(m.m1, m.m3, m.m5, m.m7);
+    let u = column_step(v, x, y);
+    let x = Row(m.m8, m.m10, m.m12, m.m14);
+    let y = Row(m.m9, m.m11, m.m13, m.m15);
+    diagonal_step(u, x, y)
 }
 
-fn round_1(v: &mut [u64; 16], m: Block)
-    ensures { λ u. ⌜ now (v .exit) ≡ round (row 1) (blockWords m) (now (v .entry)) ⌝ }
+fn round_1(v: Rows, m: Block) -> Rows
+    ensures { λ r. ⌜ vectorOf r ≡ round (row 1) (blockWords m) (vectorOf v) ⌝ }
 {
-    mix(v, 0, 4, 8, 12, m.m14, m.m10);
-    mix(v, 1, 5, 9, 13, m.m4, m.m8);
-    mix(v, 2, 6, 10, 14, m.m9, m.m15);
-    mix(v, 3, 7, 11, 15, m.m13, m.m6);
-    mix(v, 0, 5, 10, 15, m.m1, m.m12);
-    mix(v, 1, 6, 11, 12, m.m0, m.m2);
-    mix(v, 2, 7, 8, 13, m.m11, m.m7);
-    mix(v, 3, 4, 9, 14, m.m5, m.m3);
+    let x = Row(m.m14, m.m4, m.m9, m.m13);
+    let y = Row(m.m10, m.m8, m.m15, m.m6);
+    let u = column_step(v, x, y);
+    let x = Row(m.m1, m.m0, m.m11, m.m5);
+    let y = Row(m.m12, m.m2, m.m7, m.m3);
+    diagonal_step(u, x, y)
 }
 
-fn round_2(v: &mut [u64; 16], m: Block)
-    ensures { λ u. ⌜ now (v .exit) ≡ round (row 2) (blockWords m) (now (v .entry)) ⌝ }
+fn round_2(v: Rows, m: Block) -> Rows
+    ensures { λ r. ⌜ vectorOf r ≡ round (row 2) (blockWords m) (vectorOf v) ⌝ }
 {
-    mix(v, 0, 4, 8, 12, m.m11, m.m8);
-    mix(v, 1, 5, 9, 13, m.m12, m.m0);
-    mix(v, 2, 6, 10, 14, m.m5, m.m2);
-    mix(v, 3, 7, 11, 15, m.m15, m.m13);
-    mix(v, 0, 5, 10, 15, m.m10, m.m14);
-    mix(v, 1, 6, 11, 12, m.m3, m.m6);
-    mix(v, 2, 7, 8, 13, m.m7, m.m1);
-    mix(v, 3, 4, 9, 14, m.m9, m.m4);
+    let x = Row(m.m11, m.m12, m.m5, m.m15);
+    let y = Row(m.m8, m.m0, m.m2, m.m13);
+    let u = column_step(v, x, y);
+    let x = Row(m.m10, m.m3, m.m7, m.m9);
+    let y = Row(m.m14, m.m6, m.m1, m.m4);
+    diagonal_step(u, x, y)
 }
 
-fn round_3(v: &mut [u64; 16], m: Block)
-    ensures { λ u. ⌜ now (v .exit) ≡ round (row 3) (blockWords m) (now (v .entry)) ⌝ }
+fn round_3(v: Rows, m: Block) -> Rows
+    ensures { λ r. ⌜ vectorOf r ≡ round (row 3) (blockWords m) (vectorOf v) ⌝ }
 {
-    mix(v, 0, 4, 8, 12, m.m7, m.m9);
-    mix(v, 1, 5, 9, 13, m.m3, m.m1);
-    mix(v, 2, 6, 10, 14, m.m13, m.m12);
-    mix(v, 3, 7, 11, 15, m.m11, m.m14);
-    mix(v, 0, 5, 10, 15, m.m2, m.m6);
-    mix(v, 1, 6, 11, 12, m.m5, m.m10);
-    mix(v, 2, 7, 8, 13, m.m4, m.m0);
-    mix(v, 3, 4, 9, 14, m.m15, m.m8);
+    let x = Row(m.m7, m.m3, m.m13, m.m11);
+    let y = Row(m.m9, m.m1, m.m12, m.m14);
+    let u = column_step(v, x, y);
+    let x = Row(m.m2, m.m5, m.m4, m.m15);
+    let y = Row(m.m6, m.m10, m.m0, m.m8);
+    diagonal_step(u, x, y)
 }
 
-fn round_4(v: &mut [u64; 16], m: Block)
-    ensures { λ u. ⌜ now (v .exit) ≡ round (row 4) (blockWords m) (now (v .entry)) ⌝ }
+fn round_4(v: Rows, m: Block) -> Rows
+    ensures { λ r. ⌜ vectorOf r ≡ round (row 4) (blockWords m) (vectorOf v) ⌝ }
 {
-    mix(v, 0, 4, 8, 12, m.m9, m.m0);
-    mix(v, 1, 5, 9, 13, m.m5, m.m7);
-    mix(v, 2, 6, 10, 14, m.m2, m.m4);
-    mix(v, 3, 7, 11, 15, m.m10, m.m15);
-    mix(v, 0, 5, 10, 15, m.m14, m.m1);
-    mix(v, 1, 6, 11, 12, m.m11, m.m12);
-    mix(v, 2, 7, 8, 13, m.m6, m.m8);
-    mix(v, 3, 4, 9, 14, m.m3, m.m13);
+    let x = Row(m.m9, m.m5, m.m2, m.m10);
+    let y = Row(m.m0, m.m7, m.m4, m.m15);
+    let u = column_step(v, x, y);
+    let x = Row(m.m14, m.m11, m.m6, m.m3);
+    let y = Row(m.m1, m.m12, m.m8, m.m13);
+    diagonal_step(u, x, y)
 }
 
-fn round_5(v: &mut [u64; 16], m: Block)
-    ensures { λ u. ⌜ now (v .exit) ≡ round (row 5) (blockWords m) (now (v .entry)) ⌝ }
+fn round_5(v: Rows, m: Block) -> Rows
+    ensures { λ r. ⌜ vectorOf r ≡ round (row 5) (blockWords m) (vectorOf v) ⌝ }
 {
-    mix(v, 0, 4, 8, 12, m.m2, m.m12);
-    mix(v, 1, 5, 9, 13, m.m6, m.m10);
-    mix(v, 2, 6, 10, 14, m.m0, m.m11);
-    mix(v, 3, 7, 11, 15, m.m8, m.m3);
-    mix(v, 0, 5, 10, 15, m.m4, m.m13);
-    mix(v, 1, 6, 11, 12, m.m7, m.m5);
-    mix(v, 2, 7, 8, 13, m.m15, m.m14);
-    mix(v, 3, 4, 9, 14, m.m1, m.m9);
+    let x = Row(m.m2, m.m6, m.m0, m.m8);
+    let y = Row(m.m12, m.m10, m.m11, m.m3);
+    let u = column_step(v, x, y);
+    let x = Row(m.m4, m.m7, m.m15, m.m1);
+    let y = Row(m.m13, m.m5, m.m14, m.m9);
+    diagonal_step(u, x, y)
 }
 
-fn round_6(v: &mut [u64; 16], m: Block)
-    ensures { λ u. ⌜ now (v .exit) ≡ round (row 6) (blockWords m) (now (v .entry)) ⌝ }
+fn round_6(v: Rows, m: Block) -> Rows
+    ensures { λ r. ⌜ vectorOf r ≡ round (row 6) (blockWords m) (vectorOf v) ⌝ }
 {
-    mix(v, 0, 4, 8, 12, m.m12, m.m5);
-    mix(v, 1, 5, 9, 13, m.m1, m.m15);
-    mix(v, 2, 6, 10, 14, m.m14, m.m13);
-    mix(v, 3, 7, 11, 15, m.m4, m.m10);
-    mix(v, 0, 5, 10, 15, m.m0, m.m7);
-    mix(v, 1, 6, 11, 12, m.m6, m.m3);
-    mix(v, 2, 7, 8, 13, m.m9, m.m2);
-    mix(v, 3, 4, 9, 14, m.m8, m.m11);
+    let x = Row(m.m12, m.m1, m.m14, m.m4);
+    let y = Row(m.m5, m.m15, m.m13, m.m10);
+    let u = column_step(v, x, y);
+    let x = Row(m.m0, m.m6, m.m9, m.m8);
+    let y = Row(m.m7, m.m3, m.m2, m.m11);
+    diagonal_step(u, x, y)
 }
 
-fn round_7(v: &mut [u64; 16], m: Block)
-    ensures { λ u. ⌜ now (v .exit) ≡ round (row 7) (blockWords m) (now (v .entry)) ⌝ }
+fn round_7(v: Rows, m: Block) -> Rows
+    ensures { λ r. ⌜ vectorOf r ≡ round (row 7) (blockWords m) (vectorOf v) ⌝ }
 {
-    mix(v, 0, 4, 8, 12, m.m13, m.m11);
-    mix(v, 1, 5, 9, 13, m.m7, m.m14);
-    mix(v, 2, 6, 10, 14, m.m12, m.m1);
-    mix(v, 3, 7, 11, 15, m.m3, m.m9);
-    mix(v, 0, 5, 10, 15, m.m5, m.m0);
-    mix(v, 1, 6, 11, 12, m.m15, m.m4);
-    mix(v, 2, 7, 8, 13, m.m8, m.m6);
-    mix(v, 3, 4, 9, 14, m.m2, m.m10);
+    let x = Row(m.m13, m.m7, m.m12, m.m3);
+    let y = Row(m.m11, m.m14, m.m1, m.m9);
+    let u = column_step(v, x, y);
+    let x = Row(m.m5, m.m15, m.m8, m.m2);
+    let y = Row(m.m0, m.m4, m.m6, m.m10);
+    diagonal_step(u, x, y)
 }
 
-fn round_8(v: &mut [u64; 16], m: Block)
-    ensures { λ u. ⌜ now (v .exit) ≡ round (row 8) (blockWords m) (now (v .entry)) ⌝ }
+fn round_8(v: Rows, m: Block) -> Rows
+    ensures { λ r. ⌜ vectorOf r ≡ round (row 8) (blockWords m) (vectorOf v) ⌝ }
 {
-    mix(v, 0, 4, 8, 12, m.m6, m.m15);
-    mix(v, 1, 5, 9, 13, m.m14, m.m9);
-    mix(v, 2, 6, 10, 14, m.m11, m.m3);
-    mix(v, 3, 7, 11, 15, m.m0, m.m8);
-    mix(v, 0, 5, 10, 15, m.m12, m.m2);
-    mix(v, 1, 6, 11, 12, m.m13, m.m7);
-    mix(v, 2, 7, 8, 13, m.m1, m.m4);
-    mix(v, 3, 4, 9, 14, m.m10, m.m5);
+    let x = Row(m.m6, m.m14, m.m11, m.m0);
+    let y = Row(m.m15, m.m9, m.m3, m.m8);
+    let u = column_step(v, x, y);
+    let x = Row(m.m12, m.m13, m.m1, m.m10);
+    let y = Row(m.m2, m.m7, m.m4, m.m5);
+    diagonal_step(u, x, y)
 }
 
-fn round_9(v: &mut [u64; 16], m: Block)
-    ensures { λ u. ⌜ now (v .exit) ≡ round (row 9) (blockWords m) (now (v .entry)) ⌝ }
+fn round_9(v: Rows, m: Block) -> Rows
+    ensures { λ r. ⌜ vectorOf r ≡ round (row 9) (blockWords m) (vectorOf v) ⌝ }
 {
-    mix(v, 0, 4, 8, 12, m.m10, m.m2);
-    mix(v, 1, 5, 9, 13, m.m8, m.m4);
-    mix(v, 2, 6, 10, 14, m.m7, m.m6);
-    mix(v, 3, 7, 11, 15, m.m1, m.m5);
-    mix(v, 0, 5, 10, 15, m.m15, m.m11);
-    mix(v, 1, 6, 11, 12, m.m9, m.m14);
-    mix(v, 2, 7, 8, 13, m.m3, m.m12);
-    mix(v, 3, 4, 9, 14, m.m13, m.m0);
+    let x = Row(m.m10, m.m8, m.m7, m.m1);
+    let y = Row(m.m2, m.m4, m.m6, m.m5);
+    let u = column_step(v, x, y);
+    let x = Row(m.m15, m.m9, m.m3, m.m13);
+    let y = Row(m.m11, m.m14, m.m12, m.m0);
+    diagonal_step(u, x, y)
 }
 
-fn round_10(v: &mut [u64; 16], m: Block)
-    ensures { λ u. ⌜ now (v .exit) ≡ round (row 10) (blockWords m) (now (v .entry)) ⌝ }
+fn round_10(v: Rows, m: Block) -> Rows
+    ensures { λ r. ⌜ vectorOf r ≡ round (row 10) (blockWords m) (vectorOf v) ⌝ }
 {
-    mix(v, 0, 4, 8, 12, m.m0, m.m1);
-    mix(v, 1, 5, 9, 13, m.m2, m.m3);
-    mix(v, 2, 6, 10, 14, m.m4, m.m5);
-    mix(v, 3, 7, 11, 15, m.m6, m.m7);
-    mix(v, 0, 5, 10, 15, m.m8, m.m9);
-    mix(v, 1, 6, 11, 12, m.m10, m.m11);
-    mix(v, 2, 7, 8, 13, m.m12, m.m13);
-    mix(v, 3, 4, 9, 14, m.m14, m.m15);
+    let x = Row(m.m0, m.m2, m.m4, m.m6);
+    let y = Row(m.m1, m.m3, m.m5, m.m7);
+    let u = column_step(v, x, y);
+    let x = Row(m.m8, m.m10, m.m12, m.m14);
+    let y = Row(m.m9, m.m11, m.m13, m.m15);
+    diagonal_step(u, x, y)
 }
 
-fn round_11(v: &mut [u64; 16], m: Block)
-    ensures { λ u. ⌜ now (v .exit) ≡ round (row 11) (blockWords m) (now (v .entry)) ⌝ }
+fn round_11(v: Rows, m: Block) -> Rows
+    ensures { λ r. ⌜ vectorOf r ≡ round (row 11) (blockWords m) (vectorOf v) ⌝ }
 {
-    mix(v, 0, 4, 8, 12, m.m14, m.m10);
-    mix(v, 1, 5, 9, 13, m.m4, m.m8);
-    mix(v, 2, 6, 10, 14, m.m9, m.m15);
-    mix(v, 3, 7, 11, 15, m.m13, m.m6);
-    mix(v, 0, 5, 10, 15, m.m1, m.m12);
-    mix(v, 1, 6, 11, 12, m.m0, m.m2);
-    mix(v, 2, 7, 8, 13, m.m11, m.m7);
-    mix(v, 3, 4, 9, 14, m.m5, m.m3);
+    let x = Row(m.m14, m.m4, m.m9, m.m13);
+    let y = Row(m.m10, m.m8, m.m15, m.m6);
+    let u = column_step(v, x, y);
+    let x = Row(m.m1, m.m0, m.m11, m.m5);
+    let y = Row(m.m12, m.m2, m.m7, m.m3);
+    diagonal_step(u, x, y)
 }
 
 // All of them, in order.
-pub fn twelve_rounds(v: &mut [u64; 16], m: Block)
-    ensures { λ u. ⌜ now (v .exit) ≡ rounds 12 (blockWords m) (now (v .entry)) ⌝ }
+pub fn twelve_rounds(v: Rows, m: Block) -> Rows
+    ensures { λ r. ⌜ vectorOf r ≡ rounds 12 (blockWords m) (vectorOf v) ⌝ }
 {
-    round_0(v, m);
-    round_1(v, m);
-    round_2(v, m);
-    round_3(v, m);
-    round_4(v, m);
-    round_5(v, m);
-    round_6(v, m);
-    round_7(v, m);
-    round_8(v, m);
-    round_9(v, m);
-    round_10(v, m);
-    round_11(v, m);
+    let v = round_0(v, m);
+    let v = round_1(v, m);
+    let v = round_2(v, m);
+    let v = round_3(v, m);
+    let v = round_4(v, m);
+    let v = round_5(v, m);
+    let v = round_6(v, m);
+    let v = round_7(v, m);
+    let v = round_8(v, m);
+    let v = round_9(v, m);
+    let v = round_10(v, m);
+    round_11(v, m)
 }

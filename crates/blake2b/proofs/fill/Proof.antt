@@ -8,13 +8,13 @@ use Rattle.blake2b.proofs.fill.Statement.{statement}
 use Rattle.blake2b.proofs.fill.Tie as tie
 
 abbrev Inv-loop : tie.InvT-loop
-Inv-loop from src at out₀ n j₀ out j = (j ≤ n) × Going out₀ from src at j out
+Inv-loop out₀ from src at n j₀ out j = (j ≤ n) × Going out₀ from src at j out
 
 abbrev μ-loop : tie.MeasureT-loop
-μ-loop from src at out₀ n j₀ out j = n - j
+μ-loop out₀ from src at n j₀ out j = n - j
 
 loop-holds : tie.Need-loop-holds Inv-loop μ-loop
-loop-holds c = (search needs, going-none _ _ _ _ (search needs))
+loop-holds c = (search needs, going-none _ _ _ _ (c .before .before .pre .2 .long))
 
 loop-again : tie.Need-loop-again Inv-loop μ-loop
 loop-again c = (search needs, going-more _ _ _ _ _ _ (omega arith) (c .before .before .loop .inv .1))

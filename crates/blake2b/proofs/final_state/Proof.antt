@@ -4,7 +4,6 @@ use mathlib.Core.Path.{_≡_, refl, sym}
 use mathlib.Core.List.{_++_}
 use Prim.Native.Nat.{_≤_, _-_, _%_, _/_}
 use lib.ListN.{length-append}
-use Rattle.compression.specs.Words.{stateWords, blockWords}
 use Rattle.blake2b.specs.Hash.{initial, after}
 use Rattle.blake2b.proofs.Blocks.{after-more, final-at}
 use borrow.Author.Needs.{needs}
@@ -13,10 +12,10 @@ use Rattle.blake2b.proofs.final_state.Statement.{statement}
 use Rattle.blake2b.proofs.final_state.Tie as tie
 
 abbrev Inv-loop : tie.InvT-loop
-Inv-loop nn prefix body total h₀ p₀ h p = (p % 128 ≡ 0) × (p ≤ total - 1) × (stateWords h ≡ after (initial nn) (prefix ++ body) (p / 128))
+Inv-loop h₀ nn prefix body total p₀ h p = (p % 128 ≡ 0) × (p ≤ total - 1) × (h ≡ after (initial nn) (prefix ++ body) (p / 128))
 
 abbrev μ-loop : tie.MeasureT-loop
-μ-loop nn prefix body total h₀ p₀ h p = total - p
+μ-loop h₀ nn prefix body total p₀ h p = total - p
 
 loop-holds : tie.Need-loop-holds Inv-loop μ-loop
 unfolding after
@@ -28,17 +27,16 @@ loop-again c =
     let a = l .before .before .before .before .args in (
       omega arith,
       omega arith,
-      after-more (initial (a .nn)) (a .prefix .now ++ a .body .now) (l .loop .p) (stateWords (l .loop .h)) (blockWords (c .before .block-at .result))
-          (stateWords (c .compress .result)) (l .loop .inv .0) (l .loop .inv .2) (c .before .block-at .ensures) (c .compress .ensures),
+      after-more (initial (a .nn)) (a .prefix .now ++ a .body .now) (l .loop .p) (l .loop .h) _ (l .loop .inv .0) (l .loop .inv .2)
+          (c .compress-inner .ensures),
     )
 
 returns : tie.Need-returns Inv-loop μ-loop
 returns c =
     let l = c .before .before .before in
     let a = l .before .before .before .before .args in
-    final-at (a .nn) (a .prefix .now ++ a .body .now) (l .loop .p) _ (stateWords (l .loop .h)) (blockWords (c .before .block-at2 .result))
-    (stateWords (c .compress2 .result)) (l .loop .inv .0) (l .loop .inv .1) (omega arith) (sym (length-append (a .prefix .now) (a .body .now)))
-    (l .loop .inv .2) (c .before .block-at2 .ensures) (c .compress2 .ensures)
+    final-at (a .nn) (a .prefix .now ++ a .body .now) (l .loop .p) _ (l .loop .h) _ (l .loop .inv .0) (l .loop .inv .1) (omega arith)
+    (sym (length-append (a .prefix .now) (a .body .now))) (l .loop .inv .2) (c .compress-gathered .ensures)
 
 pub final-state-spec : {M : Type 1} → statement M
 final-state-spec =
@@ -48,7 +46,7 @@ final-state-spec =
     μ-loop
     (λ c. search needs) (λ c κs. search needs)
     loop-holds
-    (λ c. search needs) (λ c κs. search needs) (λ c. search needs) (λ c κs. search needs) (λ c. search needs)
+    (λ c. search needs) (λ c κs. search needs) (λ c. search needs) (λ c. search needs)
     loop-again
-    (λ c κs. search needs) (λ c κs. search needs)
+    (λ c κs. search needs)
     returns)

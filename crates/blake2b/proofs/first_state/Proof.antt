@@ -11,7 +11,4 @@ unfolding initial parameter IV
 returns c = refl
 
 pub first-state-spec : {M : Type 1} → statement M
-first-state-spec =
-    tie.close
-    (tie.spec
-    returns)
+first-state-spec = tie.close (tie.spec returns)

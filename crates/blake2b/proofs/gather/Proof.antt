@@ -1,40 +1,33 @@
 -- `blake2b::gather` meets its contract. What the prefix leaves of the block is blank, and the body goes there.
 -- Assumes nothing.
-use lib.ListN.{getD-replicate}
 use Rattle.blake2b.proofs.Filling.{piece-body, piece-prefix, blank-after}
 use borrow.Author.Needs.{needs}
 use native.Mathlib.Omega.{arith}
 use Rattle.blake2b.proofs.gather.Statement.{statement}
 use Rattle.blake2b.proofs.gather.Tie as tie
 
-fill-requires : tie.Need-fill-requires
-fill-requires c κs = (search needs, omega arith, λ k l m. getD-replicate 128 k 0 0 m)
-
 fill-requires-2 : tie.Need-fill-requires-2
 fill-requires-2 c κs =
-    let a = c .before .before .before .before .before .args in
-    (omega arith, omega arith, blank-after (a .prefix .now) (a .body .now) (a .p) _ _ _ (c .before .before .if1 .taken) (c .before .fill .ensures) (c .smaller .ensures))
+    let a = c .before .before .before .before .before .before .before .args in
+    (omega arith, omega arith, blank-after (a .prefix .now) (a .body .now) (a .p) _ _ _ (c .before .before .before .before .if1 .taken) (c .before .before .fill .ensures) (c .before .smaller .ensures))
 
 returns : tie.Need-returns
 returns c =
-    let a = c .before .before .before .before .before .before .args in
-    piece-prefix (a .prefix .now) (a .body .now) (a .p) _ _ _ (c .before .before .before .if1 .taken) (c .before .before .fill .ensures) (c .before .smaller .ensures) _ (c .fill2 .ensures)
-
-fill-requires-3 : tie.Need-fill-requires-3
-fill-requires-3 c κs = (search needs, omega arith, λ k l m. getD-replicate 128 k 0 0 m)
+    let f = c .before .before .before in
+    let a = f .before .before .before .before .before .args in
+    piece-prefix (a .prefix .now) (a .body .now) (a .p) _ _ _ (f .before .before .if1 .taken) (f .fill .ensures) (c .before .before .smaller .ensures) _ (c .fill2 .ensures)
 
 returns-2 : tie.Need-returns-2
 returns-2 c =
-    let a = c .before .before .before .before .args in
-    piece-body (a .prefix .now) (a .body .now) (a .p) _ _ (c .before .if1 .left) (c .fill3 .ensures)
+    let a = c .before .before .before .before .before .args in
+    piece-body (a .prefix .now) (a .body .now) (a .p) _ _ (c .before .before .if1 .left) (c .fill3 .ensures)
 
 pub gather-spec : {M : Type 1} → statement M
 gather-spec =
     tie.close
     (tie.spec
-    fill-requires
-    (λ c. search needs) (λ c κs. search needs)
+    (λ c κs. search needs) (λ c. search needs) (λ c κs. search needs)
     fill-requires-2
     returns
-    fill-requires-3
+    (λ c κs. search needs)
     returns-2)

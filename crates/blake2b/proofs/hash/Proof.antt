@@ -1,6 +1,5 @@
 -- `blake2b::hash` meets its contract. Each way out goes by the tests on the length that led there.
 -- Assumes nothing.
-use Rattle.compression.specs.Words.{stateWords}
 use Rattle.blake2b.proofs.Calls.{low, high, right, as-refused, as-done}
 use borrow.Author.Needs.{needs}
 use native.Mathlib.Omega.{arith}
@@ -19,9 +18,9 @@ returns-2 c =
 
 returns-3 : tie.Need-returns-3
 returns-3 c =
-    let a = c .before .before .before .before .before .before .args in
-    as-done (a .nn) (a .message .now) (stateWords (c .before .final-state .result)) (c .digest-bytes .result)
-    (right (a .nn) (omega arith) (omega arith)) (c .before .final-state .ensures) (c .digest-bytes .ensures)
+    let a = c .before .before .before .before .before .before .before .before .args in
+    as-done (a .nn) (a .message .now) _ _ _ (right (a .nn) (omega arith) (omega arith)) (c .before .before .final-state .ensures)
+    (c .before .state-bytes .ensures) (c .cut .ensures)
 
 pub hash-spec : {M : Type 1} → statement M
 hash-spec =
@@ -31,5 +30,5 @@ hash-spec =
     returns
     (λ c κs. search needs)
     returns-2
-    (λ c. search needs) (λ c. search needs) (λ c. search needs) (λ c κs. search needs) (λ c κs. search needs)
+    (λ c. search needs) (λ c. search needs) (λ c. search needs) (λ c κs. search needs) (λ c κs. search needs) (λ c κs. search needs)
     returns-3)

@@ -1,7 +1,6 @@
 -- `blake2b::hash_parts` meets its contract. It follows from what the three calls ensure.
 -- Assumes nothing.
 use mathlib.Core.List.{_++_}
-use Rattle.compression.specs.Words.{stateWords}
 use Rattle.blake2b.proofs.Output.{node-from}
 use borrow.Author.Needs.{needs}
 use Rattle.blake2b.proofs.hash_parts.Statement.{statement}
@@ -9,9 +8,8 @@ use Rattle.blake2b.proofs.hash_parts.Tie as tie
 
 returns : tie.Need-returns
 returns c =
-    let a = c .before .before .before .before .before .args in
-    node-from (a .prefix .now ++ a .body .now) (stateWords (c .before .before .final-state .result)) (c .before .digest-bytes .result) _
-    (c .before .before .final-state .ensures) (c .before .digest-bytes .ensures) (c .first-half .ensures)
+    let a = c .before .before .before .before .before .before .args in
+    node-from (a .prefix .now ++ a .body .now) _ _ _ (c .before .before .final-state .ensures) (c .before .state-bytes .ensures) (c .first-half .ensures)
 
 pub hash-parts-spec : {M : Type 1} → statement M
 hash-parts-spec =

@@ -7,8 +7,8 @@ use Rattle.compression.proofs.compress.Tie as tie
 
 returns : tie.Need-returns
 returns c =
-    c .folded-state .ensures
-    ∙ compressed _ _ _ _ (c .before .before .before .start-vector .ensures) (c .before .twelve-rounds .ensures)
+    c .fold .ensures
+    ∙ compressed _ _ _ _ (c .before .before .before .start-vector .ensures) (c .before .before .twelve-rounds .ensures)
 
 pub compress-spec : {M : Type 1} → statement M
 compress-spec = tie.close (tie.spec (λ c κs. search needs) (λ c κs. search needs) (λ c κs. search needs) returns)

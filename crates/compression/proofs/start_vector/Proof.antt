@@ -7,7 +7,15 @@ use Rattle.compression.proofs.start_vector.Tie as tie
 
 returns : tie.Need-returns
 unfolding IV
-returns c = started _ _ _ _ _ _ _ _ _ _ (search needs) (c .with-flag .ensures)
+returns c =
+    let s = c .before in
+    started (s .args .t1) (s .args .t) (s .args .last) (search needs) (search needs) (c .with-flag .ensures)
 
 pub start-vector-spec : {M : Type 1} → statement M
-start-vector-spec = tie.close (tie.spec (λ c κs. search needs) returns)
+start-vector-spec =
+    tie.close
+    (tie.spec
+    (λ c. search needs) (λ c. search needs) (λ c. search needs) (λ c. search needs)
+    (λ c. search needs) (λ c. search needs) (λ c. search needs) (λ c. search needs)
+    (λ c κs. search needs)
+    returns)

@@ -25,7 +25,7 @@ fn built() -> Store {
 fn hashed(data: &[u8]) -> [u8; 32] {
     let mut prefix = [0; 9];
     prefix[1..].copy_from_slice(&(LENGTH as u64).to_be_bytes());
-    data.chunks_exact(LENGTH).map(|chunk| hash_parts(&prefix, chunk)).last().unwrap()
+    data.chunks_exact(LENGTH).map(|chunk| hash_parts(&[], &prefix, chunk).unwrap()).last().unwrap()
 }
 
 fn main() {

@@ -14,10 +14,17 @@ use timing::{timed, Numbers};
 const MEBIBYTES: usize = 64;
 const ROUNDS: usize = 30;
 
+/// Nodes and roots have the empty key.
+const NO_KEY: [u8; 1] = [0];
+
 // The proved library's archive. A slice is a pointer and a length, a reference to an array a pointer.
 extern "C" {
-    fn sleep_hash(length: u64, message: *const u8, message_len: usize, digest: *mut [u8; 64]) -> u64;
-    fn sleep_hash_parts(prefix: *const u8, prefix_len: usize, body: *const u8, body_len: usize, out: *mut Digest);
+    #[rustfmt::skip]
+    fn sleep_hash(length: u64, key: *const u8, key_len: usize, message: *const u8, message_len: usize,
+        digest: *mut [u8; 64]) -> u64;
+    #[rustfmt::skip]
+    fn sleep_hash_parts(key: *const u8, key_len: usize, prefix: *const u8, prefix_len: usize, body: *const u8, body_len: usize,
+        out: *mut Digest) -> u64;
 }
 
 type Hash = fn(&[u8]) -> Digest;
@@ -54,14 +61,15 @@ fn front(digest: [u8; 64]) -> Digest {
 
 fn proved_whole(message: &[u8]) -> Digest {
     let mut digest = [0; 64];
-    let number = unsafe { sleep_hash(32, message.as_ptr(), message.len(), &mut digest) };
+    let number = unsafe { sleep_hash(32, NO_KEY.as_ptr(), 0, message.as_ptr(), message.len(), &mut digest) };
     assert_eq!(number, 0, "the hash was refused");
     front(digest)
 }
 
 fn proved_parts(prefix: &[u8], body: &[u8]) -> Digest {
     let mut out = [0; 32];
-    unsafe { sleep_hash_parts(prefix.as_ptr(), prefix.len(), body.as_ptr(), body.len(), &mut out) };
+    let number = unsafe { sleep_hash_parts(NO_KEY.as_ptr(), 0, prefix.as_ptr(), prefix.len(), body.as_ptr(), body.len(), &mut out) };
+    assert_eq!(number, 0, "the hash was refused");
     out
 }
 

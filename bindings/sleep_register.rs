@@ -75,8 +75,11 @@ type In = *const u8;
 type Out = *mut u8;
 
 extern "C" {
-    fn sleep_hash(length: u64, message: In, message_length: usize, digest: Out) -> u64;
-    fn sleep_hash_parts(prefix: In, prefix_length: usize, body: In, body_length: usize, out: Out);
+    fn sleep_hash(length: u64, key: In, key_length: usize, message: In, message_length: usize, digest: Out) -> u64;
+    #[rustfmt::skip]
+    fn sleep_hash_parts(key: In, key_length: usize, prefix: In, prefix_length: usize, body: In, body_length: usize,
+        out: Out) -> u64;
+    fn sleep_label(root: In, key: In, key_length: usize, out: Out) -> u64;
     fn sleep_start(t: Out, tl: usize, g: Out, gl: usize, b: Out, bl: usize, d: In, dl: usize) -> Answer;
     #[rustfmt::skip]
     fn sleep_append(t: Out, tl: usize, g: In, gl: usize, b: Out, bl: usize, d: Out, dl: usize, n: u64, s: u64, size: u64,
@@ -130,19 +133,31 @@ impl Answer {
     }
 }
 
-/// BLAKE2b with `length` bytes of output, 1 to 64, then zeros.
-pub fn hash(length: u64, message: &[u8]) -> Result<[u8; 64], Refusal> {
-    let mut digest = [0; 64];
-    // The pointers are of slices with these lengths, as in every call below.
-    let number = unsafe { sleep_hash(length, message.as_ptr(), message.len(), digest.as_mut_ptr()) };
-    Answer { number, place_kind: 0, place: 0 }.result(digest)
+fn plain<T>(number: u64, given: T) -> Result<T, Refusal> {
+    Answer { number, place_kind: 0, place: 0 }.result(given)
 }
 
-/// BLAKE2b with 32 bytes of output, of a message in two parts.
-pub fn hash_parts(prefix: &[u8], body: &[u8]) -> [u8; 32] {
+/// BLAKE2b with `length` bytes of output, 1 to 64, then zeros, under a key of 0 to 64 bytes.
+pub fn hash(length: u64, key: &[u8], message: &[u8]) -> Result<[u8; 64], Refusal> {
+    let mut digest = [0; 64];
+    // The pointers are of slices with these lengths, as in every call below.
+    let number = unsafe { sleep_hash(length, key.as_ptr(), key.len(), message.as_ptr(), message.len(), digest.as_mut_ptr()) };
+    plain(number, digest)
+}
+
+/// BLAKE2b with 32 bytes of output under a key of 0 to 64 bytes, of a message in two parts.
+pub fn hash_parts(key: &[u8], prefix: &[u8], body: &[u8]) -> Result<[u8; 32], Refusal> {
     let mut out = [0; 32];
-    unsafe { sleep_hash_parts(prefix.as_ptr(), prefix.len(), body.as_ptr(), body.len(), out.as_mut_ptr()) };
-    out
+    let (k, p, b) = (key.as_ptr(), prefix.as_ptr(), body.as_ptr());
+    let number = unsafe { sleep_hash_parts(k, key.len(), p, prefix.len(), b, body.len(), out.as_mut_ptr()) };
+    plain(number, out)
+}
+
+/// The label of a root hash under a key of 0 to 64 bytes.
+pub fn label(root: &[u8; 32], key: &[u8]) -> Result<[u8; 32], Refusal> {
+    let mut out = [0; 32];
+    let number = unsafe { sleep_label(root.as_ptr(), key.as_ptr(), key.len(), out.as_mut_ptr()) };
+    plain(number, out)
 }
 
 /// The bytes grouped, at the front of `out`, which keeps its rest.

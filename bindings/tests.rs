@@ -1,7 +1,7 @@
 //! The wrapper over the proved library, called as a program would. `tests/run` builds and runs it.
 mod sleep_register;
 
-use sleep_register::{check_packet, group, hash, hash_parts, ungroup, Comparison, Place, Refusal, Store, PACKET_EXTRA};
+use sleep_register::{check_packet, group, hash, hash_parts, label, ungroup, Comparison, Place, Refusal, Store, PACKET_EXTRA};
 
 fn refused<T>(number: u64, place: Place) -> Result<T, Refusal> {
     Err(Refusal { number, place })
@@ -78,18 +78,27 @@ fn refusals_change_nothing() {
 
 #[test]
 fn hash_lengths() {
-    assert_eq!(hash(0, b"abc"), refused(1, Place::None));
-    assert_eq!(hash(65, b"abc"), refused(1, Place::None));
-    assert_eq!(hash(64, b"abc").unwrap()[..4], [0xba, 0x80, 0xa5, 0x3f]);
-    assert_eq!(hash(32, b"abc").unwrap()[32..], [0; 32]);
+    assert_eq!(hash(0, b"", b"abc"), refused(1, Place::None));
+    assert_eq!(hash(65, &[0; 65], b"abc"), refused(1, Place::None));
+    assert_eq!(hash(64, &[0; 65], b"abc"), refused(17, Place::None));
+    assert_eq!(hash(64, b"", b"abc").unwrap()[..4], [0xba, 0x80, 0xa5, 0x3f]);
+    assert_eq!(hash(32, b"", b"abc").unwrap()[32..], [0; 32]);
+}
+
+#[test]
+fn labels_follow_the_key() {
+    let root = [7; 32];
+    assert_eq!(label(&root, b"key").unwrap(), hash(32, b"key", &root).unwrap()[..32]);
+    assert_ne!(label(&root, b"key"), label(&root, b"another"));
+    assert_eq!(label(&root, &[0; 65]), refused(17, Place::None));
 }
 
 #[test]
 fn a_message_in_two_parts() {
-    let whole = hash(32, b"abcdef").unwrap();
+    let whole = hash(32, b"key", b"abcdef").unwrap();
     for cut in 0..=6 {
         let (prefix, body) = b"abcdef".split_at(cut);
-        assert_eq!(hash_parts(prefix, body), whole[..32]);
+        assert_eq!(hash_parts(b"key", prefix, body).unwrap(), whole[..32]);
     }
 }
 

@@ -1,5 +1,5 @@
 /* A register in fixed buffers: three pieces, each previewed, signed, appended and stored with its signature, an audit, a verified read, a packet
- * made and checked, and two registers compared. Build and run: make -C examples */
+ * made and checked, a label, and two registers compared. Build and run: make -C examples */
 #include <inttypes.h>
 #include <stdio.h>
 #include <stdlib.h>
@@ -87,6 +87,8 @@ int main(void) {
     expect("root hash", sleep_root_hash(LENT(&first), COUNTS(&first), again).number, 0);
     expect("the root hash again", (uint64_t)memcmp(root, again, 32), 0);
 
+    expect("label", sleep_label(root, (const uint8_t *)"the maker's key", 15, again), 0);
+    printf("label: %02x%02x%02x%02x..\n", again[0], again[1], again[2], again[3]);
     read_back(&first, 2);
     pass_on(&first, 2, root);
 

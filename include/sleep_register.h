@@ -40,7 +40,7 @@
  *
  * ANSWERS AND REFUSALS
  *   A call is done (number 0) or refused. A refused call changes no byte of any buffer, and no result that is lent to it. Checks are
- *   made in the order of their numbers, and the first that fails is the answer.
+ *   made in the order of their numbers, but for those that say otherwise, and the first that fails is the answer.
  *
  *     number  meaning                                                                      place
  *     0       done                                                                         none
@@ -62,8 +62,9 @@
  *     13      a packet's lengths add up to over 68,719,476,736, or its root hash differs   none
  *     14      a buffer to be written is shorter than the result needs; a preview judges
  *             the buffers that the append would write                                      none
+ *     17      the key is longer than 64 bytes; judged just after 1                         none
  *
- *   1 to 4, 7 to 9 and 14 point at the call: a number or a buffer that doesn't fit. 5 and 6 mean that the images are not those of a
+ *   1 to 4, 7 to 9, 14 and 17 point at the call: a number or a buffer that doesn't fit. 5 and 6 mean that the images are not those of a
  *   register with these numbers: other files, other numbers, or damage. 10 and 11 mean damage where the place says. 12 and 13 mean that a
  *   packet shows nothing of this chunk under this root hash.
  */
@@ -93,6 +94,7 @@ extern "C" {
 #define SLEEP_STACK_STORE_SIGNATURE 2048u
 #define SLEEP_STACK_HASH 3072u
 #define SLEEP_STACK_HASH_PARTS 3072u
+#define SLEEP_STACK_LABEL 3072u
 #define SLEEP_STACK_AUDIT 3072u
 #define SLEEP_STACK_PLACE 4096u
 #define SLEEP_STACK_BYTE 4096u
@@ -138,11 +140,17 @@ typedef struct {
 #define SLEEP_NOT_NULL
 #endif
 
-/* BLAKE2b (RFC 7693) without a key: length bytes of output, then zeros up to 64. Answers 0, or 1 for a wrong length. */
-uint64_t sleep_hash(uint64_t length, const uint8_t *message, size_t message_length, uint8_t digest[64]) SLEEP_NOT_NULL;
+/* BLAKE2b (RFC 7693) under a key of 0 to 64 bytes, the empty key being the hash without one: length bytes of output, then zeros up to 64.
+ * Answers 0, or 1 for a wrong length, or 17 for a longer key. */
+uint64_t sleep_hash(uint64_t length, const uint8_t *key, size_t key_length, const uint8_t *message, size_t message_length,
+                    uint8_t digest[64]) SLEEP_NOT_NULL;
 
-/* BLAKE2b with 32 bytes of output, of prefix and then body. It refuses nothing. */
-void sleep_hash_parts(const uint8_t *prefix, size_t prefix_length, const uint8_t *body, size_t body_length, uint8_t out[32]) SLEEP_NOT_NULL;
+/* BLAKE2b with 32 bytes of output, of prefix and then body; with the empty key it is the hash of leaves, parents and roots. Answers 0, or 17. */
+uint64_t sleep_hash_parts(const uint8_t *key, size_t key_length, const uint8_t *prefix, size_t prefix_length, const uint8_t *body,
+                          size_t body_length, uint8_t out[32]) SLEEP_NOT_NULL;
+
+/* The label of a root hash: its hash with 32 bytes of output under the maker's key. Answers 0, or 17. */
+uint64_t sleep_label(const uint8_t root[32], const uint8_t *key, size_t key_length, uint8_t out[32]) SLEEP_NOT_NULL;
 
 /* A register without chunks: writes the three headers, 32 bytes each, and no other byte. Refusal: 14. Go on with n = s = size = 0. */
 sleep_answer sleep_start(uint8_t *tree, size_t tree_length, uint8_t *signatures, size_t signatures_length, uint8_t *bitfield,
@@ -211,13 +219,18 @@ sleep_answer sleep_ungroup(const uint8_t *bytes, size_t bytes_length, uint8_t *o
 #define SLEEP_LENT(buffer) (buffer##_length == 0 ? (uint8_t *)&buffer##_length : buffer), buffer##_length
 #define SLEEP_REGISTER_LENT SLEEP_LENT(tree), SLEEP_LENT(signatures), SLEEP_LENT(bitfield), SLEEP_LENT(data), n, s, size
 
-static inline uint64_t sleep_hash_front(uint64_t length, const uint8_t *message, size_t message_length, uint8_t digest[64]) {
-    return sleep_hash(length, SLEEP_LENT(message), digest);
+static inline uint64_t sleep_hash_front(uint64_t length, const uint8_t *key, size_t key_length, const uint8_t *message,
+                                        size_t message_length, uint8_t digest[64]) {
+    return sleep_hash(length, SLEEP_LENT(key), SLEEP_LENT(message), digest);
 }
 
-static inline void sleep_hash_parts_front(const uint8_t *prefix, size_t prefix_length, const uint8_t *body, size_t body_length,
-                                          uint8_t out[32]) {
-    sleep_hash_parts(SLEEP_LENT(prefix), SLEEP_LENT(body), out);
+static inline uint64_t sleep_hash_parts_front(const uint8_t *key, size_t key_length, const uint8_t *prefix, size_t prefix_length,
+                                              const uint8_t *body, size_t body_length, uint8_t out[32]) {
+    return sleep_hash_parts(SLEEP_LENT(key), SLEEP_LENT(prefix), SLEEP_LENT(body), out);
+}
+
+static inline uint64_t sleep_label_front(const uint8_t root[32], const uint8_t *key, size_t key_length, uint8_t out[32]) {
+    return sleep_label(root, SLEEP_LENT(key), out);
 }
 
 static inline sleep_answer sleep_start_front(uint8_t *tree, size_t tree_length, uint8_t *signatures, size_t signatures_length,
@@ -292,6 +305,7 @@ static inline sleep_answer sleep_ungroup_front(const uint8_t *bytes, size_t byte
 #undef SLEEP_LENT
 #define sleep_hash sleep_hash_front
 #define sleep_hash_parts sleep_hash_parts_front
+#define sleep_label sleep_label_front
 #define sleep_start sleep_start_front
 #define sleep_append sleep_append_front
 #define sleep_preview sleep_preview_front

@@ -129,13 +129,18 @@ class Calls:
         name = self.random.choice(('metadata', 'content'))
         self.call('read', [r], [chunk, self.result(16, place)], lambda: model.read(r, r, name, chunk))
 
-    def hash(self, length, message):
+    def hash(self, length, key, message):
         digest = self.result(64, lambda digest: digest)
-        self.call('hash', [], [length, Buffer(message), digest], lambda: model.blake2b(length, message), NUMBER)
+        self.call('hash', [], [length, Buffer(key), Buffer(message), digest], lambda: model.blake2b(length, message, key), NUMBER)
 
-    def hash_parts(self, prefix, body):
-        expected = ('done', model.node_hash(prefix + body))
-        self.call('hash_parts', [], [Buffer(prefix), Buffer(body), self.result(32, lambda digest: digest)], lambda: expected, None)
+    def hash_parts(self, key, prefix, body):
+        digest = self.result(32, lambda digest: digest[:32])
+        others = [Buffer(key), Buffer(prefix), Buffer(body), digest]
+        self.call('hash_parts', [], others, lambda: model.blake2b(32, prefix + body, key), NUMBER)
+
+    def label(self, root, key):
+        others = [Buffer(root, array=True), Buffer(key), self.result(32, lambda label: label)]
+        self.call('label', [], others, lambda: model.label(root, key), NUMBER)
 
     def make_packet(self, r, chunk, room):
         out = bytearray(self.random.randbytes(room))
@@ -172,11 +177,17 @@ class Run(Calls):
     def message(self):
         return self.random.randbytes(self.random.choice((0, 1, 9, 119, 120, 127, 128, 129, 256, self.random.randrange(600))))
 
+    def key(self):
+        return self.random.randbytes(self.random.choice((0, 0, 1, 63, 64, 65, self.random.randrange(70), self.random.randrange(300))))
+
     def hashing(self):
-        if self.random.random() < 0.5:
-            self.hash_parts(self.message(), self.message())
+        pick = self.random.randrange(5)
+        if pick < 2:
+            self.hash_parts(self.key(), self.message(), self.message())
+        elif pick < 4:
+            self.hash(self.random.choice((0, 1, 32, 64, 65, 2 ** 64 - 1, self.random.randrange(70))), self.key(), self.message())
         else:
-            self.hash(self.random.choice((0, 1, 32, 64, 65, 2 ** 64 - 1, self.random.randrange(70))), self.message())
+            self.label(self.random.randbytes(32), self.key())
 
     def grouping(self):
         """Lengths with and without words and remaining bytes, at times about the longest; room for them, a byte less or more, or any."""

@@ -83,13 +83,16 @@ int main(void) {
     lent r, nothing = {{NULL, NULL, NULL, NULL}, {0, 0, 0, 0}, 0, 0, 0};
     static const uint8_t of_nothing[4] = {0x0e, 0x57, 0x51, 0xc0}; /* BLAKE2b-256 of the empty message begins so */
 
-    expect("hash", 0, sleep_hash(32, NULL, 0, digest), 0);
+    expect("hash", 0, sleep_hash(32, NULL, 0, NULL, 0, digest), 0);
     expect("hash", 0, (uint64_t)memcmp(digest, of_nothing, sizeof of_nothing), 0);
-    sleep_hash_parts(NULL, 0, NULL, 0, again);
+    expect("hash_parts", 0, sleep_hash_parts(NULL, 0, NULL, 0, NULL, 0, again), 0);
     expect("hash_parts", 0, (uint64_t)memcmp(digest, again, 32), 0);
-    sleep_hash_parts(digest, 1, NULL, 0, again);
-    sleep_hash_parts(NULL, 0, digest, 1, root);
+    expect("hash_parts", 1, sleep_hash_parts(NULL, 0, digest, 1, NULL, 0, again), 0);
+    expect("hash_parts", 1, sleep_hash_parts(NULL, 0, NULL, 0, digest, 1, root), 0);
     expect("hash_parts", 1, (uint64_t)memcmp(root, again, 32), 0);
+    expect("label", 0, sleep_label(digest, NULL, 0, again), 0);
+    expect("label", 0, sleep_hash_parts(NULL, 0, NULL, 0, digest, 32, root), 0);
+    expect("label", 0, (uint64_t)memcmp(root, again, 32), 0);
 
     each_buffer("start", start, 14, 0);
     each_buffer("append", append, 4, 0);

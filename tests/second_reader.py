@@ -362,14 +362,14 @@ def section(text, title):
     rest = text.split(f"\n{title}\n", 1)[1]
     return re.split(rf"\n#{{1,{len(marks)}}} ", rest)[0]
 
-def described_hash(text, message, length=32):
-    """The hash by the description's own section on BLAKE2b, with the constants that stand in it."""
+def described_hash(text, message, length=32, key=b""):
+    """The hash by the description's own sections on BLAKE2b and on keys, with the constants that stand in them."""
     part = section(text, "## BLAKE2b")
     iv = [int(word, 16) for word in part.split("(hex): ")[1].split(".")[0].split()]
     table = [[int(x) for x in row[1].split()] for row in rows_of(part, "Line")]
     mask = 2 ** 64 - 1
-    state = [iv[0] ^ 0x01010000 + length] + iv[1:]
-    blocks = [message[at:at + 128] for at in range(0, len(message), 128)] or [b""]
+    state = [iv[0] ^ 0x01010000 + length + 256 * len(key)] + iv[1:]
+    blocks = ([key.ljust(128, b"\0")] if key else []) + [message[at:at + 128] for at in range(0, len(message), 128)] or [b""]
     for number, block in enumerate(blocks):
         words = [int.from_bytes(block.ljust(128, b"\0")[8 * x:8 * x + 8], "little") for x in range(16)]
         work = state + iv
@@ -430,7 +430,7 @@ def tables_differ(text):
         if bytes.fromhex(row) != bitfield_of(int(n))[3104:3108]:
             return f"the Index of {n} chunks"
     numbers = [row[0] for row in rows_of(text, "Number")]
-    return None if numbers == [str(number) for number in range(1, 15)] else "the numbers of what can be wrong"
+    return None if numbers == [str(number) for number in (*range(1, 15), 17)] else "the numbers of what can be wrong"
 
 def drawing_differs(text):
     """The tree of ten chunks: each entry stands at its depth, from left to right in the order of the file, above both children; holes in brackets."""
@@ -469,8 +469,9 @@ def hashes_differ(text):
     for count in (0, 1, 3, 127, 128, 129, 145, 256, 257, 1000):
         for length in (1, 32, 63, 64):
             message = bytes(x % 251 for x in range(count))
-            if described_hash(text, message, length) != hashlib.blake2b(message, digest_size=length).digest():
-                return f"the hash of {count} bytes, {length} bytes of output, beside Python's"
+            for key in (b"", b"k", bytes(range(64))):
+                if described_hash(text, message, length, key) != hashlib.blake2b(message, digest_size=length, key=key).digest():
+                    return f"the hash of {count} bytes, {length} bytes of output, {len(key)} bytes of key, beside Python's"
     return None
 
 def chunks_described(n):

@@ -20,8 +20,9 @@ static uint8_t chunk[SLEEP_LONGEST_CHUNK], packet[SLEEP_LONGEST_CHUNK + SLEEP_PA
 static uint64_t chunk_length, sought, packet_length, out[2], number, outcome;
 
 static void start(void) { number = sleep_start(tree, sizeof tree, signatures, sizeof signatures, bitfield, sizeof bitfield, data, DATA).number; }
-static void hash(void) { number = sleep_hash(64, chunk, sizeof chunk, digest); }
-static void hash_parts(void) { sleep_hash_parts(chunk, 9, chunk, sizeof chunk, digest); }
+static void hash(void) { number = sleep_hash(64, chunk, 64, chunk, sizeof chunk, digest); }
+static void hash_parts(void) { number = sleep_hash_parts(chunk, 64, chunk, 9, chunk, sizeof chunk, digest); }
+static void label(void) { number = sleep_label(root, chunk, 64, digest); }
 static void append(void) { number = sleep_append(REGISTER, chunk, chunk_length, root).number; }
 static void preview(void) { number = sleep_preview(REGISTER, chunk, chunk_length, root).number; }
 static void store_signature(void) { number = sleep_store_signature(REGISTER, digest).number; }
@@ -36,7 +37,7 @@ static void group(void) { number = sleep_group(chunk, sizeof chunk, packet, size
 static void ungroup(void) { number = sleep_ungroup(chunk, sizeof chunk, packet, sizeof packet).number; }
 static void compare(void) { outcome = sleep_compare(REGISTER, REGISTER).outcome; }
 
-enum { START, HASH, HASH_PARTS, APPEND, PREVIEW, STORE_SIGNATURE, ROOT_HASH, AUDIT, PLACE, BYTE, READ, MAKE_PACKET, CHECK_PACKET, COMPARE, GROUP, UNGROUP, CALLS };
+enum { START, HASH, HASH_PARTS, LABEL, APPEND, PREVIEW, STORE_SIGNATURE, ROOT_HASH, AUDIT, PLACE, BYTE, READ, MAKE_PACKET, CHECK_PACKET, COMPARE, GROUP, UNGROUP, CALLS };
 
 static struct {
     const char *name;
@@ -46,6 +47,7 @@ static struct {
     {"sleep_start", start, SLEEP_STACK_START, 0},
     {"sleep_hash", hash, SLEEP_STACK_HASH, 0},
     {"sleep_hash_parts", hash_parts, SLEEP_STACK_HASH_PARTS, 0},
+    {"sleep_label", label, SLEEP_STACK_LABEL, 0},
     {"sleep_append", append, SLEEP_STACK_APPEND, 0},
     {"sleep_preview", preview, SLEEP_STACK_PREVIEW, 0},
     {"sleep_store_signature", store_signature, SLEEP_STACK_STORE_SIGNATURE, 0},
@@ -142,7 +144,7 @@ static void measure_depth(void) {
     n = s = MOST;
     size = 1;
     start();
-    sleep_hash_parts(one, sizeof one, data, 1, tree + 32);
+    sleep_hash_parts(NULL, 0, one, sizeof one, data, 1, tree + 32);
     for (uint64_t block = 1; block <= MOST; block *= 2) tree[32 + 40 * (block - 1) + 39] = 1;
     measure(ROOT_HASH, 0);
     for (sought = 0; sought < n; sought += n - 1) measure(PLACE, 0);
@@ -168,6 +170,7 @@ int main(void) {
     int failed = 0;
     measure(HASH, 0);
     measure(HASH_PARTS, 0);
+    measure(LABEL, 0);
     measure(GROUP, 0);
     measure(UNGROUP, 0);
     grow();

@@ -15,6 +15,7 @@ import hashlib
 from dataclasses import dataclass
 
 MOST_CHUNKS, LONGEST_CHUNK = 1_048_576, 65_536
+LONGEST_OUTPUT, LONGEST_KEY = 64, 64
 MOST_BYTES = 68_719_476_736  # MOST_CHUNKS chunks, each the longest
 
 HEADER, ENTRY, SIGNATURE, HASH = 32, 40, 64, 32
@@ -43,15 +44,26 @@ def call(function):
     return answer
 
 # ---- Hash and headers ----
+def keyed_hash(length, message, key):
+    """BLAKE2b of RFC 7693 under a key; the empty key is the hash without a key."""
+    return hashlib.blake2b(message, digest_size=length, key=key).digest()
+
 def node_hash(message):
-    """BLAKE2b with output length 32, which is a parameter of the hash."""
-    return hashlib.blake2b(message, digest_size=HASH).digest()
+    """BLAKE2b with output length 32, which is a parameter of the hash, and the empty key."""
+    return keyed_hash(HASH, message, b'')
 
 @call
-def blake2b(length, message):
+def blake2b(length, message, key=b''):
     """`length` bytes of hash, then zeros up to 64."""
-    refuse_if(not 1 <= length <= 64, 1)
-    return (hashlib.blake2b(message, digest_size=length).digest().ljust(64, b'\0'),)
+    refuse_if(not 1 <= length <= LONGEST_OUTPUT, 1)
+    refuse_if(len(key) > LONGEST_KEY, 17)
+    return (keyed_hash(length, message, key).ljust(LONGEST_OUTPUT, b'\0'),)
+
+@call
+def label(root, key):
+    """The shelf label that a maker's key gives for a root hash of 32 bytes."""
+    refuse_if(len(key) > LONGEST_KEY, 17)
+    return (keyed_hash(HASH, root, key),)
 
 def header(magic, entry_size, name):
     """4 bytes magic, 1 version (0), 2 entry size, 1 name length, name, zeros to the end."""

@@ -9,8 +9,8 @@ use native.Mathlib.Omega.{arith}
 use lib.ListN.{length, getD}
 use lib.Seq.{getD-append-add}
 use Rattle.compression.specs.Compression.{F}
-use Rattle.blake2b.specs.Pieces.{Piece}
-use Rattle.blake2b.specs.Hash.{wordAt, block, blocks, initial, after, final}
+use Rattle.blake2b.specs.Pieces.{Piece, onward, absorbed}
+use Rattle.blake2b.specs.Hash.{wordAt, block, blocks}
 
 -- a word is made of the eight bytes from its place on, and of nothing else
 word-same : (x y : List ℕ) (a b : ℕ) → ((j : ℕ) → j < 8 → getD x (a + j) 0 ≡ getD y (b + j) 0) → wordAt x a ≡ wordAt y b
@@ -46,21 +46,25 @@ block-piece d p r h = block-same r d 0 p (λ j k. ap (λ (i : ℕ). getD r i 0) 
 pub of-block : (h b m : List ℕ) (t : ℕ) (f : Bool) {r : List ℕ} → r ≡ F h b t f → b ≡ m → r ≡ F h m t f
 of-block h b m t f e g = e ∙ ap (λ (x : List ℕ). F h x t f) g
 
+-- a block goes in with a count that is another's
+pub of-count : (h b : List ℕ) (t n : ℕ) (f : Bool) {r : List ℕ} → r ≡ F h b t f → t ≡ n → r ≡ F h b n f
+of-count h b t n f e g = e ∙ ap (λ (x : ℕ). F h b x f) g
+
 -- a block goes in, which starts at the place p and is not the last
-pub after-more : (h d : List ℕ) (p : ℕ) (s r : List ℕ) → p % 128 ≡ 0 → s ≡ after h d (p / 128) → r ≡ F s (block d p) (p + 128) false
-    → r ≡ after h d ((p + 128) / 128)
-unfolding after
-after-more h d p s r e f g =
+pub onward-more : (h : List ℕ) (t : ℕ) (d : List ℕ) (p : ℕ) (s r : List ℕ) → p % 128 ≡ 0 → s ≡ onward h t d (p / 128)
+    → r ≡ F s (block d p) (t + (p + 128)) false → r ≡ onward h t d ((p + 128) / 128)
+unfolding onward
+onward-more h t d p s r e f g =
     let e₁ : (p + 128) / 128 ≡ suc (p / 128) = omega arith in
     let e₂ : 128 * (p / 128) ≡ p = omega arith in
     let e₃ : 128 * (p / 128 + 1) ≡ p + 128 = omega arith in
     cc
 
 -- the last block goes in: it starts at the place p, not past the message's end, and holds the rest
-pub final-at : (nn : ℕ) (d : List ℕ) (p n : ℕ) (s r : List ℕ) → p % 128 ≡ 0 → p ≤ n - 1 → n ≤ p + 128 → n ≡ length d
-    → s ≡ after (initial nn) d (p / 128) → r ≡ F s (block d p) n true → r ≡ final nn d
-unfolding final blocks
-final-at nn d p n s r e h k l f g =
+pub absorbed-at : (h : List ℕ) (t : ℕ) (d : List ℕ) (p n : ℕ) (s r : List ℕ) → p % 128 ≡ 0 → p ≤ n - 1 → n ≤ p + 128 → n ≡ length d
+    → s ≡ onward h t d (p / 128) → r ≡ F s (block d p) (t + n) true → r ≡ absorbed h t d
+unfolding absorbed blocks
+absorbed-at h t d p n s r e b k l f g =
     let e₁ : max 1 ((length d + 127) / 128) - 1 ≡ p / 128 = omega arith in
     let e₂ : 128 * (p / 128) ≡ p = omega arith in
     rw (e₁, e₂) (cc)

@@ -9,16 +9,16 @@ use lib.Dec.{lit<}
 use lib.ListN.{length, getD, take, length-append}
 use lib.Seq.{length-take-le}
 use Rattle.compression.specs.Compression.{F}
-use Rattle.blake2b.specs.Hash.{final, lowBytes, bytes, blake2b, nodeHash}
+use Rattle.blake2b.specs.Hash.{input, final, lowBytes, bytes, blake2b, nodeHash}
 
 -- the state that F gives has eight words
 pub F-length : (h m : List ℕ) (t : ℕ) (f : Bool) → length (F h m t f) ≡ 8
 unfolding F
 F-length h m t f = refl
 
-pub final-length : (nn : ℕ) (d : List ℕ) → length (final nn d) ≡ 8
+pub final-length : (nn kk : ℕ) (d : List ℕ) → length (final nn kk d) ≡ 8
 unfolding final
-final-length nn d = F-length _ _ _ _
+final-length nn kk d = F-length _ _ _ _
 
 pub lowBytes-length : (k x : ℕ) → length (lowBytes k x) ≡ k
 unfolding lowBytes
@@ -62,20 +62,26 @@ bytes-bytes [] = none-bytes
 bytes-bytes (x ∷ xs) = append-bytes (lowBytes 8 x) (bytes xs) (lowBytes-bytes 8 x) (bytes-bytes xs)
 
 -- BLAKE2b with up to 64 bytes of output has as many as it is asked for
-pub hash-length : (nn : ℕ) (d : List ℕ) → nn ≤ 64 → length (blake2b nn d) ≡ nn
+pub hash-length : (nn : ℕ) (key d : List ℕ) → nn ≤ 64 → length (blake2b nn key d) ≡ nn
 unfolding blake2b
-hash-length nn d h =
-    length-take-le nn (bytes (final nn d)) (omega (arith, bytes-length (final nn d), final-length nn d))
+hash-length nn key d h =
+    let s : List ℕ = final nn (length key) (input key d) in
+    length-take-le nn (bytes s) (omega (arith, bytes-length s, final-length nn (length key) (input key d)))
 
-pub hash-byte : (nn : ℕ) (d : List ℕ) (i : ℕ) → getD (blake2b nn d) i 0 < 256
+pub hash-byte : (nn : ℕ) (key d : List ℕ) (i : ℕ) → getD (blake2b nn key d) i 0 < 256
 unfolding blake2b
-hash-byte nn d = take-bytes nn (bytes (final nn d)) (bytes-bytes (final nn d))
+hash-byte nn key d = let s : List ℕ = final nn (length key) (input key d) in take-bytes nn (bytes s) (bytes-bytes s)
+
+-- the hash of nodes is that under the empty key
+pub node-keyless : (d : List ℕ) → blake2b 32 [] d ≡ nodeHash d
+unfolding nodeHash
+node-keyless d = refl
 
 -- the hash of nodes has 32 bytes
 pub node-length : (d : List ℕ) → length (nodeHash d) ≡ 32
 unfolding nodeHash
-node-length d = hash-length 32 d (omega arith)
+node-length d = hash-length 32 [] d (omega arith)
 
 pub node-byte : (d : List ℕ) (i : ℕ) → getD (nodeHash d) i 0 < 256
 unfolding nodeHash
-node-byte d = hash-byte 32 d
+node-byte d = hash-byte 32 [] d

@@ -10,7 +10,7 @@ use lib.Pow.{shr-shr}
 use lib.ListN.{length, getD, set, take, replicate}
 use lib.Seq.{set-at, take-suc, length-take-le, paste, paste-suc}
 use Rattle.compression.proofs.Whole.{eight-words}
-use Rattle.blake2b.specs.Hash.{final, lowBytes, bytes, blake2b, nodeHash}
+use Rattle.blake2b.specs.Hash.{input, final, lowBytes, bytes, blake2b}
 use Rattle.blake2b.proofs.Laws.{lowBytes-length}
 
 -- the byte at place r of a word
@@ -74,7 +74,7 @@ over-more m bs j h k =
 pub over-all : (m : ℕ) (bs : List ℕ) → over m bs m ≡ take m bs
 over-all m bs = rw (sub-self m) (append-nil (take m bs))
 
--- the hash of nodes: the first half of the last state's bytes
-pub node-from : (d s b r : List ℕ) → s ≡ final 32 d → b ≡ bytes s → r ≡ take 32 b → r ≡ nodeHash d
-unfolding nodeHash blake2b
-node-from d s b r e f g = g ∙ ap (λ (x : List ℕ). take 32 x) (f ∙ ap bytes e)
+-- 32 bytes of the hash: the first half of the last state's bytes
+pub half-from : (key d s b r : List ℕ) → s ≡ final 32 (length key) (input key d) → b ≡ bytes s → r ≡ take 32 b → r ≡ blake2b 32 key d
+unfolding blake2b
+half-from key d s b r e f g = g ∙ ap (λ (x : List ℕ). take 32 x) (f ∙ ap bytes e)

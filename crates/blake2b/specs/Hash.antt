@@ -1,8 +1,8 @@
--- RFC 7693, section 3.3: padding, counter and output.
+-- RFC 7693, section 3.3: key, padding, counter and output.
 use Prim.Native.Nat.{ℕ, zero, suc, _+_, _-_, _*_, _/_, _%_, _^_, max}
 use mathlib.Core.Bool.{true, false}
 use mathlib.Core.List.{List, [], _∷_, _++_}
-use lib.ListN.{length, set, take}
+use lib.ListN.{length, set, take, replicate}
 use lib.Bits.{bitXor}
 use Rattle.compression.specs.Constants.{IV}
 use Rattle.compression.specs.Mixing.{at}
@@ -21,26 +21,35 @@ block d p =
     ∷ wordAt d (p + 48) ∷ wordAt d (p + 56) ∷ wordAt d (p + 64) ∷ wordAt d (p + 72) ∷ wordAt d (p + 80) ∷ wordAt d (p + 88)
     ∷ wordAt d (p + 96) ∷ wordAt d (p + 104) ∷ wordAt d (p + 112) ∷ wordAt d (p + 120) ∷ []
 
--- the number of blocks of a message of n bytes: n / 128 rounded up, and one for the empty message
+-- the key's block: the key and then zeros, 128 bytes; without a key there is none
+unfoldable pub keyBlock : List ℕ → List ℕ
+keyBlock [] = []
+keyBlock (b ∷ bs) = (b ∷ bs) ++ replicate (128 - length (b ∷ bs)) 0
+
+-- the data that go in: the key's block and then the message
+unfoldable pub input : List ℕ → List ℕ → List ℕ
+input key d = keyBlock key ++ d
+
+-- the number of blocks of n bytes of data: n / 128 rounded up, and one where there are none
 unfoldable pub blocks : ℕ → ℕ
 blocks n = max 1 ((n + 127) / 128)
 
--- the parameter word: 01010000 (hex) with the output length nn put in, and no key
-unfoldable pub parameter : ℕ → ℕ
-parameter nn = bitXor 0x01010000 nn
+-- the parameter word: 01010000 (hex) with the key length kk and the output length nn put in
+unfoldable pub parameter : ℕ → ℕ → ℕ
+parameter nn kk = bitXor (bitXor 0x01010000 (kk * 2 ^ 8)) nn
 
 -- the first state: IV with the parameter word put into its first word
-unfoldable pub initial : ℕ → List ℕ
-initial nn = set IV 0 (bitXor (at IV 0) (parameter nn))
+unfoldable pub initial : ℕ → ℕ → List ℕ
+initial nn kk = set IV 0 (bitXor (at IV 0) (parameter nn kk))
 
 -- the state after the first i blocks, none of which is the last: each goes in with the bytes taken so far, it included
 unfoldable pub after : List ℕ → List ℕ → ℕ → List ℕ
 after h d zero = h
 after h d (suc i) = F (after h d i) (block d (128 * i)) (128 * (i + 1)) false
 
--- the last state: the last block goes in with the message's length and the final flag
-unfoldable pub final : ℕ → List ℕ → List ℕ
-final nn d = let last : ℕ = blocks (length d) - 1 in F (after (initial nn) d last) (block d (128 * last)) (length d) true
+-- the last state: the last block goes in with the length of the data, the key's block counted, and the final flag
+unfoldable pub final : ℕ → ℕ → List ℕ → List ℕ
+final nn kk d = let last : ℕ = blocks (length d) - 1 in F (after (initial nn kk) d last) (block d (128 * last)) (length d) true
 
 -- the lowest k bytes of a word, the lowest first
 unfoldable pub lowBytes : ℕ → ℕ → List ℕ
@@ -52,10 +61,11 @@ unfoldable pub bytes : List ℕ → List ℕ
 bytes [] = []
 bytes (x ∷ xs) = lowBytes 8 x ++ bytes xs
 
--- BLAKE2b with nn bytes of output and no key: the first nn bytes of the last state
-unfoldable pub blake2b : ℕ → List ℕ → List ℕ
-blake2b nn d = take nn (bytes (final nn d))
+-- BLAKE2b with nn bytes of output under a key: the first nn bytes of the last state. The empty key is the hash without a key.
+unfoldable pub blake2b : ℕ → List ℕ → List ℕ → List ℕ
+blake2b nn key d = take nn (bytes (final nn (length key) (input key d)))
 
--- "Nodes use output length 32, which is a parameter of the hash": the hash of leaves, parents and roots
+-- "Nodes use output length 32, which is a parameter of the hash", and "nodes and roots keep the empty key": the hash of leaves, parents
+-- and roots
 unfoldable pub nodeHash : List ℕ → List ℕ
-nodeHash d = blake2b 32 d
+nodeHash d = blake2b 32 [] d

@@ -1,4 +1,4 @@
--- BLAKE2b without a key after RFC 7693, section 3.3, as definitions: a byte string is a list of numbers below 256.
+-- BLAKE2b after RFC 7693, section 3.3, as definitions: a byte string is a list of numbers below 256.
 pub mod Hash
 pub mod Call
 pub mod Pieces

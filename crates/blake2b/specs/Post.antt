@@ -2,18 +2,18 @@
 use mathlib.Core.Path.{_≡_}
 use mathlib.Core.List.{List}
 use Prim.Native.Nat.{ℕ}
-use lib.ListN.{replicate}
+use lib.ListN.{length, replicate}
 use Rattle.counts.specs.Verdict.{refused, none}
 use Rattle.counts.specs.Said.{said}
 use Rattle.blake2b.specs.Call.{verdict, digest}
 use Rattle.blake2b.specs.declared.Hashed.{Hashed}
 
--- the answer and the 64 bytes of a hash of the message d with output length nn
-pub record HashedAs (nn : ℕ) (d : List ℕ) (r : Hashed) : Type 0 where
-  pub answers : said (r .answer) ≡ verdict nn
-  pub hashes : r .digest ≡ digest nn d
+-- the answer and the 64 bytes of a hash of the message d under a key with output length nn
+pub record HashedAs (nn : ℕ) (key d : List ℕ) (r : Hashed) : Type 0 where
+  pub answers : said (r .answer) ≡ verdict nn (length key)
+  pub hashes : r .digest ≡ digest nn key d
 
--- refusal 1 without a place, and 64 zeros
-pub record Refused (r : Hashed) : Type 0 where
-  pub answers : said (r .answer) ≡ refused 1 none
+-- a refusal without a place, and 64 zeros
+pub record Refused (m : ℕ) (r : Hashed) : Type 0 where
+  pub answers : said (r .answer) ≡ refused m none
   pub zeros : r .digest ≡ replicate 64 0

@@ -2,7 +2,7 @@
 use Prim.Native.Nat.{ℕ}
 use mathlib.Core.Path.{_≡_, sym, ap, ap₂, _∙_}
 use mathlib.Core.List.{List, [], _∷_}
-use Rattle.counts.specs.Verdict.{Verdict, done, refused, unlessRefused}
+use Rattle.counts.specs.Verdict.{Spot, Verdict, done, refused, unlessRefused}
 use Rattle.counts.specs.Said.{said, refusalOf, spotOf}
 use Rattle.counts.specs.declared.Place.{Place}
 use Rattle.counts.specs.declared.Answer.{Answer}
@@ -23,16 +23,20 @@ use Rattle.c_api.specs.Number.{numberOf}
 use Rattle.c_api.specs.Encoding.{encoded, verdictOf, numbersUnless, Gives, packetPart, Makes, encodedComparison}
 use Rattle.c_api.specs.declared.answers.SleepAnswer.{SleepAnswer}
 
+-- the number and what is written, from what the verdict is
+pub done-by : (v : Verdict) (written before d : List ℕ) → v ≡ done → d ≡ written → (0 ≡ numberOf v) × (d ≡ unlessRefused v written before)
+done-by v written before d q w = (ap numberOf (sym q), w ∙ ap (λ (u : Verdict). unlessRefused u written before) (sym q))
+
+pub refused-by : (v : Verdict) (m : ℕ) (at : Spot) (written before : List ℕ) → v ≡ refused m at
+    → (m ≡ numberOf v) × (before ≡ unlessRefused v written before)
+refused-by v m at written before q = (ap numberOf (sym q), ap (λ (u : Verdict). unlessRefused u written before) (sym q))
+
 module _ (a : Answer) (v : Verdict) (says : said a ≡ v) (written before : List ℕ) where
   pub on-done : (d : List ℕ) → a ≡ Done → d ≡ written → (0 ≡ numberOf v) × (d ≡ unlessRefused v written before)
-  on-done d e w =
-      let q : v ≡ done = sym says ∙ ap said e in
-      (ap numberOf (sym q), w ∙ ap (λ (u : Verdict). unlessRefused u written before) (sym q))
+  on-done d e w = done-by v written before d (sym says ∙ ap said e) w
 
   pub on-refused : (r : Refusal) → a ≡ Refused r → (r .number ≡ numberOf v) × (before ≡ unlessRefused v written before)
-  on-refused r e =
-      let q : v ≡ refusalOf r = sym says ∙ ap said e in
-      (ap numberOf (sym q), ap (λ (u : Verdict). unlessRefused u written before) (sym q))
+  on-refused r e = refused-by v (r .number) (spotOf (r .place)) written before (sym says ∙ ap said e)
 
 -- a refusal's numbers, from the case that its place is
 pub placed : (n : ℕ) (p q : Place) → p ≡ q → encoded (refused n (spotOf q)) ≡ encoded (refused n (spotOf p))

@@ -1,11 +1,12 @@
 -- The compression's parts put together.
-use Prim.Native.Nat.{ℕ, zero, suc, _+_, _/_, _%_, _^_, _<_}
+use Prim.Native.Nat.{ℕ, zero, suc, _+_, _*_, _/_, _%_, _^_, _<_}
 use mathlib.Core.Path.{_≡_, ap, ap₂, sym, _∙_}
 use mathlib.Core.Bool.{Bool}
 use mathlib.Core.List.{List, [], _∷_, _++_}
-use native.Mathlib.Nat.{mod-eq-of-lt}
+use native.Mathlib.Nat.{zero-add, mod-eq-of-lt, div-eq-of-lt, add-mul-div-left, add-mul-mod-self-left}
+use lib.Dec.{lit<}
 use native.Mathlib.Omega.{arith}
-use lib.Bits.{bitXor, xor-zero-r}
+use lib.Bits.{bitXor}
 use lib.ListN.{length, drop, drop-of-length-le}
 use lib.Seq.{drop-cons}
 use Rattle.compression.specs.Constants.{IV}
@@ -31,25 +32,28 @@ eight-words h e = words-all 0 8 h e
 abbrev behind : List ℕ → ℕ → ℕ → ℕ → List ℕ
 behind h p q r = h ++ at IV 0 ∷ at IV 1 ∷ at IV 2 ∷ at IV 3 ∷ p ∷ q ∷ r ∷ at IV 7 ∷ []
 
--- a counter of one word: its high word is 0, which changes nothing
-begun : (h0 h1 h2 h3 h4 h5 h6 h7 t : ℕ) (f : Bool) {r : ℕ} →
+-- a counter's two words, each put in at its place
+begun : (h0 h1 h2 h3 h4 h5 h6 h7 t u : ℕ) (f : Bool) {r : ℕ} →
     let h : List ℕ = h0 ∷ h1 ∷ h2 ∷ h3 ∷ h4 ∷ h5 ∷ h6 ∷ h7 ∷ [] in
-    t < 2 ^ 64 → r ≡ flagged f (at IV 6) → behind h (bitXor (at IV 4) t) (at IV 5) r ≡ start h t f
+    t < 2 ^ 64 → u < 2 ^ 64 → r ≡ flagged f (at IV 6)
+    → behind h (bitXor (at IV 4) t) (bitXor (at IV 5) u) r ≡ start h (t + 2 ^ 64 * u) f
 unfolding start IV
-begun h0 h1 h2 h3 h4 h5 h6 h7 t f {r} fits e =
+begun h0 h1 h2 h3 h4 h5 h6 h7 t u f {r} fits fits₂ e =
     let h : List ℕ = h0 ∷ h1 ∷ h2 ∷ h3 ∷ h4 ∷ h5 ∷ h6 ∷ h7 ∷ [] in
-    let low : t ≡ t % 2 ^ 64 = sym (mod-eq-of-lt fits) in
-    let none : 0 ≡ t / 2 ^ 64 % 2 ^ 64 = omega arith in
-    let high : at IV 5 ≡ bitXor (at IV 5) (t / 2 ^ 64 % 2 ^ 64) = sym (xor-zero-r (at IV 5)) ∙ ap (bitXor (at IV 5)) none in
-    ap₂ (λ (p q : ℕ). behind h (bitXor (at IV 4) p) q r) low high
-    ∙ ap (behind h (bitXor (at IV 4) (t % 2 ^ 64)) (bitXor (at IV 5) (t / 2 ^ 64 % 2 ^ 64))) e
+    let low : t ≡ (t + 2 ^ 64 * u) % 2 ^ 64 = sym (add-mul-mod-self-left t (2 ^ 64) u ∙ mod-eq-of-lt fits) in
+    let above : (t + 2 ^ 64 * u) / 2 ^ 64 ≡ u =
+    add-mul-div-left t u {y = 2 ^ 64} (lit< tt) ∙ ap (λ (i : ℕ). i + u) (div-eq-of-lt fits) ∙ zero-add u in
+    let high : u ≡ (t + 2 ^ 64 * u) / 2 ^ 64 % 2 ^ 64 = sym (ap (λ (i : ℕ). i % 2 ^ 64) above ∙ mod-eq-of-lt fits₂) in
+    ap₂ (λ (p q : ℕ). behind h (bitXor (at IV 4) p) (bitXor (at IV 5) q) r) low high
+    ∙ ap (behind h (bitXor (at IV 4) ((t + 2 ^ 64 * u) % 2 ^ 64)) (bitXor (at IV 5) ((t + 2 ^ 64 * u) / 2 ^ 64 % 2 ^ 64))) e
 
 -- the same of a state that is a list of eight words
-pub started : (h : List ℕ) (t : ℕ) (f : Bool) {r : ℕ} → length h ≡ 8 → t < 2 ^ 64 → r ≡ flagged f (at IV 6)
-    → behind (at h 0 ∷ at h 1 ∷ at h 2 ∷ at h 3 ∷ at h 4 ∷ at h 5 ∷ at h 6 ∷ at h 7 ∷ []) (bitXor (at IV 4) t) (at IV 5) r ≡ start h t f
-started h t f l fits e =
-    begun (at h 0) (at h 1) (at h 2) (at h 3) (at h 4) (at h 5) (at h 6) (at h 7) t f fits e
-    ∙ ap (λ (w : List ℕ). start w t f) (eight-words h l)
+pub started : (h : List ℕ) (t u : ℕ) (f : Bool) {r : ℕ} → length h ≡ 8 → t < 2 ^ 64 → u < 2 ^ 64 → r ≡ flagged f (at IV 6)
+    → behind (at h 0 ∷ at h 1 ∷ at h 2 ∷ at h 3 ∷ at h 4 ∷ at h 5 ∷ at h 6 ∷ at h 7 ∷ []) (bitXor (at IV 4) t) (bitXor (at IV 5) u) r
+    ≡ start h (t + 2 ^ 64 * u) f
+started h t u f l fits fits₂ e =
+    begun (at h 0) (at h 1) (at h 2) (at h 3) (at h 4) (at h 5) (at h 6) (at h 7) t u f fits fits₂ e
+    ∙ ap (λ (w : List ℕ). start w (t + 2 ^ 64 * u) f) (eight-words h l)
 
 -- the twelve rounds, from the vector after each
 pub twelve : (m v₀ : List ℕ) {v₁ v₂ v₃ v₄ v₅ v₆ v₇ v₈ v₉ v₁₀ v₁₁ v₁₂ : List ℕ}

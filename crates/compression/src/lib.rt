@@ -3,7 +3,7 @@ ghost use mathlib.Core.Path.{_≡_};
 ghost use mathlib.Core.List.{[], _∷_};
 ghost use Rattle.compression.specs.Compression.{F, flagged, folded, start};
 ghost use Rattle.compression.specs.Rows.{vectorOf};
-ghost use Rattle.compression.specs.Words.{blockWords};
+ghost use Rattle.compression.specs.Words.{blockWords, counted};
 
 mod mixing;
 mod rounds;
@@ -30,6 +30,12 @@ pub struct Block {
     pub m15: u64,
 }
 
+// The offset counter: the bytes taken so far, as a low and a high word.
+pub struct Counter {
+    pub low: u64,
+    pub high: u64,
+}
+
 // The word x, with every bit inverted where the final flag holds.
 fn with_flag(x: u64, last: bool) -> u64
     ensures { λ r. ⌜ r ≡ flagged last x ⌝ }
@@ -37,9 +43,9 @@ fn with_flag(x: u64, last: bool) -> u64
     if last { x ^ 0xffff_ffff_ffff_ffff } else { x }
 }
 
-// The working vector that the rounds begin with. The counter is one word here, so its high word is 0 and changes nothing.
-fn start_vector(h: [u64; 8], t: u64, last: bool) -> Rows
-    ensures { λ r. ⌜ vectorOf r ≡ start h t last ⌝ }
+// The working vector that the rounds begin with.
+fn start_vector(h: [u64; 8], t: Counter, last: bool) -> Rows
+    ensures { λ r. ⌜ vectorOf r ≡ start h (counted t) last ⌝ }
 {
     Rows {
         a: Row(h[0], h[1], h[2], h[3]),
@@ -51,8 +57,8 @@ fn start_vector(h: [u64; 8], t: u64, last: bool) -> Rows
             0xa54f_f53a_5f1d_36f1,
         ),
         d: Row(
-            0x510e_527f_ade6_82d1 ^ t,
-            0x9b05_688c_2b3e_6c1f,
+            0x510e_527f_ade6_82d1 ^ t.low,
+            0x9b05_688c_2b3e_6c1f ^ t.high,
             with_flag(0x1f83_d9ab_fb41_bd6b, last),
             0x5be0_cd19_137e_2179,
         ),
@@ -80,8 +86,8 @@ fn fold(h: &mut [u64; 8], v: Rows)
 
 // F of the standard: the state h after the block m, with t bytes taken so far, and last where m is the last block. The state is changed in
 // place: one that is handed over would be copied at each block.
-pub fn compress(h: &mut [u64; 8], m: Block, t: u64, last: bool)
-    ensures { λ _. ⌜ now (h .exit) ≡ F (now (h .entry)) (blockWords m) t last ⌝ }
+pub fn compress(h: &mut [u64; 8], m: Block, t: Counter, last: bool)
+    ensures { λ _. ⌜ now (h .exit) ≡ F (now (h .entry)) (blockWords m) (counted t) last ⌝ }
 {
     let v = start_vector(*h, t, last);
     let w = rounds::twelve_rounds(v, m);

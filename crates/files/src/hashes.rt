@@ -1,4 +1,4 @@
-// The hashes of leaves and parents.
+// The hashes of leaves and parents, which name the empty key.
 ghost use mathlib.Core.Path.{_≡_};
 ghost use Rattle.blake2b.specs.Hash.{nodeHash};
 ghost use Rattle.files.specs.Messages.{leafMessage, parentMessage};
@@ -10,7 +10,7 @@ pub fn leaf_hash(chunk: &[u8]) -> [u8; 32]
     let length = sequences::be64(chunk.len() as u64);
     let mut prefix = [0u8; 9];
     sequences::copy_to(&mut prefix, 1, &length);
-    blake2b::hash_parts(&prefix, chunk)
+    blake2b::hash_parts(b"", &prefix, chunk)
 }
 
 // "Parent hash: 01, 8-byte sum of both lengths, left hash, right hash."
@@ -22,5 +22,5 @@ pub fn parent_hash(sum: u64, left: &[u8; 32], right: &[u8; 32]) -> [u8; 32]
     sequences::copy_to(&mut message, 1, &length);
     sequences::copy_to(&mut message, 9, left);
     sequences::copy_to(&mut message, 41, right);
-    blake2b::node_hash(&message)
+    blake2b::hash_parts(b"", b"", &message)
 }

@@ -107,14 +107,14 @@ fn root_message(roots: Roots, hashes: [[u8; 32]; 20]) -> [u8; 961]
     message
 }
 
-// Inner: the hash of the root message.
+// Inner: the hash of the root message, under the empty key.
 pub fn root_hash(roots: Roots, hashes: [[u8; 32]; 20]) -> [u8; 32]
     requires { ⌜ roots .count ≤ 20 ⌝ }
     ensures { λ r. ⌜ r ≡ nodeHash (rootMessage (itemsOf hashes (numbers (roots .indexes)) (roots .sizes) (roots .count))) ⌝ }
 {
     let message = root_message(roots, hashes);
     let end = 1 + 48 * roots.count;
-    blake2b::node_hash(&message[0..end])
+    blake2b::hash_parts(b"", b"", &message[0..end])
 }
 
 // Inner: the root message that the stored roots of the first n chunks give, at the front of an array.

@@ -97,7 +97,7 @@ fn left(out: &[u8]) {
     if 20 <= out.len() {
         gate_printing::text(b" ");
         gate_printing::hex(&out[0..20]);
-        let hash = blake2b::hash_parts(out, b"");
+        let hash = blake2b::hash_parts(b"", b"", out);
         gate_printing::text(b" ");
         gate_printing::hex(&hash);
         gate_printing::text(b"\n");

@@ -55,7 +55,7 @@ fn line(message: &[u8], output: usize)
 {
     gate_printing::number(output as u64);
     gate_printing::text(b" ");
-    let hashed = blake2b::hash(output, message);
+    let hashed = blake2b::hash(output, b"", message);
     front(&hashed.digest, output);
     gate_printing::text(b"\n");
 }

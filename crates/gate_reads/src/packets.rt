@@ -100,7 +100,7 @@ fn line(
         &mut out[0..room],
     );
     gate_printing::text(b" ");
-    let hash = blake2b::node_hash(out);
+    let hash = blake2b::hash_parts(b"", b"", out);
     gate_printing::hex(&hash);
     let r = writing::root_hash(tree, signatures, bitfield, data, t.n, t.s, t.size);
     let root = r.root;

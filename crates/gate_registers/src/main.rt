@@ -360,7 +360,7 @@ fn report(tree: &[u8], signatures: &[u8], bitfield: &[u8], data: &[u8], told: To
 }
 
 fn digest(buffer: &[u8]) {
-    let h = blake2b::node_hash(buffer);
+    let h = blake2b::hash_parts(b"", b"", buffer);
     gate_printing::text(b" ");
     gate_printing::hex(&h);
 }

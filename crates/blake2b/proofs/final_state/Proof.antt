@@ -1,52 +1,42 @@
--- `blake2b::final_state` meets its contract. The invariant: p is the place of a block, which is not past the end, and the state is that after the blocks before it.
+-- `blake2b::final_state` meets its contract, by whether there is a key and a message.
 -- Assumes nothing.
-use mathlib.Core.Path.{_≡_, refl, sym}
+use mathlib.Core.Logic.{⊎-elim}
 use mathlib.Core.List.{_++_}
-use Prim.Native.Nat.{_≤_, _-_, _%_, _/_}
-use lib.ListN.{length-append}
-use Rattle.blake2b.specs.Hash.{initial, after}
-use Rattle.blake2b.proofs.Blocks.{after-more, final-at}
+use Prim.Native.Nat.{_<_}
+use lib.ListN.{length, length-append}
+use Rattle.blake2b.proofs.Keys.{key-alone, key-then-message}
 use borrow.Author.Needs.{needs}
 use native.Mathlib.Omega.{arith}
 use Rattle.blake2b.proofs.final_state.Statement.{statement}
 use Rattle.blake2b.proofs.final_state.Tie as tie
 
-abbrev Inv-loop : tie.InvT-loop
-Inv-loop h₀ nn prefix body total p₀ h p = (p % 128 ≡ 0) × (p ≤ total - 1) × (h ≡ after (initial nn) (prefix ++ body) (p / 128))
-
-abbrev μ-loop : tie.MeasureT-loop
-μ-loop h₀ nn prefix body total p₀ h p = total - p
-
-loop-holds : tie.Need-loop-holds Inv-loop μ-loop
-unfolding after
-loop-holds c = (refl, search needs, c .first-state .ensures)
-
-loop-again : tie.Need-loop-again Inv-loop μ-loop
-loop-again c =
-    let l = c .before .before .before in
-    let a = l .before .before .before .before .args in (
-      omega arith,
-      omega arith,
-      after-more (initial (a .nn)) (a .prefix .now ++ a .body .now) (l .loop .p) (l .loop .h) _ (l .loop .inv .0) (l .loop .inv .2)
-          (c .compress-inner .ensures),
-    )
-
-returns : tie.Need-returns Inv-loop μ-loop
+returns : tie.Need-returns
 returns c =
-    let l = c .before .before .before in
-    let a = l .before .before .before .before .args in
-    final-at (a .nn) (a .prefix .now ++ a .body .now) (l .loop .p) _ (l .loop .h) _ (l .loop .inv .0) (l .loop .inv .1) (omega arith)
-    (sym (length-append (a .prefix .now) (a .body .now))) (l .loop .inv .2) (c .compress-gathered .ensures)
+    let f = c .before .before .before in
+    let s = f .before in
+    let e = s .before .before .before .before in
+    let a = e .args in
+    key-alone (a .nn) (a .key .now) (a .prefix .now ++ a .body .now) _ (omega (arith, f .if1 .taken)) (e .pre) (s .first-state .ensures) _
+    (omega (arith, length-append (a .prefix .now) (a .body .now), c .before .before .if2 .taken)) (c .compress-key .ensures)
+
+returns-2 : tie.Need-returns-2
+returns-2 c =
+    let k = c .before .before in
+    let j = k .before .before in
+    let s = j .before in
+    let e = s .before .before .before .before in
+    let a = e .args in
+    let more : 0 < length (a .key .now) → 0 < length (a .prefix .now ++ a .body .now) =
+    λ h.
+    ⊎-elim (λ w. omega (arith, length-append (a .prefix .now) (a .body .now), w .1 .left)) (λ w. omega (arith, w .left)) (j .if1 .came) in
+    key-then-message (a .nn) (a .key .now) (a .prefix .now ++ a .body .now) _ _ _ _ (e .pre) more (s .first-state .ensures)
+    (k .absorb-key .ensures .0) (k .absorb-key .ensures .1) (c .absorb .ensures)
 
 pub final-state-spec : {M : Type 1} → statement M
 final-state-spec =
     tie.close
     (tie.spec
-    Inv-loop
-    μ-loop
-    (λ c. search needs) (λ c κs. search needs)
-    loop-holds
-    (λ c. search needs) (λ c κs. search needs) (λ c. search needs) (λ c. search needs)
-    loop-again
-    (λ c κs. search needs)
-    returns)
+    (λ c κs. search needs) (λ c. search needs) (λ c κs. search needs)
+    returns
+    (λ c κs. search needs) (λ c κs. search needs)
+    returns-2)

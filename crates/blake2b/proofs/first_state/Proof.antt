@@ -1,6 +1,7 @@
 -- `blake2b::first_state` meets its contract. The literals are those of IV.
 -- Assumes nothing.
 use mathlib.Core.Path.{refl}
+use borrow.Author.Needs.{needs}
 use Rattle.compression.specs.Constants.{IV}
 use Rattle.blake2b.specs.Hash.{initial, parameter}
 use Rattle.blake2b.proofs.first_state.Statement.{statement}
@@ -11,4 +12,4 @@ unfolding initial parameter IV
 returns c = refl
 
 pub first-state-spec : {M : Type 1} → statement M
-first-state-spec = tie.close (tie.spec returns)
+first-state-spec = tie.close (tie.spec (λ c. search needs) returns)

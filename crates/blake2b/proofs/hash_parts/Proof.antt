@@ -1,15 +1,15 @@
 -- `blake2b::hash_parts` meets its contract. It follows from what the three calls ensure.
 -- Assumes nothing.
 use mathlib.Core.List.{_++_}
-use Rattle.blake2b.proofs.Output.{node-from}
+use Rattle.blake2b.proofs.Output.{half-from}
 use borrow.Author.Needs.{needs}
 use Rattle.blake2b.proofs.hash_parts.Statement.{statement}
 use Rattle.blake2b.proofs.hash_parts.Tie as tie
 
 returns : tie.Need-returns
 returns c =
-    let a = c .before .before .before .before .before .before .args in
-    node-from (a .prefix .now ++ a .body .now) _ _ _ (c .before .before .final-state .ensures) (c .before .state-bytes .ensures) (c .first-half .ensures)
+    let a = c .before .before .before .before .before .before .before .args in
+    half-from (a .key .now) (a .prefix .now ++ a .body .now) _ _ _ (c .before .before .final-state .ensures) (c .before .state-bytes .ensures) (c .first-half .ensures)
 
 pub hash-parts-spec : {M : Type 1} → statement M
 hash-parts-spec =

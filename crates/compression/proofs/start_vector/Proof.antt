@@ -8,8 +8,8 @@ use Rattle.compression.proofs.start_vector.Tie as tie
 returns : tie.Need-returns
 unfolding IV
 returns c =
-    let s = c .before in
-    started (s .args .t1) (s .args .t) (s .args .last) (search needs) (search needs) (c .with-flag .ensures)
+    let s = c .before .before .before in
+    started (s .args .t1) (s .args .t .low) (s .args .t .high) (s .args .last) (search needs) (search needs) (search needs) (c .with-flag .ensures)
 
 pub start-vector-spec : {M : Type 1} → statement M
 start-vector-spec =

@@ -1,22 +1,24 @@
 -- `files::hashes::parent_hash` meets its contract: the pieces of the message one behind the other. Assumes nothing.
+use mathlib.Core.Path.{_∙_}
 use borrow.Author.Needs.{needs}
+use Rattle.blake2b.proofs.Laws.{node-keyless}
 use Rattle.files.proofs.Places.{parent-pieces}
 use Rattle.files.proofs.hashes.parent_hash.Statement.{statement}
 use Rattle.files.proofs.hashes.parent_hash.Tie as tie
 
 returns : tie.Need-returns
 returns c =
-    let a = c .before .before .before .before .before .before .before .before .before .before .before .before .before .before .before .args
-    in
-    parent-pieces (a .left .now) (a .right .now) (a .sum)
-    (c .before .before .before .before .before .before .before .before .before .before .before .before .before .before .be64 .ensures)
-    (search needs) (search needs)
-    (c .before .before .before .before .before .before .before .before .before .before .before .copy-to .ensures)
-    (c .before .before .before .before .before .before .before .copy-to2 .ensures) (c .before .before .before .copy-to3 .ensures)
-    (c .node-hash .ensures)
+    let t = c .before .before .before .before .before in
+    let s = t .before .before .before .before in
+    let f = s .before .before .before .before in
+    let b = f .before .before .before in
+    let a = b .before .args in
+    parent-pieces (a .left .now) (a .right .now) (a .sum) (b .be64 .ensures) (search needs) (search needs) (f .copy-to .ensures)
+    (s .copy-to2 .ensures) (t .copy-to3 .ensures) (c .hash-parts .ensures ∙ node-keyless _)
 
 pub parent-hash-spec : {M : Type 1} → statement M
 parent-hash-spec =
     tie.close
     (tie.spec (λ c κs. search needs) (λ c. search needs) (λ c. search needs) (λ c κs. search needs) (λ c. search needs)
-    (λ c κs. search needs) (λ c. search needs) (λ c κs. search needs) (λ c. search needs) (λ c κs. search needs) returns)
+    (λ c κs. search needs) (λ c. search needs) (λ c κs. search needs) (λ c. search needs) (λ c. search needs) (λ c. search needs)
+    (λ c κs. search needs) returns)

@@ -33,7 +33,7 @@
  *   the offset is the count of bytes of all chunks before it; of sleep_check_packet it is the packet.
  *
  * WHAT FIRMWARE HAS TO PROVIDE
- *   Code: at most 40,000 bytes with its read-only constants (some 30,000 today). The archive has no variables: no static data, zeroed or
+ *   Code: at most 40,000 bytes with its read-only constants (some 34,000 today). The archive has no variables: no static data, zeroed or
  *   not, and nothing to set up. From outside it needs memcpy and memset, and nothing else; it allocates nothing. The stack that each call
  *   takes at most, counted from the caller's frame, with arguments, return address and what memcpy or memset takes, is SLEEP_STACK_.. below.
  *   tests/run holds the archive to all of this, the stack by calls on a painted one.

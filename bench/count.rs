@@ -7,7 +7,7 @@ mod simple_blake2b;
 mod simple_register;
 mod timing;
 
-use cases::{cut_back, picked, Case, CASES, LENGTH};
+use cases::{cut_back, picked, Case, CASES, CHUNKS, LENGTH};
 use proved::Store;
 
 fn loaded(folder: &str) -> Store {
@@ -26,6 +26,10 @@ fn loaded(folder: &str) -> Store {
 fn main() {
     let folder = std::env::args().nth(1).expect("the folder of the images");
     let mut store = loaded(&folder);
+    for n in [1000, 30_000, CHUNKS - 256] {
+        proved::needs(n as u64, (n * LENGTH) as u64, &[LENGTH as u64; 256]).unwrap();
+        println!("needs {n}");
+    }
     for (n, case) in CASES {
         cut_back(&mut store, n);
         match case {

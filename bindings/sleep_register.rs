@@ -31,6 +31,20 @@ pub enum Comparison {
 /// What a packet has beside its chunk's bytes, at most.
 pub const PACKET_EXTRA: usize = 1526;
 
+/// What a job will need: the used sizes of the four images afterwards, each signature counted, and the runs of BLAKE2b's compression function for
+/// the new leaves, for the parents that they complete and for one root hash at the end, and all runs together.
+#[derive(Clone, Copy, Debug, PartialEq, Eq)]
+pub struct Needs {
+    pub tree: u64,
+    pub signatures: u64,
+    pub bitfield: u64,
+    pub data: u64,
+    pub leaves: u64,
+    pub parents: u64,
+    pub root: u64,
+    pub runs: u64,
+}
+
 /// Two numbers that a lookup gives: start and length, or chunk number and offset within the chunk.
 pub type Pair = (u64, u64);
 
@@ -107,6 +121,7 @@ extern "C" {
     #[rustfmt::skip]
     fn sleep_make_packet(t: In, tl: usize, g: In, gl: usize, b: In, bl: usize, d: In, dl: usize, n: u64, s: u64, size: u64,
         chunk: u64, out: Out, out_length: usize, length: *mut u64) -> Answer;
+    fn sleep_needs(n: u64, size: u64, lengths: *const u64, lengths_count: usize, out: *mut u64) -> Answer;
     fn sleep_group(bytes: In, bytes_length: usize, out: Out, out_length: usize) -> Answer;
     fn sleep_ungroup(bytes: In, bytes_length: usize, out: Out, out_length: usize) -> Answer;
     fn sleep_check_packet(packet: In, packet_length: usize, n: u64, chunk: u64, root: In, out: *mut u64) -> Answer;
@@ -168,6 +183,14 @@ pub fn group(bytes: &[u8], out: &mut [u8]) -> Result<(), Refusal> {
 /// Grouped bytes as they were before, at the front of `out`, which keeps its rest.
 pub fn ungroup(bytes: &[u8], out: &mut [u8]) -> Result<(), Refusal> {
     unsafe { sleep_ungroup(bytes.as_ptr(), bytes.len(), out.as_mut_ptr(), out.len()) }.result(())
+}
+
+/// What chunks of these lengths behind `n` others of `size` bytes will need, appended singly.
+pub fn needs(n: u64, size: u64, lengths: &[u64]) -> Result<Needs, Refusal> {
+    let mut out = [0; 8];
+    unsafe { sleep_needs(n, size, lengths.as_ptr(), lengths.len(), out.as_mut_ptr()) }.result(())?;
+    let [tree, signatures, bitfield, data, leaves, parents, root, runs] = out;
+    Ok(Needs { tree, signatures, bitfield, data, leaves, parents, root, runs })
 }
 
 /// The chunk in a packet that shows it to be chunk number `chunk` of the `n` chunks under a root hash.

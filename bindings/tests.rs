@@ -1,7 +1,7 @@
 //! The wrapper over the proved library, called as a program would. `tests/run` builds and runs it.
 mod sleep_register;
 
-use sleep_register::{check_packet, group, hash, hash_parts, label, ungroup, Comparison, Place, Refusal, Store, PACKET_EXTRA};
+use sleep_register::{check_packet, group, hash, hash_parts, label, needs, ungroup, Comparison, Needs, Place, Refusal, Store, PACKET_EXTRA};
 
 fn refused<T>(number: u64, place: Place) -> Result<T, Refusal> {
     Err(Refusal { number, place })
@@ -157,4 +157,26 @@ fn grouped_and_back() {
     assert_eq!(group(&bytes, &mut out[..10]), refused(14, Place::None));
     assert_eq!(ungroup(&[0; 65537], &mut out), refused(7, Place::None));
     assert_eq!(out, [1, 0, 2, 0, 3, 0, 4, 1, 9, 8, 7, 6]);
+}
+
+#[test]
+fn a_job_takes_what_it_needs() {
+    let lengths = [0, 119, 120, 65536, 3, 0, 1];
+    let all = needs(0, 0, &lengths).unwrap();
+    let mut store = Store::with_room(lengths.len(), all.data as usize);
+    let sizes = [store.tree.len(), store.signatures.len(), store.bitfield.len(), store.data.len()];
+    assert_eq!(sizes, [all.tree, all.signatures, all.bitfield, all.data].map(|size| size as usize));
+    store.start().unwrap();
+    for (k, &length) in lengths.iter().enumerate() {
+        let one = needs(store.n, store.size, &[length]).unwrap();
+        store.append(&vec![k as u8; length as usize]).unwrap();
+        store.store_signature(&[7; 64]).unwrap();
+        assert_eq!(needs(store.n, store.size, &[]), Ok(Needs { leaves: 0, parents: 0, runs: one.root, ..one }));
+    }
+    assert_eq!(store.register().audit(), Ok(()));
+    assert_eq!((all.leaves, all.parents, all.root, all.runs), (1 + 1 + 2 + 513 + 1 + 1 + 1, 4, 2, 526));
+    assert_eq!(needs(1048576, 0, &[65537]), refused(2, Place::None));
+    assert_eq!(needs(10, 0, &[65537; 257]), refused(16, Place::None));
+    assert_eq!(needs(10, 655361, &[65537]), refused(7, Place::None));
+    assert_eq!(needs(10, 655361, &[1]), refused(9, Place::None));
 }

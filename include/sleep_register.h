@@ -40,20 +40,24 @@
  *
  * ANSWERS AND REFUSALS
  *   A call is done (number 0) or refused. A refused call changes no byte of any buffer, and no result that is lent to it. Checks are
- *   made in the order of their numbers, but for those that say otherwise, and the first that fails is the answer.
+ *   made in the order of this list, and the first that fails is the answer.
  *
  *     number  meaning                                                                      place
  *     0       done                                                                         none
  *     1       the hash length isn't 1 to 64                                                none
- *     2       n is above 1,048,576, or an append finds n at 1,048,576                      none
+ *     17      the key is longer than 64 bytes                                              none
+ *     2       n is above 1,048,576, an append finds n at 1,048,576, or n and the chunks
+ *             of a job together pass it                                                    none
  *     3       s is neither n nor n - 1, or is not 0 when n is 0                            none
  *     4       a buffer is shorter than its used size                                       none
  *     5       a header differs from its 32 bytes                                           none
  *     6       the stored root lengths don't add up to size                                 none
- *     7       the chunk to append, or the bytes to group or ungroup, are longer than
- *             65,536 bytes                                                                 none
+ *     16      a list of chunks has more than 256                                           none
+ *     7       the chunk to append, a chunk of a job, or the bytes to group or ungroup, are
+ *             longer than 65,536 bytes                                                     none
  *     8       an append while a signature is owed, or a signature while none is            none
- *     9       the chunk number is not below n, or the byte offset is above size            none
+ *     9       the chunk number is not below n, the byte offset is above size, or the size
+ *             told of a job is above 65,536 n                                              none
  *     10      a lookup meets wrong lengths, a read another leaf hash, or the audit
  *             a wrong tree entry (the lowest)                                              tree index
  *     11      the audit finds a wrong byte in the bitfield (the lowest)                    byte offset in the bitfield image
@@ -62,9 +66,8 @@
  *     13      a packet's lengths add up to over 68,719,476,736, or its root hash differs   none
  *     14      a buffer to be written is shorter than the result needs; a preview judges
  *             the buffers that the append would write                                      none
- *     17      the key is longer than 64 bytes; judged just after 1                         none
  *
- *   1 to 4, 7 to 9, 14 and 17 point at the call: a number or a buffer that doesn't fit. 5 and 6 mean that the images are not those of a
+ *   1, 17, 2 to 4, 16, 7 to 9 and 14 point at the call: a number or a buffer that doesn't fit. 5 and 6 mean that the images are not those of a
  *   register with these numbers: other files, other numbers, or damage. 10 and 11 mean damage where the place says. 12 and 13 mean that a
  *   packet shows nothing of this chunk under this root hash.
  */
@@ -89,6 +92,7 @@ extern "C" {
  * Calls that give or judge a root hash have the roots and the root message in arrays with room for 20 roots, some 1 KiB each, which are
  * passed by value; the comparing walk has two root messages at once. */
 #define SLEEP_STACK_START 512u
+#define SLEEP_STACK_NEEDS 512u
 #define SLEEP_STACK_GROUP 512u
 #define SLEEP_STACK_UNGROUP 512u
 #define SLEEP_STACK_STORE_SIGNATURE 2048u
@@ -127,6 +131,19 @@ typedef struct {
     uint64_t outcome;    /* one of the six above */
     sleep_answer answer; /* its number is 0 unless a register is refused */
 } sleep_comparison;
+
+/* What a job will need: the places of the eight numbers. */
+enum {
+    SLEEP_NEEDS_TREE = 0,       /* the used sizes of the four images afterwards, each signature counted */
+    SLEEP_NEEDS_SIGNATURES = 1,
+    SLEEP_NEEDS_BITFIELD = 2,
+    SLEEP_NEEDS_DATA = 3,
+    SLEEP_NEEDS_LEAVES = 4,     /* runs of BLAKE2b's compression function, for the new leaves, */
+    SLEEP_NEEDS_PARENTS = 5,    /* for the parents that they complete, */
+    SLEEP_NEEDS_ROOT = 6,       /* and for one root hash at the end; */
+    SLEEP_NEEDS_RUNS = 7,       /* all three together */
+    SLEEP_NEEDS_NUMBERS = 8
+};
 
 /* The four images, read only, and the three numbers. */
 #define SLEEP_REGISTER_READ                                                                                                     \
@@ -211,6 +228,11 @@ sleep_answer sleep_group(const uint8_t *bytes, size_t bytes_length, uint8_t *out
 /* The way back: what sleep_group made of some bytes becomes these bytes, at the front of out. Every byte string is taken, and sleep_group
  * undoes this call as well. Refusals: 7, 14. */
 sleep_answer sleep_ungroup(const uint8_t *bytes, size_t bytes_length, uint8_t *out, size_t out_length) SLEEP_NOT_NULL;
+
+/* What a job will need, before any of its chunks is appended: out has the SLEEP_NEEDS_.. numbers for chunks of these lengths behind n chunks
+ * of size bytes, appended singly, each signed, and one root hash made at the end. No register is lent, and n and size are believed. The list
+ * has lengths_count numbers, 0 to 256. Refusals, in this order: 2, 16, 7, 9. */
+sleep_answer sleep_needs(uint64_t n, uint64_t size, const uint64_t *lengths, size_t lengths_count, uint64_t out[8]) SLEEP_NOT_NULL;
 
 /* EMPTY BUFFERS
  *   The archive's own calls take no NULL, even where a length is 0. So from here on, in C and C++, the name of each call stands for an inline
@@ -301,6 +323,10 @@ static inline sleep_answer sleep_ungroup_front(const uint8_t *bytes, size_t byte
     return sleep_ungroup(SLEEP_LENT(bytes), SLEEP_LENT(out));
 }
 
+static inline sleep_answer sleep_needs_front(uint64_t n, uint64_t size, const uint64_t *lengths, size_t lengths_count, uint64_t out[8]) {
+    return sleep_needs(n, size, lengths_count == 0 ? &n : lengths, lengths_count, out);
+}
+
 #undef SLEEP_REGISTER_LENT
 #undef SLEEP_LENT
 #define sleep_hash sleep_hash_front
@@ -320,6 +346,7 @@ static inline sleep_answer sleep_ungroup_front(const uint8_t *bytes, size_t byte
 #define sleep_compare sleep_compare_front
 #define sleep_group sleep_group_front
 #define sleep_ungroup sleep_ungroup_front
+#define sleep_needs sleep_needs_front
 
 #ifdef __cplusplus
 }

@@ -6,7 +6,7 @@ LIBRARY is the archive linked as a shared object. Registers grow by valid calls;
 changed in a buffer, wrong n, s or size, shortened buffers, numbers at their bound and out of range. Packets are made and checked, whole and damaged, and
 registers compared with copies, with other cuts of the same bytes, with one more empty chunk and with damaged ones. On every register
 that is made, damaged or not, a preview is compared with the append on a copy. Bytes of any length about the limits are grouped and
-ungrouped, with and without room. One in fifty calls
+ungrouped, with and without room, and the needs of jobs are asked about all of their limits. One in fifty calls
 is on registers of 16,383 to 16,386 chunks, where the third bitfield entry begins and the tree gets its deepest hole. No pair of chunk
 sequences that collide under BLAKE2b is known, so those two answers of the comparing walk stand in no call here.
 """
@@ -19,6 +19,7 @@ import sys
 sys.dont_write_bytecode = True  # nothing generated lies beside the sources
 sys.path.insert(0, os.path.join(os.path.dirname(os.path.abspath(__file__)), 'model'))
 import coordinates
+import needs
 import sleep_model as model
 from lent import NUMBER, Answer, Buffer, Comparison, Library, answer_of, comparison_of, numbers
 
@@ -157,6 +158,10 @@ class Calls:
         others = [Buffer(data), Buffer(out, after=lambda: bytes(out))]
         self.call(name, [], others, lambda: coordinates.CALLS[name](data, out))
 
+    def needs(self, n, size, lengths):
+        listed = Buffer(numbers(*lengths), unit=8)
+        self.call('needs', [], [n, size, listed, self.result(64, numbers)], lambda: needs.needs(n, size, lengths))
+
     def compare(self, first, second):
         self.call('compare', [first, second], [], lambda: model.compare(first, second), Comparison)
 
@@ -195,6 +200,20 @@ class Run(Calls):
         length = 65533 + pick if pick < 5 else self.random.randrange(self.random.choice((20, 600)))
         room = self.random.choice((length, length, length + 1, max(length - 1, 0), self.random.randrange(700), 65540))
         self.group(self.random.choice(('group', 'ungroup')), self.random.randbytes(length), room)
+
+    def length(self):
+        pick = self.random.randrange(2000)
+        return {0: 65537, 1: 2 ** 64 - 1, 2: 65536}.get(pick, self.random.randrange(65537 if pick < 40 else self.random.choice((1, 300))))
+
+    def asking(self):
+        """Lists about 0 and 256 lengths, at any count and about the highest, and sizes about the largest that the count can have."""
+        k = self.random.choice((0, 1, 255, 256, 257, 300, self.random.randrange(9), self.random.randrange(60)))
+        edge = self.random.choice((1048576 - k, 1048577 - k, 1048576, 1048577, 2 ** 64 - 1))
+        n = edge if self.random.random() < 0.3 else self.random.randrange(1 << self.random.randrange(21))
+        sizes = 65536 * n + 1, 2 ** 64 - 1, 0, 65536 * n, self.random.randrange(65536 * n + 1), self.random.randrange(65536 * n + 1)
+        size = self.random.choice(sizes[0 if self.random.random() < 0.3 else 2:]) % 2 ** 64
+        one = self.random.choice((0, 119, 120, 65536, 65537)) if self.random.random() < 0.1 else None
+        self.needs(n, size, [self.length() if one is None else one for _ in range(k)])
 
     # ---- packets
     def packing(self, r):
@@ -301,6 +320,8 @@ class Run(Calls):
             self.hashing()
         elif pick < 14:
             self.grouping()
+        elif pick < 17:
+            self.asking()
         elif pick < 26:
             self.audit(r)
         else:

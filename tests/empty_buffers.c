@@ -79,7 +79,7 @@ static void each_buffer(const char *name, uint64_t (*call)(lent), uint64_t witho
 
 int main(void) {
     uint8_t digest[64], again[32];
-    uint64_t out[2];
+    uint64_t out[2], needed[SLEEP_NEEDS_NUMBERS];
     lent r, nothing = {{NULL, NULL, NULL, NULL}, {0, 0, 0, 0}, 0, 0, 0};
     static const uint8_t of_nothing[4] = {0x0e, 0x57, 0x51, 0xc0}; /* BLAKE2b-256 of the empty message begins so */
 
@@ -120,6 +120,10 @@ int main(void) {
     expect("group in no room", 0, sleep_group(packet, 1, NULL, 0).number, 14);
     expect("ungroup", 0, sleep_ungroup(NULL, 0, NULL, 0).number, 0);
     expect("ungroup in no room", 0, sleep_ungroup(packet, 1, NULL, 0).number, 14);
+    expect("needs", 0, sleep_needs(3, 5, NULL, 0, needed).number, 0);
+    expect("needs", 0, needed[SLEEP_NEEDS_TREE], 32 + 40 * 5);
+    expect("needs", 0, needed[SLEEP_NEEDS_RUNS], 1);
+    expect("needs beyond the size", 0, sleep_needs(0, 1, NULL, 0, needed).number, 9);
     printf("empty buffers: %" PRIu64 " answers as expected\n", tried);
     return 0;
 }

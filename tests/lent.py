@@ -40,16 +40,16 @@ def comparison_of(expected):
 
 class Buffer:
     """Bytes lent to C, between two guards that no call may touch. Of an `array` C takes the pointer alone. `after` gives what a done call
-    is to leave there, from what the model gives; without it the buffer is only read."""
+    is to leave there, from what the model gives; without it the buffer is only read. Its length is told in numbers of `unit` bytes."""
     GUARD = b'\xa5' * 16
 
-    def __init__(self, content, array=False, after=None):
-        self.before, self.array, self.after = bytes(content), array, after
+    def __init__(self, content, array=False, after=None, unit=1):
+        self.before, self.array, self.after, self.unit = bytes(content), array, after, unit
         self.memory = ctypes.create_string_buffer(self.GUARD + self.before + self.GUARD, len(content) + 32)
         self.pointer = ctypes.c_void_p(ctypes.addressof(self.memory) + 16)
 
     def words(self):
-        return (self.pointer,) if self.array else (self.pointer, ctypes.c_size_t(len(self.before)))
+        return (self.pointer,) if self.array else (self.pointer, ctypes.c_size_t(len(self.before) // self.unit))
 
     def held(self):
         held = self.memory.raw

@@ -17,7 +17,7 @@ static uint64_t n, s, size;
 #define REGISTER tree, sizeof tree, signatures, sizeof signatures, bitfield, sizeof bitfield, data, sizeof data, n, s, size
 
 static uint8_t chunk[SLEEP_LONGEST_CHUNK], packet[SLEEP_LONGEST_CHUNK + SLEEP_PACKET_EXTRA], root[32], digest[64];
-static uint64_t chunk_length, sought, packet_length, out[2], number, outcome;
+static uint64_t chunk_length, sought, packet_length, out[2], number, outcome, lengths[256], needed[SLEEP_NEEDS_NUMBERS];
 
 static void start(void) { number = sleep_start(tree, sizeof tree, signatures, sizeof signatures, bitfield, sizeof bitfield, data, DATA).number; }
 static void hash(void) { number = sleep_hash(64, chunk, 64, chunk, sizeof chunk, digest); }
@@ -35,9 +35,10 @@ static void make_packet(void) { number = sleep_make_packet(REGISTER, sought, pac
 static void check_packet(void) { number = sleep_check_packet(packet, packet_length, n, sought, root, out).number; }
 static void group(void) { number = sleep_group(chunk, sizeof chunk, packet, sizeof packet).number; }
 static void ungroup(void) { number = sleep_ungroup(chunk, sizeof chunk, packet, sizeof packet).number; }
+static void needs(void) { number = sleep_needs(sought, 0, lengths, 256, needed).number; }
 static void compare(void) { outcome = sleep_compare(REGISTER, REGISTER).outcome; }
 
-enum { START, HASH, HASH_PARTS, LABEL, APPEND, PREVIEW, STORE_SIGNATURE, ROOT_HASH, AUDIT, PLACE, BYTE, READ, MAKE_PACKET, CHECK_PACKET, COMPARE, GROUP, UNGROUP, CALLS };
+enum { START, HASH, HASH_PARTS, LABEL, APPEND, PREVIEW, STORE_SIGNATURE, ROOT_HASH, AUDIT, PLACE, BYTE, READ, MAKE_PACKET, CHECK_PACKET, COMPARE, GROUP, UNGROUP, NEEDS, CALLS };
 
 static struct {
     const char *name;
@@ -61,6 +62,7 @@ static struct {
     {"sleep_compare", compare, SLEEP_STACK_COMPARE, 0},
     {"sleep_group", group, SLEEP_STACK_GROUP, 0},
     {"sleep_ungroup", ungroup, SLEEP_STACK_UNGROUP, 0},
+    {"sleep_needs", needs, SLEEP_STACK_NEEDS, 0},
 };
 
 /* One call on the painted stack. The frame that makes the call counts too, so the figure is never too low. */
@@ -173,6 +175,8 @@ int main(void) {
     measure(LABEL, 0);
     measure(GROUP, 0);
     measure(UNGROUP, 0);
+    for (int k = 0; k < 256; k++) lengths[k] = SLEEP_LONGEST_CHUNK;
+    for (sought = 0; sought <= MOST; sought += MOST / 4 - 64) measure(NEEDS, sought + 256 <= MOST ? 0 : 2);
     grow();
     measure_depth();
     for (int k = 0; k < CALLS; k++) {

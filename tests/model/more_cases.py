@@ -4,6 +4,8 @@ place, and the comparing walk finds the collisions of a weak hash.  Prints one l
 import sys
 
 sys.dont_write_bytecode = True  # nothing generated lies beside the sources
+from needs import completed, needs
+from rfc7693 import blocks_of
 from sleep_model import *
 
 
@@ -122,6 +124,29 @@ def refusals():
     yield 'listing of nothing', listing(be(4, 0)), b'chunks 0 bytes 0 roots\n'
 
 
+def jobs():
+    """What a job needs is what the calls take that append and sign its chunks singly, with the last root hash alone."""
+    for n in (0, 1, 2, 3, 7, 8, 13):
+        for lengths in ([], [0], [119, 120], [1] * 9, [246, 247, 248, 0, 65536]):
+            r, hashed = register_of(chunk_list(n)), []
+            def F(message):
+                hashed.append(message)
+                return node_hash(message)
+            answer = needs(n, r.size, lengths)
+            for length in lengths:
+                for image, room in zip(images_of(r), (80, 64, 3328, length)):
+                    image.extend(bytes(room))
+                yield 'append', append(r, bytes(length), F)[0], 'done'
+                yield 'signature', store_signature(r, bytes(SIGNATURE)), ('done',)
+            last = r.root_message()
+            kinds = [[message for message in hashed if message[0] == kind] for kind in (0, 1)] + [[last]]
+            counts = [sum(len(blocks_of(message)) for message in several) for several in kinds]
+            yield 'needs at %d' % n, answer, ('done', *used_sizes(r.n, r.s, r.size), *counts, sum(counts))
+    for n in range(70):
+        new = [index for index in range(1, 2 * n + 1, 2) if filled(n + 1, index) and not filled(n, index)]
+        yield 'completed by %d' % n, (sorted(completed(n)), len(completed(n))), (new, depth(n))
+
+
 def spoilt_size(none):
     r = told(none, size=1)
     r.data.append(0)
@@ -153,5 +178,5 @@ def walks():
 
 
 if __name__ == '__main__':
-    groups = (agreement, borders, refusals, walks)
+    groups = (agreement, borders, refusals, jobs, walks)
     print('model: %d more cases agree' % sum(check(*case) for cases in groups for case in cases()))

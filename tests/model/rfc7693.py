@@ -59,12 +59,16 @@ def padded(part):
     return part.ljust(BLOCK, b'\0')
 
 
+def starts(length):
+    """Where the blocks of so many bytes begin; nothing at all still makes one block."""
+    return range(0, length, BLOCK) or [0]
+
+
 def blocks_of(message, key=b''):
     """The blocks that are compressed, each with the bytes taken so far: the padded key first, where there is one, and one
     block of zeros for an empty message without a key."""
     data = (padded(key) if key else b'') + message
-    starts = range(0, len(data), BLOCK) or [0]
-    return [(padded(data[at:at + BLOCK]), min(at + BLOCK, len(data))) for at in starts]
+    return [(padded(data[at:at + BLOCK]), min(at + BLOCK, len(data))) for at in starts(len(data))]
 
 
 def blake2b(length, message, key=b''):

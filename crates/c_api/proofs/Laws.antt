@@ -17,10 +17,13 @@ use Rattle.packet.specs.Check.{chunkLength, packetVerdict}
 use Rattle.packet.specs.Made.{MadeAs, madeVerdict, madeBytes}
 use Rattle.packet.specs.declared.making.Made.{Made}
 use Rattle.packet.specs.declared.making.Made.the-variants.{Refused as NotMade, Length}
+use Rattle.needs.specs.Needs.{needOf, needVerdict, nothing, needGiven}
+use Rattle.needs.specs.Post.{numbersOf, NeedPost}
+use Rattle.needs.specs.declared.Needed.{Needed}
 use Rattle.compare.specs.Answered.{compared}
 use Rattle.compare.specs.declared.Compared.{Compared}
 use Rattle.c_api.specs.Number.{numberOf}
-use Rattle.c_api.specs.Encoding.{encoded, verdictOf, numbersUnless, Gives, packetPart, Makes, encodedComparison}
+use Rattle.c_api.specs.Encoding.{encoded, verdictOf, numbersUnless, Gives, packetPart, Makes, needNumbers, Needs, encodedComparison}
 use Rattle.c_api.specs.declared.answers.SleepAnswer.{SleepAnswer}
 
 -- the number and what is written, from what the verdict is
@@ -102,6 +105,26 @@ module _ (r : Register) (c : ℕ) (out : List ℕ) (long : ℕ) (answer : SleepA
         packet = h .written;
         length =
             sym (ap madeBytes e) ∙ h .long ∙ ap (λ (u : Verdict). unlessRefused u (madeLength nodeHash r c out) long) v;
+      }
+
+-- what a job needs, from the case that the answer is
+module _ (n size : ℕ) (ls before : List ℕ) (answer : SleepAnswer) (r : Needed) (h : NeedPost n size ls r) where
+  pub needs-refused : (x : Refusal) → r .answer ≡ Refused x → answer ≡ encoded (refusalOf x) → Needs n size ls before answer before
+  needs-refused x e a =
+      let v : refusalOf x ≡ needVerdict n size ls = sym (ap said e) ∙ h .answer in
+      record { answers = a ∙ ap encoded v; numbers = ap (λ (u : Verdict). unlessRefused u (needNumbers (needOf n size ls)) before) v }
+
+  pub needs-done : r .answer ≡ Done → answer ≡ encoded done
+      → Needs n size ls before answer (r .tree ∷ r .signatures ∷ r .bitfield ∷ r .content ∷ r .leaves ∷ r .parents ∷ r .root ∷ r .runs ∷ [])
+  unfolding needGiven
+  needs-done e a =
+      let v : done ≡ needVerdict n size ls = sym (ap said e) ∙ h .answer in
+      let all : numbersOf r ≡ needOf n size ls = h .numbers ∙ sym (ap (λ (u : Verdict). unlessRefused u (needOf n size ls) nothing) v) in
+      record {
+        answers = a ∙ ap encoded v;
+        numbers =
+            ap (λ (k : ℕ). r .tree ∷ r .signatures ∷ r .bitfield ∷ r .content ∷ r .leaves ∷ r .parents ∷ r .root ∷ k ∷ []) (h .runs)
+            ∙ ap needNumbers all ∙ ap (λ (u : Verdict). unlessRefused u (needNumbers (needOf n size ls)) before) v;
       }
 
 -- a comparison, from the case that its answer is

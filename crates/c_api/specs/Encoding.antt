@@ -1,10 +1,11 @@
 -- The numbers that stand for what a call says.
-use Prim.Native.Nat.{ℕ, _-_}
+use Prim.Native.Nat.{ℕ, _+_, _-_}
 use mathlib.Core.Path.{_≡_}
 use mathlib.Core.List.{List, [], _∷_}
 use Rattle.counts.specs.Verdict.{Spot, Verdict, none, tree, bitfield, done, refused, unlessRefused}
 use Rattle.blake2b.specs.Hash.{nodeHash}
 use Rattle.files.specs.Belongs.{Register}
+use Rattle.needs.specs.Needs.{Need, needOf, needVerdict}
 use Rattle.lookup.specs.Lookup.{Found, refusal, found, foundUnless}
 use Rattle.packet.specs.Packet.{makeVerdict, madeLength, afterMake}
 use Rattle.packet.specs.Check.{chunkLength, packetVerdict}
@@ -50,6 +51,16 @@ pub record Makes (r : Register) (c : ℕ) (out : List ℕ) (long : ℕ) (answer 
     pub answers : answer ≡ encoded (makeVerdict nodeHash r c out)
     pub packet : outAfter ≡ afterMake nodeHash r c out
     pub length : longAfter ≡ unlessRefused (makeVerdict nodeHash r c out) (madeLength nodeHash r c out) long
+
+-- what a job will need, as eight numbers: all runs together come last
+abbrev pub needNumbers : Need → List ℕ
+needNumbers x =
+    x .tree ∷ x .signatures ∷ x .bitfield ∷ x .content ∷ x .leaves ∷ x .parents ∷ x .root ∷ (x .leaves + x .parents + x .root) ∷ []
+
+-- the needs of a job: the answer, and the eight numbers lent before and after
+pub record Needs (n size : ℕ) (ls before : List ℕ) (answer : SleepAnswer) (after : List ℕ) : Type 0 where
+  pub answers : answer ≡ encoded (needVerdict n size ls)
+  pub numbers : after ≡ unlessRefused (needVerdict n size ls) (needNumbers (needOf n size ls)) before
 
 -- what the comparing walk says: 0 equal, 1 roots differ, 2 a collision at the roots, 3 at a tree index, which is the place; 4 and 5 where
 -- the first and the second register are refused, and then with the refusal

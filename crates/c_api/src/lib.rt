@@ -4,6 +4,7 @@ pub mod answers;
 pub mod comparing;
 pub mod grouping;
 pub mod hashing;
+pub mod jobs;
 pub mod lookups;
 pub mod packets;
 pub mod registers;

@@ -3,3 +3,4 @@ pub mod Judged
 pub mod Later
 pub mod Passed
 pub mod Steps
+pub mod Lengths

@@ -1,5 +1,5 @@
 // The checks 2 to 6 of a call on a register: "Checks apply to what the call is given, in this order; images as tree, signatures,
-// bitfield, data." They only read, so that a refused call has changed nothing.
+// bitfield, data." They only read, so that a refused call has changed nothing. And what 7 asks of a list of chunks.
 use counts::Answer;
 ghost use mathlib.Core.Path.{_≡_};
 ghost use Prim.Native.Nat.{_≤_};
@@ -8,6 +8,7 @@ ghost use Rattle.counts.specs.Verdict.{done};
 ghost use Rattle.counts.specs.Said.{said};
 ghost use Rattle.checks.specs.Checks.{signedRight, judged, laterChecks, registerChecks};
 ghost use Rattle.checks.specs.Given.{registerOf, longRight, headsRight};
+ghost use Rattle.checks.specs.Lengths.{allShort};
 
 // "3. s is neither n nor n − 1, or is not 0 when n is 0." No sum wraps, whatever n and s are.
 fn signed_right(n: u64, s: u64) -> bool
@@ -127,4 +128,18 @@ pub fn judge(
         return counts::refuse(2);
     }
     judge_later(tree, signatures, bitfield, content, n, s, size)
+}
+
+// Whether no length is above 65,536.
+pub fn all_short(lengths: &[u64]) -> bool
+    ensures { λ r. ⌜ r ≡ allShort (now (lengths .entry)) ⌝ }
+{
+    let mut i: usize = 0;
+    while i < lengths.len() {
+        if 65536 < lengths[i] {
+            return false;
+        }
+        i += 1;
+    }
+    true
 }

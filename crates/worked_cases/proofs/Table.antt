@@ -7,6 +7,8 @@ use Rattle.tree_index.specs.Tree.{index, trailingOnes, depth, block, leftChild,
 use Rattle.bitfield.specs.Bits.{byteOf, bytesOf}
 use Rattle.bitfield.specs.Index.{tuple, four, tuples, combine, combined, node, indexByte, indexBytes}
 use Rattle.bitfield.specs.Image.{dataBytes, treeBytes, entry, entryCount, entriesOf}
+use Rattle.blake2b.specs.Hash.{keyBlock, input, blocks}
+use Rattle.blake2b.specs.Runs.{inner, runsOf, runs}
 use Rattle.files.specs.Headers.{front, header, treeHeader, signaturesHeader, bitfieldHeader}
 use Rattle.files.specs.Sizes.{entryPlace, usedTree, usedSignatures, usedBitfield}
 use Rattle.files.specs.Messages.{leafMessage, parentMessage}
@@ -15,6 +17,7 @@ use Rattle.files.specs.Nodes.{hole, entryBytes, leaf, parentOf, nodeAt, entryAt
 use Rattle.files.specs.Images.{dataSize, dataImage, bitfieldImage, signaturesImage, leaves, treeImage}
 use Rattle.files.specs.Stored.{storedSize, storedRootSizes}
 use Rattle.checks.specs.Checks.{judged, addsUp, laterChecks, registerChecks}
+use Rattle.needs.specs.Needs.{leafRuns}
 use Rattle.lookup.specs.Descent.{byteWithin, descend, fromRoots, descent}
 use Rattle.lookup.specs.Lookup.{stopRefused, byteEnding, toByte, byteVerdict, byteAt}
 use Rattle.listing_lines.specs.Input.{nextLength, chunkStands, chunksIn, inputOf}
@@ -22,5 +25,5 @@ use Rattle.listing_lines.specs.Lines.{digits, chunksWord, bytesWord, rootsWord,
 use Rattle.worked_cases.specs.Table.{newlyFilled, indexOf, three, registerOf, inputFor, printedLines, table, Holds}
 
 pub holds : Holds
-unfolding table newlyFilled indexOf three registerOf inputFor printedLines index trailingOnes depth block leftChild rightChild parent filled rootOf rootsBelow roots entries completed filledBy trailingZeros part run joined total sameList be numberFrom number byteOf bytesOf tuple four tuples combine combined node indexByte indexBytes dataBytes treeBytes entry entryCount entriesOf front header treeHeader signaturesHeader bitfieldHeader entryPlace usedTree usedSignatures usedBitfield leafMessage parentMessage hole entryBytes leaf parentOf Nodes.node nodeAt entryAt treeEntries dataSize dataImage bitfieldImage signaturesImage leaves treeImage storedSize storedRootSizes judged addsUp laterChecks registerChecks byteWithin descend fromRoots descent stopRefused byteEnding toByte byteVerdict byteAt nextLength chunkStands chunksIn inputOf digits chunksWord bytesWord rootsWord leafWord parentWord holeWord firstLine firstUnder countUnder startOf lengthOf line kindWord entryLine linesOf linesFor listing
+unfolding table newlyFilled indexOf three registerOf inputFor printedLines index trailingOnes depth block leftChild rightChild parent filled rootOf rootsBelow roots entries completed filledBy trailingZeros part run joined total sameList be numberFrom number byteOf bytesOf tuple four tuples combine combined node indexByte indexBytes dataBytes treeBytes entry entryCount entriesOf front header treeHeader signaturesHeader bitfieldHeader entryPlace usedTree usedSignatures usedBitfield leafMessage parentMessage hole entryBytes leaf parentOf Nodes.node nodeAt entryAt treeEntries dataSize dataImage bitfieldImage signaturesImage leaves treeImage storedSize storedRootSizes judged addsUp laterChecks registerChecks byteWithin descend fromRoots descent stopRefused byteEnding toByte byteVerdict byteAt keyBlock input blocks inner runsOf runs leafRuns nextLength chunkStands chunksIn inputOf digits chunksWord bytesWord rootsWord leafWord parentWord holeWord firstLine firstUnder countUnder startOf lengthOf line kindWord entryLine linesOf linesFor listing
 holds = refl

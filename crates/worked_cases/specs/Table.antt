@@ -1,4 +1,4 @@
--- "[T] marks cases proved of the definitions, all of them rows of one table that a sole statement covers".
+-- "[T] marks cases proved of the definitions, all of them rows of one table that a sole statement covers"; the requests' worked cases stand with them.
 use Prim.Native.Nat.{ℕ, _+_}
 use mathlib.Core.Path.{_≡_}
 use mathlib.Core.Bool.{cond}
@@ -13,6 +13,7 @@ use Rattle.sequences.specs.Numbers.{be}
 use Rattle.files.specs.Sizes.{usedBitfield}
 use Rattle.files.specs.Images.{treeImage, signaturesImage, bitfieldImage, dataImage, dataSize}
 use Rattle.files.specs.Belongs.{Register}
+use Rattle.needs.specs.Needs.{leafRuns}
 use Rattle.lookup.specs.Lookup.{Found, refusal, found, byteAt}
 use Rattle.listing_lines.specs.Lines.{listing}
 
@@ -94,6 +95,8 @@ table =
     ∷ lookedUp (byteAt (registerOf three) 5) (found 3 0) ∷ lookedUp (byteAt (registerOf three) 6) (refusal 9 none)
     -- "also in an empty register"; and behind empty chunks, of the lengths 1, 0, 0
     ∷ lookedUp (byteAt (registerOf []) 0) (found 0 0) ∷ lookedUp (byteAt (registerOf ((65 ∷ []) ∷ [] ∷ [] ∷ [])) 1) (found 3 0)
+    -- "An empty chunk takes 1 run for its leaf, 119 bytes take 1, and 120 bytes take 2."
+    ∷ row (map leafRuns (0 ∷ 119 ∷ 120 ∷ [])) (1 ∷ 1 ∷ 2 ∷ [])
     -- "For the chunks AB, empty, CDE" the listing prints the six lines that `printedLines` has
     ∷ row (listing (inputFor three)) printedLines ∷ []
 

@@ -1,0 +1,31 @@
+// What a job will need. No register is lent.
+use super::answers::SleepAnswer;
+use counts::Answer;
+ghost use Rattle.c_api.specs.Encoding.{Needs};
+
+// What chunks of these `lengths` behind `n` others, with `size` data bytes, will need: the sizes of tree, signatures, bitfield and data
+// afterwards, then the compression runs for the new leaves, the completed parents and the root hash, and all runs together. They stand in
+// `out`, which is as it was after a refusal.
+#[no_mangle]
+pub extern "C" fn sleep_needs(n: u64, size: u64, lengths: &[u64], out: &mut [u64; 8]) -> SleepAnswer
+    ensures { λ r. ⌜ Needs n size (now (lengths .entry)) (now (out .entry)) r (now (out .exit)) ⌝ }
+{
+    let needed = needs::needs(n, size, lengths);
+    let answer = needed.answer;
+    match answer {
+        Answer::Refused(refusal) => super::answers::refused(refusal),
+        Answer::Done => {
+            *out = [
+                needed.tree,
+                needed.signatures,
+                needed.bitfield,
+                needed.content,
+                needed.leaves,
+                needed.parents,
+                needed.root,
+                needed.runs,
+            ];
+            super::answers::encode(Answer::Done)
+        }
+    }
+}

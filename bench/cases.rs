@@ -12,14 +12,20 @@ pub const LOOKUPS: usize = 100;
 pub enum Case {
     Lookups,
     Append,
+    List,
 }
+
+/// The chunks of a list.
+pub const LISTED: usize = 40;
 
 /// The chunk counts and what is called there, from the largest down; each append is previewed first. What an append does beside its hashing follows from the parents that it
 /// completes, the roots that it leaves, and how far its bitfield entry is filled, whose Index it makes anew; so there are appends that have
-/// these three in common at very different n.
-pub const CASES: [(usize, Case); 15] = [
+/// these three in common at very different n. Lists are appended beside the single calls that leave the same, one of them across the border of
+/// two bitfield entries.
+pub const CASES: [(usize, Case); 19] = [
     (CHUNKS, Case::Lookups),
     (1_048_575, Case::Append),
+    (1_048_536, Case::List),
     (1_041_384, Case::Append),
     (525_288, Case::Append),
     (525_287, Case::Append),
@@ -27,9 +33,12 @@ pub const CASES: [(usize, Case); 15] = [
     (33_768, Case::Append),
     (33_767, Case::Append),
     (30_000, Case::Lookups),
+    (30_000, Case::List),
     (9192, Case::Append),
     (9191, Case::Append),
     (8191, Case::Append),
+    (8172, Case::List),
+    (1000, Case::List),
     (1000, Case::Lookups),
     (1000, Case::Append),
     (999, Case::Append),

@@ -7,7 +7,7 @@ mod simple_blake2b;
 mod simple_register;
 mod timing;
 
-use cases::{cut_back, picked, Case, CASES, CHUNKS, LENGTH};
+use cases::{cut_back, picked, Case, CASES, CHUNKS, LENGTH, LISTED};
 use proved::Store;
 
 fn loaded(folder: &str) -> Store {
@@ -21,6 +21,20 @@ fn loaded(folder: &str) -> Store {
         s: 0,
         size: 0,
     }
+}
+
+/// The single appends that leave what a list does, with a signature of zeros behind each but the last; the last root hash.
+fn singly(store: &mut Store, n: usize) -> [u8; 32] {
+    let mut root = [0; 32];
+    for k in 0..LISTED {
+        root = store.append(&[9; LENGTH]).unwrap();
+        println!("singly {n}");
+        if k + 1 < LISTED {
+            store.store_signature(&[0; 64]).unwrap();
+            println!("singly {n}");
+        }
+    }
+    root
 }
 
 fn main() {
@@ -48,6 +62,14 @@ fn main() {
                 println!("preview {n}");
                 assert_eq!(store.append(&[9; LENGTH]), seen);
                 println!("append {n}");
+            }
+            Case::List => {
+                let root = singly(&mut store, n);
+                let after = store.clone();
+                cut_back(&mut store, n);
+                assert_eq!(store.append_list(&[LENGTH as u64; LISTED], &[9; LENGTH * LISTED]), Ok(root));
+                println!("list {n}");
+                assert!(store == after);
             }
         }
     }

@@ -99,6 +99,9 @@ extern "C" {
     fn sleep_append(t: Out, tl: usize, g: In, gl: usize, b: Out, bl: usize, d: Out, dl: usize, n: u64, s: u64, size: u64,
         chunk: In, chunk_length: usize, root: Out) -> Answer;
     #[rustfmt::skip]
+    fn sleep_append_list(t: Out, tl: usize, g: Out, gl: usize, b: Out, bl: usize, d: Out, dl: usize, n: u64, s: u64, size: u64,
+        lengths: *const u64, lengths_length: usize, bytes: In, bytes_length: usize, root: Out) -> Answer;
+    #[rustfmt::skip]
     fn sleep_preview(t: In, tl: usize, g: In, gl: usize, b: In, bl: usize, d: In, dl: usize, n: u64, s: u64, size: u64,
         chunk: In, chunk_length: usize, root: Out) -> Answer;
     #[rustfmt::skip]
@@ -331,6 +334,24 @@ impl Store {
         answer.result(())?;
         self.n += 1;
         self.size += chunk.len() as u64;
+        Ok(root)
+    }
+
+    /// All chunks of a list, whose bytes stand one behind another, or none; the new root hash. The last chunk's signature is owed then, and
+    /// those before it are 64 zero bytes each.
+    pub fn append_list(&mut self, lengths: &[u64], bytes: &[u8]) -> Result<[u8; 32], Refusal> {
+        let mut root = [0; 32];
+        let (t, g, b, d) = (&mut self.tree, &mut self.signatures, &mut self.bitfield, &mut self.data);
+        let (tl, gl, bl, dl) = (t.len(), g.len(), b.len(), d.len());
+        #[rustfmt::skip]
+        let answer = unsafe {
+            sleep_append_list(t.as_mut_ptr(), tl, g.as_mut_ptr(), gl, b.as_mut_ptr(), bl, d.as_mut_ptr(), dl, self.n, self.s, self.size,
+                lengths.as_ptr(), lengths.len(), bytes.as_ptr(), bytes.len(), root.as_mut_ptr())
+        };
+        answer.result(())?;
+        self.n += lengths.len() as u64;
+        self.s += lengths.len() as u64 - 1;
+        self.size += bytes.len() as u64;
         Ok(root)
     }
 

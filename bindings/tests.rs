@@ -56,6 +56,44 @@ fn a_preview_is_what_the_append_gives() {
     assert_eq!(store.register().preview(&[0; 65537]), refused(7, Place::None));
 }
 
+/// A list, and beside it the single appends with zero signatures between them.
+#[test]
+fn a_list_is_its_single_appends() {
+    let (mut store, mut singly) = (Store::with_room(60, 400), Store::with_room(60, 400));
+    store.start().unwrap();
+    singly.start().unwrap();
+    for k in [1usize, 2, 40, 17] {
+        let lengths: Vec<u64> = (0..k as u64).map(|j| j % 9).collect();
+        let bytes: Vec<u8> = (0..lengths.iter().sum::<u64>()).map(|j| (k as u64 + j) as u8).collect();
+        let (mut root, mut from) = ([0; 32], 0);
+        for (j, length) in lengths.iter().enumerate() {
+            root = singly.append(&bytes[from..from + *length as usize]).unwrap();
+            from += *length as usize;
+            if j + 1 < k {
+                singly.store_signature(&[0; 64]).unwrap();
+            }
+        }
+        assert_eq!(store.append_list(&lengths, &bytes), Ok(root));
+        assert_eq!(store, singly);
+        assert_eq!(store.append_list(&[0], &[]), refused(8, Place::None));
+        store.store_signature(&[7; 64]).unwrap();
+        singly.store_signature(&[7; 64]).unwrap();
+        assert_eq!(store.register().audit(), Ok(()));
+    }
+}
+
+#[test]
+fn a_refused_list_is_left_out() {
+    let mut store = filled(&[b"AB", b"C"]);
+    let before = store.clone();
+    assert_eq!(store.append_list(&[], &[]), refused(16, Place::None));
+    assert_eq!(store.append_list(&[0; 257], &[]), refused(16, Place::None));
+    assert_eq!(store.append_list(&[u64::MAX, 2], &[5]), refused(16, Place::None));
+    assert_eq!(store.append_list(&[0, 65537], &[5; 65537]), refused(7, Place::None));
+    assert_eq!(store.append_list(&[0, 0], &[]), refused(14, Place::None));
+    assert_eq!(store, before);
+}
+
 #[test]
 fn damage_is_found_where_it_is() {
     let mut store = filled(&[b"AB", b"", b"CDE"]);

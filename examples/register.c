@@ -1,5 +1,5 @@
 /* A register in fixed buffers: three pieces, each previewed, signed, appended and stored with its signature, an audit, a verified read, a packet
- * made and checked, a label, and two registers compared. Build and run: make -C examples */
+ * made and checked, a label, two registers compared, and a coat of 40 pieces stored wholly or left out. Build and run: make -C examples */
 #include <inttypes.h>
 #include <stdio.h>
 #include <stdlib.h>
@@ -74,10 +74,48 @@ static sleep_comparison compared(const store *first, const store *second) {
     return sleep_compare(LENT(first), COUNTS(first), LENT(second), COUNTS(second));
 }
 
+enum { PIECES = 40 };
+
+/* Room for a coat and a few pieces more. */
+typedef struct {
+    uint8_t tree[32 + 40 * (2 * (PIECES + MOST) - 1)], signatures[32 + 64 * (PIECES + MOST)], bitfield[32 + 3328], data[LONGEST * (PIECES + MOST)];
+    uint64_t n, s, size;
+} list_store;
+
+/* A coat is stored wholly or left out, and carries one signature, for its last piece. */
+static void add_list(void) {
+    static list_store w;
+    static uint8_t bytes[LONGEST * PIECES];
+    static const uint8_t zeros[64];
+    uint64_t lengths[PIECES], total = 0;
+    uint8_t root[32], signature[64];
+    for (uint64_t k = 0; k < PIECES; k++) {
+        lengths[k] = 1 + 7 * k % LONGEST;
+        memset(bytes + total, (int)('a' + k % 26), lengths[k]);
+        total += lengths[k];
+    }
+    expect("start", sleep_start(LENT(&w)).number, 0);
+    expect("a coat with a byte lacking", sleep_append_list(LENT(&w), COUNTS(&w), lengths, PIECES, bytes, total - 1, root).number, 16);
+    expect("a coat", sleep_append_list(LENT(&w), COUNTS(&w), lengths, PIECES, bytes, total, root).number, 0);
+    w.n += PIECES;
+    w.s += PIECES - 1;
+    w.size += total;
+    expect("a coat while a signature is owed", sleep_append_list(LENT(&w), COUNTS(&w), lengths, PIECES, bytes, total, root).number, 8);
+    sign(root, signature);
+    expect("its signature", sleep_store_signature(LENT(&w), COUNTS(&w), signature).number, 0);
+    w.s += 1;
+    expect("its audit", sleep_audit(LENT(&w), COUNTS(&w)).number, 0);
+    expect("the first piece's signature", (uint64_t)memcmp(w.signatures + 32, zeros, 64), 0);
+    expect("the last piece's signature", (uint64_t)memcmp(w.signatures + 32 + 64 * (PIECES - 1), signature, 64), 0);
+    printf("a coat of %d pieces, %" PRIu64 " bytes, one signature\n", PIECES, w.size);
+}
+
 int main(void) {
     static store first, second;
     uint8_t root[32], again[32];
     sleep_comparison c;
+
+    add_list();
 
     expect("start", sleep_start(LENT(&first)).number, 0);
     add(&first, "twill 2/2", root);

@@ -6,7 +6,8 @@
  *     s     the count of stored signatures: n, or n - 1 while the newest chunk's signature is owed
  *     size  the count of data bytes
  *   No call changes n, s or size: after a done append the caller adds 1 to n and the chunk's length to size, after a done signature
- *   1 to s. No call keeps memory of its own, allocates, reads or writes a file, or waits: each ends, on every input.
+ *   1 to s, after a done list of k chunks k to n, k - 1 to s and the bytes lent to size. No call keeps memory of its own, allocates, reads
+ *   or writes a file, or waits: each ends, on every input.
  *
  * THE BUFFERS
  *   Each is a pointer and a length in bytes, and may hold anything: what it holds is checked before it is used. The length may be larger
@@ -15,13 +16,15 @@
  *     signatures  32 + 64 s bytes                          header, then the signatures
  *     bitfield    32 + 3328 (n / 8192, rounded up) bytes   header, then an entry for every 8,192 chunks
  *     data        size bytes                               the chunks one behind another, without a header
- *   An append needs room for n + 1 chunks in tree and bitfield and for the new chunk in data; a signature needs room for s + 1. They
- *   may lend buffers that hold anything behind the used sizes.
+ *   An append needs room for n + 1 chunks in tree and bitfield and for the new chunk in data; a signature needs room for s + 1. A list of
+ *   k chunks needs room for n + k chunks, for n + k - 1 signatures and for all its bytes. They may lend buffers that hold anything behind
+ *   the used sizes.
  *   All numbers in the images are big-endian. All numbers of this interface are plain uint64_t or size_t.
  *
  *   What the caller owes, since no callee can check it:
- *     - the length beside a pointer is what may be read there (and, where it is not const, written). Where the length is 0 the pointer is
- *       not looked at and may be NULL. A pointer without a length beside it (a hash, a signature, a number or two) is never NULL;
+ *     - the length beside a pointer, in bytes, or in numbers for a list of lengths, is what may be read there (and, where it is not const,
+ *       written). Where the length is 0 the pointer is not looked at and may be NULL. A pointer without a length beside it (a hash, a
+ *       signature, a number or two) is never NULL;
  *     - a buffer or a result that a call writes (every parameter that is not const) overlaps no other buffer and no other result of
  *       that call. So a chunk to append doesn't lie in the data buffer, and a packet isn't made in an image. Buffers that are only read
  *       may overlap: one register may be compared with itself.
@@ -33,7 +36,7 @@
  *   the offset is the count of bytes of all chunks before it; of sleep_check_packet it is the packet.
  *
  * WHAT FIRMWARE HAS TO PROVIDE
- *   Code: at most 40,000 bytes with its read-only constants (some 34,000 today). The archive has no variables: no static data, zeroed or
+ *   Code: at most 40,000 bytes with its read-only constants (some 36,000 today). The archive has no variables: no static data, zeroed or
  *   not, and nothing to set up. From outside it needs memcpy and memset, and nothing else; it allocates nothing. The stack that each call
  *   takes at most, counted from the caller's frame, with arguments, return address and what memcpy or memset takes, is SLEEP_STACK_.. below.
  *   tests/run holds the archive to all of this, the stack by calls on a painted one.
@@ -47,14 +50,15 @@
  *     1       the hash length isn't 1 to 64                                                none
  *     17      the key is longer than 64 bytes                                              none
  *     2       n is above 1,048,576, an append finds n at 1,048,576, or n and the chunks
- *             of a job together pass it                                                    none
+ *             of a list or a job together pass it                                          none
  *     3       s is neither n nor n - 1, or is not 0 when n is 0                            none
  *     4       a buffer is shorter than its used size                                       none
  *     5       a header differs from its 32 bytes                                           none
  *     6       the stored root lengths don't add up to size                                 none
- *     16      a list of chunks has more than 256                                           none
- *     7       the chunk to append, a chunk of a job, or the bytes to group or ungroup, are
- *             longer than 65,536 bytes                                                     none
+ *     16      a list has more than 256 chunks; to append, no chunks, or lengths that
+ *             don't add up to the bytes lent                                               none
+ *     7       a chunk to append or of a job, or the bytes to group or ungroup, are longer
+ *             than 65,536 bytes                                                            none
  *     8       an append while a signature is owed, or a signature while none is            none
  *     9       the chunk number is not below n, the byte offset is above size, or the size
  *             told of a job is above 65,536 n                                              none
@@ -83,6 +87,7 @@ extern "C" {
 
 #define SLEEP_MOST_CHUNKS 1048576u
 #define SLEEP_LONGEST_CHUNK 65536u
+#define SLEEP_MOST_LISTED 256u
 
 /* What a packet has beside its chunk's bytes, at most: a buffer of the chunk's length and this many bytes never lacks room for it
  * (proved: PacketStaysShort, crates/packet/specs/Answers.antt). */
@@ -107,6 +112,7 @@ extern "C" {
 #define SLEEP_STACK_ROOT_HASH 6144u
 #define SLEEP_STACK_CHECK_PACKET 6144u
 #define SLEEP_STACK_APPEND 6144u
+#define SLEEP_STACK_APPEND_LIST 6144u
 #define SLEEP_STACK_PREVIEW 6144u
 #define SLEEP_STACK_COMPARE 8192u
 
@@ -177,6 +183,14 @@ sleep_answer sleep_start(uint8_t *tree, size_t tree_length, uint8_t *signatures,
 sleep_answer sleep_append(uint8_t *tree, size_t tree_length, const uint8_t *signatures, size_t signatures_length,
                           uint8_t *bitfield, size_t bitfield_length, uint8_t *data, size_t data_length, uint64_t n, uint64_t s,
                           uint64_t size, const uint8_t *chunk, size_t chunk_length, uint8_t root[32]) SLEEP_NOT_NULL;
+
+/* Adds all chunks of a list, or none of them, and gives the new root hash: lengths has the length of each chunk, lengths_count counts them, and
+ * bytes has the chunks one behind another. Tree, bitfield and data become what single appends would leave. The list carries one signature, for its
+ * last chunk, which is owed afterwards; those of the chunks before it are written as 64 zero bytes each. Refusals: 2 to 6, 16, 7, 8, 14. */
+sleep_answer sleep_append_list(uint8_t *tree, size_t tree_length, uint8_t *signatures, size_t signatures_length, uint8_t *bitfield,
+                               size_t bitfield_length, uint8_t *data, size_t data_length, uint64_t n, uint64_t s, uint64_t size,
+                               const uint64_t *lengths, size_t lengths_count, const uint8_t *bytes, size_t bytes_length,
+                               uint8_t root[32]) SLEEP_NOT_NULL;
 
 /* What sleep_append would answer to these arguments, and the root hash that it would give, and nothing is written: the signature can be made
  * before the chunk is stored. Lend the buffers at the lengths that the append will have, since room is judged too. Refusals: 2 to 8, 14. */
@@ -266,6 +280,14 @@ static inline sleep_answer sleep_append_front(uint8_t *tree, size_t tree_length,
     return sleep_append(SLEEP_REGISTER_LENT, SLEEP_LENT(chunk), root);
 }
 
+static inline sleep_answer sleep_append_list_front(uint8_t *tree, size_t tree_length, uint8_t *signatures, size_t signatures_length,
+                                                   uint8_t *bitfield, size_t bitfield_length, uint8_t *data, size_t data_length, uint64_t n,
+                                                   uint64_t s, uint64_t size, const uint64_t *lengths, size_t lengths_count,
+                                                   const uint8_t *bytes, size_t bytes_length, uint8_t root[32]) {
+    const uint64_t none = 0;
+    return sleep_append_list(SLEEP_REGISTER_LENT, lengths_count == 0 ? &none : lengths, lengths_count, SLEEP_LENT(bytes), root);
+}
+
 static inline sleep_answer sleep_preview_front(SLEEP_REGISTER_READ, const uint8_t *chunk, size_t chunk_length, uint8_t root[32]) {
     return sleep_preview(SLEEP_REGISTER_LENT, SLEEP_LENT(chunk), root);
 }
@@ -334,6 +356,7 @@ static inline sleep_answer sleep_needs_front(uint64_t n, uint64_t size, const ui
 #define sleep_label sleep_label_front
 #define sleep_start sleep_start_front
 #define sleep_append sleep_append_front
+#define sleep_append_list sleep_append_list_front
 #define sleep_preview sleep_preview_front
 #define sleep_store_signature sleep_store_signature_front
 #define sleep_root_hash sleep_root_hash_front

@@ -5,7 +5,8 @@ usage: python3 tests/differential.py LIBRARY [CALLS [SEED]]
 LIBRARY is the archive linked as a shared object. Registers grow by valid calls; between those, calls are made on damaged copies: bytes
 changed in a buffer, wrong n, s or size, shortened buffers, numbers at their bound and out of range. Packets are made and checked, whole and damaged, and
 registers compared with copies, with other cuts of the same bytes, with one more empty chunk and with damaged ones. On every register
-that is made, damaged or not, a preview is compared with the append on a copy. Bytes of any length about the limits are grouped and
+that is made, damaged or not, a preview is compared with the append on a copy. Lists are appended, and where one is done its chunks are
+appended singly on a copy, with stored zero signatures between them: every buffer is the same. Bytes of any length about the limits are grouped and
 ungrouped, with and without room, and the needs of jobs are asked about all of their limits. One in fifty calls
 is on registers of 16,383 to 16,386 chunks, where the third bitfield entry begins and the tree gets its deepest hole. No pair of chunk
 sequences that collide under BLAKE2b is known, so those two answers of the comparing walk stand in no call here.
@@ -55,7 +56,7 @@ class Calls:
 
     def __init__(self, library, seed):
         self.library, self.random, self.calls, self.refusals = library, random.Random(seed), {}, {}
-        self.ends = self.agreed = 0
+        self.ends = self.agreed = self.listed = 0
 
     def total(self):
         return sum(self.calls.values())
@@ -107,6 +108,29 @@ class Calls:
             self.same(image, 'preview', told, buffer.held(), buffer.before)
         self.same('what the append gives', 'preview', told, seen, called('append')[1])
         self.agreed += 1
+
+    def append_list(self, r, lengths, data):
+        """Where the list is done, its single appends with zero signatures between them leave every buffer so, and give that root hash."""
+        before = copy.deepcopy(r)
+        others = [Buffer(numbers(*lengths), unit=8), Buffer(data), self.result(32, lambda root: root)]
+        self.call('append_list', [r], others, lambda: model.append_list(r, lengths, data))
+        if r != before:
+            self.singly(before, lengths, data, r)
+
+    def singly(self, r, lengths, data, after):
+        lent, root = [Buffer(getattr(r, image)) for image in IMAGES], Buffer(bytes(32), array=True)
+        n, size, answers = r.n, r.size, []
+        for k, length in enumerate(lengths):
+            answers.append(self.library.call('append', lent + [n, n, size, Buffer(data[:length]), root]))
+            n, size, data = n + 1, size + length, data[length:]
+            if k + 1 < len(lengths):
+                answers.append(self.library.call('store_signature', lent + [n, n - 1, size, Buffer(bytes(64), array=True)]))
+        told = n, n - 1, size
+        self.same('an answer', 'append_list', told, b''.join(answers), numbers(0, 0, 0) * len(answers))
+        self.same('the root hash', 'append_list', told, root.held(), model.root_hash(after)[1])
+        for image, buffer in zip(IMAGES, lent):
+            self.same(image, 'append_list', told, buffer.held(), bytes(getattr(after, image)))
+        self.listed += 1
 
     def sign(self, r):
         signature = self.random.randbytes(64)
@@ -178,6 +202,21 @@ class Run(Calls):
         pick = self.random.randrange(400)
         length = {0: 65536, 1: 65537}.get(pick, 0 if pick < 80 else self.random.randrange(200))
         return self.random.randbytes(length)
+
+    def listing(self, r):
+        """Mostly a few chunks; at times none, the most, one more, or lengths that don't add up, by wrapping at 2^64 too."""
+        count = self.random.choice((0, 1, 1, 2, 3, 5, 40, 255, 256, 257, self.random.randrange(1, 12), self.random.randrange(1, 12)))
+        lengths = [self.random.choice((0, 0, 1, self.random.randrange(9), self.random.randrange(60))) for _ in range(count)]
+        if lengths and self.random.random() < 0.03:
+            lengths[self.random.randrange(count)] = self.random.choice((65536, 65537))
+        data = self.random.randbytes(sum(lengths))
+        pick = self.random.randrange(30)
+        if pick < 2:
+            data = data[:-1] if pick else data + b'\0'
+        elif pick == 2 and count > 1:
+            at = self.random.sample(range(count), 2)
+            lengths[at[0]], lengths[at[1]] = 2 ** 64 - 1, (lengths[at[0]] + lengths[at[1]] + 1) % 2 ** 64
+        self.append_list(r, lengths, data)
 
     def message(self):
         return self.random.randbytes(self.random.choice((0, 1, 9, 119, 120, 127, 128, 129, 256, self.random.randrange(600))))
@@ -335,6 +374,8 @@ class Run(Calls):
             self.append(r, self.chunk())
         elif pick < 6:
             self.sign(r)
+        elif pick < 8:
+            self.listing(r)
         else:
             self.reading(r)
 
@@ -388,8 +429,10 @@ class Run(Calls):
             owed = r.s < r.n if pick > 3 else self.random.random() < 0.5
             if pick < 16 and owed:
                 self.sign(r)
-            elif pick < 16:
+            elif pick < 13:
                 self.append(r, self.chunk())
+            elif pick < 16:
+                self.listing(r)
             elif pick < 24:
                 self.reading(r)
             elif pick < 26:
@@ -434,6 +477,8 @@ class Run(Calls):
                 self.comparing(r, kind)
             for lent in [r] + [self.damage(r) for _ in range(4)]:
                 self.audit(lent)
+            for lent in [self.damage(r), copy.deepcopy(r)]:
+                self.listing(lent)
             for lent in [self.damage(r), r]:
                 self.append(lent, self.random.randbytes(5))
             for lent in [self.damage(r), r]:
@@ -450,7 +495,8 @@ def main(path, calls=100000, seed=20170901):
     print('calls: ' + ', '.join('%s %d' % pair for pair in sorted(run.calls.items())))
     print('byte lookups at the data size: %d' % run.ends)
     print('refusals: ' + ', '.join('%d: %d' % pair for pair in sorted(run.refusals.items())))
-    print('differential: %d calls agree with the model, preview and append on %d registers' % (run.total(), run.agreed))
+    print('differential: %d calls agree with the model, preview and append on %d registers, %d lists with their single appends'
+          % (run.total(), run.agreed, run.listed))
 
 
 if __name__ == '__main__':

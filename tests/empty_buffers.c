@@ -41,6 +41,9 @@ static lent empty_chunks(uint64_t n) {
 static uint64_t start(lent r) { return sleep_start(IMAGES(r)).number; }
 static uint64_t append(lent r) { return sleep_append(REGISTER(r), NULL, 0, root).number; }
 static uint64_t append_a(lent r) { return sleep_append(REGISTER(r), (const uint8_t *)"a", 1, root).number; }
+static uint64_t append_list(lent r) { const uint64_t none[2] = {0, 0}; return sleep_append_list(REGISTER(r), none, 2, NULL, 0, root).number; }
+static uint64_t append_list_a(lent r) { const uint64_t one = 1; return sleep_append_list(REGISTER(r), &one, 1, (const uint8_t *)"a", 1, root).number; }
+static uint64_t append_no_list(lent r) { return sleep_append_list(REGISTER(r), NULL, 0, NULL, 0, root).number; }
 static uint64_t preview(lent r) { return sleep_preview(REGISTER(r), NULL, 0, root).number; }
 static uint64_t preview_a(lent r) { return sleep_preview(REGISTER(r), (const uint8_t *)"a", 1, root).number; }
 static uint64_t store(lent r) { return r.s -= r.n > 0, sleep_store_signature(REGISTER(r), signature).number; }
@@ -97,6 +100,9 @@ int main(void) {
     each_buffer("start", start, 14, 0);
     each_buffer("append", append, 4, 0);
     each_buffer("append of a byte", append_a, 4, 14);
+    each_buffer("append_list", append_list, 4, 0);
+    each_buffer("append_list of a byte", append_list_a, 4, 14);
+    each_buffer("append_list of no list", append_no_list, 4, 16);
     each_buffer("preview", preview, 4, 0);
     each_buffer("preview of a byte", preview_a, 4, 14);
     each_buffer("store_signature", store, 4, 0);

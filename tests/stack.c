@@ -17,13 +17,14 @@ static uint64_t n, s, size;
 #define REGISTER tree, sizeof tree, signatures, sizeof signatures, bitfield, sizeof bitfield, data, sizeof data, n, s, size
 
 static uint8_t chunk[SLEEP_LONGEST_CHUNK], packet[SLEEP_LONGEST_CHUNK + SLEEP_PACKET_EXTRA], root[32], digest[64];
-static uint64_t chunk_length, sought, packet_length, out[2], number, outcome, lengths[256], needed[SLEEP_NEEDS_NUMBERS];
+static uint64_t chunk_length, sought, packet_length, out[2], number, outcome, lengths[SLEEP_MOST_LISTED], listed, needed[SLEEP_NEEDS_NUMBERS];
 
 static void start(void) { number = sleep_start(tree, sizeof tree, signatures, sizeof signatures, bitfield, sizeof bitfield, data, DATA).number; }
 static void hash(void) { number = sleep_hash(64, chunk, 64, chunk, sizeof chunk, digest); }
 static void hash_parts(void) { number = sleep_hash_parts(chunk, 64, chunk, 9, chunk, sizeof chunk, digest); }
 static void label(void) { number = sleep_label(root, chunk, 64, digest); }
 static void append(void) { number = sleep_append(REGISTER, chunk, chunk_length, root).number; }
+static void append_list(void) { number = sleep_append_list(REGISTER, lengths, listed, chunk, chunk_length, root).number; }
 static void preview(void) { number = sleep_preview(REGISTER, chunk, chunk_length, root).number; }
 static void store_signature(void) { number = sleep_store_signature(REGISTER, digest).number; }
 static void root_hash(void) { number = sleep_root_hash(REGISTER, root).number; }
@@ -38,7 +39,7 @@ static void ungroup(void) { number = sleep_ungroup(chunk, sizeof chunk, packet, 
 static void needs(void) { number = sleep_needs(sought, 0, lengths, 256, needed).number; }
 static void compare(void) { outcome = sleep_compare(REGISTER, REGISTER).outcome; }
 
-enum { START, HASH, HASH_PARTS, LABEL, APPEND, PREVIEW, STORE_SIGNATURE, ROOT_HASH, AUDIT, PLACE, BYTE, READ, MAKE_PACKET, CHECK_PACKET, COMPARE, GROUP, UNGROUP, NEEDS, CALLS };
+enum { START, HASH, HASH_PARTS, LABEL, APPEND, APPEND_LIST, PREVIEW, STORE_SIGNATURE, ROOT_HASH, AUDIT, PLACE, BYTE, READ, MAKE_PACKET, CHECK_PACKET, COMPARE, GROUP, UNGROUP, NEEDS, CALLS };
 
 static struct {
     const char *name;
@@ -50,6 +51,7 @@ static struct {
     {"sleep_hash_parts", hash_parts, SLEEP_STACK_HASH_PARTS, 0},
     {"sleep_label", label, SLEEP_STACK_LABEL, 0},
     {"sleep_append", append, SLEEP_STACK_APPEND, 0},
+    {"sleep_append_list", append_list, SLEEP_STACK_APPEND_LIST, 0},
     {"sleep_preview", preview, SLEEP_STACK_PREVIEW, 0},
     {"sleep_store_signature", store_signature, SLEEP_STACK_STORE_SIGNATURE, 0},
     {"sleep_root_hash", root_hash, SLEEP_STACK_ROOT_HASH, 0},
@@ -118,10 +120,26 @@ static void measure_damage(void) {
     }
 }
 
-/* A register from nothing, chunk by chunk. */
+/* Lists of the most chunks and of two; while a signature is owed they are refused. */
+static void measure_lists(void) {
+    for (listed = SLEEP_MOST_LISTED; listed > 0; listed = listed > 2 ? 2 : 0) {
+        for (uint64_t k = 0; k < listed; k++) lengths[k] = k % 3;
+        for (chunk_length = 0, sought = 0; sought < listed; sought++) chunk_length += lengths[sought];
+        measure(APPEND_LIST, 0);
+        n += listed;
+        s += listed - 1;
+        size += chunk_length;
+        measure(APPEND_LIST, 8);
+        measure(STORE_SIGNATURE, 0);
+        s += 1;
+    }
+}
+
+/* A register from nothing, chunk by chunk, with lists in between. */
 static void grow(void) {
     measure(START, 0);
     while (n < GROWN) {
+        if (n == 100 || n == 16000) measure_lists();
         chunk_length = n == 1 || n == 8191 || n == GROWN - 2 ? sizeof chunk : n % 8;
         chunk[0] = (uint8_t)n;
         measure(PREVIEW, 0);
@@ -165,6 +183,12 @@ static void measure_depth(void) {
     measure(AUDIT, 10);
     measure(COMPARE, 0);
     measure(PREVIEW, 0);
+    listed = 2;
+    chunk_length = lengths[0] + lengths[1];
+    measure(APPEND_LIST, 2);
+    listed = 1;
+    chunk_length = lengths[0];
+    measure(APPEND_LIST, 0);
     measure(APPEND, 0);
 }
 

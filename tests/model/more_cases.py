@@ -6,6 +6,7 @@ import sys
 sys.dont_write_bytecode = True  # nothing generated lies beside the sources
 from needs import completed, needs
 from rfc7693 import blocks_of
+from samples import grow, sampled
 from sleep_model import *
 
 
@@ -147,6 +148,31 @@ def jobs():
         yield 'completed by %d' % n, (sorted(completed(n)), len(completed(n))), (new, depth(n))
 
 
+def lists():
+    """A list leaves the images of all chunks, and its own signatures as zeros, in buffers that are just as long."""
+    for n, several in ((0, (1, 2, 40)), (3, (1, 5, 13)), (8, (8, 256)), (8190, (1, 2, 3)), (16382, (2,))):
+        chunks = chunk_list(n) if n < 8190 else [b''] * n
+        for k in several:
+            r, more = register_of(chunks), chunk_list(k + 4)[4:]
+            whole = register_of(chunks + more)
+            used = used_sizes(n + k, n + k - 1, whole.size)
+            for image, end in zip(images_of(r), used):
+                image.extend(b'\xa5' * (end - len(image)))
+            lengths = list(map(len, more))
+            yield 'list of %d at %d' % (k, n), append_list(r, lengths, b''.join(more)), ('done', root_hash(whole)[1])
+            yield 'images', list(images_of(r)), [image[:end] for image, end in zip(images_of(whole), used)]
+            yield 'numbers', (r.n, r.s, r.size), (n + k, n + k - 1, whole.size)
+            yield 'owed', append_list(r, [0], b''), refused(8)
+            yield 'no room for it', append_list(told(r, s=r.n - 1), [0] * 257, b''), refused(16)
+    r = register_of([])
+    yield 'more than all', append_list(r, [0] * (MOST_CHUNKS + 1), b''), refused(2)
+    yield 'all and too many', append_list(r, [0] * MOST_CHUNKS, b''), refused(16)
+    grown = Register(*(bytearray(size) for size in used_sizes(20, 20, 57)))
+    start(grown)
+    grow(grown, 20, 7)
+    yield 'samples', (grown, grown.size), (sampled(20, 7), 57)
+
+
 def spoilt_size(none):
     r = told(none, size=1)
     r.data.append(0)
@@ -178,5 +204,5 @@ def walks():
 
 
 if __name__ == '__main__':
-    groups = (agreement, borders, refusals, jobs, walks)
+    groups = (agreement, borders, refusals, jobs, lists, walks)
     print('model: %d more cases agree' % sum(check(*case) for cases in groups for case in cases()))

@@ -1,6 +1,6 @@
 """Registers for the model scripts to work on, and how an answer is printed."""
 
-from sleep_model import Register, append, store_signature
+from sleep_model import HEADER, Register, append, register_of, store_signature
 
 
 def bytes_of(k):
@@ -29,3 +29,10 @@ def grow(r, upto, span):
     while r.n < upto:
         append(r, bytes_of(r.n)[:r.n % span])
         store_signature(r, bytes_of(r.n + 100))
+
+
+def sampled(n, span):
+    """What `grow` leaves of n chunks, taken from the images, with no byte behind the used ones."""
+    r = register_of([bytes_of(k)[:k % span] for k in range(n)])
+    r.signatures[HEADER:] = b''.join(bytes_of(k + 101) for k in range(n))
+    return r

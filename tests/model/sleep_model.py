@@ -290,6 +290,23 @@ def preview(r, chunk, F=node_hash):
     """What an append would answer on a copy of the lent buffers, length for length; nothing is written."""
     return append(copy.deepcopy(r), chunk, F)
 
+@call
+def append_list(r, lengths, lent, F=node_hash):
+    """Adds chunks of these lengths, which the lent bytes hold one behind the other, and gives the new root hash.  All is as
+    single appends would leave it, with 64 zero bytes stored as the signature of each chunk but the last."""
+    count = len(lengths)
+    check_register(r, MOST_CHUNKS - max(count, 1))
+    refuse_if(not 1 <= count <= MOST_LISTED or sum(lengths) != len(lent), 16)
+    refuse_if(any(length > LONGEST_CHUNK for length in lengths), 7)
+    refuse_if(r.s == r.n - 1, 8)
+    room = used_sizes(r.n + count, r.n + count - 1, r.size + len(lent))
+    refuse_if(any(len(image) < used for image, used in zip(images_of(r), room)), 14)
+    for k, chunk in enumerate(cut(lent, lengths)):
+        answers = [store_signature(r, bytes(SIGNATURE))] if k > 0 else []
+        answers.append(append(r, chunk, F))
+        assert all(answer[0] == 'done' for answer in answers)  # the checks above are those of every step
+    return answers[-1][1:]
+
 def put_filled(r, index, node):
     r.put(index, entry_bytes(node))
     set_bit(r, index, NODES_PER_ENTRY, DATA_BYTES)

@@ -20,7 +20,7 @@ use Rattle.tree_index.proofs.Appended.{filled-suc}
 use Rattle.bitfield.specs.Bits.{setBit}
 use Rattle.bitfield.specs.Index.{indexBytes}
 use Rattle.bitfield.specs.Image.{dataBytes, treeBytes, entry, entryCount, heldBelow, entriesOf}
-use Rattle.bitfield.specs.Append.{bitsPlace, zeroedIfNew, setDataBit, setTreeBit, setTreeBits, regenerated, appended}
+use Rattle.bitfield.specs.Append.{bitsPlace, zeroedIfNew, setDataBit, setTreeBit, setTreeBits, regenerated, withBits, appended}
 use Rattle.bitfield.proofs.Bits.{cases}
 use Rattle.bitfield.proofs.Levels.{same-or, length-index}
 use Rattle.bitfield.proofs.Image.{entryWith, entry-is, with-one, data-other, data-file, tree-file, index-file, zero-entry, entry-ext, known-ext, length-entries}
@@ -268,7 +268,7 @@ module _ (xs : List ℕ) (n : ℕ) (few : n < 1048576) (room : bitsPlace (n / 81
       ∙ sym (entry-is held known j) ∙ entry-next j
 
   appended-run : appended xs n ≡ take 32 xs ++ (joined (run (entry (heldBelow (n + 1)) (filled (n + 1))) 0 k) ++ tail)
-  unfolding appended
+  unfolding appended withBits
   appended-run =
       ap (λ (l : List ℕ). regenerated l (n / 8192)) bits-set
       ∙ regenerated-is (entry (heldBelow (n + 1)) (filled (n + 1))) (entry-next (n / 8192)) other-next

@@ -31,6 +31,10 @@ setTreeBits xs (i ∷ is) = setTreeBits (setTreeBit xs i) is
 unfoldable pub regenerated : List ℕ → ℕ → List ℕ
 regenerated xs e = put xs (bitsPlace e + 3072) (indexBytes (part xs (bitsPlace e) 1024))
 
+-- the bits of the new chunk n: its data bit, in an entry that is zeroed first if it is new, and the tree bits that it fills
+unfoldable pub withBits : List ℕ → ℕ → List ℕ
+withBits xs n = setTreeBits (setDataBit (zeroedIfNew xs n) n) (filledBy n)
+
 -- the bitfield file after the append of chunk n
 unfoldable pub appended : List ℕ → ℕ → List ℕ
-appended xs n = regenerated (setTreeBits (setDataBit (zeroedIfNew xs n) n) (filledBy n)) (n / 8192)
+appended xs n = regenerated (withBits xs n) (n / 8192)

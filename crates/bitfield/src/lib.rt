@@ -7,7 +7,7 @@ ghost use mathlib.Core.Path.{_≡_};
 ghost use Prim.Native.Nat.{_+_, _/_, _%_, _^_, _<_, _≤_};
 ghost use lib.ListN.{length};
 ghost use Rattle.bitfield.specs.Bits.{setBit};
-ghost use Rattle.bitfield.specs.Append.{bitsPlace, zeroedIfNew, setDataBit, setTreeBit, setTreeBits, regenerated, appended};
+ghost use Rattle.bitfield.specs.Append.{bitsPlace, zeroedIfNew, setDataBit, setTreeBit, setTreeBits, regenerated, withBits, appended};
 ghost use Rattle.tree_index.specs.Tree.{filledBy};
 
 // The entry that has the data bit of a chunk.
@@ -111,13 +111,29 @@ fn set_filled(xs: &mut [u8], c: ChunkNumber)
     }
 }
 
+// Inner: the bits of a new chunk. The Index stays as it is.
+pub fn set_bits(xs: &mut [u8], c: ChunkNumber)
+    requires { ⌜ (c .0 < 1048576) × (bitsPlace (c .0 / 8192 + 1) ≤ length (now xs)) ⌝ }
+    ensures { λ _. ⌜ now (xs .exit) ≡ withBits (now (xs .entry)) (c .0) ⌝ }
+{
+    zero_if_new(xs, c);
+    set_data_bit(xs, c);
+    set_filled(xs, c);
+}
+
+// Inner: the Index of the entry that has the data bit of a chunk, made anew.
+pub fn make_index(xs: &mut [u8], c: ChunkNumber)
+    requires { ⌜ bitsPlace (c .0 / 8192 + 1) ≤ length (now xs) ⌝ }
+    ensures { λ _. ⌜ now (xs .exit) ≡ regenerated (now (xs .entry)) (c .0 / 8192) ⌝ }
+{
+    regenerate(xs, entry_of_chunk(c));
+}
+
 // Inner: what the append of a chunk does to the bitfield file.
 pub fn append_bits(xs: &mut [u8], c: ChunkNumber)
     requires { ⌜ (c .0 < 1048576) × (bitsPlace (c .0 / 8192 + 1) ≤ length (now xs)) ⌝ }
     ensures { λ _. ⌜ now (xs .exit) ≡ appended (now (xs .entry)) (c .0) ⌝ }
 {
-    zero_if_new(xs, c);
-    set_data_bit(xs, c);
-    set_filled(xs, c);
-    regenerate(xs, entry_of_chunk(c));
+    set_bits(xs, c);
+    make_index(xs, c);
 }

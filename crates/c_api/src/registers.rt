@@ -9,6 +9,7 @@ ghost use Rattle.audit.specs.Audit as Audit;
 ghost use Rattle.writing.specs.Start.{startVerdict, afterStart};
 ghost use Rattle.writing.specs.Append.{appendVerdict, appendRoot, afterAppend};
 ghost use Rattle.writing.specs.Sign.{signVerdict, afterSign};
+ghost use Rattle.list_append.specs.Append.{listVerdict, listRoot, afterList};
 ghost use Rattle.writing.specs.RootHash.{rootVerdict, rootAnswer};
 ghost use Rattle.writing.specs.Post.{lent};
 ghost use Rattle.c_api.specs.Encoding.{encoded};
@@ -45,6 +46,40 @@ pub extern "C" fn sleep_append(
     ensures buffers { λ _. ⌜ lent (now (tree .exit)) (now (signatures .exit)) (now (bitfield .exit)) (now (content .exit)) ≡ afterAppend nodeHash (registerOf (now (tree .entry)) (now (signatures .entry)) (now (bitfield .entry)) (now (content .entry)) n s size) (now (chunk .entry)) ⌝ }
 {
     let appended = writing::append(tree, signatures, bitfield, content, n, s, size, chunk);
+    let hash = appended.root;
+    let answer = appended.answer;
+    super::answers::give_hash(answer, hash, root)
+}
+
+// All chunks of a list, lent as their lengths and their bytes one behind the other, or none; the new root hash in `root`.
+#[no_mangle]
+pub extern "C" fn sleep_append_list(
+    tree: &mut [u8],
+    signatures: &mut [u8],
+    bitfield: &mut [u8],
+    content: &mut [u8],
+    n: u64,
+    s: u64,
+    size: u64,
+    lengths: &[u64],
+    bytes: &[u8],
+    root: &mut [u8; 32],
+) -> SleepAnswer
+    ensures answers { λ r. ⌜ r ≡ encoded (listVerdict (registerOf (now (tree .entry)) (now (signatures .entry)) (now (bitfield .entry)) (now (content .entry)) n s size) (now (lengths .entry)) (now (bytes .entry))) ⌝ }
+    ensures gives { λ _. ⌜ now (root .exit) ≡ unlessRefused (listVerdict (registerOf (now (tree .entry)) (now (signatures .entry)) (now (bitfield .entry)) (now (content .entry)) n s size) (now (lengths .entry)) (now (bytes .entry))) (listRoot nodeHash (registerOf (now (tree .entry)) (now (signatures .entry)) (now (bitfield .entry)) (now (content .entry)) n s size) (now (lengths .entry)) (now (bytes .entry))) (now (root .entry)) ⌝ }
+    ensures buffers { λ _. ⌜ lent (now (tree .exit)) (now (signatures .exit)) (now (bitfield .exit)) (now (content .exit)) ≡ afterList nodeHash (registerOf (now (tree .entry)) (now (signatures .entry)) (now (bitfield .entry)) (now (content .entry)) n s size) (now (lengths .entry)) (now (bytes .entry)) ⌝ }
+{
+    let appended = list_append::append_list(
+        tree,
+        signatures,
+        bitfield,
+        content,
+        n,
+        s,
+        size,
+        lengths,
+        bytes,
+    );
     let hash = appended.root;
     let answer = appended.answer;
     super::answers::give_hash(answer, hash, root)

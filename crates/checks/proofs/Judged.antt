@@ -29,6 +29,17 @@ at-wrong : (c : Check) (cs : List Check) (next : Verdict) → c .right ≡ false
 unfolding judged
 at-wrong c cs next e = ap (λ (b : Bool). cond b (judged cs next) (refused (c .number) none)) e
 
+-- what comes behind checks matters only where they are all passed
+pub judged-same : (cs : List Check) (v w : Verdict) → (AllRight cs → v ≡ w) → judged cs v ≡ judged cs w
+unfolding judged
+judged-same [] v w h = h tt
+judged-same (c ∷ cs) v w h = pick (c .right) refl (λ g. judged-same cs v w g)
+  where
+    pick : (b : Bool) → c .right ≡ b → ((AllRight cs → v ≡ w) → judged cs v ≡ judged cs w)
+        → cond b (judged cs v) (refused (c .number) none) ≡ cond b (judged cs w) (refused (c .number) none)
+    pick true e rec = rec (λ p. h (e, p))
+    pick false e rec = refl
+
 -- a call that passes them all says what comes next
 pub judged-right : (cs : List Check) (next : Verdict) → AllRight cs → judged cs next ≡ next
 unfolding judged

@@ -6,5 +6,7 @@ pub mod Walk
 pub mod Agree
 pub mod Corollaries
 pub mod Demand3
+pub mod Singles
+pub mod Lists
 pub mod Demand2
 pub mod AtBlake2b

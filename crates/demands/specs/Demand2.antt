@@ -1,13 +1,13 @@
 -- Demand 2: every image that is written from a start or on an accepted register is, byte for byte, the one for the chunk sequence and
--- the signatures handed in; on an accepted register an append or a stored signature leaves an accepted register; and the audit
--- accepts buffers exactly when their used bytes are such images. Reading gives back the very chunks, and lookups and packets answer as the
+-- the signatures handed in; on an accepted register an append, of a chunk or of a list, or a stored signature leaves an accepted register;
+-- and the audit accepts buffers exactly when their used bytes are such images. Reading gives back the very chunks, and lookups and packets answer as the
 -- scope defines them.
 --
 -- The notions in it: `HashFunction` (files, Messages), `Register`, `Buffers`, `Lent`, `Within` and `Belongs` (files, Belongs), the used
 -- sizes (files, Sizes), `rootHashFor` (files, Images), `Imaged` and `AuditExact` (audit, Exact), `Accepted` (audit, Audit), the calls'
--- verdicts, answers and buffers (writing, Start, Append, Sign and RootHash) and what they ask for (writing, Fits), `Answers` (lookup, Answers),
--- `PacketAnswers` (packet, Answers).
-use Prim.Native.Nat.{ℕ, _<_}
+-- verdicts, answers and buffers (writing, Start, Append, Sign and RootHash; list_append, Append) and what they ask for (writing, Fits;
+-- list_append, Fits), a list's chunks and its zero signatures (list_append, Chunks), `Answers` (lookup, Answers), `PacketAnswers` (packet, Answers).
+use Prim.Native.Nat.{ℕ, _+_, _-_, _^_, _<_}
 use mathlib.Core.Path.{_≡_}
 use mathlib.Core.Logic.{_↔_}
 use mathlib.Core.List.{List, [], _∷_, _++_}
@@ -25,6 +25,9 @@ use Rattle.writing.specs.Append.{appendVerdict, appendedRegister, appendRoot, a
 use Rattle.writing.specs.Sign.{signVerdict, signedRegister, afterSign}
 use Rattle.writing.specs.RootHash.{rootVerdict, rootAnswer}
 use Rattle.writing.specs.Fits.{StartFits, AppendFits, SignFits}
+use Rattle.list_append.specs.Chunks.{chunksOf, zeroSignatures}
+use Rattle.list_append.specs.Append.{listVerdict, appendedList, listRoot, afterList}
+use Rattle.list_append.specs.Fits.{ListFits, Singly}
 use Rattle.lookup.specs.Answers.{Answers}
 use Rattle.packet.specs.Answers.{PacketAnswers}
 
@@ -91,6 +94,44 @@ pub record SignWrites (F : List ℕ → List ℕ) : Type 0 where
   pub beyond : (r : Register) (signature : List ℕ) → length signature ≡ 64 → signVerdict r ≡ done → Beyond (buffersOf r) (signedRegister r signature)
   pub unchanged : (r : Register) (signature : List ℕ) (m : ℕ) (at : Spot) → signVerdict r ≡ refused m at → afterSign r signature ≡ buffersOf r
 
+-- "Append a list of chunks: tree, bitfield and data become what single appends would leave, and one root hash is answered." It is lent as lengths
+-- and bytes, which `chunksOf` cuts
+pub record ListWrites (F : List ℕ → List ℕ) : Type 0 where
+  -- on an accepted register it is done exactly when 2, 16, 7, 8 and 14 are passed
+  pub takes : (r : Register) (lengths bytes : List ℕ) → Accepted F r → (listVerdict r lengths bytes ≡ done) ↔ ListFits r lengths bytes
+  -- a list of one chunk is an append, on every register
+  pub one : (r : Register) (chunk : List ℕ) → (listVerdict r (length chunk ∷ []) chunk ≡ appendVerdict r chunk)
+      × (listRoot F r (length chunk ∷ []) chunk ≡ appendRoot F r chunk) × (afterList F r (length chunk ∷ []) chunk ≡ afterAppend F r chunk)
+  -- done, the buffers are those of a register
+  pub buffers : (r : Register) (lengths bytes : List ℕ) → listVerdict r lengths bytes ≡ done
+      → afterList F r lengths bytes ≡ buffersOf (appendedList F r (chunksOf lengths bytes))
+  -- which single appends, with 64 zero bytes stored as a signature between them, lead to, none of them refused: on any register in buffers that can
+  -- be lent, accepted or not
+  pub singly : (r : Register) (lengths bytes : List ℕ) → Lent r → length (r .content) < 2 ^ 64 → Bytes bytes → listVerdict r lengths bytes ≡ done
+      → Singly F r (chunksOf lengths bytes) (appendedList F r (chunksOf lengths bytes))
+  -- "one signature is owed afterwards, as before"
+  pub owed : (r : Register) (lengths bytes : List ℕ) → listVerdict r lengths bytes ≡ done
+      → appendedList F r (chunksOf lengths bytes) .s + 1 ≡ appendedList F r (chunksOf lengths bytes) .n
+  -- it belongs to the chunk sequence with the chunks at its end, where the first one belonged to the sequence
+  pub belongs : (r : Register) (cs : List (List ℕ)) (lengths bytes : List ℕ) → Within cs → Belongs F r cs → Bytes bytes → listVerdict r lengths bytes ≡ done
+      → Within (cs ++ chunksOf lengths bytes) × Belongs F (appendedList F r (chunksOf lengths bytes)) (cs ++ chunksOf lengths bytes)
+  -- whose root hash is the answer
+  pub answers : (r : Register) (cs : List (List ℕ)) (lengths bytes : List ℕ) → Within cs → Belongs F r cs → Bytes bytes → listVerdict r lengths bytes ≡ done
+      → listRoot F r lengths bytes ≡ rootHashFor F (cs ++ chunksOf lengths bytes)
+  -- "The set's earlier signature entries are written as 64 zero bytes, which count in demand 2 as handed in": all used bytes are the images of the
+  -- longer sequence, and of the signatures with the zeros at their end
+  pub images : (r : Register) (cs sigs : List (List ℕ)) (lengths bytes : List ℕ) → Imaged F r cs sigs → Bytes bytes → listVerdict r lengths bytes ≡ done
+      → Imaged F (appendedList F r (chunksOf lengths bytes)) (cs ++ chunksOf lengths bytes) (sigs ++ zeroSignatures (length lengths - 1))
+  -- an accepted register stays accepted, in buffers that hold bytes again
+  pub accepted : (r : Register) (lengths bytes : List ℕ) → Lent r → Accepted F r → Bytes bytes → listVerdict r lengths bytes ≡ done
+      → Accepted F (appendedList F r (chunksOf lengths bytes)) × Lent (appendedList F r (chunksOf lengths bytes))
+  -- done, on any register, it leaves every byte beyond the new used sizes
+  pub beyond : (r : Register) (lengths bytes : List ℕ) → Lent r → Bytes bytes → listVerdict r lengths bytes ≡ done
+      → Beyond (buffersOf r) (appendedList F r (chunksOf lengths bytes))
+  -- "stored wholly or left out": "No lent byte changes.", and the answer beside a refusal is zeros
+  pub unchanged : (r : Register) (lengths bytes : List ℕ) (m : ℕ) (at : Spot) → listVerdict r lengths bytes ≡ refused m at
+      → (afterList F r lengths bytes ≡ buffersOf r) × (listRoot F r lengths bytes ≡ zeros 32)
+
 -- the root hash of a register is that of the chunk sequence which it belongs to
 pub record RootAnswers (F : List ℕ → List ℕ) : Type 0 where
   -- an accepted register is not refused
@@ -104,12 +145,15 @@ pub data Written (F : List ℕ → List ℕ) : Register → List (List ℕ) → 
   fromImages : {r : Register} {cs sigs : List (List ℕ)} → Imaged F r cs sigs → Written F r cs sigs
   andAppended : {r : Register} {cs sigs : List (List ℕ)} (chunk : List ℕ) → Written F r cs sigs → Bytes chunk → appendVerdict r chunk ≡ done
       → Written F (appendedRegister F r chunk) (cs ++ (chunk ∷ [])) sigs
+  andListed : {r : Register} {cs sigs : List (List ℕ)} (lengths bytes : List ℕ) → Written F r cs sigs → Bytes bytes → listVerdict r lengths bytes ≡ done
+      → Written F (appendedList F r (chunksOf lengths bytes)) (cs ++ chunksOf lengths bytes) (sigs ++ zeroSignatures (length lengths - 1))
   andSigned : {r : Register} {cs sigs : List (List ℕ)} (signature : List ℕ) → Written F r cs sigs → length signature ≡ 64 → signVerdict r ≡ done
       → Written F (signedRegister r signature) cs (sigs ++ (signature ∷ []))
 
 pub record Demand2 (F : List ℕ → List ℕ) : Type 0 where
   pub start : StartWrites F
   pub append : AppendWrites F
+  pub list : ListWrites F
   pub sign : SignWrites F
   pub root : RootAnswers F
   -- whatever calls wrote it, a register's used bytes are the images of the chunks and the signatures handed in

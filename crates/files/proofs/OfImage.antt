@@ -47,7 +47,7 @@ unfolding bitfieldImage usedBitfield
 bitfieldImage-length n = length-append bitfieldHeader (entriesOf n) ∙ ap₂ _+_ bitfieldHeader-length (length-entries n)
 
 -- a part that lies within the front of a list
-part-take : (xs : List ℕ) (m a k : ℕ) → a + k ≤ m → part (take m xs) a k ≡ part xs a k
+pub part-take : (xs : List ℕ) (m a k : ℕ) → a + k ≤ m → part (take m xs) a k ≡ part xs a k
 unfolding part
 part-take xs m a k h = part-part xs 0 m a k h ∙ ap (λ (p : ℕ). part xs p k) (zero-add a)
 

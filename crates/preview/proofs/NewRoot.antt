@@ -11,7 +11,7 @@ use lib.Seq.{take-at, getD-set-same, getD-set-other}
 use Rattle.sequences.specs.Lists.{part, put, total, zeros}
 use Rattle.sequences.proofs.Lists.{run-suc, run-ext, getD-behind}
 use Rattle.tree_index.specs.Tree.{index, filled, completed, filledBy, entries, roots}
-use Rattle.tree_index.proofs.Roots.{Carried, carried, siblings, root-filled, length-roots-le}
+use Rattle.tree_index.proofs.Roots.{Carried, carried, siblings, length-roots-le}
 use Rattle.blake2b.specs.Hash.{nodeHash}
 use Rattle.blake2b.proofs.Laws.{node-length, node-byte}
 use Rattle.files.specs.Sizes.{mostChunks, entryPlace, usedTree}
@@ -27,8 +27,9 @@ use Rattle.files.proofs.ByValue.{gathered, mapped-at}
 use Rattle.writing.specs.Append.{storedEntry, sibling, withHole, withEntries, climb, appendedTree}
 use Rattle.writing.specs.Inner.{place, made, FilledFits, AboveFits}
 use Rattle.writing.proofs.Tree.{hole-length}
-use Rattle.writing.proofs.Climbed.{place-new, sibling-filled, filled-in, sum-le, Going, going-none, going-next, going-all}
-use Rattle.writing.proofs.Stored.{hole-hash, hole-size, stored-tree}
+use Rattle.writing.proofs.Made.{node-hashed}
+use Rattle.writing.proofs.Climbed.{place-new, sibling-filled, filled-in, sum-le, kept-filled, Going, going-none, going-next, going-all}
+use Rattle.writing.proofs.Stored.{hole-hash, hole-size, leaf-put, leaf-tree}
 use Rattle.preview.specs.Preview.{keptRoots, messageWith}
 
 -- ---- the node that the chunk n completes last
@@ -37,29 +38,19 @@ use Rattle.preview.specs.Preview.{keptRoots, messageWith}
 made-le : (t : List ℕ) (n : ℕ) (e : Entry) (d : ℕ) → n < mostChunks → d ≤ completed n → made nodeHash t n e d .size ≤ total (storedRootSizes t n) + e .size
 unfolding made parentOf storedEntry
 made-le t n e zero few h = omega arith
-made-le t n e (suc d) few h = sum-le t n e d few h
+made-le t n e (suc d) few h = sum-le nodeHash t n e d few h
 
 -- and its length fits, where those do
 pub above-fits : (t : List ℕ) (n : ℕ) (e : Entry) (d : ℕ) (x : Entry) → FilledFits t n (e .size) → d < completed n → x ≡ made nodeHash t n e d
     → AboveFits t n d (x .size)
 above-fits t n e d x w h p =
     let s : x .size ≡ made nodeHash t n e d .size = ap (λ (y : Entry). y .size) p in
-    record { few = w .few; depth = h; room = w .room; sum = omega (arith, sum-le t n e d (w .few) h, w .sum) }
+    record { few = w .few; depth = h; room = w .room; sum = omega (arith, sum-le nodeHash t n e d (w .few) h, w .sum) }
 
 pub above-made : (t : List ℕ) (n : ℕ) (e : Entry) (d : ℕ) (x y : Entry) → x ≡ made nodeHash t n e d → y ≡ parentOf nodeHash (storedEntry t (sibling n d)) x
     → y ≡ made nodeHash t n e (d + 1)
 unfolding made
 above-made t n e d x y p q = q ∙ ap (parentOf nodeHash (storedEntry t (sibling n d))) p ∙ ap (made nodeHash t n e) (sym (add-one d))
-
-made-long : (t : List ℕ) (n : ℕ) (chunk : List ℕ) (d : ℕ) → length (made nodeHash t n (leaf nodeHash chunk) d .hash) ≡ 32
-unfolding made parentOf leaf
-made-long t n chunk zero = node-length _
-made-long t n chunk (suc d) = node-length _
-
-made-byte : (t : List ℕ) (n : ℕ) (chunk : List ℕ) (d i : ℕ) → getD (made nodeHash t n (leaf nodeHash chunk) d .hash) i 0 < 256
-unfolding made parentOf leaf
-made-byte t n chunk zero = node-byte _
-made-byte t n chunk (suc d) = node-byte _
 
 -- ---- the file after the append
 
@@ -95,7 +86,7 @@ module _ (t : List ℕ) (n : ℕ) (chunk : List ℕ) (few : n < mostChunks) (roo
       filled-in (r .0) n (place n z) few (omega (arith, r .1 .long)) (place-new n z few (le-refl z)) .inside
       in
       subst (Topped t n x) (going-all t n e z v refl g)
-      (record { hash = g .hash; size = g .size; top = same-entry (r .0) (place n z) (entryBytes x) (entryBytes-length x (made-long t n chunk z)) inside })
+      (record { hash = g .hash; size = g .size; top = same-entry (r .0) (place n z) (entryBytes x) (entryBytes-length x (node-hashed t n chunk z .0)) inside })
 
   -- the new hole is none of the siblings that the nodes are made of
   made-hole : (d : ℕ) → d ≤ completed n → made nodeHash (withHole t n) n e d ≡ made nodeHash t n e d
@@ -117,7 +108,7 @@ module _ (t : List ℕ) (n : ℕ) (chunk : List ℕ) (few : n < mostChunks) (roo
       let w : Topped (withHole t n) n (made nodeHash (withHole t n) n (leaf nodeHash chunk) (completed n)) _ =
       with-top (withHole t n) n chunk few (omega (arith, hole-length t n room))
       in
-      subst (Topped t n top) (stored-tree t n room (withHole t n) _ chunk (leaf nodeHash chunk) few refl refl refl)
+      subst (Topped t n top) (leaf-tree t _ n chunk (leaf nodeHash chunk) refl (leaf-put t n room (withHole t n) _ (leaf nodeHash chunk) few refl refl))
       (record {
         hash = λ i f. w .hash i f ∙ hole-hash t n room i f;
         size = λ i f. w .size i f ∙ hole-size t n room i f;
@@ -142,12 +133,6 @@ module _ (n : ℕ) (few : n < mostChunks) (c : Carried n) where
       let k : length (roots (n + 1)) - 1 ≡ length (c .kept) = omega (arith, new-count) in
       ap₂ take k (c .before) ∙ take-at (c .kept) (siblings n 0 (completed n)) (length (c .kept)) refl
 
-  -- a root that stays is filled before
-  kept-filled : (j : ℕ) → j < length (c .kept) → filled n (getD (c .kept) j 0) ≡ true
-  kept-filled j l =
-      ap (filled n) (sym (List·getD-append (c .kept) (siblings n 0 (completed n)) 0 j l) ∙ ap (λ (xs : List ℕ). getD xs j 0) (sym (c .before)))
-      ∙ root-filled n j (omega (arith, old-count))
-
   -- the stored root message of a file that holds x at the new root
   message-topped : (t u : List ℕ) (x : Entry) → Proper x → Topped t n x u → messageWith t n x ≡ storedRootMessage u (n + 1)
   unfolding messageWith storedRootMessage place
@@ -155,7 +140,7 @@ module _ (n : ℕ) (few : n < mostChunks) (c : Carried n) where
       let i : ℕ = index (completed n) ((n + 1) / 2 ^ completed n - 1) in
       let same : map (item t) (c .kept) ≡ map (item u) (c .kept) =
       map-ext (item t) (item u) (c .kept)
-      (λ j l. let f = kept-filled j l in sym (ap₂ (λ (a : List ℕ) (b : ℕ). rootItem a (getD (c .kept) j 0) b) (w .hash (getD (c .kept) j 0) f) (w .size (getD (c .kept) j 0) f)))
+      (λ j l. let f = kept-filled n c j l in sym (ap₂ (λ (a : List ℕ) (b : ℕ). rootItem a (getD (c .kept) j 0) b) (w .hash (getD (c .kept) j 0) f) (w .size (getD (c .kept) j 0) f)))
       in
       let last : rootItem (x .hash) i (x .size) ≡ item u i =
       sym (ap₂ (λ (a : List ℕ) (b : ℕ). rootItem a i b) (entry-hash u i x p (w .top)) (entry-size u i x p (w .top)))
@@ -173,7 +158,7 @@ message-after t n chunk w =
     let z : ℕ = completed n in
     let le = made-le t n (leaf nodeHash chunk) z (w .few) (le-refl z) in
     message-topped n (w .few) (carried n (w .few)) t (appendedTree nodeHash t n chunk) (made nodeHash t n (leaf nodeHash chunk) z)
-    (record { long = made-long t n chunk z; bytes = made-byte t n chunk z; fits = omega (arith, le, w .sum) })
+    (record { long = node-hashed t n chunk z .0; bytes = node-hashed t n chunk z .1; fits = omega (arith, le, w .sum) })
     (appended-top t n chunk (w .few) (w .room))
 
 -- the same of a node that was made over the leaf's hash

@@ -1,6 +1,6 @@
 -- The calls that write say the same of registers with the same used bytes, where both have room or both lack it.
 -- Assumes nothing.
-use Prim.Native.Nat.{ℕ, _+_, _≤_, _<_}
+use Prim.Native.Nat.{ℕ, _+_, _-_, _≤_, _<_}
 use mathlib.Core.Path.{_≡_, refl, sym, ap, _∙_, subst}
 use mathlib.Core.Bool.{Bool, true, false, cond, not, _&&_}
 use mathlib.Core.Logic.{_↔_}
@@ -12,7 +12,7 @@ use Rattle.counts.specs.Verdict.{Verdict, none, done, refused}
 use Rattle.files.specs.Sizes.{mostChunks, longestChunk, usedTree, usedSignatures, usedBitfield}
 use Rattle.files.specs.Belongs.{Buffers, Register}
 use Rattle.checks.specs.Checks.{Check, judged, laterChecks, registerChecks}
-use Rattle.checks.proofs.Judged.{AllRight, both-right, right-both}
+use Rattle.checks.proofs.Judged.{AllRight, both-right, right-both, judged-same}
 use Rattle.checks.proofs.Passed.{right-all}
 use Rattle.compare.proofs.Local.{cond-same}
 use Rattle.writing.specs.Start.{startChecks, startVerdict}
@@ -21,6 +21,13 @@ use Rattle.writing.specs.Sign.{ownSignChecks, signVerdict}
 use Rattle.writing.specs.Fits.{StartFits, AppendFits, SignFits}
 use Rattle.writing.proofs.Orders.{append-order, sign-order}
 use Rattle.writing.proofs.Verdicts.{one-owed}
+use Rattle.sequences.specs.Lists.{total}
+use Rattle.checks.specs.Lengths.{mostListed}
+use Rattle.checks.proofs.Lengths.{short-at}
+use Rattle.list_append.specs.Append.{listChecks, roomChecks, listVerdict}
+use Rattle.list_append.specs.Inner.{ownVerdict}
+use Rattle.list_append.specs.Fits.{ListFits}
+use Rattle.list_append.proofs.Orders.{list-order}
 use Rattle.used_bytes.specs.UsedBytes.{SameUsed}
 use Rattle.used_bytes.proofs.Cut.{same-cut, later-cut, checks-cut}
 
@@ -31,12 +38,6 @@ later-same a b h = sym (later-cut a) ∙ ap laterChecks (same-cut a b h) ∙ lat
 
 checks-same : (a b : Register) → SameUsed a b → registerChecks a ≡ registerChecks b
 checks-same a b h = sym (checks-cut a) ∙ ap registerChecks (same-cut a b h) ∙ checks-cut b
-
--- what comes behind checks is looked at only where they are passed
-judged-same : (cs : List Check) (x y : Verdict) → (AllRight cs → x ≡ y) → judged cs x ≡ judged cs y
-unfolding judged
-judged-same [] x y h = h tt
-judged-same (c ∷ cs) x y h = cond-same (c .right) (judged cs x) (judged cs y) _ (λ e. judged-same cs x y (λ p. h (e, p)))
 
 same-test : (p q : Bool) → (p ≡ true → q ≡ true) → (q ≡ true → p ≡ true) → p ≡ q
 same-test true q f g = sym (f refl)
@@ -165,3 +166,81 @@ module _ (a b : Register) (chunk : List ℕ) (h : SameUsed a b) where
               same-test (room a chunk) (room b chunk)
               (λ t. fits-room b chunk (f .0 (room-fits a chunk (subst (λ (n : ℕ). n < mostChunks) (sym (h .n)) few) short (h .s ∙ paid ∙ sym (h .n)) t)))
               (λ t. fits-room a chunk (f .1 (room-fits b chunk few short paid t)))
+
+-- ---- a list
+
+-- room in four buffers
+rooms-four : (x y z w : Bool) → cond x (cond y (cond z (cond w done (refused 14 none)) (refused 14 none)) (refused 14 none)) (refused 14 none) ≡ cond (x && (y && (z && w))) done (refused 14 none)
+rooms-four true y z w = rooms-all y z w
+rooms-four false y z w = refl
+
+module _ (r : Register) (ls bs : List ℕ) where
+  abbrev k : ℕ
+  k = length ls
+
+  -- room for its result
+  list-room : Bool
+  list-room =
+      leb (usedTree (r .n + k)) (length (r .tree))
+      && (leb (usedSignatures (r .n + k - 1)) (length (r .signatures))
+      && (leb (usedBitfield (r .n + k)) (length (r .bitfield)) && leb (r .size + length bs) (length (r .content))))
+
+  -- 8 and 14
+  list-own : judged (roomChecks r k (length bs)) done ≡ cond (eqb (r .s) (r .n)) (cond list-room done (refused 14 none)) (refused 8 none)
+  unfolding roomChecks judged list-room
+  list-own =
+      ap (λ (v : Verdict). cond (eqb (r .s) (r .n)) v (refused 8 none))
+      (rooms-four (leb (usedTree (r .n + k)) (length (r .tree))) (leb (usedSignatures (r .n + k - 1)) (length (r .signatures)))
+      (leb (usedBitfield (r .n + k)) (length (r .bitfield))) (leb (r .size + length bs) (length (r .content))))
+
+  list-room-fits : r .n + k ≤ mostChunks → AllRight (listChecks ls bs) → r .s ≡ r .n → list-room ≡ true → ListFits r ls bs
+  unfolding listChecks list-room
+  list-room-fits few p paid e =
+      let a = both-right (leb (usedTree (r .n + k)) (length (r .tree))) _ e in
+      let b = three (usedSignatures (r .n + k - 1)) (usedBitfield (r .n + k)) (r .size + length bs) (length (r .signatures)) (length (r .bitfield)) (length (r .content)) (a .1) in
+      record {
+        fewer = few;
+        some = ltb-true 0 k (p .0);
+        most = leb-true k mostListed (p .1 .0);
+        adds = eqb-true (total ls) (length bs) (p .1 .1 .0);
+        short = λ i. short-at ls i (p .1 .1 .1 .0);
+        paid = paid;
+        tree = leb-true (usedTree (r .n + k)) (length (r .tree)) (a .0);
+        signatures = b .0;
+        bitfield = b .1;
+        content = b .2;
+      }
+
+  fits-list-room : ListFits r ls bs → list-room ≡ true
+  unfolding list-room
+  fits-list-room f =
+      right-both (leb (usedTree (r .n + k)) (length (r .tree))) _ (le-leb (usedTree (r .n + k)) (length (r .tree)) (f .tree))
+      (all-three (usedSignatures (r .n + k - 1)) (usedBitfield (r .n + k)) (r .size + length bs) (length (r .signatures)) (length (r .bitfield)) (length (r .content))
+      (f .signatures) (f .bitfield) (f .content))
+
+module _ (a b : Register) (ls bs : List ℕ) (h : SameUsed a b) (f : ListFits a ls bs ↔ ListFits b ls bs) where
+  list-rooms : b .n + length ls ≤ mostChunks → AllRight (listChecks ls bs) → b .s ≡ b .n → list-room a ls bs ≡ list-room b ls bs
+  list-rooms few p paid =
+      same-test (list-room a ls bs) (list-room b ls bs)
+      (λ t. fits-list-room b ls bs (f .0 (list-room-fits a ls bs (subst (λ (n : ℕ). n + length ls ≤ mostChunks) (sym (h .n)) few) p (h .s ∙ paid ∙ sym (h .n)) t)))
+      (λ t. fits-list-room a ls bs (f .1 (list-room-fits b ls bs few p paid t)))
+
+  list-owns : b .n + length ls ≤ mostChunks → AllRight (listChecks ls bs)
+      → judged (roomChecks a (length ls) (length bs)) done ≡ judged (roomChecks b (length ls) (length bs)) done
+  list-owns few p =
+      list-own a ls bs
+      ∙ (λ i. cond (eqb (h .s i) (h .n i)) (cond (list-room a ls bs) done (refused 14 none)) (refused 8 none))
+      ∙ cond-same (eqb (b .s) (b .n)) (cond (list-room a ls bs) done (refused 14 none)) (cond (list-room b ls bs) done (refused 14 none)) (refused 8 none)
+      (λ g. ap (λ (t : Bool). cond t done (refused 14 none)) (list-rooms few p (eqb-true (b .s) (b .n) g)))
+      ∙ sym (list-own b ls bs)
+
+  pub list-same : listVerdict a ls bs ≡ listVerdict b ls bs
+  unfolding ownVerdict
+  list-same =
+      let w : Register → Verdict = λ r. judged (listChecks ls bs) (judged (roomChecks r (length ls) (length bs)) done) in
+      list-order a ls bs
+      ∙ (λ i. cond (ltb (h .n i) mostChunks) (cond (leb (h .n i + length ls) mostChunks) (judged (later-same a b h i) (w a)) (refused 2 none)) (refused 2 none))
+      ∙ ap (λ (v : Verdict). cond (ltb (b .n) mostChunks) v (refused 2 none))
+      (cond-same (leb (b .n + length ls) mostChunks) (judged (laterChecks b) (w a)) (judged (laterChecks b) (w b)) (refused 2 none)
+      (λ e. ap (judged (laterChecks b)) (judged-same (listChecks ls bs) _ _ (list-owns (leb-true (b .n + length ls) mostChunks e)))))
+      ∙ sym (list-order b ls bs)

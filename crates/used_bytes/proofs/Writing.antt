@@ -4,12 +4,12 @@ use Prim.Native.Nat.{ℕ, _+_, _*_, _/_, _%_, _≤_, _<_}
 use mathlib.Core.Path.{_≡_, refl, sym, ap, ap₂, _∙_, subst}
 use mathlib.Core.Bool.{Bool, true, false}
 use mathlib.Core.Logic.{_↔_, ⊎-elim}
-use mathlib.Core.List.{List, _++_, map}
+use mathlib.Core.List.{List, [], _∷_, _++_, map}
 use native.Mathlib.Nat.{pos-of-ne-zero}
 use native.Mathlib.Omega.{arith}
 use borrow.Author.Tests.{ltb-true, ltb-false}
 use lib.Dec.{ltb}
-use lib.ListN.{length, take, length-replicate}
+use lib.ListN.{length, take, drop, length-replicate}
 use lib.Seq.{take-take, take-add, length-take-le}
 use Rattle.counts.specs.Verdict.{Verdict, done, refused}
 use Rattle.sequences.specs.Lists.{part, put, zeros, joined, among, Bytes}
@@ -17,30 +17,38 @@ use Rattle.sequences.proofs.Lists.{run-ext, parts-joined}
 use Rattle.tree_index.specs.Tree.{depth, completed, filledBy, entries}
 use Rattle.tree_index.proofs.Filled.{filled-below}
 use Rattle.bitfield.specs.Image.{entryCount}
-use Rattle.bitfield.specs.Append.{bitsPlace, zeroedIfNew, setDataBit, setTreeBits, regenerated, appended}
+use Rattle.bitfield.specs.Append.{bitsPlace, zeroedIfNew, setDataBit, setTreeBits, regenerated, withBits, appended}
 use Rattle.bitfield.proofs.Levels.{same-or}
 use Rattle.bitfield.proofs.Append.{zeroed-new}
 use Rattle.files.specs.Sizes.{mostChunks, entryPlace, usedTree, usedSignatures, usedBitfield}
 use Rattle.files.specs.Messages.{HashFunction}
 use Rattle.files.specs.Nodes.{Entry, entryBytes, leaf}
 use Rattle.files.specs.Stored.{storedHash, storedSize, storedRootMessage}
-use Rattle.files.specs.Belongs.{Buffers, Register, Lent}
+use Rattle.files.specs.Belongs.{Buffers, Register}
 use Rattle.files.proofs.Places.{put-rest}
 use Rattle.writing.specs.Start.{startedRegister, started}
 use Rattle.writing.specs.Append.{appendVerdict, storedEntry, sibling, newEntries, appendedTree, appendedRegister, rootUnlessRefused, appendRoot}
-use Rattle.writing.specs.Sign.{signVerdict, signedRegister}
-use Rattle.writing.specs.Fits.{AppendFits}
+use Rattle.writing.specs.Sign.{signedRegister}
+use Rattle.writing.specs.Fits.{AppendFits, SignFits}
 use Rattle.writing.proofs.Written.{take-put-end}
 use Rattle.writing.proofs.Started.{started-belongs, started-signatures}
 use Rattle.writing.proofs.Climbed.{sibling-filled}
 use Rattle.writing.specs.Inner.{made}
 use Rattle.writing.proofs.Made.{new-made, made-long, climb-same}
-use Rattle.writing.proofs.Tree.{tree-front, tree-new, tree-old, tree-hole}
+use Rattle.writing.proofs.Tree.{tree-length, tree-front, tree-new, tree-old, tree-hole}
 use Rattle.writing.proofs.Bits.{bits-front}
 use Rattle.writing.proofs.Verdicts.{append-passed, sign-passed}
+use Rattle.list_append.specs.Chunks.{chunksOf}
+use Rattle.list_append.specs.Append.{listVerdict, appendedList, listRoot}
+use Rattle.list_append.specs.Fits.{ListFits}
+use Rattle.list_append.proofs.Chunks.{Chunk}
+use Rattle.list_append.proofs.Parts.{onward}
+use Rattle.list_append.proofs.Verdicts.{list-passed}
+use Rattle.list_append.proofs.Steps.{ChunksFit, list-chunks, first-fits, zeros-fit, rest-fit}
+use Rattle.list_append.proofs.Passes.{bytes-long, next-bytes}
 use Rattle.used_bytes.specs.UsedBytes.{SameUsed, WritesUsed}
 use Rattle.used_bytes.proofs.Cut.{same-cut, hash-cut, size-cut, entry-cut, root-message-cut}
-use Rattle.used_bytes.proofs.Verdicts.{start-same, sign-same, append-same}
+use Rattle.used_bytes.proofs.Verdicts.{start-same, sign-same, append-same, list-same}
 
 -- ---- the root message
 
@@ -66,8 +74,7 @@ started-same F a b =
 -- ---- a stored signature
 
 module _ (a b : Register) (h : SameUsed a b) where
-  signed-same : (signature : List ℕ) → length signature ≡ 64 → signVerdict a ≡ done → signVerdict b ≡ done
-      → SameUsed (signedRegister a signature) (signedRegister b signature)
+  signed-same : (signature : List ℕ) → length signature ≡ 64 → SignFits a → SignFits b → SameUsed (signedRegister a signature) (signedRegister b signature)
   unfolding signedRegister usedSignatures
   signed-same signature long e d =
       record {
@@ -78,9 +85,9 @@ module _ (a b : Register) (h : SameUsed a b) where
         signatures =
             let next : usedSignatures (a .s + 1) ≡ usedSignatures (a .s) + 64 = omega arith in
             ap (λ (m : ℕ). take m (put (a .signatures) (usedSignatures (a .s)) signature)) next
-            ∙ take-put-end (a .signatures) (usedSignatures (a .s)) 64 signature long (sign-passed a e .0 .signatures)
+            ∙ take-put-end (a .signatures) (usedSignatures (a .s)) 64 signature long (omega (arith, e .room))
             ∙ ap (λ (l : List ℕ). l ++ signature) (h .signatures)
-            ∙ sym (take-put-end (b .signatures) (usedSignatures (a .s)) 64 signature long (subst (λ (s : ℕ). usedSignatures s ≤ length (b .signatures)) (sym (h .s)) (sign-passed b d .0 .signatures)))
+            ∙ sym (take-put-end (b .signatures) (usedSignatures (a .s)) 64 signature long (omega (arith, d .room, h .s)))
             ∙ ap₂ (λ (m s : ℕ). take m (put (b .signatures) (usedSignatures s) signature)) (sym next) (h .s);
         bitfield = h .bitfield;
         content = h .content;
@@ -146,10 +153,17 @@ module _ (F : List ℕ → List ℕ) (hf : HashFunction F) (t u : List ℕ) (n :
       go true e = tree-new F t n c entry long (new-made F t n c) few roomT i e ∙ sym (tree-new F u n c entry long newU few roomU i e)
       go false e = kept (ltb i (entries n)) refl e
 
+  -- the second file stays as long as it was
+  longU : length (appendedTree F u n c) ≡ length u
+  longU = tree-length F u n c entry long newU few roomU
+
   tree-same : take (usedTree (n + 1)) (appendedTree F t n c) ≡ take (usedTree (n + 1)) (appendedTree F u n c)
   tree-same = tree-of (appendedTree F t n c) (appendedTree F u n c) (n + 1) front each
 
 -- ---- the bitfield after an append
+
+full : length (zeros 64) ≡ 64
+full = length-replicate {A = ℕ} 64 0
 
 zeros-long : length (zeros 3328) ≡ 3328
 zeros-long = length-replicate {A = ℕ} 3328 0
@@ -180,7 +194,7 @@ module _ (xs ys : List ℕ) (n : ℕ) (few : n < mostChunks) (same : take (usedB
       (same-or (n % 8192) 0)
 
   bits-same : take (usedBitfield (n + 1)) (appended xs n) ≡ take (usedBitfield (n + 1)) (appended ys n)
-  unfolding appended
+  unfolding appended withBits
   bits-same =
       bits-front xs n few roomX
       ∙ ap (λ (l : List ℕ). regenerated (setTreeBits (setDataBit l n) (filledBy n)) (n / 8192)) cut-same
@@ -188,17 +202,24 @@ module _ (xs ys : List ℕ) (n : ℕ) (few : n < mostChunks) (same : take (usedB
 
 -- ---- the register after an append
 
-module _ (F : List ℕ → List ℕ) (hf : HashFunction F) (a b : Register) (chunk : List ℕ) (h : SameUsed a b) (l : Lent a) (p : Bytes chunk) where
-  appended-same : appendVerdict a chunk ≡ done → appendVerdict b chunk ≡ done → SameUsed (appendedRegister F a chunk) (appendedRegister F b chunk)
+module _ (F : List ℕ → List ℕ) (hf : HashFunction F) (a b : Register) (chunk : List ℕ) (h : SameUsed a b) (l : Bytes (a .tree)) (p : Bytes chunk) where
+  roomy : AppendFits b chunk → usedTree (a .n + 1) ≤ length (b .tree)
+  roomy g = subst (λ (n : ℕ). usedTree (n + 1) ≤ length (b .tree)) (sym (h .n)) (g .tree)
+
+  appended-long : AppendFits a chunk → AppendFits b chunk → length (appendedTree F (b .tree) (b .n) chunk) ≡ length (b .tree)
+  appended-long f g =
+      ap (λ (n : ℕ). length (appendedTree F (b .tree) n chunk)) (sym (h .n))
+      ∙ longU F hf (a .tree) (b .tree) (a .n) chunk l p (f .fewer) (h .tree) (f .tree) (roomy g)
+
+  appended-same : AppendFits a chunk → AppendFits b chunk → SameUsed (appendedRegister F a chunk) (appendedRegister F b chunk)
   unfolding appendedRegister
-  appended-same d e =
+  appended-same f g =
       record {
         n = ap (λ (k : ℕ). k + 1) (h .n);
         s = h .s;
         size = ap (λ (k : ℕ). k + length chunk) (h .size);
         tree =
-            tree-same F hf (a .tree) (b .tree) (a .n) chunk (l .tree) p (f .fewer) (h .tree) (f .tree)
-            (subst (λ (n : ℕ). usedTree (n + 1) ≤ length (b .tree)) (sym (h .n)) (g .tree))
+            tree-same F hf (a .tree) (b .tree) (a .n) chunk l p (f .fewer) (h .tree) (f .tree) (roomy g)
             ∙ ap (λ (n : ℕ). take (usedTree (a .n + 1)) (appendedTree F (b .tree) n chunk)) (h .n);
         signatures = h .signatures;
         bitfield =
@@ -206,18 +227,12 @@ module _ (F : List ℕ → List ℕ) (hf : HashFunction F) (a b : Register) (chu
             (subst (λ (n : ℕ). usedBitfield (n + 1) ≤ length (b .bitfield)) (sym (h .n)) (g .bitfield))
             ∙ ap (λ (n : ℕ). take (usedBitfield (a .n + 1)) (appended (b .bitfield) n)) (h .n);
         content =
-            take-put-end (a .content) (a .size) (length chunk) chunk refl (append-passed a chunk d .0 .content)
+            take-put-end (a .content) (a .size) (length chunk) chunk refl (omega (arith, f .content))
             ∙ ap (λ (x : List ℕ). x ++ chunk) (h .content)
             ∙ sym (take-put-end (b .content) (a .size) (length chunk) chunk refl
-            (subst (λ (z : ℕ). z ≤ length (b .content)) (sym (h .size)) (append-passed b chunk e .0 .content)))
+            (omega (arith, g .content, h .size)))
             ∙ ap (λ (z : ℕ). take (a .size + length chunk) (put (b .content) z chunk)) (h .size);
       }
-    where
-      f : AppendFits a chunk
-      f = append-passed a chunk d .1
-
-      g : AppendFits b chunk
-      g = append-passed b chunk e .1
 
   -- and its root hash
   root-same : AppendFits a chunk ↔ AppendFits b chunk → appendRoot F a chunk ≡ appendRoot F b chunk
@@ -226,7 +241,43 @@ module _ (F : List ℕ → List ℕ) (hf : HashFunction F) (a b : Register) (chu
       ap (λ (v : Verdict). rootUnlessRefused F v (appendedRegister F a chunk)) (append-same a b chunk h f) ∙ go (appendVerdict b chunk) refl
     where
       go : (v : Verdict) → appendVerdict b chunk ≡ v → rootUnlessRefused F v (appendedRegister F a chunk) ≡ rootUnlessRefused F v (appendedRegister F b chunk)
-      go done e = ap F (message-same (appendedRegister F a chunk) (appendedRegister F b chunk) (appended-same (append-same a b chunk h f ∙ e) e))
+      go done e = ap F (message-same (appendedRegister F a chunk) (appendedRegister F b chunk) (appended-same (append-passed a chunk (append-same a b chunk h f ∙ e) .1) (append-passed b chunk e .1)))
+      go (refused m at) e = refl
+
+-- ---- a list
+
+module _ (F : List ℕ → List ℕ) (hf : HashFunction F) where
+  by-chunks : (cs : List (List ℕ)) (c : List ℕ) (a b : Register) → SameUsed a b → Bytes (a .tree) → ChunksFit a (c ∷ cs) → ChunksFit b (c ∷ cs)
+      → SameUsed (appendedList F a (c ∷ cs)) (appendedList F b (c ∷ cs))
+  unfolding appendedList
+  by-chunks [] c a b h l f g = appended-same F hf a b c h l (f .each .0 .bytes) (first-fits a c [] f) (first-fits b c [] g)
+  by-chunks (d ∷ cs) c a b h l f g =
+      let p : Chunk c = f .each .0 in
+      let x = first-fits a c (d ∷ cs) f in
+      let y = first-fits b c (d ∷ cs) g in
+      let s : SameUsed (appendedRegister F a c) (appendedRegister F b c) = appended-same F hf a b c h l (p .bytes) x y in
+      by-chunks cs d (onward F a c) (onward F b c) (signed-same (appendedRegister F a c) (appendedRegister F b c) s (zeros 64) full (zeros-fit F a c d cs f) (zeros-fit F b c d cs g))
+      (next-bytes F hf a c l p x) (rest-fit F a c d cs f (bytes-long F hf a c l p x)) (rest-fit F b c d cs g (appended-long F hf a b c h l (p .bytes) x y))
+
+  listed-same : (a b : Register) (ls bs : List ℕ) → SameUsed a b → Bytes (a .tree) → Bytes bs → ListFits a ls bs → ListFits b ls bs
+      → SameUsed (appendedList F a (chunksOf ls bs)) (appendedList F b (chunksOf ls bs))
+  unfolding chunksOf
+  listed-same a b [] bs h l p f g = absurd (omega (arith, f .some))
+  listed-same a b (k ∷ ls) bs h l p f g =
+      by-chunks (chunksOf ls (drop k bs)) (take k bs) a b h l (list-chunks a (k ∷ ls) bs f p) (list-chunks b (k ∷ ls) bs g p)
+
+  -- and its root hash
+  list-root-same : (a b : Register) (ls bs : List ℕ) → SameUsed a b → Bytes (a .tree) → Bytes bs → ListFits a ls bs ↔ ListFits b ls bs
+      → listRoot F a ls bs ≡ listRoot F b ls bs
+  unfolding listRoot
+  list-root-same a b ls bs h l p f =
+      ap (λ (v : Verdict). rootUnlessRefused F v (appendedList F a (chunksOf ls bs))) (list-same a b ls bs h f) ∙ go (listVerdict b ls bs) refl
+    where
+      go : (v : Verdict) → listVerdict b ls bs ≡ v
+          → rootUnlessRefused F v (appendedList F a (chunksOf ls bs)) ≡ rootUnlessRefused F v (appendedList F b (chunksOf ls bs))
+      go done e =
+          let g : ListFits b ls bs = list-passed b ls bs e .1 in
+          ap F (message-same (appendedList F a (chunksOf ls bs)) (appendedList F b (chunksOf ls bs)) (listed-same a b ls bs h l p (f .1 g) g))
       go (refused m at) e = refl
 
 pub writes : (F : List ℕ → List ℕ) → HashFunction F → WritesUsed F
@@ -235,8 +286,11 @@ writes F hf =
       start = start-same;
       started = λ a b d e. started-same F a b;
       append = λ a b chunk h f. append-same a b chunk h f;
-      appended = λ a b chunk h l p d e. appended-same F hf a b chunk h l p d e;
-      root = λ a b chunk h l p f. root-same F hf a b chunk h l p f;
+      appended = λ a b chunk h l p d e. appended-same F hf a b chunk h (l .tree) p (append-passed a chunk d .1) (append-passed b chunk e .1);
+      root = λ a b chunk h l p f. root-same F hf a b chunk h (l .tree) p f;
+      list = λ a b ls bs h f. list-same a b ls bs h f;
+      listed = λ a b ls bs h l p d e. listed-same F hf a b ls bs h (l .tree) p (list-passed a ls bs d .1) (list-passed b ls bs e .1);
+      listRoots = λ a b ls bs h l p f. list-root-same F hf a b ls bs h (l .tree) p f;
       sign = λ a b h f. sign-same a b h f;
-      signed = λ a b signature h g d e. signed-same a b h signature g d e;
+      signed = λ a b signature h g d e. signed-same a b h signature g (sign-passed a d .1) (sign-passed b e .1);
     }

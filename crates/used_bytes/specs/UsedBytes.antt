@@ -3,7 +3,7 @@
 -- lack it, and leaves the same used bytes in both.
 --
 -- The notions in it: `HashFunction` (files, Messages), `Register`, `Buffers` and `Lent` (files, Belongs), the used sizes (files, Sizes), the
--- calls' verdicts and answers (writing, Start, Append, Sign and RootHash; audit, Audit; compare, Walk; lookup, Lookup, Read and Said; packet,
+-- calls' verdicts and answers (writing, Start, Append, Sign and RootHash; list_append, Append, with Chunks and Fits; audit, Audit; compare, Walk; lookup, Lookup, Read and Said; packet,
 -- Packet) and what a call that writes asks for (writing, Fits).
 use Prim.Native.Nat.{ℕ}
 use mathlib.Core.Path.{_≡_}
@@ -20,6 +20,9 @@ use Rattle.writing.specs.Append.{appendVerdict, appendedRegister, appendRoot}
 use Rattle.writing.specs.Sign.{signVerdict, signedRegister}
 use Rattle.writing.specs.RootHash.{rootVerdict, rootAnswer}
 use Rattle.writing.specs.Fits.{StartFits, AppendFits, SignFits}
+use Rattle.list_append.specs.Chunks.{chunksOf}
+use Rattle.list_append.specs.Append.{listVerdict, appendedList, listRoot}
+use Rattle.list_append.specs.Fits.{ListFits}
 use Rattle.audit.specs.Audit.{audit}
 use Rattle.compare.specs.Walk.{compare}
 use Rattle.lookup.specs.Lookup.{placeOf, byteAt}
@@ -71,6 +74,13 @@ pub record WritesUsed (F : List ℕ → List ℕ) : Type 0 where
       → appendVerdict b chunk ≡ done → SameUsed (appendedRegister F a chunk) (appendedRegister F b chunk)
   pub root : (a b : Register) (chunk : List ℕ) → SameUsed a b → Lent a → Bytes chunk → AppendFits a chunk ↔ AppendFits b chunk
       → appendRoot F a chunk ≡ appendRoot F b chunk
+  -- a list
+  pub list : (a b : Register) (lengths bytes : List ℕ) → SameUsed a b → ListFits a lengths bytes ↔ ListFits b lengths bytes
+      → listVerdict a lengths bytes ≡ listVerdict b lengths bytes
+  pub listed : (a b : Register) (lengths bytes : List ℕ) → SameUsed a b → Lent a → Bytes bytes → listVerdict a lengths bytes ≡ done
+      → listVerdict b lengths bytes ≡ done → SameUsed (appendedList F a (chunksOf lengths bytes)) (appendedList F b (chunksOf lengths bytes))
+  pub listRoots : (a b : Register) (lengths bytes : List ℕ) → SameUsed a b → Lent a → Bytes bytes → ListFits a lengths bytes ↔ ListFits b lengths bytes
+      → listRoot F a lengths bytes ≡ listRoot F b lengths bytes
   pub sign : (a b : Register) → SameUsed a b → SignFits a ↔ SignFits b → signVerdict a ≡ signVerdict b
   pub signed : (a b : Register) (signature : List ℕ) → SameUsed a b → length signature ≡ 64 → signVerdict a ≡ done → signVerdict b ≡ done
       → SameUsed (signedRegister a signature) (signedRegister b signature)

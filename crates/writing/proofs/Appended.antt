@@ -20,7 +20,7 @@ use Rattle.files.specs.Messages.{HashFunction}
 use Rattle.files.specs.Nodes.{leaf}
 use Rattle.files.specs.Images.{bitfieldImage, rootHashFor}
 use Rattle.files.specs.Stored.{storedRootMessage}
-use Rattle.files.specs.Belongs.{Register, Lent, Within, Belongs}
+use Rattle.files.specs.Belongs.{Register, Within, Belongs}
 use Rattle.files.proofs.OfImage.{bitfieldHeader-length, stored-root-message}
 use Rattle.files.proofs.ToImage.{header-cut}
 use Rattle.writing.specs.Append.{appendedRegister}
@@ -75,11 +75,11 @@ module _ (F : List ℕ → List ℕ) (hf : HashFunction F) (cs : List (List ℕ)
 -- ---- any register
 
 -- the bytes behind the used ones stay
-module _ (F : List ℕ → List ℕ) (hf : HashFunction F) (r : Register) (l : Lent r) (c : List ℕ) (p : Bytes c) (a : AppendFits r c) where
+module _ (F : List ℕ → List ℕ) (hf : HashFunction F) (r : Register) (t : Bytes (r .tree)) (c : List ℕ) (p : Bytes c) (a : AppendFits r c) where
   pub append-tree-rest : drop (usedTree (r .n + 1)) (appendedRegister F r c .tree) ≡ drop (usedTree (r .n + 1)) (r .tree)
   unfolding appendedRegister
   append-tree-rest =
-      tree-rest F (r .tree) (r .n) c (λ i. made F (r .tree) (r .n) (leaf F c) (depth i)) (λ i. made-long F hf (r .tree) (r .n) c (l .tree) p (depth i))
+      tree-rest F (r .tree) (r .n) c (λ i. made F (r .tree) (r .n) (leaf F c) (depth i)) (λ i. made-long F hf (r .tree) (r .n) c t p (depth i))
       (new-made F (r .tree) (r .n) c) (a .fewer) (a .tree)
 
   pub append-bitfield-rest : drop (usedBitfield (r .n + 1)) (appendedRegister F r c .bitfield) ≡ drop (usedBitfield (r .n + 1)) (r .bitfield)

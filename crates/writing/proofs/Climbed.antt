@@ -7,13 +7,13 @@ use mathlib.Core.List.{List, [], _∷_, map, map-append}
 use native.Mathlib.Nat.{add-zero, zero-add, add-suc, suc-add}
 use native.Mathlib.Numerals.{add-one}
 use native.Mathlib.Omega.{arith}
-use lib.ListN.{length}
+use lib.ListN.{length, getD, length-append, List·getD-append}
 use lib.Pow.{pow-pos}
 use Rattle.sequences.specs.Lists.{put, run, total}
 use Rattle.tree_index.specs.Tree.{index, filled, completed, filledBy, entries, roots}
 use Rattle.tree_index.proofs.Filled.{block-end, end-filled, filled-below}
 use Rattle.tree_index.proofs.Appended.{completed-end, newly-filled, newly-hole}
-use Rattle.tree_index.proofs.Roots.{siblings, completed-half, carried}
+use Rattle.tree_index.proofs.Roots.{Carried, siblings, completed-half, carried, root-filled}
 use Rattle.files.specs.Sizes.{mostChunks, entryPlace, usedTree}
 use Rattle.files.specs.Nodes.{Entry, entryBytes, parentOf}
 use Rattle.files.specs.Stored.{storedHash, storedSize, storedRootSizes}
@@ -85,6 +85,10 @@ made-long t n e l d = entryBytes-length (made nodeHash t n e d) (hash-long d)
 beside : List ℕ → ℕ → ℕ → ℕ → ℕ
 beside t n d k = total (map (storedSize t) (siblings n d k))
 
+beside-none : (t : List ℕ) (n d : ℕ) → beside t n d 0 ≡ 0
+unfolding beside siblings total
+beside-none t n d = refl
+
 beside-suc : (t : List ℕ) (n d k : ℕ) → beside t n d (suc k) ≡ beside t n (suc d) k + storedSize t (sibling n d)
 unfolding beside siblings sibling total
 beside-suc t n d k =
@@ -93,28 +97,47 @@ beside-suc t n d k =
     ∙ total-append (map f (siblings n (suc d) k)) (f (index d ((n + 1) / 2 ^ d - 2)) ∷ [])
     ∙ ap (λ (x : ℕ). total (map f (siblings n (suc d) k)) + x) (add-zero (f (index d ((n + 1) / 2 ^ d - 2))))
 
-made-size : (t : List ℕ) (n : ℕ) (e : Entry) (d k : ℕ) → made nodeHash t n e d .size + beside t n d k ≡ e .size + beside t n 0 (d + k)
+made-size : (F : List ℕ → List ℕ) (t : List ℕ) (n : ℕ) (e : Entry) (d k : ℕ) → made F t n e d .size + beside t n d k ≡ e .size + beside t n 0 (d + k)
 unfolding made parentOf storedEntry
-made-size t n e zero k = ap (λ (x : ℕ). e .size + beside t n 0 x) (sym (zero-add k))
-made-size t n e (suc d) k =
-    let rec : made nodeHash t n e d .size + beside t n d (suc k) ≡ e .size + beside t n 0 (d + suc k) = made-size t n e d (suc k) in
+made-size F t n e zero k = ap (λ (x : ℕ). e .size + beside t n 0 x) (sym (zero-add k))
+made-size F t n e (suc d) k =
+    let rec : made F t n e d .size + beside t n d (suc k) ≡ e .size + beside t n 0 (d + suc k) = made-size F t n e d (suc k) in
     let same : beside t n 0 (d + suc k) ≡ beside t n 0 (suc d + k) = ap (beside t n 0) (add-suc d k ∙ sym (suc-add d k)) in
     omega (arith, rec, same, beside-suc t n d k)
 
--- "by 6 their sum fits": a parent is no longer than the stored roots and the leaf together
-pub sum-le : (t : List ℕ) (n : ℕ) (e : Entry) (d : ℕ) → n < mostChunks → d < completed n
-    → storedSize t (sibling n d) + made nodeHash t n e d .size ≤ total (storedRootSizes t n) + e .size
+-- the stored roots are those that stay roots with the chunk n, and the siblings
+all-roots : (t : List ℕ) (n : ℕ) (r : Carried n) → total (storedRootSizes t n) ≡ total (map (storedSize t) (r .kept)) + beside t n 0 (completed n)
 unfolding beside storedRootSizes
-sum-le t n e d few h =
-    let r = carried n few in
-    let k : ℕ = completed n - suc d in
-    let all : total (map (storedSize t) (roots n)) ≡ total (map (storedSize t) (r .kept)) + beside t n 0 (completed n) =
+all-roots t n r =
     ap (λ (l : List ℕ). total (map (storedSize t) l)) (r .before)
     ∙ ap total (map-append (storedSize t) (r .kept) (siblings n 0 (completed n)))
     ∙ total-append (map (storedSize t) (r .kept)) (map (storedSize t) (siblings n 0 (completed n)))
-    in
+
+-- "by 6 their sum fits": a parent is no longer than the stored roots and the leaf together
+pub sum-le : (F : List ℕ → List ℕ) (t : List ℕ) (n : ℕ) (e : Entry) (d : ℕ) → n < mostChunks → d < completed n
+    → storedSize t (sibling n d) + made F t n e d .size ≤ total (storedRootSizes t n) + e .size
+sum-le F t n e d few h =
+    let k : ℕ = completed n - suc d in
     let same : beside t n 0 (d + suc k) ≡ beside t n 0 (completed n) = ap (beside t n 0) (omega arith) in
-    omega (arith, all, same, made-size t n e d (suc k), beside-suc t n d k)
+    omega (arith, all-roots t n (carried n few), same, made-size F t n e d (suc k), beside-suc t n d k)
+
+-- the roots that stay and the node that the chunk completes last are as long as the stored roots and the leaf together
+pub top-size : (F : List ℕ → List ℕ) (t : List ℕ) (n : ℕ) (e : Entry) (r : Carried n)
+    → total (map (storedSize t) (r .kept)) + made F t n e (completed n) .size ≡ total (storedRootSizes t n) + e .size
+top-size F t n e r =
+    let z : ℕ = completed n in
+    let same : beside t n 0 (z + 0) ≡ beside t n 0 z = ap (beside t n 0) (add-zero z) in
+    let none : beside t n z 0 ≡ 0 = beside-none t n z in
+    omega (arith, all-roots t n r, same, none, made-size F t n e z 0)
+
+-- a root that stays is filled before
+pub kept-filled : (n : ℕ) (r : Carried n) (j : ℕ) → j < length (r .kept) → filled n (getD (r .kept) j 0) ≡ true
+kept-filled n r j l =
+    let long : length (roots n) ≡ length (r .kept) + length (siblings n 0 (completed n)) =
+    ap length (r .before) ∙ length-append (r .kept) (siblings n 0 (completed n))
+    in
+    ap (filled n) (sym (List·getD-append (r .kept) (siblings n 0 (completed n)) 0 j l) ∙ ap (λ (xs : List ℕ). getD xs j 0) (sym (r .before)))
+    ∙ root-filled n j (omega arith)
 
 -- ---- the file on the way
 
@@ -188,7 +211,7 @@ pub above-fits : (t : List ℕ) (n : ℕ) (e : Entry) (d : ℕ) (u : List ℕ) (
     → total (storedRootSizes t n) + e .size < 2 ^ 64 → Going t n e (d + 1) u → x ≡ made nodeHash t n e d → storedSize u (sibling n d) + x .size < 2 ^ 64
 above-fits t n e d u x few h m g p =
     let s : x .size ≡ made nodeHash t n e d .size = ap (λ (y : Entry). y .size) p in
-    omega (arith, sum-le t n e d few h, g .size (sibling n d) (sibling-filled n d few h), s)
+    omega (arith, sum-le nodeHash t n e d few h, g .size (sibling n d) (sibling-filled n d few h), s)
 
 -- one entry more, of the value x
 pub going-step : (t : List ℕ) (n : ℕ) (e : Entry) (d : ℕ) (u v : List ℕ) (x : Entry) → n < mostChunks → d ≤ completed n → usedTree (n + 1) ≤ length t

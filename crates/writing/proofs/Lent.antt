@@ -24,12 +24,12 @@ use Rattle.writing.proofs.Appended.{bits-put, longer-within}
 
 -- ---- the tree's entries
 
-with-bytes : (f : ℕ → Entry) → ((i : ℕ) → Bytes (entryBytes (f i))) → (t : List ℕ) (is : List ℕ) → Bytes t → Bytes (withEntries t is (map f is))
+pub with-bytes : (f : ℕ → Entry) → ((i : ℕ) → Bytes (entryBytes (f i))) → (t : List ℕ) (is : List ℕ) → Bytes t → Bytes (withEntries t is (map f is))
 unfolding withEntries
 with-bytes f p t [] q = q
 with-bytes f p t (x ∷ is) q = with-bytes f p (put t (entryPlace x) (entryBytes (f x))) is (bytes-put t (entryPlace x) (entryBytes (f x)) q (p x))
 
-hole-bytes : (t : List ℕ) (n : ℕ) → Bytes t → Bytes (withHole t n)
+pub hole-bytes : (t : List ℕ) (n : ℕ) → Bytes t → Bytes (withHole t n)
 hole-bytes t n q = by-hole Bytes t n (λ _. q) (λ _. bytes-put t (entryPlace (2 * n - 1)) (zeros 40) q (bytes-zeros 40))
 
 -- ---- the registers

@@ -9,6 +9,8 @@ use Rattle.sequences.specs.Lists.{run, Bytes}
 use Rattle.sequences.proofs.Lists.{run-ext, bytes-part}
 use Rattle.tree_index.specs.Tree.{index, depth, completed, filledBy}
 use Rattle.tree_index.proofs.Index.{depth-index}
+use Rattle.blake2b.specs.Hash.{nodeHash}
+use Rattle.blake2b.proofs.Laws.{node-length, node-byte}
 use Rattle.files.specs.Sizes.{entryPlace}
 use Rattle.files.specs.Messages.{HashFunction}
 use Rattle.files.specs.Nodes.{Entry, entryBytes, leaf, parentOf}
@@ -42,7 +44,7 @@ module _ (F : List ℕ → List ℕ) where
 
   -- each has 40 bytes, where the tree file and the chunk hold bytes
   module _ (hf : HashFunction F) (t : List ℕ) (n : ℕ) (c : List ℕ) (q : Bytes t) (p : Bytes c) where
-    hashed : (d : ℕ) → (length (made F t n (leaf F c) d .hash) ≡ 32) × Bytes (made F t n (leaf F c) d .hash)
+    pub hashed : (d : ℕ) → (length (made F t n (leaf F c) d .hash) ≡ 32) × Bytes (made F t n (leaf F c) d .hash)
     unfolding made leaf parentOf storedEntry storedHash
     hashed zero = (hf .size _ (leafMessage-bytes c p), hf .byte _ (leafMessage-bytes c p))
     hashed (suc d) =
@@ -61,3 +63,10 @@ module _ (F : List ℕ → List ℕ) where
       ap (λ (l : List Entry). e ∷ l)
       (ap (λ (x : Entry). climb F t n (d + 1) k (parentOf F x e)) (same d (omega arith))
       ∙ climb-same t u n same k (d + 1) (parentOf F (storedEntry u (sibling n d)) e) (omega arith))
+
+-- the hashes of the calls have 32 bytes, whatever the tree file and the chunk hold
+pub node-hashed : (t : List ℕ) (n : ℕ) (c : List ℕ) (d : ℕ)
+    → (length (made nodeHash t n (leaf nodeHash c) d .hash) ≡ 32) × Bytes (made nodeHash t n (leaf nodeHash c) d .hash)
+unfolding made leaf parentOf
+node-hashed t n c zero = (node-length _, node-byte _)
+node-hashed t n c (suc d) = (node-length _, node-byte _)

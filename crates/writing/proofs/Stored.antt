@@ -25,7 +25,7 @@ use Rattle.files.proofs.Spans.{map-ext}
 use Rattle.files.proofs.Written.{other-hash, other-size}
 use Rattle.writing.specs.Append.{storedEntry, sibling, withHole, withEntries, climb, newEntries, appendedTree}
 use Rattle.writing.proofs.Tree.{by-hole, forty, hole-room, hole-length}
-use Rattle.writing.specs.Inner.{place, HeadersPut, FilledFits, StoreFits, StorePost}
+use Rattle.writing.specs.Inner.{place, withLeaf, HeadersPut, FilledFits, StoreFits, StorePost}
 use Rattle.writing.proofs.Made.{climb-same}
 use Rattle.writing.proofs.Climbed.{sibling-filled, place-new, filled-in}
 
@@ -82,12 +82,24 @@ module _ (t : List ℕ) (n : ℕ) (room : usedTree (n + 1) ≤ length t) where
       ap₂ (λ (a : List ℕ) (b : ℕ). record { hash = a; size = b }) (hole-hash (sibling n d) f) (hole-size (sibling n d) f))
 
   -- the hole, and then the entries
-  pub stored-tree : (u v chunk : List ℕ) (e : Entry) → n < mostChunks → e ≡ leaf nodeHash chunk → u ≡ withHole t n
-      → v ≡ withEntries u (filledBy n) (climb nodeHash u n 0 (completed n) e) → v ≡ appendedTree nodeHash t n chunk
-  unfolding appendedTree newEntries
-  stored-tree u v chunk e few p q w =
-      w ∙ ap₂ (λ (x : List ℕ) (y : Entry). withEntries x (filledBy n) (climb nodeHash x n 0 (completed n) y)) q p
-      ∙ ap (withEntries (withHole t n) (filledBy n)) (hole-climb few (completed n) 0 (leaf nodeHash chunk) (omega arith))
+  pub leaf-put : (u v : List ℕ) (e : Entry) → n < mostChunks → u ≡ withHole t n
+      → v ≡ withEntries u (filledBy n) (climb nodeHash u n 0 (completed n) e) → v ≡ withLeaf t n e
+  unfolding withLeaf
+  leaf-put u v e few q w =
+      w ∙ ap (λ (x : List ℕ). withEntries x (filledBy n) (climb nodeHash x n 0 (completed n) e)) q
+      ∙ ap (withEntries (withHole t n) (filledBy n)) (hole-climb few (completed n) 0 e (omega arith))
+
+  -- they fit where they did before the hole
+  pub hole-fits : (u : List ℕ) (size : ℕ) → FilledFits t n size → u ≡ withHole t n → FilledFits u n size
+  hole-fits u size w e =
+      let same : total (storedRootSizes u n) ≡ total (storedRootSizes t n) = ap (λ (x : List ℕ). total (storedRootSizes x n)) e ∙ hole-roots in
+      let long : length u ≡ length t = ap length e ∙ hole-length t n room in
+      record { few = w .few; room = omega (arith, w .room); sum = omega (arith, w .sum) }
+
+-- the leaf of a chunk gives the tree file with the chunk
+pub leaf-tree : (t v : List ℕ) (n : ℕ) (chunk : List ℕ) (e : Entry) → e ≡ leaf nodeHash chunk → v ≡ withLeaf t n e → v ≡ appendedTree nodeHash t n chunk
+unfolding appendedTree newEntries withLeaf
+leaf-tree t v n chunk e p w = w ∙ ap (withLeaf t n) p
 
 -- ---- the chunk
 
@@ -153,19 +165,14 @@ headers-put t g b t' g' b' h₁ h₂ h₃ p q r x y z =
 
 -- ---- all of it
 
-pub filled-fits : (t b c u chunk : List ℕ) (n size : ℕ) → StoreFits t b c n size chunk → length c < 2 ^ 64 → u ≡ withHole t n → FilledFits u n (length chunk)
-filled-fits t b c u chunk n size w l e =
-    let same : total (storedRootSizes u n) ≡ size = ap (λ (x : List ℕ). total (storedRootSizes x n)) e ∙ hole-roots t n (w .tree) ∙ w .sum in
-    let long : length u ≡ length t = ap length e ∙ hole-length t n (w .tree) in
-    record { few = w .few; room = omega (arith, w .tree); sum = omega (arith, w .content) }
+pub filled-fits : (t b c chunk : List ℕ) (n size : ℕ) → StoreFits t b c n size chunk → length c < 2 ^ 64 → FilledFits t n (length chunk)
+filled-fits t b c chunk n size w l = record { few = w .few; room = w .tree; sum = omega (arith, w .content, w .sum) }
 
-pub store-post : (t b c u v b' c' chunk h root : List ℕ) (n size end : ℕ) → StoreFits t b c n size chunk → size + length chunk ≡ end
-    → c' ≡ put c size chunk → h ≡ nodeHash (leafMessage (take (end - size) (drop size c'))) → u ≡ withHole t n
-    → v ≡ withEntries u (filledBy n) (climb nodeHash u n 0 (completed n) (record { hash = h; size = length chunk }))
+pub store-post : (t b c v b' c' chunk h root : List ℕ) (n size end : ℕ) → StoreFits t b c n size chunk → size + length chunk ≡ end
+    → c' ≡ put c size chunk → h ≡ nodeHash (leafMessage (take (end - size) (drop size c'))) → v ≡ withLeaf t n (record { hash = h; size = length chunk })
     → b' ≡ appended b n → root ≡ nodeHash (storedRootMessage v (n + 1)) → StorePost t b c n size chunk root v b' c'
-store-post t b c u v b' c' chunk h root n size end w m p q r s x y =
+store-post t b c v b' c' chunk h root n size end w m p q s x y =
     let e : v ≡ appendedTree nodeHash t n chunk =
-    stored-tree t n (w .tree) u v chunk (record { hash = h; size = length chunk }) (w .few)
-    (leaf-there c c' chunk h size end p m (omega (arith, w .content)) q) r s
+    leaf-tree t v n chunk (record { hash = h; size = length chunk }) (leaf-there c c' chunk h size end p m (omega (arith, w .content)) q) s
     in
     record { tree = e; bitfield = x; content = p; root = y ∙ ap (λ (l : List ℕ). nodeHash (storedRootMessage l (n + 1))) e }

@@ -4,7 +4,7 @@ use mathlib.Core.Path.{_≡_}
 use mathlib.Core.List.{List, [], _∷_}
 use lib.ListN.{length}
 use Rattle.sequences.specs.Lists.{put, total}
-use Rattle.tree_index.specs.Tree.{index, completed}
+use Rattle.tree_index.specs.Tree.{index, completed, filledBy}
 use Rattle.bitfield.specs.Append.{appended}
 use Rattle.blake2b.specs.Hash.{nodeHash}
 use Rattle.files.specs.Headers.{treeHeader, signaturesHeader, bitfieldHeader}
@@ -12,7 +12,7 @@ use Rattle.files.specs.Sizes.{mostChunks, longestChunk, usedTree, usedSignature
 use Rattle.files.specs.Nodes.{Entry, parentOf}
 use Rattle.files.specs.Stored.{storedSize, storedRootSizes, storedRootMessage}
 use Rattle.files.specs.Belongs.{Register}
-use Rattle.writing.specs.Append.{storedEntry, sibling, appendedTree}
+use Rattle.writing.specs.Append.{storedEntry, sibling, withHole, withEntries, climb, appendedTree}
 use Rattle.writing.specs.declared.appending.Node.{Node}
 
 -- ---- a start
@@ -37,6 +37,10 @@ entryOf e = record { hash = e .hash; size = e .size }
 unfoldable pub made : (List ℕ → List ℕ) → List ℕ → ℕ → Entry → ℕ → Entry
 made F tree n e zero = e
 made F tree n e (suc d) = parentOf F (storedEntry tree (sibling n d)) (made F tree n e d)
+
+-- the tree file with the leaf e of the chunk n: the new hole, if any, the leaf, and every parent that it completes
+unfoldable pub withLeaf : List ℕ → ℕ → Entry → List ℕ
+withLeaf tree n e = withEntries (withHole tree n) (filledBy n) (climb nodeHash tree n 0 (completed n) e)
 
 -- the chunk n completes a node at the depth d, and the tree file has room for the entries of n + 1 chunks
 pub record NodeFits (tree : List ℕ) (n d : ℕ) : Type 0 where

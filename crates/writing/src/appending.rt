@@ -14,7 +14,7 @@ ghost use Rattle.counts.specs.Said.{said};
 ghost use Rattle.checks.specs.Checks.{judged};
 ghost use Rattle.checks.specs.Given.{registerOf};
 ghost use Rattle.writing.specs.Append.{ownChecks, appendVerdict, storedEntry, sibling as siblingOf, withHole, withEntries, climb};
-ghost use Rattle.writing.specs.Inner.{place, entryOf, NodeFits, AboveFits, FilledFits, StoreFits, StorePost};
+ghost use Rattle.writing.specs.Inner.{place, entryOf, withLeaf, NodeFits, AboveFits, FilledFits, StoreFits, StorePost};
 ghost use Rattle.writing.specs.Post.{lent, AppendPost};
 
 // An answer, and beside it the new root hash; zeros after a refusal.
@@ -158,6 +158,15 @@ fn write_filled(tree: &mut [u8], n: u64, leaf: Node)
     put_node(tree, n, d, node);
 }
 
+// Inner: the new hole, if any, and the leaf of the chunk n with every parent that it completes.
+pub fn add_leaf(tree: &mut [u8], n: u64, leaf: Node)
+    requires { ⌜ FilledFits (now tree) n (leaf .size) ⌝ }
+    ensures { λ _. ⌜ now (tree .exit) ≡ withLeaf (now (tree .entry)) n (entryOf leaf) ⌝ }
+{
+    clear_hole(tree, n);
+    write_filled(tree, n, leaf);
+}
+
 // Inner: the chunk into the data, where it is hashed, and the rest into the tree and the bitfield; the new root hash.
 fn store(
     tree: &mut [u8],
@@ -178,8 +187,7 @@ fn store(
     let end = start + chunk.len();
     sequences::copy_to(content, start, chunk);
     let hash = files::hashes::leaf_hash(&content[start..end]);
-    clear_hole(tree, n);
-    write_filled(
+    add_leaf(
         tree,
         n,
         Node {

@@ -15,3 +15,6 @@ pub use starting::start;
 pub use appending::Node;
 pub use appending::above as parent_above;
 pub use appending::judge as judge_append;
+
+// Inner, for a call that appends several chunks: what one of them does to the tree.
+pub use appending::add_leaf;

@@ -1,26 +1,18 @@
--- The steps of the definition, one after the other.
+-- The bits, and then the Index of their entry.
 use borrow.Author.Needs.{needs}
-use native.Mathlib.Omega.{arith}
 use mathlib.Core.Path.{_≡_, ap, _∙_}
 use mathlib.Core.List.{List}
 use Prim.Native.Nat.{ℕ, _/_}
-use Rattle.tree_index.specs.Tree.{filledBy}
-use Rattle.bitfield.specs.Append.{bitsPlace, zeroedIfNew, setDataBit, setTreeBits, regenerated, appended}
+use Rattle.bitfield.specs.Append.{withBits, regenerated, appended}
 use Rattle.bitfield.proofs.append_bits.Statement.{statement}
 use Rattle.bitfield.proofs.append_bits.Tie as tie
 
-steps : (xs a b c d : List ℕ) (n e : ℕ) → a ≡ zeroedIfNew xs n → b ≡ setDataBit a n → c ≡ setTreeBits b (filledBy n) → e ≡ n / 8192 → d ≡ regenerated c e → d ≡ appended xs n
+steps : (xs a b : List ℕ) (n : ℕ) → a ≡ withBits xs n → b ≡ regenerated a (n / 8192) → b ≡ appended xs n
 unfolding appended
-steps xs a b c d n e p q r f s =
-    s ∙ ap (regenerated c) f ∙ ap (λ (l : List ℕ). regenerated l (n / 8192)) (r ∙ ap (λ (l : List ℕ). setTreeBits l (filledBy n)) (q ∙ ap (λ (l : List ℕ). setDataBit l n) p))
-
-regenerate-requires : tie.Need-regenerate-requires
-unfolding bitsPlace
-regenerate-requires c κs = omega arith
+steps xs a b n p q = q ∙ ap (λ (l : List ℕ). regenerated l (n / 8192)) p
 
 returns : tie.Need-returns
-returns c = steps _ _ _ _ _ _ _ (c .before .before .before .before .before .before .before .before .before .before .before .before .before .before .before .zero-if-new .ensures) (c .before .before .before .before .before .before .before .before .before .before .before .set-data-bit .ensures) (c .before .before .before .before .before .before .before .set-filled .ensures) (c .before .before .before .entry-of-chunk .ensures) (c .before .before .regenerate .ensures)
+returns c = steps _ _ _ _ (c .before .before .before .before .before .before .set-bits .ensures) (c .before .before .make-index .ensures)
 
 pub append-bits-spec : {M : Type 1} → statement M
-append-bits-spec =
-    tie.close (tie.spec (λ c κs. search needs) (λ c κs. search needs) (λ c κs. search needs) (λ c κs. search needs) regenerate-requires (λ c. search needs) returns)
+append-bits-spec = tie.close (tie.spec (λ c κs. search needs) (λ c κs. search needs) (λ c. search needs) returns)

@@ -8,23 +8,24 @@ use Rattle.writing.proofs.Stored.{bits-room, filled-fits, store-post}
 use Rattle.writing.proofs.appending.store.Statement.{statement}
 use Rattle.writing.proofs.appending.store.Tie as tie
 
-write-filled-requires : tie.Need-write-filled-requires
-write-filled-requires c κs = let s = c .before .before .before .before .before .before .before .before .before .before .before .before .before .before .before .before in filled-fits (s .args .tree .now) (s .args .bitfield .now) (s .args .content .now) _ (s .args .chunk .now) (s .args .n) (s .args .size) (s .pre) (s .good .1 .1 .0 .0) (c .before .before .before .clear-hole .ensures)
+add-leaf-requires : tie.Need-add-leaf-requires
+add-leaf-requires c κs = let s = c .before .before .before .before .before .before .before .before .before .before .before .before in filled-fits (s .args .tree .now) (s .args .bitfield .now) (s .args .content .now) (s .args .chunk .now) (s .args .n) (s .args .size) (s .pre) (s .good .1 .1 .0 .0)
 
 append-bits-requires : tie.Need-append-bits-requires
 append-bits-requires c κs =
-    let a = c .before .before .before .before .before .before .before .before .before .before .before .before .before .before .before .before .before .before .before .before .before .args in
-    subst (λ (m : ℕ). (m < 1048576) × (bitsPlace (m / 8192 + 1) ≤ length (a .bitfield .now))) (sym (c .chunk-behind .ensures))
-    (c .before .before .before .before .before .before .before .before .before .before .before .before .before .before .before .before .before .before .before .before .before .pre .few, bits-room (a .bitfield .now) (a .n) (c .before .before .before .before .before .before .before .before .before .before .before .before .before .before .before .before .before .before .before .before .before .pre .bitfield))
+    let s = c .before .before .before .before .before .before .before .before .before .before .before .before .before .before .before .before .before in
+    subst (λ (m : ℕ). (m < 1048576) × (bitsPlace (m / 8192 + 1) ≤ length (s .args .bitfield .now))) (sym (c .chunk-behind .ensures))
+    (s .pre .few, bits-room (s .args .bitfield .now) (s .args .n) (s .pre .bitfield))
 
 returns : tie.Need-returns
 returns c =
-    let a = c .before .before .before .before .before .before .before .before .before .before .before .before .before .before .before .before .before .before .before .before .before .before .before .before .before .before .args in
-    store-post (a .tree .now) (a .bitfield .now) (a .content .now) _ _ _ _ (a .chunk .now) _ _ (a .n) (a .size) _ (c .before .before .before .before .before .before .before .before .before .before .before .before .before .before .before .before .before .before .before .before .before .before .before .before .before .before .pre) refl
-    (c .before .before .before .before .before .before .before .before .before .before .before .before .before .before .before .before .before .before .before .before .copy-to .ensures) (c .before .before .before .before .before .before .before .before .before .before .before .before .before .before .before .leaf-hash .ensures) (c .before .before .before .before .before .before .before .before .before .before .before .before .before .clear-hole .ensures) (c .before .before .before .before .before .before .before .before .before .write-filled .ensures)
+    let s = c .before .before .before .before .before .before .before .before .before .before .before .before .before .before .before .before .before .before .before .before .before .before in
+    let a = s .args in
+    store-post (a .tree .now) (a .bitfield .now) (a .content .now) _ _ _ (a .chunk .now) _ _ (a .n) (a .size) _ (s .pre) refl
+    (c .before .before .before .before .before .before .before .before .before .before .before .before .before .before .before .before .copy-to .ensures) (c .before .before .before .before .before .before .before .before .before .before .before .leaf-hash .ensures) (c .before .before .before .before .before .before .before .before .before .add-leaf .ensures)
     (c .before .before .before .before .append-bits .ensures ∙ ap (appended (a .bitfield .now)) (c .before .before .before .before .before .chunk-behind .ensures)) (c .stored-root-hash .ensures)
 
 pub store-spec : {M : Type 1} → statement M
 store-spec =
     tie.close
-    (tie.spec (λ c. search needs) (λ c κs. search needs) (λ c. search needs) (λ c. search needs) (λ c. search needs) (λ c κs. search needs) (λ c κs. search needs) write-filled-requires (λ c κs. search needs) append-bits-requires (λ c. search needs) (λ c κs. search needs) (λ c. search needs) (λ c. search needs) (λ c. search needs) returns)
+    (tie.spec (λ c. search needs) (λ c κs. search needs) (λ c. search needs) (λ c. search needs) (λ c. search needs) (λ c κs. search needs) add-leaf-requires (λ c κs. search needs) append-bits-requires (λ c. search needs) (λ c κs. search needs) (λ c. search needs) (λ c. search needs) (λ c. search needs) returns)

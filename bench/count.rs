@@ -10,6 +10,9 @@ mod timing;
 use cases::{cut_back, picked, Case, CASES, CHUNKS, LENGTH, LISTED};
 use proved::Store;
 
+/// Counts of first chunks, with no roots, with nine, with one and with six.
+const OLD: [u64; 4] = [0, 511, 512, 952];
+
 fn loaded(folder: &str) -> Store {
     let image = |name: &str| std::fs::read(format!("{folder}/{name}")).unwrap();
     Store {
@@ -58,6 +61,10 @@ fn main() {
                 }
             }
             Case::Append => {
+                for m in OLD {
+                    store.register().old_root(m).unwrap();
+                    println!("old{m} {n}");
+                }
                 let seen = store.register().preview(&[9; LENGTH]);
                 println!("preview {n}");
                 assert_eq!(store.append(&[9; LENGTH]), seen);

@@ -28,6 +28,16 @@ pub enum Comparison {
     SecondRefused(Refusal),
 }
 
+/// What the walk along two packets answers: the same chunk, two different messages with one hash, or a refusal of one of them.
+#[derive(Clone, Copy, Debug, PartialEq, Eq)]
+pub enum Walked {
+    SameChunk,
+    CollisionAtRoots,
+    CollisionAtIndex(u64),
+    FirstRefused(Refusal),
+    SecondRefused(Refusal),
+}
+
 /// What a packet has beside its chunk's bytes, at most.
 pub const PACKET_EXTRA: usize = 1526;
 
@@ -111,6 +121,9 @@ extern "C" {
     fn sleep_root_hash(t: In, tl: usize, g: In, gl: usize, b: In, bl: usize, d: In, dl: usize, n: u64, s: u64, size: u64,
         root: Out) -> Answer;
     #[rustfmt::skip]
+    fn sleep_old_root(t: In, tl: usize, g: In, gl: usize, b: In, bl: usize, d: In, dl: usize, n: u64, s: u64, size: u64,
+        m: u64, root: Out) -> Answer;
+    #[rustfmt::skip]
     fn sleep_audit(t: In, tl: usize, g: In, gl: usize, b: In, bl: usize, d: In, dl: usize, n: u64, s: u64, size: u64) -> Answer;
     #[rustfmt::skip]
     fn sleep_place(t: In, tl: usize, g: In, gl: usize, b: In, bl: usize, d: In, dl: usize, n: u64, s: u64, size: u64,
@@ -128,6 +141,8 @@ extern "C" {
     fn sleep_group(bytes: In, bytes_length: usize, out: Out, out_length: usize) -> Answer;
     fn sleep_ungroup(bytes: In, bytes_length: usize, out: Out, out_length: usize) -> Answer;
     fn sleep_check_packet(packet: In, packet_length: usize, n: u64, chunk: u64, root: In, out: *mut u64) -> Answer;
+    #[rustfmt::skip]
+    fn sleep_compare_packets(first: In, first_length: usize, second: In, second_length: usize, n: u64, chunk: u64, root: In) -> Compared;
     #[rustfmt::skip]
     fn sleep_compare(t: In, tl: usize, g: In, gl: usize, b: In, bl: usize, d: In, dl: usize, n: u64, s: u64, size: u64,
         t2: In, tl2: usize, g2: In, gl2: usize, b2: In, bl2: usize, d2: In, dl2: usize, n2: u64, s2: u64, size2: u64) -> Compared;
@@ -204,6 +219,21 @@ pub fn check_packet<'a>(packet: &'a [u8], n: u64, chunk: u64, root: &[u8; 32]) -
     Ok(part(packet, out))
 }
 
+/// Both packets checked, and then the walk along them: chunks that differ under one root hash lead to two messages with one hash.
+pub fn compare_packets(first: &[u8], second: &[u8], n: u64, chunk: u64, root: &[u8; 32]) -> Walked {
+    #[rustfmt::skip]
+    let said = unsafe {
+        sleep_compare_packets(first.as_ptr(), first.len(), second.as_ptr(), second.len(), n, chunk, root.as_ptr())
+    };
+    match said.outcome {
+        0 => Walked::SameChunk,
+        2 => Walked::CollisionAtRoots,
+        3 => Walked::CollisionAtIndex(said.answer.place),
+        4 => Walked::FirstRefused(said.answer.refusal()),
+        _ => Walked::SecondRefused(said.answer.refusal()),
+    }
+}
+
 /// A part of a slice, by its offset and its length.
 fn part(whole: &[u8], out: [u64; 2]) -> &[u8] {
     let (start, length) = (out[0] as usize, out[1] as usize);
@@ -226,6 +256,13 @@ impl<'a> Register<'a> {
     pub fn root_hash(&self) -> Result<[u8; 32], Refusal> {
         let mut root = [0; 32];
         let answer = reading!(sleep_root_hash, self, root.as_mut_ptr());
+        answer.result(root)
+    }
+
+    /// The root hash of the first m chunks, as it was when the register had m.
+    pub fn old_root(&self, m: u64) -> Result<[u8; 32], Refusal> {
+        let mut root = [0; 32];
+        let answer = reading!(sleep_old_root, self, m, root.as_mut_ptr());
         answer.result(root)
     }
 

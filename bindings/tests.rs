@@ -1,7 +1,7 @@
 //! The wrapper over the proved library, called as a program would. `tests/run` builds and runs it.
 mod sleep_register;
 
-use sleep_register::{check_packet, group, hash, hash_parts, label, needs, ungroup, Comparison, Needs, Place, Refusal, Store, PACKET_EXTRA};
+use sleep_register::{check_packet, compare_packets, group, hash, hash_parts, label, needs, ungroup, Comparison, Needs, Place, Refusal, Store, Walked, PACKET_EXTRA};
 
 fn refused<T>(number: u64, place: Place) -> Result<T, Refusal> {
     Err(Refusal { number, place })
@@ -38,6 +38,22 @@ fn append_gives_the_root_hash() {
     let root = store.append(b"abcd").unwrap();
     assert_eq!(store.register().root_hash(), Ok(root));
     assert_eq!(store.append(b""), refused(8, Place::None));
+}
+
+#[test]
+fn old_root_hashes_are_those_of_the_time() {
+    let mut store = Store::with_room(13, 24);
+    store.start().unwrap();
+    let mut then = vec![store.register().root_hash().unwrap()];
+    for k in 0..13u8 {
+        then.push(store.append(&vec![k; k as usize % 4]).unwrap());
+        store.store_signature(&[7; 64]).unwrap();
+    }
+    for m in 0..=13 {
+        assert_eq!(store.register().old_root(m), Ok(then[m as usize]));
+    }
+    assert_eq!(store.register().old_root(14), refused(9, Place::None));
+    assert_eq!(store.register().old_root(u64::MAX), refused(9, Place::None));
 }
 
 #[test]
@@ -154,6 +170,23 @@ fn packets_show_every_chunk() {
         assert_eq!(check_packet(&packet[..length], 7, 7, &root), refused(9, Place::None));
     }
     assert_eq!(check_packet(&[], 1048577, 0, &root), refused(2, Place::None));
+}
+
+#[test]
+fn walks_along_two_packets() {
+    let store = filled(&[b"AB", b"", b"CDE"]);
+    let root = store.register().root_hash().unwrap();
+    let mut packet = vec![0; 3 + PACKET_EXTRA];
+    let length = store.register().make_packet(2, &mut packet).unwrap();
+    packet.truncate(length);
+    let mut other = packet.clone();
+    other[4] ^= 1;
+    let refusal = |number| Refusal { number, place: Place::None };
+    assert_eq!(compare_packets(&packet, &packet, 3, 2, &root), Walked::SameChunk);
+    assert_eq!(compare_packets(&packet, &other, 3, 2, &root), Walked::SecondRefused(refusal(13)));
+    assert_eq!(compare_packets(&other, &packet, 3, 2, &root), Walked::FirstRefused(refusal(13)));
+    assert_eq!(compare_packets(&packet, &packet[1..], 3, 2, &root), Walked::SecondRefused(refusal(12)));
+    assert_eq!(compare_packets(&packet, &packet, 3, 3, &root), Walked::FirstRefused(refusal(9)));
 }
 
 #[test]

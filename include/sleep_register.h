@@ -36,7 +36,7 @@
  *   the offset is the count of bytes of all chunks before it; of sleep_check_packet it is the packet.
  *
  * WHAT FIRMWARE HAS TO PROVIDE
- *   Code: at most 40,000 bytes with its read-only constants (some 36,000 today). The archive has no variables: no static data, zeroed or
+ *   Code: at most 48,000 bytes with its read-only constants (some 41,000 today). The archive has no variables: no static data, zeroed or
  *   not, and nothing to set up. From outside it needs memcpy and memset, and nothing else; it allocates nothing. The stack that each call
  *   takes at most, counted from the caller's frame, with arguments, return address and what memcpy or memset takes, is SLEEP_STACK_.. below.
  *   tests/run holds the archive to all of this, the stack by calls on a painted one.
@@ -60,8 +60,8 @@
  *     7       a chunk to append or of a job, or the bytes to group or ungroup, are longer
  *             than 65,536 bytes                                                            none
  *     8       an append while a signature is owed, or a signature while none is            none
- *     9       the chunk number is not below n, the byte offset is above size, or the size
- *             told of a job is above 65,536 n                                              none
+ *     9       the chunk number is not below n, the byte offset is above size, the count of
+ *             first chunks is above n, or the size told of a job is above 65,536 n         none
  *     10      a lookup meets wrong lengths, a read another leaf hash, or the audit
  *             a wrong tree entry (the lowest)                                              tree index
  *     11      the audit finds a wrong byte in the bitfield (the lowest)                    byte offset in the bitfield image
@@ -110,10 +110,12 @@ extern "C" {
 #define SLEEP_STACK_READ 4096u
 #define SLEEP_STACK_MAKE_PACKET 5120u
 #define SLEEP_STACK_ROOT_HASH 6144u
+#define SLEEP_STACK_OLD_ROOT 6144u
 #define SLEEP_STACK_CHECK_PACKET 6144u
 #define SLEEP_STACK_APPEND 6144u
 #define SLEEP_STACK_APPEND_LIST 6144u
 #define SLEEP_STACK_PREVIEW 6144u
+#define SLEEP_STACK_COMPARE_PACKETS 7168u
 #define SLEEP_STACK_COMPARE 8192u
 
 enum { SLEEP_PLACE_NONE = 0, SLEEP_PLACE_TREE_INDEX = 1, SLEEP_PLACE_BITFIELD_BYTE = 2 };
@@ -125,17 +127,17 @@ typedef struct {
 } sleep_answer;
 
 enum {
-    SLEEP_EQUAL = 0,              /* the same chunks in the same order */
+    SLEEP_EQUAL = 0,              /* the same chunks in the same order; of packets, the same chunk */
     SLEEP_ROOTS_DIFFER = 1,       /* the root hashes differ, and so do the chunks */
     SLEEP_COLLISION_AT_ROOTS = 2, /* equal root hashes of different root messages */
-    SLEEP_COLLISION_AT_INDEX = 3, /* equal hashes of different messages at the tree index answer.place, the lowest */
-    SLEEP_FIRST_REFUSED = 4,      /* answer is the refusal of the first register's audit */
-    SLEEP_SECOND_REFUSED = 5      /* answer is the refusal of the second register's audit */
+    SLEEP_COLLISION_AT_INDEX = 3, /* equal hashes of different messages at the tree index answer.place: the lowest, of packets the nearest the leaf */
+    SLEEP_FIRST_REFUSED = 4,      /* answer is the refusal of the first register's audit, or of the first packet's check */
+    SLEEP_SECOND_REFUSED = 5      /* answer is the refusal of the second one's */
 };
 
 typedef struct {
     uint64_t outcome;    /* one of the six above */
-    sleep_answer answer; /* its number is 0 unless a register is refused */
+    sleep_answer answer; /* its number is 0 unless a register or a packet is refused */
 } sleep_comparison;
 
 /* What a job will need: the places of the eight numbers. */
@@ -204,6 +206,11 @@ sleep_answer sleep_store_signature(const uint8_t *tree, size_t tree_length, uint
 /* The root hash that the stored roots give. It does not look at the other entries. Refusals: 2 to 6. */
 sleep_answer sleep_root_hash(SLEEP_REGISTER_READ, uint8_t root[32]) SLEEP_NOT_NULL;
 
+/* The root hash of the first m chunks, as it was when the register had m, from the stored entries and without an audit; m = 0 gives that of an
+ * empty register, m = n that of sleep_root_hash. Of the tree it looks at the roots of n and of m alone, so it costs no more in a longer
+ * register. Refusals: 2 to 6, 9 for m above n. */
+sleep_answer sleep_old_root(SLEEP_REGISTER_READ, uint64_t m, uint8_t root[32]) SLEEP_NOT_NULL;
+
 /* Whether the images are those of some chunks: hashes every chunk again. Refusals: 2 to 6, 10, 11. */
 sleep_answer sleep_audit(SLEEP_REGISTER_READ) SLEEP_NOT_NULL;
 
@@ -228,6 +235,13 @@ sleep_answer sleep_make_packet(SLEEP_REGISTER_READ, uint64_t chunk, uint8_t *out
  * done the chunk is the part out of packet. No register is needed. Refusals: 2, 9, 12, 13. */
 sleep_answer sleep_check_packet(const uint8_t *packet, size_t packet_length, uint64_t n, uint64_t chunk, const uint8_t root[32],
                                 uint64_t out[2]) SLEEP_NOT_NULL;
+
+/* The walk along two packets of one chunk number, of n chunks, under one root hash: checks the first as sleep_check_packet does, then the second; a
+ * refusal (2, 9, 12, 13) says which packet. SLEEP_EQUAL says that both have the same chunk, whatever their siblings. Two different chunks under one
+ * root hash mean that two different messages have one hash: the first such pair on the way from the leaf upward is named, at a tree index or at the
+ * roots. SLEEP_ROOTS_DIFFER is never the outcome. */
+sleep_comparison sleep_compare_packets(const uint8_t *first, size_t first_length, const uint8_t *second, size_t second_length, uint64_t n,
+                                       uint64_t chunk, const uint8_t root[32]) SLEEP_NOT_NULL;
 
 /* The comparing walk: audits the first register, then the second, then compares them. A refusal (2 to 6, 10, 11) says which register. */
 sleep_comparison sleep_compare(SLEEP_REGISTER_READ, const uint8_t *tree2, size_t tree2_length, const uint8_t *signatures2,
@@ -303,6 +317,10 @@ static inline sleep_answer sleep_root_hash_front(SLEEP_REGISTER_READ, uint8_t ro
     return sleep_root_hash(SLEEP_REGISTER_LENT, root);
 }
 
+static inline sleep_answer sleep_old_root_front(SLEEP_REGISTER_READ, uint64_t m, uint8_t root[32]) {
+    return sleep_old_root(SLEEP_REGISTER_LENT, m, root);
+}
+
 static inline sleep_answer sleep_audit_front(SLEEP_REGISTER_READ) {
     return sleep_audit(SLEEP_REGISTER_LENT);
 }
@@ -327,6 +345,11 @@ static inline sleep_answer sleep_make_packet_front(SLEEP_REGISTER_READ, uint64_t
 static inline sleep_answer sleep_check_packet_front(const uint8_t *packet, size_t packet_length, uint64_t n, uint64_t chunk,
                                                     const uint8_t root[32], uint64_t out[2]) {
     return sleep_check_packet(SLEEP_LENT(packet), n, chunk, root, out);
+}
+
+static inline sleep_comparison sleep_compare_packets_front(const uint8_t *first, size_t first_length, const uint8_t *second, size_t second_length,
+                                                           uint64_t n, uint64_t chunk, const uint8_t root[32]) {
+    return sleep_compare_packets(SLEEP_LENT(first), SLEEP_LENT(second), n, chunk, root);
 }
 
 static inline sleep_comparison sleep_compare_front(SLEEP_REGISTER_READ, const uint8_t *tree2, size_t tree2_length,
@@ -360,12 +383,14 @@ static inline sleep_answer sleep_needs_front(uint64_t n, uint64_t size, const ui
 #define sleep_preview sleep_preview_front
 #define sleep_store_signature sleep_store_signature_front
 #define sleep_root_hash sleep_root_hash_front
+#define sleep_old_root sleep_old_root_front
 #define sleep_audit sleep_audit_front
 #define sleep_place sleep_place_front
 #define sleep_byte sleep_byte_front
 #define sleep_read sleep_read_front
 #define sleep_make_packet sleep_make_packet_front
 #define sleep_check_packet sleep_check_packet_front
+#define sleep_compare_packets sleep_compare_packets_front
 #define sleep_compare sleep_compare_front
 #define sleep_group sleep_group_front
 #define sleep_ungroup sleep_ungroup_front

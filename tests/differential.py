@@ -3,13 +3,13 @@
 usage: python3 tests/differential.py LIBRARY [CALLS [SEED]]
 
 LIBRARY is the archive linked as a shared object. Registers grow by valid calls; between those, calls are made on damaged copies: bytes
-changed in a buffer, wrong n, s or size, shortened buffers, numbers at their bound and out of range. Packets are made and checked, whole and damaged, and
-registers compared with copies, with other cuts of the same bytes, with one more empty chunk and with damaged ones. On every register
+changed in a buffer, wrong n, s or size, shortened buffers, numbers at their bound and out of range. Packets are made and checked, whole and damaged, two of them are
+walked along, root hashes of the first chunks are asked for, and registers compared with copies, with other cuts of the same bytes, with one more empty chunk and with damaged ones. On every register
 that is made, damaged or not, a preview is compared with the append on a copy. Lists are appended, and where one is done its chunks are
 appended singly on a copy, with stored zero signatures between them: every buffer is the same. Bytes of any length about the limits are grouped and
 ungrouped, with and without room, and the needs of jobs are asked about all of their limits. One in fifty calls
 is on registers of 16,383 to 16,386 chunks, where the third bitfield entry begins and the tree gets its deepest hole. No pair of chunk
-sequences that collide under BLAKE2b is known, so those two answers of the comparing walk stand in no call here.
+sequences that collide under BLAKE2b is known, so those two answers of the comparing walk and of the walk along two packets stand in no call here.
 """
 
 import copy
@@ -139,6 +139,9 @@ class Calls:
     def root_hash(self, r):
         self.call('root_hash', [r], [self.result(32, lambda root: root)], lambda: model.root_hash(r))
 
+    def old_root(self, r, m):
+        self.call('old_root', [r], [m, self.result(32, lambda root: root)], lambda: model.old_root(r, m))
+
     def audit(self, r):
         self.call('audit', [r], [], lambda: model.audit(r))
 
@@ -176,6 +179,10 @@ class Calls:
         out = self.result(16, lambda found: numbers(4, len(found)))
         others = [Buffer(packet), n, chunk, Buffer(root, array=True), out]
         self.call('check_packet', [], others, lambda: model.check_packet(packet, n, chunk, root))
+
+    def compare_packets(self, first, second, n, chunk, root):
+        others = [Buffer(first), Buffer(second), n, chunk, Buffer(root, array=True)]
+        self.call('compare_packets', [], others, lambda: model.compare_packets(first, second, n, chunk, root), Comparison)
 
     def group(self, name, data, room):
         out = bytearray(self.random.randbytes(room))
@@ -262,7 +269,17 @@ class Run(Calls):
         length = made[1] if made[0] == 'done' else 100
         self.make_packet(r, chunk, max(0, self.random.choice((length, length, length - 1, length + 1, self.random.randrange(300), 0))))
 
+    def walking(self, r):
+        """A packet of the register and the same, or another, in both orders."""
+        packet, n, chunk, root = self.packet(r)
+        other = self.random.choice((packet, self.spoilt(packet), self.spoilt(packet), self.packet(r)[0]))
+        for both in ((packet, other), (other, packet)):
+            self.compare_packets(*both, n, chunk, root)
+
     def checking(self, r):
+        self.check_packet(*self.packet(r))
+
+    def packet(self, r):
         """A packet of the register, or any bytes, with the root hash and the numbers of the register, or with others."""
         chunk, out = self.random.randrange(max(r.n, 1)), bytearray(67062)
         made, rooted = model.make_packet(r, chunk, out), model.root_hash(r)
@@ -279,7 +296,7 @@ class Run(Calls):
             chunk = self.number(n)
         elif pick == 7:
             root = self.random.choice((self.random.randbytes(32), root[:31] + bytes([root[31] ^ 1])))
-        self.check_packet(packet, n, chunk, root)
+        return packet, n, chunk, root
 
     def spoilt(self, packet):
         """Bytes lacking, surplus or changed."""
@@ -340,18 +357,22 @@ class Run(Calls):
     # ---- any call
     def looking(self, r):
         pick = self.random.randrange(100)
-        if pick < 12:
+        if pick < 6:
             self.root_hash(r)
+        elif pick < 12:
+            self.old_root(r, self.number(r.n))
         elif pick < 32:
             self.place(r, self.number(r.n))
         elif pick < 52:
             self.byte(r, self.number(r.size))
         elif pick < 70:
             self.read(r, self.number(r.n))
-        elif pick < 82:
+        elif pick < 80:
             self.packing(r)
-        else:
+        elif pick < 93:
             self.checking(r)
+        else:
+            self.walking(r)
 
     def reading(self, r):
         pick = self.random.randrange(100)

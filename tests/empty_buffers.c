@@ -47,6 +47,7 @@ static uint64_t append_no_list(lent r) { return sleep_append_list(REGISTER(r), N
 static uint64_t preview(lent r) { return sleep_preview(REGISTER(r), NULL, 0, root).number; }
 static uint64_t preview_a(lent r) { return sleep_preview(REGISTER(r), (const uint8_t *)"a", 1, root).number; }
 static uint64_t store(lent r) { return r.s -= r.n > 0, sleep_store_signature(REGISTER(r), signature).number; }
+static uint64_t old_root(lent r) { return sleep_old_root(REGISTER(r), 2, root).number; }
 static uint64_t root_hash(lent r) { return sleep_root_hash(REGISTER(r), root).number; }
 static uint64_t audit(lent r) { return sleep_audit(REGISTER(r)).number; }
 static uint64_t place(lent r) { uint64_t out[2]; return sleep_place(REGISTER(r), 2, out).number; }
@@ -107,6 +108,7 @@ int main(void) {
     each_buffer("preview of a byte", preview_a, 4, 14);
     each_buffer("store_signature", store, 4, 0);
     each_buffer("root_hash", root_hash, 4, 0);
+    each_buffer("old_root", old_root, 4, 0);
     each_buffer("audit", audit, 4, 0);
     each_buffer("place", place, 4, 0);
     each_buffer("byte", byte, 4, 0);
@@ -122,6 +124,9 @@ int main(void) {
     expect("make_packet", 0, make(r), 0);
     expect("check_packet", 0, sleep_check_packet(packet, packet_length, 3, 2, root, out).number, 0);
     expect("check_packet", 0, sleep_check_packet(NULL, 0, 3, 2, root, out).number, 12);
+    expect("compare_packets", 0, sleep_compare_packets(packet, packet_length, packet, packet_length, 3, 2, root).outcome, SLEEP_EQUAL);
+    expect("compare_packets", 1, sleep_compare_packets(NULL, 0, packet, packet_length, 3, 2, root).outcome, SLEEP_FIRST_REFUSED);
+    expect("compare_packets", 2, sleep_compare_packets(packet, packet_length, NULL, 0, 3, 2, root).outcome, SLEEP_SECOND_REFUSED);
     expect("group", 0, sleep_group(NULL, 0, NULL, 0).number, 0);
     expect("group in no room", 0, sleep_group(packet, 1, NULL, 0).number, 14);
     expect("ungroup", 0, sleep_ungroup(NULL, 0, NULL, 0).number, 0);

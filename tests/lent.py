@@ -5,7 +5,7 @@ import sys
 
 NUMBER = ctypes.c_uint64
 PLACES = {'tree': 1, 'bitfield': 2}
-OUTCOMES = {('equal',): 0, ('roots differ',): 1, ('collision', 'at the roots'): 2}
+OUTCOMES = {('equal',): 0, ('same chunk',): 0, ('roots differ',): 1, ('collision', 'at the roots'): 2}
 
 
 class Answer(ctypes.Structure):

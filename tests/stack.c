@@ -28,6 +28,7 @@ static void append_list(void) { number = sleep_append_list(REGISTER, lengths, li
 static void preview(void) { number = sleep_preview(REGISTER, chunk, chunk_length, root).number; }
 static void store_signature(void) { number = sleep_store_signature(REGISTER, digest).number; }
 static void root_hash(void) { number = sleep_root_hash(REGISTER, root).number; }
+static void old_root(void) { number = sleep_old_root(REGISTER, sought, digest).number; }
 static void audit(void) { number = sleep_audit(REGISTER).number; }
 static void place(void) { number = sleep_place(REGISTER, sought, out).number; }
 static void byte(void) { number = sleep_byte(REGISTER, sought, out).number; }
@@ -37,9 +38,10 @@ static void check_packet(void) { number = sleep_check_packet(packet, packet_leng
 static void group(void) { number = sleep_group(chunk, sizeof chunk, packet, sizeof packet).number; }
 static void ungroup(void) { number = sleep_ungroup(chunk, sizeof chunk, packet, sizeof packet).number; }
 static void needs(void) { number = sleep_needs(sought, 0, lengths, 256, needed).number; }
+static void compare_packets(void) { number = sleep_compare_packets(packet, packet_length, packet, packet_length, n, sought, root).answer.number; }
 static void compare(void) { outcome = sleep_compare(REGISTER, REGISTER).outcome; }
 
-enum { START, HASH, HASH_PARTS, LABEL, APPEND, APPEND_LIST, PREVIEW, STORE_SIGNATURE, ROOT_HASH, AUDIT, PLACE, BYTE, READ, MAKE_PACKET, CHECK_PACKET, COMPARE, GROUP, UNGROUP, NEEDS, CALLS };
+enum { START, HASH, HASH_PARTS, LABEL, APPEND, APPEND_LIST, PREVIEW, STORE_SIGNATURE, ROOT_HASH, OLD_ROOT, AUDIT, PLACE, BYTE, READ, MAKE_PACKET, CHECK_PACKET, COMPARE_PACKETS, COMPARE, GROUP, UNGROUP, NEEDS, CALLS };
 
 static struct {
     const char *name;
@@ -55,12 +57,14 @@ static struct {
     {"sleep_preview", preview, SLEEP_STACK_PREVIEW, 0},
     {"sleep_store_signature", store_signature, SLEEP_STACK_STORE_SIGNATURE, 0},
     {"sleep_root_hash", root_hash, SLEEP_STACK_ROOT_HASH, 0},
+    {"sleep_old_root", old_root, SLEEP_STACK_OLD_ROOT, 0},
     {"sleep_audit", audit, SLEEP_STACK_AUDIT, 0},
     {"sleep_place", place, SLEEP_STACK_PLACE, 0},
     {"sleep_byte", byte, SLEEP_STACK_BYTE, 0},
     {"sleep_read", verified_read, SLEEP_STACK_READ, 0},
     {"sleep_make_packet", make_packet, SLEEP_STACK_MAKE_PACKET, 0},
     {"sleep_check_packet", check_packet, SLEEP_STACK_CHECK_PACKET, 0},
+    {"sleep_compare_packets", compare_packets, SLEEP_STACK_COMPARE_PACKETS, 0},
     {"sleep_compare", compare, SLEEP_STACK_COMPARE, 0},
     {"sleep_group", group, SLEEP_STACK_GROUP, 0},
     {"sleep_ungroup", ungroup, SLEEP_STACK_UNGROUP, 0},
@@ -96,10 +100,12 @@ static void measure_reads(void) {
     measure(COMPARE, 0);
     for (int k = 0; k < 4; k++) {
         sought = some[k];
+        measure(OLD_ROOT, 0);
         measure(PLACE, sought < n ? 0 : 9);
         measure(READ, sought < n ? 0 : 9);
         measure(MAKE_PACKET, sought < n ? 0 : 9);
         if (sought < n) measure(CHECK_PACKET, 0);
+        measure(COMPARE_PACKETS, sought < n ? 0 : 9);
         sought = k < 3 && size > 0 ? some[k] * (size - 1) / n : size;
         measure(BYTE, 0);
         sought = size + 1;

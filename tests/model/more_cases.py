@@ -1,5 +1,5 @@
 """Cases of the model beyond the scope's [T] rows: the calls agree with the images, every refusal has its order and
-place, and the comparing walk finds the collisions of a weak hash.  Prints one line."""
+place, and the comparing walk and the walk along two packets find the collisions of a weak hash.  Prints one line."""
 
 import sys
 
@@ -173,6 +173,91 @@ def lists():
     yield 'samples', (grown, grown.size), (sampled(20, 7), 57)
 
 
+def old_roots():
+    """Of the first m chunks: what the append answered when m were there, and the root hash of these chunks alone."""
+    for F in (node_hash, weak):
+        for n in (0, 1, 6, 13, 21):
+            chunks, r = chunk_list(n), Register(*(bytearray(4000) for _ in range(4)))
+            start(r)
+            then = [root_hash(r, F)]
+            for chunk in chunks:
+                then.append(append(r, chunk, F))
+                store_signature(r, bytes(SIGNATURE))
+            yield 'old roots of %d' % n, [old_root(r, m, F) for m in range(n + 1)], then
+            yield 'first chunks', [root_hash(register_of(chunks[:m], F), F) for m in range(n + 1)], then
+            yield 'above n', [old_root(r, m, F) for m in (n + 1, 2 ** 64 - 1)], [refused(9)] * 2
+
+
+def made_packet(r, chunk, F):
+    out = bytearray(2000)
+    return bytes(out[:make_packet(r, chunk, out, F)[1]])
+
+
+def places_up(n, chunk):
+    index, places = 2 * chunk, [('tree', 2 * chunk)]
+    while index not in roots(n):
+        index = parent(index)
+        places.append(('tree', index))
+    return places + ['at the roots']
+
+
+def colliding(first, second, chunk):
+    """The places upward from a chunk where the messages of two registers differ and have one weak hash."""
+    said = [{('tree', index): message for index, message in enumerate(messages(r))} for r in (first, second)]
+    one, other = ({**places, 'at the roots': r.root_message()} for places, r in zip(said, (first, second)))
+    return [place for place in places_up(first.n, chunk) if one[place] != other[place] and weak(one[place]) == weak(other[place])]
+
+
+def packet_walks():
+    """Of packets that two registers with one root hash give for a chunk number: what is named are the first messages of
+    both registers, from the leaf upward, that differ and have one hash."""
+    seen = set()
+    for n in (1, 2, 3, 4, 7):
+        lists = [[bytes([1 + v * (j + 1) % 5]) * (v * (j + 2) % 3) for j in range(n)] for v in range(15)]
+        registers = [register_of(chunks, weak) for chunks in lists]
+        for a, b, chunk in [(a, b, chunk) for a in range(15) for b in range(15) for chunk in range(n)]:
+            packets = [made_packet(registers[v], chunk, weak) for v in (a, b)]
+            root, other = (root_hash(registers[v], weak)[1] for v in (a, b))
+            if root != other:
+                expected = refused(13) + ('second',)
+            elif lists[a][chunk] == lists[b][chunk]:
+                expected = ('same chunk',)
+            else:
+                places = colliding(registers[a], registers[b], chunk)
+                expected = ('collision', places[0])
+                seen.add(('roots' if places[0] == 'at the roots' else depth(places[0][1]), len(places) > 1))
+            yield 'packets of %d of %d' % (chunk, n), compare_packets(*packets, n, chunk, root, weak), expected
+    kinds = {(0, True), (1, True), (0, False), (2, False), ('roots', False)}  # at which depth, and whether others are above
+    yield 'kinds of collisions', kinds <= seen, True
+
+
+def two_bits(message):
+    return bytes([sum(message) % 4] * HASH)
+
+
+def row_packet(chunk, siblings, others):
+    """A packet with these entries, each 32 times a byte and a length."""
+    sections = [be(1, len(entries)) + b''.join(bytes([byte] * HASH) + be(8, length) for byte, length in entries) for entries in (siblings, others)]
+    return be(4, len(chunk)) + chunk + b''.join(sections)
+
+
+def weak_rows():
+    """The rows of packet_walk/specs/Weak, on which the checker runs the definition."""
+    leaf, parent, upper, top = ('collision', ('tree', 0)), ('collision', ('tree', 1)), ('collision', ('tree', 3)), ('collision', 'at the roots')
+    for n, i, first, second, root, expected in (
+            (1, 0, (b'\1', [], []), (b'\5', [], []), 3, leaf),
+            (1, 0, (b'\1', [], []), (b'\2', [], []), 3, top),
+            (2, 0, (b'\1', [(1, 1)], []), (b'\2', [(1, 1)], []), 1, parent),
+            (2, 1, (b'\1', [(1, 1)], []), (b'\5', [(1, 1)], []), 1, ('collision', ('tree', 2))),
+            (2, 0, (b'\1', [(1, 1)], []), (b'\5', [(2, 1)], []), 1, leaf),
+            (4, 1, (b'\1', [(1, 1), (2, 2)], []), (b'\1\0', [(1, 1), (2, 1)], []), 1, upper),
+            (3, 0, (b'\1', [(1, 1)], [(2, 2)]), (b'\1\0', [(1, 1)], [(2, 1)]), 3, top),
+            (2, 0, (b'\1', [(1, 1)], []), (b'\1', [(2, 1)], []), 1, ('same chunk',)),
+            (2, 0, (b'\1', [(1, 1)], []), (b'\1\0', [(1, 1)], []), 1, refused(13) + ('second',)),
+            (2, 0, (b'\1', [], []), (b'\1', [], []), 1, refused(12) + ('first',))):
+        yield 'weak row', compare_packets(row_packet(*first), row_packet(*second), n, i, bytes([root] * HASH), two_bits), expected
+
+
 def spoilt_size(none):
     r = told(none, size=1)
     r.data.append(0)
@@ -204,5 +289,5 @@ def walks():
 
 
 if __name__ == '__main__':
-    groups = (agreement, borders, refusals, jobs, lists, walks)
+    groups = (agreement, borders, refusals, jobs, lists, walks, old_roots, packet_walks, weak_rows)
     print('model: %d more cases agree' % sum(check(*case) for cases in groups for case in cases()))

@@ -214,8 +214,9 @@ class Register:
     def part(self, start, length):
         return bytes(self.data[start:start + length])
 
-    def root_message(self):
-        return root_message([(index, self.node(index)) for index in roots(self.n)])
+    def root_message(self, m=None):
+        """Of the stored roots of the first m chunks, or of all."""
+        return root_message([(index, self.node(index)) for index in roots(self.n if m is None else m)])
 
 def tree_image(chunks, F=node_hash):
     """The tree file that this document gives for a chunk sequence."""
@@ -355,6 +356,13 @@ def root_hash(r, F=node_hash):
     check_register(r)
     return (F(r.root_message()),)
 
+@call
+def old_root(r, m, F=node_hash):
+    """The root hash of the first m chunks from the stored entries, whether an audit would take them or not."""
+    check_register(r)
+    refuse_if(m > r.n, 9)
+    return (F(r.root_message(m)),)
+
 # ---- Lookups and reads ----
 def place_of(r, chunk):
     """Start and length of a chunk."""
@@ -429,6 +437,10 @@ def packet_indexes(n, chunk):
 @call
 def check_packet(packet, n, chunk, root, F=node_hash):
     """The chunk's part of the packet, where the packet shows the chunk to stand under the root hash."""
+    return (opened(packet, n, chunk, root, F)[0],)
+
+def opened(packet, n, chunk, root, F):
+    """Of an accepted packet: the chunk, and the nodes at all tree indexes that the packet gives or leads to."""
     refuse_if(n > MOST_CHUNKS, 2)
     refuse_if(chunk >= n, 9)
     siblings, others = packet_indexes(n, chunk)
@@ -446,7 +458,7 @@ def check_packet(packet, n, chunk, root, F=node_hash):
         index = parent(index)
         nodes[index] = parent_node(*map(nodes.get, children(index)), F)
     refuse_if(F(root_message([(top, nodes[top]) for top in roots(n)])) != root, 13)
-    return (found,)
+    return found, nodes
 
 def cut(data, sizes):
     """Consecutive parts of these sizes."""
@@ -483,6 +495,32 @@ def messages(r):
             yield leaf_message(chunk)
         else:
             yield parent_message(*map(r.node, children(index))) if filled(r.n, index) else None
+
+# ---- The walk along two packets ----
+def compare_packets(first, second, n, chunk, root, F=node_hash):
+    """('same chunk',), ('collision', ('tree', index)), ('collision', 'at the roots'), or a refusal with 'first' or
+    'second' after its place."""
+    answers = []
+    for packet, which in ((first, 'first'), (second, 'second')):
+        answers.append(call(opened)(packet, n, chunk, root, F))
+        if answers[-1][0] == 'refused':
+            return answers[-1] + (which,)
+    (_, one, nodes), (_, other, other_nodes) = answers
+    if one == other:
+        return ('same chunk',)
+    for (place, ours), (_, theirs) in zip(messages_up(n, chunk, one, nodes), messages_up(n, chunk, other, other_nodes)):
+        if ours != theirs and F(ours) == F(theirs):
+            return ('collision', place)
+    raise AssertionError('different chunks, and no collision')  # unequal all the way up, and yet one root hash
+
+def messages_up(n, chunk, found, nodes):
+    """The messages along an accepted packet with their places, from the leaf upward to the roots."""
+    index = 2 * chunk
+    yield ('tree', index), leaf_message(found)
+    while index not in roots(n):
+        index = parent(index)
+        yield ('tree', index), parent_message(*map(nodes.get, children(index)))
+    yield 'at the roots', root_message([(top, nodes[top]) for top in roots(n)])
 
 # ---- The listing ----
 def listing(data):

@@ -22,8 +22,10 @@ use Rattle.needs.specs.Post.{numbersOf, NeedPost}
 use Rattle.needs.specs.declared.Needed.{Needed}
 use Rattle.compare.specs.Answered.{compared}
 use Rattle.compare.specs.declared.Compared.{Compared}
+use Rattle.packet_walk.specs.Answered.{walkOf}
+use Rattle.packet_walk.specs.declared.Walked.{Walked}
 use Rattle.c_api.specs.Number.{numberOf}
-use Rattle.c_api.specs.Encoding.{encoded, verdictOf, numbersUnless, Gives, packetPart, Makes, needNumbers, Needs, encodedComparison}
+use Rattle.c_api.specs.Encoding.{encoded, verdictOf, numbersUnless, Gives, packetPart, Makes, needNumbers, Needs, encodedComparison, encodedWalk}
 use Rattle.c_api.specs.declared.answers.SleepAnswer.{SleepAnswer}
 
 -- the number and what is written, from what the verdict is
@@ -130,3 +132,7 @@ module _ (n size : ℕ) (ls before : List ℕ) (answer : SleepAnswer) (r : Neede
 -- a comparison, from the case that its answer is
 pub compared-as : (a b : Compared) → a ≡ b → encodedComparison (compared b) ≡ encodedComparison (compared a)
 compared-as a b e = ap (λ (x : Compared). encodedComparison (compared x)) (sym e)
+
+-- a walk along two packets, likewise
+pub walked-as : (a b : Walked) → a ≡ b → encodedWalk (walkOf b) ≡ encodedWalk (walkOf a)
+walked-as a b e = ap (λ (x : Walked). encodedWalk (walkOf x)) (sym e)

@@ -9,7 +9,9 @@ use Rattle.needs.specs.Needs.{Need, needOf, needVerdict}
 use Rattle.lookup.specs.Lookup.{Found, refusal, found, foundUnless}
 use Rattle.packet.specs.Packet.{makeVerdict, madeLength, afterMake}
 use Rattle.packet.specs.Check.{chunkLength, packetVerdict}
-use Rattle.compare.specs.Walk.{Comparison, firstRefused, secondRefused, rootsDiffer, atRoots, atIndex, equal}
+use Rattle.compare.specs.Walk.{Comparison, rootsDiffer, equal}
+use Rattle.compare.specs.Walk as Compare
+use Rattle.packet_walk.specs.Walk.{Walk, sameChunk, neither, atRoots, atIndex, firstRefused, secondRefused}
 use Rattle.c_api.specs.declared.answers.SleepAnswer.{SleepAnswer}
 use Rattle.c_api.specs.declared.comparing.SleepComparison.{SleepComparison}
 
@@ -70,7 +72,17 @@ outcomeWith outcome answer = record { outcome = outcome; answer = answer }
 abbrev pub encodedComparison : Comparison → SleepComparison
 encodedComparison equal = outcomeWith 0 (encoded done)
 encodedComparison rootsDiffer = outcomeWith 1 (encoded done)
-encodedComparison atRoots = outcomeWith 2 (encoded done)
-encodedComparison (atIndex i) = outcomeWith 3 (record { number = 0; «place_kind» = 1; place = i })
-encodedComparison (firstRefused number at) = outcomeWith 4 (encoded (refused number at))
-encodedComparison (secondRefused number at) = outcomeWith 5 (encoded (refused number at))
+encodedComparison Compare.atRoots = outcomeWith 2 (encoded done)
+encodedComparison (Compare.atIndex i) = outcomeWith 3 (record { number = 0; «place_kind» = 1; place = i })
+encodedComparison (Compare.firstRefused number at) = outcomeWith 4 (encoded (refused number at))
+encodedComparison (Compare.secondRefused number at) = outcomeWith 5 (encoded (refused number at))
+
+-- what the walk along two packets says, with the comparison's numbers: 0 the same chunk, 2 a collision at the roots, 3 at a tree index, which is the
+-- place; 4 and 5 where the first and the second packet are refused, and then with the refusal. 1 would stand for none of these, and is never given
+abbrev pub encodedWalk : Walk → SleepComparison
+encodedWalk sameChunk = outcomeWith 0 (encoded done)
+encodedWalk neither = outcomeWith 1 (encoded done)
+encodedWalk atRoots = outcomeWith 2 (encoded done)
+encodedWalk (atIndex i) = outcomeWith 3 (record { number = 0; «place_kind» = 1; place = i })
+encodedWalk (firstRefused number at) = outcomeWith 4 (encoded (refused number at))
+encodedWalk (secondRefused number at) = outcomeWith 5 (encoded (refused number at))

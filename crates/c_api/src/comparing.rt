@@ -1,17 +1,21 @@
-// The comparing walk on two registers. It writes nothing.
+// The comparing walk on two registers, and the walk along two packets. Both write nothing.
 use super::answers::SleepAnswer;
 use compare::Compared;
 use counts::Answer;
+use counts::ChunkNumber;
+use packet_walk::Walked;
 ghost use mathlib.Core.Path.{_≡_};
 ghost use Rattle.counts.specs.Verdict.{done};
 ghost use Rattle.blake2b.specs.Hash.{nodeHash};
 ghost use Rattle.checks.specs.Given.{registerOf};
 ghost use Rattle.compare.specs.Walk as Walk;
 ghost use Rattle.compare.specs.Answered.{compared as Answered·compared};
-ghost use Rattle.c_api.specs.Encoding.{encoded, outcomeWith, encodedComparison};
+ghost use Rattle.packet_walk.specs.Walk.{comparePackets};
+ghost use Rattle.packet_walk.specs.Answered.{walkOf};
+ghost use Rattle.c_api.specs.Encoding.{encoded, outcomeWith, encodedComparison, encodedWalk};
 
-// `outcome` is 0 for equal, 1 for roots differ, 2 for a collision at the roots, 3 for one at the tree index `answer.place`, 4 where the
-// first register is refused and 5 where the second is, by `answer`.
+// `outcome` is 0 for equal (of packets: the same chunk), 1 for roots differ, 2 for a collision at the roots, 3 for one at the tree index `answer.place`, 4 where the
+// first register or packet is refused and 5 where the second is, by `answer`.
 #[repr(C)]
 pub struct SleepComparison {
     pub outcome: u64,
@@ -94,4 +98,44 @@ pub extern "C" fn sleep_compare(
         s2,
         size2,
     ))
+}
+
+// The numbers of a walk along two packets.
+fn encode_walk(walked: Walked) -> SleepComparison
+    ensures { λ r. ⌜ r ≡ encodedWalk (walkOf walked) ⌝ }
+{
+    match walked {
+        Walked::SameChunk => plain(0),
+        Walked::AtRoots => plain(2),
+        Walked::AtIndex(index) => {
+            let answer = SleepAnswer {
+                number: 0,
+                place_kind: 1,
+                place: index.0,
+            };
+            SleepComparison { outcome: 3, answer }
+        }
+        Walked::FirstRefused(refusal) => {
+            let answer = super::answers::refused(refusal);
+            SleepComparison { outcome: 4, answer }
+        }
+        Walked::SecondRefused(refusal) => {
+            let answer = super::answers::refused(refusal);
+            SleepComparison { outcome: 5, answer }
+        }
+    }
+}
+
+// The check of the first packet, then of the second, then the walk along both.
+#[no_mangle]
+pub extern "C" fn sleep_compare_packets(
+    first: &[u8],
+    second: &[u8],
+    n: u64,
+    chunk: u64,
+    root: &[u8; 32],
+) -> SleepComparison
+    ensures { λ r. ⌜ r ≡ encodedWalk (comparePackets nodeHash (now (first .entry)) (now (second .entry)) n chunk (now (root .entry))) ⌝ }
+{
+    encode_walk(packet_walk::compare_packets(first, second, n, ChunkNumber(chunk), root))
 }

@@ -1,4 +1,4 @@
-// The calls that start, write and audit a register, and its root hash. A register is lent as its four images `tree`, `signatures`,
+// The calls that start, write and audit a register, and its root hashes. A register is lent as its four images `tree`, `signatures`,
 // `bitfield` and `content` (the data), and told the chunk count `n`, the signature count `s` and the data size `size`.
 use super::answers::SleepAnswer;
 ghost use mathlib.Core.Path.{_≡_};
@@ -12,6 +12,7 @@ ghost use Rattle.writing.specs.Sign.{signVerdict, afterSign};
 ghost use Rattle.list_append.specs.Append.{listVerdict, listRoot, afterList};
 ghost use Rattle.writing.specs.RootHash.{rootVerdict, rootAnswer};
 ghost use Rattle.writing.specs.Post.{lent};
+ghost use Rattle.old_root.specs.OldRoot.{oldVerdict, oldRoot};
 ghost use Rattle.c_api.specs.Encoding.{encoded};
 
 // A register without chunks in four buffers.
@@ -150,6 +151,28 @@ pub extern "C" fn sleep_root_hash(
     ensures gives { λ _. ⌜ now (root .exit) ≡ unlessRefused (rootVerdict (registerOf (now (tree .entry)) (now (signatures .entry)) (now (bitfield .entry)) (now (content .entry)) n s size)) (rootAnswer nodeHash (registerOf (now (tree .entry)) (now (signatures .entry)) (now (bitfield .entry)) (now (content .entry)) n s size)) (now (root .entry)) ⌝ }
 {
     let rooted = writing::root_hash(tree, signatures, bitfield, content, n, s, size);
+    let hash = rooted.root;
+    let answer = rooted.answer;
+    super::answers::give_hash(answer, hash, root)
+}
+
+// The root hash of the first `m` chunks, from the stored entries, in `root`.
+#[no_mangle]
+pub extern "C" fn sleep_old_root(
+    tree: &[u8],
+    signatures: &[u8],
+    bitfield: &[u8],
+    content: &[u8],
+    n: u64,
+    s: u64,
+    size: u64,
+    m: u64,
+    root: &mut [u8; 32],
+) -> SleepAnswer
+    ensures answers { λ r. ⌜ r ≡ encoded (oldVerdict (registerOf (now (tree .entry)) (now (signatures .entry)) (now (bitfield .entry)) (now (content .entry)) n s size) m) ⌝ }
+    ensures gives { λ _. ⌜ now (root .exit) ≡ unlessRefused (oldVerdict (registerOf (now (tree .entry)) (now (signatures .entry)) (now (bitfield .entry)) (now (content .entry)) n s size) m) (oldRoot nodeHash (registerOf (now (tree .entry)) (now (signatures .entry)) (now (bitfield .entry)) (now (content .entry)) n s size) m) (now (root .entry)) ⌝ }
+{
+    let rooted = old_root::old_root(tree, signatures, bitfield, content, n, s, size, m);
     let hash = rooted.root;
     let answer = rooted.answer;
     super::answers::give_hash(answer, hash, root)

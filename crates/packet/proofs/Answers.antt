@@ -166,21 +166,27 @@ module _ (F : List ℕ → List ℕ) (hf : HashFunction F) (cs : List (List ℕ)
       ∙ nodeAt-index F es j (beside (c / 2 ^ j)))
       ∙ ap (run (λ d. node F es d (beside (c / 2 ^ d))) 0) e
 
-  chunk-leaf : leaf F (packetChunk p) ≡ node F es 0 (c / 2 ^ 0)
+  pub chunk-is : packetChunk p ≡ getD cs c []
+  chunk-is = subst (λ (q : List ℕ). packetChunk q ≡ bytes) packet-is (chunk-back (r .tree) (r .n) c (chunkBytes r c) read) ∙ the-chunk
+
+  pub chunk-leaf : leaf F (packetChunk p) ≡ node F es 0 (c / 2 ^ 0)
   unfolding node
   chunk-leaf =
-      ap (leaf F) (subst (λ (q : List ℕ). packetChunk q ≡ bytes) packet-is (chunk-back (r .tree) (r .n) c (chunkBytes r c) read) ∙ the-chunk)
-      ∙ sym (leaf-at F cs c h) ∙ ap (λ (k : ℕ). getD es k hole) (sym (div-one c))
+      ap (leaf F) chunk-is ∙ sym (leaf-at F cs c h) ∙ ap (λ (k : ℕ). getD es k hole) (sym (div-one c))
 
   size-back : chunkLength p ≡ length bytes
   size-back = subst (λ (q : List ℕ). chunkLength q ≡ length bytes) packet-is (length-back (r .tree) (r .n) c (chunkBytes r c) read)
 
+  pub siblings-are : siblingEntries p (r .n) c ≡ run (λ d. node F es d (beside (c / 2 ^ d))) 0 up
+  unfolding siblingEntries siblingsPlace
+  siblings-are = ap (λ (l : ℕ). entriesIn p (4 + l + 1) (length (siblings (r .n) c))) size-back ∙ the-siblings
+
   climb-root : climbed F c (leaf F (packetChunk p)) (siblingEntries p (r .n) c) ≡ nodeAt F es (rootAbove (roots (r .n)) c)
-  unfolding siblingEntries siblingsPlace nodeAt
+  unfolding nodeAt
   climb-root =
       let s = root-spans (r .n) c (read .chunk) in
-      ap₂ (λ (x : Entry) (l : ℕ). climbed F c x (entriesIn p (4 + l + 1) (length (siblings (r .n) c)))) chunk-leaf size-back
-      ∙ ap₂ (λ (k : ℕ) (ss : List Entry). climbed F k (node F es 0 (c / 2 ^ 0)) ss) (sym (div-one c)) the-siblings
+      ap₂ (climbed F c) chunk-leaf siblings-are
+      ∙ ap (λ (k : ℕ). climbed F k (node F es 0 (c / 2 ^ 0)) (run (λ d. node F es d (beside (c / 2 ^ d))) 0 up)) (sym (div-one c))
       ∙ climb-nodes F es c 0 up ∙ ap (λ (x : ℕ). node F es x (c / 2 ^ x)) (zero-add up)
       ∙ ap (node F es up) (div-eq-of-lt-le (2 ^ up) (s .from) (s .to))
 
@@ -242,7 +248,7 @@ module _ (F : List ℕ → List ℕ) (hf : HashFunction F) (cs : List (List ℕ)
   unfolding othersPlace siblingsPlace
   others-place = ap (λ (l : ℕ). 4 + l + 1 + 40 * length (siblings (r .n) c) + 1) size-back
 
-  the-message : packetRootMessage F p (r .n) c ≡ rootMessageFor F cs
+  pub the-message : packetRootMessage F p (r .n) c ≡ rootMessageFor F cs
   unfolding packetRootMessage otherEntries rootMessageFor rootMessageOf
   the-message =
       ap₂ (λ (x : Entry) (a : ℕ). rootMessage (items (roots (r .n)) (inTurn (rootAbove (roots (r .n)) c) x (roots (r .n)) (entriesIn p a (length (otherRoots (r .n) c))))))
@@ -302,7 +308,7 @@ module _ (F : List ℕ → List ℕ) (hf : HashFunction F) (cs : List (List ℕ)
             ∙ ap (λ (x : List ℕ). 4 + length x + 1 + 40 * length (siblings (r .n) c) + 1 + 40 * length (otherRoots (r .n) c)) the-chunk;
         passes = sym passes;
         gives = sym (checked-by F p (r .n) c (rootHashFor F cs) done passes)
-            ∙ subst (λ (q : List ℕ). packetChunk q ≡ bytes) packet-is (chunk-back (r .tree) (r .n) c (chunkBytes r c) read) ∙ the-chunk;
+            ∙ chunk-is;
       }
 
 pub packet-answers : PacketAnswersForAll

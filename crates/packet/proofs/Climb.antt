@@ -24,7 +24,7 @@ use Rattle.packet.specs.Parts.{sizesIn, Climbable, climbed, turned, Turn
 abbrev pub entry : List ℕ → ℕ → Entry
 entry h s = record { hash = h; size = s }
 
-abbrev arranged : {A : Type 0} → ℕ → A → A → A
+abbrev pub arranged : {A : Type 0} → ℕ → A → A → A
 arranged b x y = elim b [ zero ↦ x | suc c ↦ y ]
 
 pub odd : (k : ℕ) → (k % 2 ≡ 0 → ⊥) → k % 2 ≡ 1
@@ -61,13 +61,13 @@ module _ (F : List ℕ → List ℕ) (k : ℕ) (e s : Entry) where
 
 -- ---- the climb
 
-run-front : {A : Type 0} (f : ℕ → A) (j count : ℕ) → j < count → run f j (count - j) ≡ f j ∷ run f (j + 1) (count - (j + 1))
+pub run-front : {A : Type 0} (f : ℕ → A) (j count : ℕ) → j < count → run f j (count - j) ≡ f j ∷ run f (j + 1) (count - (j + 1))
 unfolding run
 run-front {A} f j count h =
     let e : count - j ≡ suc (count - (j + 1)) = omega arith in
     ap (run f j) e ∙ ap (λ (i : ℕ). f j ∷ run f i (count - (j + 1))) (sym (add-one j))
 
-run-over : {A : Type 0} (f : ℕ → A) (j count : ℕ) → count ≤ j → run f j (count - j) ≡ []
+pub run-over : {A : Type 0} (f : ℕ → A) (j count : ℕ) → count ≤ j → run f j (count - j) ≡ []
 unfolding run
 run-over f j count h = let e : count - j ≡ 0 = omega arith in ap (run f j) e
 

@@ -45,7 +45,7 @@ summed-within x y z s w a b h = pick (leb (s + z) 68719476736) (leb (x + y) 6871
     pick true false e f = absurd (omega (arith, a .over (leb-false (x + y) 68719476736 f), leb-true (s + z) 68719476736 e))
     pick true true e f = omega (arith, a .within (leb-true (x + y) 68719476736 f), leb-true (s + z) 68719476736 e)
 
-map-run : {A B : Type 0} (g : A → B) (f : ℕ → A) (i k : ℕ) → map g (run f i k) ≡ run (λ j. g (f j)) i k
+pub map-run : {A B : Type 0} (g : A → B) (f : ℕ → A) (i k : ℕ) → map g (run f i k) ≡ run (λ j. g (f j)) i k
 unfolding run
 map-run g f i zero = refl
 map-run {A} {B} g f i (suc k) = ap (λ (ys : List B). g (f i) ∷ ys) (map-run g f (suc i) k)

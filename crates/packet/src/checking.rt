@@ -97,7 +97,7 @@ fn add_lengths(packet: &[u8], at: usize, count: usize, from: u64) -> u64
 }
 
 // Inner: the entry at a place within a packet.
-fn entry_node(packet: &[u8], at: usize) -> Node
+pub fn entry_node(packet: &[u8], at: usize) -> Node
     requires { ⌜ at + 40 ≤ length (now packet) ⌝ }
     ensures { λ r. ⌜ entryOf r ≡ entryIn (now (packet .entry)) at ⌝ }
 {
@@ -107,7 +107,7 @@ fn entry_node(packet: &[u8], at: usize) -> Node
 }
 
 // The leaf of a chunk.
-fn leaf_node(chunk: &[u8]) -> Node
+pub fn leaf_node(chunk: &[u8]) -> Node
     ensures { λ r. ⌜ entryOf r ≡ leaf nodeHash (now (chunk .entry)) ⌝ }
 {
     let hash = files::hashes::leaf_hash(chunk);
@@ -116,7 +116,7 @@ fn leaf_node(chunk: &[u8]) -> Node
 }
 
 // Inner: the parent of the block k and of the block beside it.
-fn step_up(k: u64, node: Node, beside: Node) -> Node
+pub fn step_up(k: u64, node: Node, beside: Node) -> Node
     requires { ⌜ node .size + beside .size ≤ 68719476736 ⌝ }
     ensures { λ r. ⌜ entryOf r ≡ ordered k (parentOf nodeHash) (entryOf node) (entryOf beside) ⌝ }
 {

@@ -4,7 +4,7 @@ use Prim.Native.Nat.{ℕ, _+_, _*_, _≤_, _<_}
 use mathlib.Core.Path.{_≡_, refl, ap, _∙_}
 use mathlib.Core.Bool.{Bool, true, false}
 use mathlib.Core.List.{List, [], _∷_}
-use native.Mathlib.Nat.{zero-add}
+use native.Mathlib.Nat.{zero-add, le-refl}
 use native.Mathlib.Omega.{arith}
 use borrow.Author.Tests.{leb-true, leb-false, le-leb, lt-leb}
 use lib.Dec.{leb, eqb}
@@ -72,18 +72,22 @@ module _ (t : List ℕ) (n : ℕ) where
   root-sizes-cut =
       map-ext (storedSize (take (usedTree n) t)) (storedSize t) (roots n) (λ j l. size-cut t n (getD (roots n) j 0) (root-below n j l))
 
-  pub root-message-cut : storedRootMessage (take (usedTree n) t) n ≡ storedRootMessage t n
-  unfolding storedRootMessage
-  root-message-cut =
+  -- that of the first m chunks
+  pub old-message-cut : (m : ℕ) → m ≤ n → storedRootMessage (take (usedTree n) t) m ≡ storedRootMessage t m
+  unfolding storedRootMessage entries
+  old-message-cut m h =
       ap rootMessage
       (map-ext (λ i. rootItem (storedHash (take (usedTree n) t) i) i (storedSize (take (usedTree n) t) i)) (λ i. rootItem (storedHash t i) i (storedSize t i))
-      (roots n)
-      (λ j l. item (getD (roots n) j 0) (root-below n j l)))
+      (roots m)
+      (λ j l. item (getD (roots m) j 0) (omega (arith, root-below m j l))))
     where
       item : (i : ℕ) → i < entries n → rootItem (storedHash (take (usedTree n) t) i) i (storedSize (take (usedTree n) t) i) ≡ rootItem (storedHash t i) i (storedSize t i)
       item i l =
           ap (λ (h : List ℕ). rootItem h i (storedSize (take (usedTree n) t) i)) (hash-cut t n i l)
           ∙ ap (rootItem (storedHash t i) i) (size-cut t n i l)
+
+  pub root-message-cut : storedRootMessage (take (usedTree n) t) n ≡ storedRootMessage t n
+  root-message-cut = old-message-cut n (le-refl n)
 
   pub start-cut : (k : ℕ) → k ≤ n → storedStart (take (usedTree n) t) k ≡ storedStart t k
   unfolding storedStart entries

@@ -2,12 +2,16 @@
 -- Assumes nothing.
 use Prim.Native.Nat.{ℕ}
 use mathlib.Core.Path.{_≡_, refl, sym, ap, _∙_}
-use mathlib.Core.List.{List}
-use Rattle.counts.specs.Verdict.{Verdict, done, refused}
+use mathlib.Core.List.{List, _++_}
+use Rattle.counts.specs.Verdict.{Verdict, done, refused, unlessRefused}
+use Rattle.sequences.specs.Lists.{zeros}
+use Rattle.files.specs.Stored.{storedRootMessage}
 use Rattle.files.specs.Belongs.{Register}
-use Rattle.checks.specs.Checks.{judged}
+use Rattle.checks.specs.Checks.{Check, judged}
 use Rattle.writing.specs.Append.{rootUnlessRefused}
 use Rattle.writing.specs.RootHash.{rootVerdict, rootAnswer}
+use Rattle.old_root.specs.OldRoot.{ownChecks, oldVerdict, oldRoot}
+use Rattle.old_root.proofs.Calls.{old-passed}
 use Rattle.audit.specs.Audit.{audit}
 use Rattle.compare.specs.Walk.{compare}
 use Rattle.lookup.specs.Lookup.{placeOf, byteAt}
@@ -15,7 +19,7 @@ use Rattle.lookup.specs.Read.{readVerdict, readPart}
 use Rattle.lookup.specs.Said.{readFound}
 use Rattle.packet.specs.Packet.{makeVerdict, madeLength, afterMake}
 use Rattle.used_bytes.specs.UsedBytes.{SameUsed, ReadsUsed}
-use Rattle.used_bytes.proofs.Cut.{cut, same-cut, root-message-cut, checks-cut}
+use Rattle.used_bytes.proofs.Cut.{cut, same-cut, old-message-cut, root-message-cut, checks-cut}
 use Rattle.used_bytes.proofs.Lookups.{place-cut, byte-at-cut, read-verdict-cut, read-cut, read-found-cut}
 use Rattle.used_bytes.proofs.Audits.{audit-cut, compare-cut}
 use Rattle.used_bytes.proofs.Packets.{make-verdict-cut, made-length-cut, after-make-cut}
@@ -34,6 +38,22 @@ root-cut F r = ap (λ (v : Verdict). rootUnlessRefused F v (cut r)) (root-verdic
     go done = ap F (root-message-cut (r .tree) (r .n))
     go (refused m at) = refl
 
+-- ---- the root hash of the first m chunks
+
+old-verdict-cut : (r : Register) (m : ℕ) → oldVerdict (cut r) m ≡ oldVerdict r m
+unfolding oldVerdict
+old-verdict-cut r m = ap (λ (l : List Check). judged (l ++ ownChecks (r .n) m) done) (checks-cut r)
+
+old-cut : (F : List ℕ → List ℕ) (r : Register) (m : ℕ) → oldRoot F (cut r) m ≡ oldRoot F r m
+unfolding oldRoot
+old-cut F r m =
+    ap (λ (v : Verdict). unlessRefused v (F (storedRootMessage (cut r .tree) m)) (zeros 32)) (old-verdict-cut r m) ∙ go (oldVerdict r m) refl
+  where
+    go : (v : Verdict) → oldVerdict r m ≡ v
+        → unlessRefused v (F (storedRootMessage (cut r .tree) m)) (zeros 32) ≡ unlessRefused v (F (storedRootMessage (r .tree) m)) (zeros 32)
+    go done e = ap F (old-message-cut (r .tree) (r .n) m (old-passed r m e .upTo))
+    go (refused k at) e = refl
+
 -- ---- all of them
 
 -- an answer that is the same of a register and of the same cut
@@ -48,6 +68,8 @@ reads F =
             audits = by-cut (audit F) (audit-cut F) a b h;
             rootSays = by-cut rootVerdict root-verdict-cut a b h;
             root = by-cut (rootAnswer F) (root-cut F) a b h;
+            oldSays = λ m. by-cut (λ r. oldVerdict r m) (λ r. old-verdict-cut r m) a b h;
+            old = λ m. by-cut (λ r. oldRoot F r m) (λ r. old-cut F r m) a b h;
             place = λ c. by-cut (λ r. placeOf r c) (λ r. place-cut r c) a b h;
             byte = λ x. by-cut (λ r. byteAt r x) (λ r. byte-at-cut r x) a b h;
             readSays = λ c. by-cut (λ r. readVerdict F r c) (λ r. read-verdict-cut r c F) a b h;

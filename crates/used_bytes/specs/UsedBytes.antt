@@ -3,7 +3,7 @@
 -- lack it, and leaves the same used bytes in both.
 --
 -- The notions in it: `HashFunction` (files, Messages), `Register`, `Buffers` and `Lent` (files, Belongs), the used sizes (files, Sizes), the
--- calls' verdicts and answers (writing, Start, Append, Sign and RootHash; list_append, Append, with Chunks and Fits; audit, Audit; compare, Walk; lookup, Lookup, Read and Said; packet,
+-- calls' verdicts and answers (writing, Start, Append, Sign and RootHash; list_append, Append, with Chunks and Fits; old_root, OldRoot; audit, Audit; compare, Walk; lookup, Lookup, Read and Said; packet,
 -- Packet) and what a call that writes asks for (writing, Fits).
 use Prim.Native.Nat.{ℕ}
 use mathlib.Core.Path.{_≡_}
@@ -23,6 +23,7 @@ use Rattle.writing.specs.Fits.{StartFits, AppendFits, SignFits}
 use Rattle.list_append.specs.Chunks.{chunksOf}
 use Rattle.list_append.specs.Append.{listVerdict, appendedList, listRoot}
 use Rattle.list_append.specs.Fits.{ListFits}
+use Rattle.old_root.specs.OldRoot.{oldVerdict, oldRoot}
 use Rattle.audit.specs.Audit.{audit}
 use Rattle.compare.specs.Walk.{compare}
 use Rattle.lookup.specs.Lookup.{placeOf, byteAt}
@@ -45,6 +46,8 @@ pub record ReadAlike (F : List ℕ → List ℕ) (a b : Register) : Type 0 where
   pub audits : audit F a ≡ audit F b
   pub rootSays : rootVerdict a ≡ rootVerdict b
   pub root : rootAnswer F a ≡ rootAnswer F b
+  pub oldSays : (m : ℕ) → oldVerdict a m ≡ oldVerdict b m
+  pub old : (m : ℕ) → oldRoot F a m ≡ oldRoot F b m
   pub place : (c : ℕ) → placeOf a c ≡ placeOf b c
   pub byte : (x : ℕ) → byteAt a x ≡ byteAt b x
   pub readSays : (c : ℕ) → readVerdict F a c ≡ readVerdict F b c

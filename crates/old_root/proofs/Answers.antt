@@ -1,0 +1,82 @@
+-- The proof of `OldRootsForAll`. Assumes nothing.
+use Prim.Native.Nat.{ℕ, _≤_}
+use mathlib.Core.Path.{_≡_, refl, sym, ap, _∙_}
+use mathlib.Core.Bool.{Bool, true, false}
+use mathlib.Core.List.{List, [], _∷_}
+use native.Mathlib.Nat.{le-refl}
+use lib.ListN.{take}
+use Rattle.counts.specs.Verdict.{Spot, Verdict, done, refused, unlessRefused}
+use Rattle.sequences.specs.Lists.{zeros, joined}
+use Rattle.tree_index.specs.Tree.{roots, rootsBelow, rootOf}
+use Rattle.blake2b.specs.Hash.{nodeHash}
+use Rattle.files.specs.Messages.{HashFunction, rootMessage}
+use Rattle.files.specs.Stored.{storedRootMessage}
+use Rattle.files.specs.Images.{rootHashFor}
+use Rattle.files.specs.Belongs.{Register, Lent, Within, Belongs}
+use Rattle.files.proofs.Hashed.{hash-function}
+use Rattle.checks.specs.Checks.{judged, registerChecks}
+use Rattle.audit.specs.Audit.{Accepted}
+use Rattle.audit.proofs.Audited.{accepted-audited}
+use Rattle.audit.proofs.Exact.{audit-exact}
+use Rattle.writing.specs.Append.{rootUnlessRefused}
+use Rattle.writing.specs.RootHash.{rootVerdict, rootAnswer}
+use Rattle.old_root.specs.OldRoot.{oldVerdict, oldRoot}
+use Rattle.old_root.specs.Answers.{OldRoots, OldRootsForAll}
+use Rattle.old_root.proofs.Calls.{own-right, in-turn, old-takes, old-above, old-passed}
+use Rattle.old_root.proofs.First.{first-root-message}
+
+module _ (F : List ℕ → List ℕ) (r : Register) where
+  old-answered : (m : ℕ) → oldVerdict r m ≡ done → oldRoot F r m ≡ F (storedRootMessage (r .tree) m)
+  unfolding oldRoot
+  old-answered m e = ap (λ (v : Verdict). unlessRefused v (F (storedRootMessage (r .tree) m)) (zeros 32)) e
+
+  old-zero : (m k : ℕ) (at : Spot) → oldVerdict r m ≡ refused k at → oldRoot F r m ≡ zeros 32
+  unfolding oldRoot
+  old-zero m k at e = ap (λ (v : Verdict). unlessRefused v (F (storedRootMessage (r .tree) m)) (zeros 32)) e
+
+  -- no chunks have no roots
+  no-roots : storedRootMessage (r .tree) 0 ≡ 2 ∷ []
+  unfolding storedRootMessage rootMessage roots rootsBelow rootOf joined
+  no-roots = refl
+
+  -- with all chunks its own check is passed
+  all-verdict : oldVerdict r (r .n) ≡ rootVerdict r
+  unfolding rootVerdict
+  all-verdict = in-turn r (r .n) ∙ ap (judged (registerChecks r)) (own-right (r .n) (r .n) (le-refl (r .n)))
+
+  -- the two definitions of what stands beside a verdict
+  beside-verdict : (v : Verdict) → unlessRefused v (F (storedRootMessage (r .tree) (r .n))) (zeros 32) ≡ rootUnlessRefused F v r
+  beside-verdict done = refl
+  beside-verdict (refused k at) = refl
+
+  all-root : oldRoot F r (r .n) ≡ rootAnswer F r
+  unfolding oldRoot rootAnswer
+  all-root = beside-verdict (oldVerdict r (r .n)) ∙ ap (λ (v : Verdict). rootUnlessRefused F v r) all-verdict
+
+  old-hash : HashFunction F → (cs : List (List ℕ)) → Within cs → Belongs F r cs → (m : ℕ) → m ≤ r .n → F (storedRootMessage (r .tree) m) ≡ rootHashFor F (take m cs)
+  unfolding rootHashFor
+  old-hash hf cs w b m h = ap F (first-root-message F hf cs w r b m h)
+
+  old-accepted : HashFunction F → Lent r → Accepted F r
+      → (cs : List (List ℕ)) × ((Within cs × Belongs F r cs) × ((m : ℕ) → m ≤ r .n → oldRoot F r m ≡ rootHashFor F (take m cs)))
+  old-accepted hf l a =
+      let i = audit-exact F hf .exactly r l .0 a in
+      let w = i .2 .within in
+      let b = i .2 .belongs in
+      (i .0, ((w, b), λ m h. old-answered m (old-takes r m (accepted-audited F r a .checked) h) ∙ old-hash hf (i .0) w b m h))
+
+pub old-roots : OldRootsForAll
+old-roots F hf =
+    record {
+      takes = λ r a m h. old-takes r m (accepted-audited F r a .checked) h;
+      above = λ r a m h. old-above r m (accepted-audited F r a .checked) h;
+      accepted = λ r l a. old-accepted F r hf l a;
+      answers = λ r cs w b m e. old-answered F r m e ∙ old-hash F r hf cs w b m (old-passed r m e .upTo);
+      empty = λ r e. old-answered F r 0 e ∙ ap F (no-roots F r);
+      all = λ r. (all-verdict F r, all-root F r);
+      zero = old-zero F;
+    }
+
+-- the hash of the calls is such a function
+pub old-roots-of-the-call : OldRoots nodeHash
+old-roots-of-the-call = old-roots nodeHash hash-function

@@ -1,0 +1,3 @@
+-- Root hashes of earlier years.
+pub mod OldRoot
+pub mod Answers

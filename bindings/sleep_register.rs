@@ -55,6 +55,28 @@ pub struct Needs {
     pub runs: u64,
 }
 
+/// Which of the two registers a read names.
+#[derive(Clone, Copy, Debug, PartialEq, Eq)]
+pub enum Name {
+    Metadata,
+    Content,
+}
+
+/// A read that was served: the station, the register and the chunk that it named, and what the direct read answers.
+#[derive(Clone, Copy, Debug, PartialEq, Eq)]
+pub struct Served<'a> {
+    pub station: u64,
+    pub name: Name,
+    pub chunk: u64,
+    pub read: Result<&'a [u8], Refusal>,
+}
+
+/// Reads of stations 0 to 15 that wait, at most 4 of each. The numbers may be any; include/sleep_register.h says how they are read.
+#[derive(Clone, Copy, Debug, PartialEq, Eq)]
+pub struct Table {
+    pub numbers: [u64; 161],
+}
+
 /// Two numbers that a lookup gives: start and length, or chunk number and offset within the chunk.
 pub type Pair = (u64, u64);
 
@@ -92,6 +114,15 @@ struct Answer {
 #[repr(C)]
 struct Compared {
     outcome: u64,
+    answer: Answer,
+}
+
+#[repr(C)]
+struct Serving {
+    served: u64,
+    station: u64,
+    name: u64,
+    chunk: u64,
     answer: Answer,
 }
 
@@ -138,6 +169,12 @@ extern "C" {
     fn sleep_make_packet(t: In, tl: usize, g: In, gl: usize, b: In, bl: usize, d: In, dl: usize, n: u64, s: u64, size: u64,
         chunk: u64, out: Out, out_length: usize, length: *mut u64) -> Answer;
     fn sleep_needs(n: u64, size: u64, lengths: *const u64, lengths_count: usize, out: *mut u64) -> Answer;
+    fn sleep_fresh(table: *mut u64) -> Answer;
+    fn sleep_enter(table: *mut u64, station: u64, name: u64, chunk: u64) -> Answer;
+    #[rustfmt::skip]
+    fn sleep_serve(table: *mut u64, t: In, tl: usize, g: In, gl: usize, b: In, bl: usize, d: In, dl: usize, n: u64, s: u64, size: u64,
+        t2: In, tl2: usize, g2: In, gl2: usize, b2: In, bl2: usize, d2: In, dl2: usize, n2: u64, s2: u64, size2: u64,
+        out: *mut u64) -> Serving;
     fn sleep_group(bytes: In, bytes_length: usize, out: Out, out_length: usize) -> Answer;
     fn sleep_ungroup(bytes: In, bytes_length: usize, out: Out, out_length: usize) -> Answer;
     fn sleep_check_packet(packet: In, packet_length: usize, n: u64, chunk: u64, root: In, out: *mut u64) -> Answer;
@@ -321,6 +358,41 @@ impl<'a> Register<'a> {
             4 => Comparison::FirstRefused(said.answer.refusal()),
             _ => Comparison::SecondRefused(said.answer.refusal()),
         }
+    }
+}
+
+impl Table {
+    /// No read waits, as if station 15 had been served.
+    pub fn fresh() -> Table {
+        let mut table = Table { numbers: [0; 161] };
+        unsafe { sleep_fresh(table.numbers.as_mut_ptr()) };
+        table
+    }
+
+    /// A read that waits behind those of its station.
+    pub fn enter(&mut self, station: u64, name: Name, chunk: u64) -> Result<(), Refusal> {
+        let name = if name == Name::Metadata { 0 } else { 1 };
+        unsafe { sleep_enter(self.numbers.as_mut_ptr(), station, name, chunk) }.result(())
+    }
+
+    /// The read whose turn it is, which leaves the table; `None` where no read waits.
+    pub fn serve<'a>(&mut self, metadata: &Register<'a>, content: &Register<'a>) -> Option<Served<'a>> {
+        let (m, c, mut out) = (metadata, content, [0; 2]);
+        #[rustfmt::skip]
+        let said = unsafe {
+            sleep_serve(
+                self.numbers.as_mut_ptr(), m.tree.as_ptr(), m.tree.len(), m.signatures.as_ptr(), m.signatures.len(), m.bitfield.as_ptr(),
+                m.bitfield.len(), m.data.as_ptr(), m.data.len(), m.n, m.s, m.size, c.tree.as_ptr(), c.tree.len(), c.signatures.as_ptr(),
+                c.signatures.len(), c.bitfield.as_ptr(), c.bitfield.len(), c.data.as_ptr(), c.data.len(), c.n, c.s, c.size,
+                out.as_mut_ptr(),
+            )
+        };
+        if said.served == 0 {
+            return None;
+        }
+        let (name, data) = if said.name == 0 { (Name::Metadata, m.data) } else { (Name::Content, c.data) };
+        let read = said.answer.result(()).map(|()| part(data, out));
+        Some(Served { station: said.station, name, chunk: said.chunk, read })
     }
 }
 

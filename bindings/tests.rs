@@ -1,7 +1,7 @@
 //! The wrapper over the proved library, called as a program would. `tests/run` builds and runs it.
 mod sleep_register;
 
-use sleep_register::{check_packet, compare_packets, group, hash, hash_parts, label, needs, ungroup, Comparison, Needs, Place, Refusal, Store, Walked, PACKET_EXTRA};
+use sleep_register::{check_packet, compare_packets, group, hash, hash_parts, label, needs, ungroup, Comparison, Name, Needs, Place, Refusal, Store, Table, Walked, PACKET_EXTRA};
 
 fn refused<T>(number: u64, place: Place) -> Result<T, Refusal> {
     Err(Refusal { number, place })
@@ -250,4 +250,40 @@ fn a_job_takes_what_it_needs() {
     assert_eq!(needs(10, 0, &[65537; 257]), refused(16, Place::None));
     assert_eq!(needs(10, 655361, &[65537]), refused(7, Place::None));
     assert_eq!(needs(10, 655361, &[1]), refused(9, Place::None));
+}
+
+#[test]
+fn stations_take_turns() {
+    let (names, pieces) = (filled(&[b"names", b"more"]), filled(&[b"AB", b"", b"CDE"]));
+    let (m, c) = (names.register(), pieces.register());
+    let mut table = Table::fresh();
+    assert_eq!(table.serve(&m, &c), None);
+    for chunk in 0..4 {
+        assert_eq!(table.enter(3, Name::Content, chunk), Ok(()));
+    }
+    let full = table;
+    assert_eq!(table.enter(3, Name::Content, 0), refused(22, Place::None));
+    assert_eq!(table.enter(16, Name::Content, 0), refused(21, Place::None));
+    assert_eq!(table, full);
+    assert_eq!(table.enter(15, Name::Metadata, 1), Ok(()));
+    assert_eq!(table.enter(2, Name::Content, 2), Ok(()));
+    let expected: [(u64, Name, u64, Result<&[u8], Refusal>); 6] = [
+        (2, Name::Content, 2, Ok(b"CDE")),
+        (3, Name::Content, 0, Ok(b"AB")),
+        (15, Name::Metadata, 1, Ok(b"more")),
+        (3, Name::Content, 1, Ok(b"")),
+        (3, Name::Content, 2, Ok(b"CDE")),
+        (3, Name::Content, 3, refused(9, Place::None)),
+    ];
+    for (station, name, chunk, read) in expected {
+        let served = table.serve(&m, &c).unwrap();
+        assert_eq!((served.station, served.name, served.chunk, served.read), (station, name, chunk, read));
+        let direct = if name == Name::Metadata { m } else { c };
+        assert_eq!(served.read, direct.read(chunk));
+    }
+    let last = table;
+    assert_eq!((table.serve(&m, &c), table), (None, last));
+    let mut spoilt = Table { numbers: [u64::MAX; 161] };
+    assert_eq!((0..64).filter(|_| spoilt.serve(&m, &c).is_some()).count(), 64);
+    assert_eq!(spoilt.serve(&m, &c), None);
 }

@@ -1,5 +1,6 @@
 /* A register in fixed buffers: three pieces, each previewed, signed, appended and stored with its signature, an audit, a verified read, a packet
- * made and checked, a label, two registers compared, and a coat of 40 pieces stored wholly or left out. Build and run: make -C examples */
+ * made and checked, a label, two registers compared, a coat of 40 pieces stored wholly or left out, and stations whose reads take turns. Build and
+ * run: make -C examples */
 #include <inttypes.h>
 #include <stdio.h>
 #include <stdlib.h>
@@ -110,6 +111,27 @@ static void add_list(void) {
     printf("a coat of %d pieces, %" PRIu64 " bytes, one signature\n", PIECES, w.size);
 }
 
+/* Station 7 has a large job; stations 2 and 9 wait for one piece each, and are served between its reads. */
+static void take_turns(const store *r) {
+    static const uint64_t turns[6][2] = {{2, 0}, {7, 0}, {9, 2}, {7, 1}, {7, 2}, {7, 3}};
+    uint64_t table[SLEEP_TABLE_NUMBERS], part[2];
+    sleep_serving served;
+    expect("fresh", sleep_fresh(table).number, 0);
+    for (uint64_t chunk = 0; chunk < SLEEP_MOST_WAITING; chunk++) expect("enter", sleep_enter(table, 7, SLEEP_CONTENT, chunk).number, 0);
+    expect("a fifth read", sleep_enter(table, 7, SLEEP_CONTENT, 0).number, 22);
+    expect("a station that isn't there", sleep_enter(table, 16, SLEEP_CONTENT, 0).number, 21);
+    expect("enter", sleep_enter(table, 9, SLEEP_CONTENT, 2).number, 0);
+    expect("enter", sleep_enter(table, 2, SLEEP_CONTENT, 0).number, 0);
+    for (int k = 0; k < 6; k++) {
+        served = sleep_serve(table, LENT(r), COUNTS(r), LENT(r), COUNTS(r), part);
+        expect("a turn", served.station, turns[k][0]);
+        expect("the read that came first", served.chunk, turns[k][1]);
+        expect("what it is answered", served.answer.number, served.chunk < r->n ? 0 : 9);
+        if (served.answer.number == 0) printf("station %" PRIu64 ": %.*s\n", served.station, (int)part[1], r->data + part[0]);
+    }
+    expect("nobody waits", sleep_serve(table, LENT(r), COUNTS(r), LENT(r), COUNTS(r), part).served, 0);
+}
+
 int main(void) {
     static store first, second;
     uint8_t root[32], again[32];
@@ -129,6 +151,7 @@ int main(void) {
     printf("label: %02x%02x%02x%02x..\n", again[0], again[1], again[2], again[3]);
     read_back(&first, 2);
     pass_on(&first, 2, root);
+    take_turns(&first);
 
     second = first;
     expect("a copy", compared(&first, &second).outcome, SLEEP_EQUAL);

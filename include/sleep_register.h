@@ -33,17 +33,28 @@
  *   No call hands out a pointer. A part of a lent buffer is given as two numbers, out[0] and out[1]: the offset of its first byte, counted
  *   from the start of that buffer, and its length in bytes. It is buffer[out[0]] up to, and without, buffer[out[0] + out[1]], which always
  *   lies within the buffer. A part of length 0 is an empty chunk, which is no refusal. Of sleep_place and sleep_read the buffer is data, so
- *   the offset is the count of bytes of all chunks before it; of sleep_check_packet it is the packet.
+ *   the offset is the count of bytes of all chunks before it; of sleep_check_packet it is the packet; of sleep_serve it is the data of the
+ *   register that the answer names.
+ *
+ * WAITING READS
+ *   Reads of 16 stations, 0 to 15, wait in a table, at most 4 of each, first come first. The table is SLEEP_TABLE_NUMBERS numbers, which the
+ *   caller keeps; sleep_fresh begins one. It may hold anything: every content is read as a table, so that every call has an answer. Its numbers:
+ *     0 to 15     how many reads wait for each station, 4 where the number is larger
+ *     16 to 31    at which of its 4 places each station's first read stands, modulo 4; the others follow, going round
+ *     32 to 95    the register that each read names, station s's place p at 32 + 4 s + p: 0 metadata, any other number content
+ *     96 to 159   its chunk number, at 96 + 4 s + p
+ *     160         the station last served, modulo 16
  *
  * WHAT FIRMWARE HAS TO PROVIDE
- *   Code: at most 48,000 bytes with its read-only constants (some 41,000 today). The archive has no variables: no static data, zeroed or
+ *   Code: at most 48,000 bytes with its read-only constants (some 43,000 today). The archive has no variables: no static data, zeroed or
  *   not, and nothing to set up. From outside it needs memcpy and memset, and nothing else; it allocates nothing. The stack that each call
  *   takes at most, counted from the caller's frame, with arguments, return address and what memcpy or memset takes, is SLEEP_STACK_.. below.
  *   tests/run holds the archive to all of this, the stack by calls on a painted one.
  *
  * ANSWERS AND REFUSALS
- *   A call is done (number 0) or refused. A refused call changes no byte of any buffer, and no result that is lent to it. Checks are
- *   made in the order of this list, and the first that fails is the answer.
+ *   A call is done (number 0) or refused. A refused call changes no byte of any buffer, and no result that is lent to it; a serving whose
+ *   read is refused is a serving all the same, and the read has left the table. Checks are made in the order of this list, and the first
+ *   that fails is the answer.
  *
  *     number  meaning                                                                      place
  *     0       done                                                                         none
@@ -70,8 +81,10 @@
  *     13      a packet's lengths add up to over 68,719,476,736, or its root hash differs   none
  *     14      a buffer to be written is shorter than the result needs; a preview judges
  *             the buffers that the append would write                                      none
+ *     21      the station is above 15                                                      none
+ *     22      four reads of the station wait already                                       none
  *
- *   1, 17, 2 to 4, 16, 7 to 9 and 14 point at the call: a number or a buffer that doesn't fit. 5 and 6 mean that the images are not those of a
+ *   1, 17, 2 to 4, 16, 7 to 9, 14, 21 and 22 point at the call: a number or a buffer that doesn't fit. 5 and 6 mean that the images are not those of a
  *   register with these numbers: other files, other numbers, or damage. 10 and 11 mean damage where the place says. 12 and 13 mean that a
  *   packet shows nothing of this chunk under this root hash.
  */
@@ -88,6 +101,9 @@ extern "C" {
 #define SLEEP_MOST_CHUNKS 1048576u
 #define SLEEP_LONGEST_CHUNK 65536u
 #define SLEEP_MOST_LISTED 256u
+#define SLEEP_STATIONS 16u
+#define SLEEP_MOST_WAITING 4u
+#define SLEEP_TABLE_NUMBERS 161u
 
 /* What a packet has beside its chunk's bytes, at most: a buffer of the chunk's length and this many bytes never lacks room for it
  * (proved: PacketStaysShort, crates/packet/specs/Answers.antt). */
@@ -98,6 +114,8 @@ extern "C" {
  * passed by value; the comparing walk has two root messages at once. */
 #define SLEEP_STACK_START 512u
 #define SLEEP_STACK_NEEDS 512u
+#define SLEEP_STACK_ENTER 512u
+#define SLEEP_STACK_FRESH 512u
 #define SLEEP_STACK_GROUP 512u
 #define SLEEP_STACK_UNGROUP 512u
 #define SLEEP_STACK_STORE_SIGNATURE 2048u
@@ -108,6 +126,7 @@ extern "C" {
 #define SLEEP_STACK_PLACE 4096u
 #define SLEEP_STACK_BYTE 4096u
 #define SLEEP_STACK_READ 4096u
+#define SLEEP_STACK_SERVE 4096u
 #define SLEEP_STACK_MAKE_PACKET 5120u
 #define SLEEP_STACK_ROOT_HASH 6144u
 #define SLEEP_STACK_OLD_ROOT 6144u
@@ -140,6 +159,17 @@ typedef struct {
     sleep_answer answer; /* its number is 0 unless a register or a packet is refused */
 } sleep_comparison;
 
+enum { SLEEP_METADATA = 0, SLEEP_CONTENT = 1 };
+
+/* What a serving says. Where no read waits all numbers are 0. */
+typedef struct {
+    uint64_t served;     /* 1: a read was served; 0: no read waits, and nothing changed */
+    uint64_t station;    /* the station whose read it was, 0 to 15 */
+    uint64_t name;       /* the register that the read names: SLEEP_METADATA or SLEEP_CONTENT */
+    uint64_t chunk;      /* the chunk number of the read */
+    sleep_answer answer; /* what sleep_read answers to it */
+} sleep_serving;
+
 /* What a job will need: the places of the eight numbers. */
 enum {
     SLEEP_NEEDS_TREE = 0,       /* the used sizes of the four images afterwards, each signature counted */
@@ -157,6 +187,14 @@ enum {
 #define SLEEP_REGISTER_READ                                                                                                     \
     const uint8_t *tree, size_t tree_length, const uint8_t *signatures, size_t signatures_length, const uint8_t *bitfield,      \
         size_t bitfield_length, const uint8_t *data, size_t data_length, uint64_t n, uint64_t s, uint64_t size
+
+/* Two registers, read only: metadata, then content. */
+#define SLEEP_ARCHIVE_READ                                                                                                      \
+    const uint8_t *mtree, size_t mtree_length, const uint8_t *msignatures, size_t msignatures_length, const uint8_t *mbitfield, \
+        size_t mbitfield_length, const uint8_t *mdata, size_t mdata_length, uint64_t mn, uint64_t ms, uint64_t msize,           \
+        const uint8_t *ctree, size_t ctree_length, const uint8_t *csignatures, size_t csignatures_length,                       \
+        const uint8_t *cbitfield, size_t cbitfield_length, const uint8_t *cdata, size_t cdata_length, uint64_t cn, uint64_t cs, \
+        uint64_t csize
 
 /* No pointer may be NULL: of the archive's own symbols, which the fronts at the end of this file call. */
 #if defined(__GNUC__)
@@ -261,6 +299,18 @@ sleep_answer sleep_ungroup(const uint8_t *bytes, size_t bytes_length, uint8_t *o
  * of size bytes, appended singly, each signed, and one root hash made at the end. No register is lent, and n and size are believed. The list
  * has lengths_count numbers, 0 to 256. Refusals, in this order: 2, 16, 7, 9. */
 sleep_answer sleep_needs(uint64_t n, uint64_t size, const uint64_t *lengths, size_t lengths_count, uint64_t out[8]) SLEEP_NOT_NULL;
+
+/* A table for which no read waits, as if station 15 had been served: station 0 is looked at first. Always done. */
+sleep_answer sleep_fresh(uint64_t table[161]) SLEEP_NOT_NULL;
+
+/* A read that waits from now on, behind those of its station: of a chunk of the register that is named (SLEEP_METADATA or SLEEP_CONTENT; any other
+ * number is taken as the latter). No register is lent, and nothing else is checked. Refusals: 21, 22. */
+sleep_answer sleep_enter(uint64_t table[161], uint64_t station, uint64_t name, uint64_t chunk) SLEEP_NOT_NULL;
+
+/* A serving: of the station next in rising number, going round after the one last served, that has a read waiting, the read that came first. It
+ * is answered as sleep_read answers it now, on the register that it names, and out is its part of that register's data; after a refusal (2 to 6,
+ * 9, 10, of the named register alone) out is as it was. The read leaves the table either way. Where no read waits, table and out stay as they are. */
+sleep_serving sleep_serve(uint64_t table[161], SLEEP_ARCHIVE_READ, uint64_t out[2]) SLEEP_NOT_NULL;
 
 /* EMPTY BUFFERS
  *   The archive's own calls take no NULL, even where a length is 0. So from here on, in C and C++, the name of each call stands for an inline
@@ -372,6 +422,19 @@ static inline sleep_answer sleep_needs_front(uint64_t n, uint64_t size, const ui
     return sleep_needs(n, size, lengths_count == 0 ? &n : lengths, lengths_count, out);
 }
 
+static inline sleep_answer sleep_fresh_front(uint64_t table[161]) {
+    return sleep_fresh(table);
+}
+
+static inline sleep_answer sleep_enter_front(uint64_t table[161], uint64_t station, uint64_t name, uint64_t chunk) {
+    return sleep_enter(table, station, name, chunk);
+}
+
+static inline sleep_serving sleep_serve_front(uint64_t table[161], SLEEP_ARCHIVE_READ, uint64_t out[2]) {
+    return sleep_serve(table, SLEEP_LENT(mtree), SLEEP_LENT(msignatures), SLEEP_LENT(mbitfield), SLEEP_LENT(mdata), mn, ms, msize,
+                       SLEEP_LENT(ctree), SLEEP_LENT(csignatures), SLEEP_LENT(cbitfield), SLEEP_LENT(cdata), cn, cs, csize, out);
+}
+
 #undef SLEEP_REGISTER_LENT
 #undef SLEEP_LENT
 #define sleep_hash sleep_hash_front
@@ -395,6 +458,9 @@ static inline sleep_answer sleep_needs_front(uint64_t n, uint64_t size, const ui
 #define sleep_group sleep_group_front
 #define sleep_ungroup sleep_ungroup_front
 #define sleep_needs sleep_needs_front
+#define sleep_fresh sleep_fresh_front
+#define sleep_enter sleep_enter_front
+#define sleep_serve sleep_serve_front
 
 #ifdef __cplusplus
 }

@@ -7,7 +7,8 @@ changed in a buffer, wrong n, s or size, shortened buffers, numbers at their bou
 walked along, root hashes of the first chunks are asked for, and registers compared with copies, with other cuts of the same bytes, with one more empty chunk and with damaged ones. On every register
 that is made, damaged or not, a preview is compared with the append on a copy. Lists are appended, and where one is done its chunks are
 appended singly on a copy, with stored zero signatures between them: every buffer is the same. Bytes of any length about the limits are grouped and
-ungrouped, with and without room, and the needs of jobs are asked about all of their limits. One in fifty calls
+ungrouped, with and without room, and the needs of jobs are asked about all of their limits. Reads of sixteen stations are entered in tables,
+grown from a fresh one or holding anything, and served from two registers, as direct reads made then. One in fifty calls
 is on registers of 16,383 to 16,386 chunks, where the third bitfield entry begins and the tree gets its deepest hole. No pair of chunk
 sequences that collide under BLAKE2b is known, so those two answers of the comparing walk and of the walk along two packets stand in no call here.
 """
@@ -22,10 +23,11 @@ sys.path.insert(0, os.path.join(os.path.dirname(os.path.abspath(__file__)), 'mod
 import coordinates
 import needs
 import sleep_model as model
-from lent import NUMBER, Answer, Buffer, Comparison, Library, answer_of, comparison_of, numbers
+import stations
+from lent import NUMBER, Answer, Buffer, Comparison, Library, Serving, answer_of, comparison_of, numbers, serving_of
 
 IMAGES = ('tree', 'signatures', 'bitfield', 'data')
-EXPECTED = {Answer: answer_of, Comparison: comparison_of, NUMBER: lambda answer: answer_of(answer)[:8], None: lambda answer: b''}
+EXPECTED = {Answer: answer_of, Comparison: comparison_of, Serving: serving_of, NUMBER: lambda answer: answer_of(answer)[:8], None: lambda answer: b''}
 
 
 def chunks_of(r):
@@ -56,7 +58,7 @@ class Calls:
 
     def __init__(self, library, seed):
         self.library, self.random, self.calls, self.refusals = library, random.Random(seed), {}, {}
-        self.ends = self.agreed = self.listed = 0
+        self.ends = self.agreed = self.listed = self.direct = 0
 
     def total(self):
         return sum(self.calls.values())
@@ -193,6 +195,50 @@ class Calls:
         listed = Buffer(numbers(*lengths), unit=8)
         self.call('needs', [], [n, size, listed, self.result(64, numbers)], lambda: needs.needs(n, size, lengths))
 
+    # ---- tables of waiting reads
+    def table(self, held):
+        """A table lent, of which `held` are the model's numbers; no call is told its length."""
+        return Buffer(numbers(*held), array=True, after=lambda *given: numbers(*held))
+
+    def fresh(self, held):
+        def begun():
+            held[:] = stations.fresh_numbers()
+            return ('done',)
+        self.call('fresh', [], [self.table(held)], begun)
+
+    def enter(self, held, station, name, chunk):
+        others = [self.table(held), station, stations.NAMES.index(name), chunk]
+        self.call('enter', [], others, lambda: stations.enter_numbers(held, station, name, chunk))
+
+    def serve(self, held, metadata, content):
+        """The answer, the table and the part; and the direct read of the library gives the same answer and part."""
+        told, lent = [(r.n, r.s, r.size) for r in (metadata, content)], self.table(held)
+        out, images = self.random.randbytes(16), [[Buffer(getattr(r, image)) for image in IMAGES] for r in (metadata, content)]
+        part = Buffer(out, array=True)
+        registers = [word for one, three in zip(images, told) for word in one + list(three)]
+        answered = self.library.call('serve', [lent] + registers + [part], Serving)
+        answer, read = stations.serve_numbers(held, metadata, content)
+        expected = answer if read is None else ('served', answer[1], *read, answer[2])
+        self.calls['serve'] = self.calls.get('serve', 0) + 1
+        self.same('the answer', 'serve', told, answered, serving_of(expected))
+        self.same('the table', 'serve', told, lent.held(), numbers(*held))
+        if read is None:
+            self.same('the part', 'serve', told, part.held(), out)
+        else:
+            named = content if read[0] == 'content' else metadata
+            if answer[2][0] == 'refused':
+                self.refusals[answer[2][1]] = self.refusals.get(answer[2][1], 0) + 1
+            direct, again = Buffer(out, array=True), [Buffer(getattr(named, image)) for image in IMAGES]
+            said = self.library.call('read', again + [named.n, named.s, named.size, read[1], direct])
+            self.same('what the direct read answers', 'serve', told, answered[32:], said)
+            self.same('the part of the direct read', 'serve', told, part.held(), direct.held())
+            place = numbers(*model.place_of(named, read[1])) if answer[2][0] == 'done' else out
+            self.same('the part', 'serve', told, part.held(), place)
+            self.direct += 1
+        for r, one in zip((metadata, content), images):
+            for image, buffer in zip(IMAGES, one):
+                self.same(image, 'serve', told, buffer.held(), bytes(getattr(r, image)))
+
     def compare(self, first, second):
         self.call('compare', [first, second], [], lambda: model.compare(first, second), Comparison)
 
@@ -260,6 +306,21 @@ class Run(Calls):
         size = self.random.choice(sizes[0 if self.random.random() < 0.3 else 2:]) % 2 ** 64
         one = self.random.choice((0, 119, 120, 65536, 65537)) if self.random.random() < 0.1 else None
         self.needs(n, size, [self.length() if one is None else one for _ in range(k)])
+
+    def waiting(self, r):
+        """A short run on a table, fresh or spoilt, with a station that floods it at times."""
+        other = self.damage(r) if self.random.random() < 0.4 else r
+        archive = [r, other] if self.random.random() < 0.5 else [other, r]
+        held = [self.number(self.random.choice((2, 5, 17))) for _ in range(stations.NUMBERS)]
+        if self.random.random() < 0.7:
+            self.fresh(held)
+        flooding = self.random.choice((None, None, self.random.randrange(16)))
+        for _ in range(self.random.choice((3, 12, 30))):
+            if self.random.random() < 0.6:
+                station = self.number(16) if flooding is None or self.random.random() < 0.5 else flooding
+                self.enter(held, station, self.random.choice(stations.NAMES), self.number(r.n) % 2 ** 64)
+            else:
+                self.serve(held, *archive)
 
     # ---- packets
     def packing(self, r):
@@ -382,6 +443,8 @@ class Run(Calls):
             self.grouping()
         elif pick < 17:
             self.asking()
+        elif pick < 19:
+            self.waiting(r)
         elif pick < 26:
             self.audit(r)
         else:
@@ -516,8 +579,8 @@ def main(path, calls=100000, seed=20170901):
     print('calls: ' + ', '.join('%s %d' % pair for pair in sorted(run.calls.items())))
     print('byte lookups at the data size: %d' % run.ends)
     print('refusals: ' + ', '.join('%d: %d' % pair for pair in sorted(run.refusals.items())))
-    print('differential: %d calls agree with the model, preview and append on %d registers, %d lists with their single appends'
-          % (run.total(), run.agreed, run.listed))
+    print('differential: %d calls agree with the model, preview and append on %d registers, %d lists with their single appends, %d servings with direct reads'
+          % (run.total(), run.agreed, run.listed, run.direct))
 
 
 if __name__ == '__main__':

@@ -55,6 +55,16 @@ static uint64_t byte(lent r) { uint64_t out[2]; return sleep_byte(REGISTER(r), 0
 static uint64_t verified(lent r) { uint64_t out[2]; return sleep_read(REGISTER(r), 2, out).number; }
 static uint64_t make(lent r) { return sleep_make_packet(REGISTER(r), 2, packet, sizeof packet, &packet_length).number; }
 static uint64_t make_in_nothing(lent r) { uint64_t length; return sleep_make_packet(REGISTER(r), 2, NULL, 0, &length).number; }
+static uint64_t serve(lent r, int name) {
+    uint64_t table[SLEEP_TABLE_NUMBERS], out[2];
+    lent other = {{NULL, NULL, NULL, NULL}, {0, 0, 0, 0}, 0, 0, 0};
+    sleep_fresh(table);
+    sleep_enter(table, 3, (uint64_t)name, 2);
+    return name == SLEEP_METADATA ? sleep_serve(table, REGISTER(r), REGISTER(other), out).answer.number
+                                  : sleep_serve(table, REGISTER(other), REGISTER(r), out).answer.number;
+}
+static uint64_t serve_metadata(lent r) { return serve(r, SLEEP_METADATA); }
+static uint64_t serve_content(lent r) { return serve(r, SLEEP_CONTENT); }
 static uint64_t compare_first(lent r) { lent b = empty_chunks(3); return sleep_compare(REGISTER(r), REGISTER(b)).outcome; }
 static uint64_t compare_second(lent r) { lent a = empty_chunks(3); return sleep_compare(REGISTER(a), REGISTER(r)).outcome; }
 
@@ -113,6 +123,8 @@ int main(void) {
     each_buffer("place", place, 4, 0);
     each_buffer("byte", byte, 4, 0);
     each_buffer("read", verified, 4, 0);
+    each_buffer("serve, metadata", serve_metadata, 4, 0);
+    each_buffer("serve, content", serve_content, 4, 0);
     each_buffer("make_packet", make, 4, 0);
     each_buffer("make_packet in no room", make_in_nothing, 4, 14);
     each_buffer("compare, the first", compare_first, SLEEP_FIRST_REFUSED, SLEEP_EQUAL);

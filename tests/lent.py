@@ -16,6 +16,10 @@ class Comparison(ctypes.Structure):
     _fields_ = [('outcome', NUMBER), ('answer', Answer)]
 
 
+class Serving(ctypes.Structure):
+    _fields_ = [('served', NUMBER), ('station', NUMBER), ('name', NUMBER), ('chunk', NUMBER), ('answer', Answer)]
+
+
 def numbers(*values):
     """Numbers as a C caller finds them in memory."""
     return b''.join(value.to_bytes(8, sys.byteorder) for value in values)
@@ -36,6 +40,14 @@ def comparison_of(expected):
     if expected in OUTCOMES:
         return numbers(OUTCOMES[expected], 0, 0, 0)
     return numbers(3, 0, *(PLACES[expected[1][0]], expected[1][1]))
+
+
+def serving_of(expected):
+    """The seven numbers that stand for the model's serving."""
+    if expected[0] == 'none':
+        return numbers(*[0] * 7)
+    _, station, name, chunk, read = expected
+    return numbers(1, station, ('metadata', 'content').index(name), chunk) + answer_of(read)
 
 
 class Buffer:

@@ -17,7 +17,7 @@ static uint64_t n, s, size;
 #define REGISTER tree, sizeof tree, signatures, sizeof signatures, bitfield, sizeof bitfield, data, sizeof data, n, s, size
 
 static uint8_t chunk[SLEEP_LONGEST_CHUNK], packet[SLEEP_LONGEST_CHUNK + SLEEP_PACKET_EXTRA], root[32], digest[64];
-static uint64_t chunk_length, sought, packet_length, out[2], number, outcome, lengths[SLEEP_MOST_LISTED], listed, needed[SLEEP_NEEDS_NUMBERS];
+static uint64_t chunk_length, sought, packet_length, out[2], number, outcome, lengths[SLEEP_MOST_LISTED], listed, needed[SLEEP_NEEDS_NUMBERS], table[SLEEP_TABLE_NUMBERS];
 
 static void start(void) { number = sleep_start(tree, sizeof tree, signatures, sizeof signatures, bitfield, sizeof bitfield, data, DATA).number; }
 static void hash(void) { number = sleep_hash(64, chunk, 64, chunk, sizeof chunk, digest); }
@@ -39,9 +39,12 @@ static void group(void) { number = sleep_group(chunk, sizeof chunk, packet, size
 static void ungroup(void) { number = sleep_ungroup(chunk, sizeof chunk, packet, sizeof packet).number; }
 static void needs(void) { number = sleep_needs(sought, 0, lengths, 256, needed).number; }
 static void compare_packets(void) { number = sleep_compare_packets(packet, packet_length, packet, packet_length, n, sought, root).answer.number; }
+static void fresh(void) { number = sleep_fresh(table).number; }
+static void enter(void) { number = sleep_enter(table, sought % 17, SLEEP_CONTENT, sought).number; }
+static void serve(void) { number = sleep_serve(table, REGISTER, REGISTER, out).answer.number; }
 static void compare(void) { outcome = sleep_compare(REGISTER, REGISTER).outcome; }
 
-enum { START, HASH, HASH_PARTS, LABEL, APPEND, APPEND_LIST, PREVIEW, STORE_SIGNATURE, ROOT_HASH, OLD_ROOT, AUDIT, PLACE, BYTE, READ, MAKE_PACKET, CHECK_PACKET, COMPARE_PACKETS, COMPARE, GROUP, UNGROUP, NEEDS, CALLS };
+enum { START, HASH, HASH_PARTS, LABEL, APPEND, APPEND_LIST, PREVIEW, STORE_SIGNATURE, ROOT_HASH, OLD_ROOT, AUDIT, PLACE, BYTE, READ, MAKE_PACKET, CHECK_PACKET, COMPARE_PACKETS, COMPARE, GROUP, UNGROUP, NEEDS, FRESH, ENTER, SERVE, CALLS };
 
 static struct {
     const char *name;
@@ -69,6 +72,9 @@ static struct {
     {"sleep_group", group, SLEEP_STACK_GROUP, 0},
     {"sleep_ungroup", ungroup, SLEEP_STACK_UNGROUP, 0},
     {"sleep_needs", needs, SLEEP_STACK_NEEDS, 0},
+    {"sleep_fresh", fresh, SLEEP_STACK_FRESH, 0},
+    {"sleep_enter", enter, SLEEP_STACK_ENTER, 0},
+    {"sleep_serve", serve, SLEEP_STACK_SERVE, 0},
 };
 
 /* One call on the painted stack. The frame that makes the call counts too, so the figure is never too low. */
@@ -103,6 +109,10 @@ static void measure_reads(void) {
         measure(OLD_ROOT, 0);
         measure(PLACE, sought < n ? 0 : 9);
         measure(READ, sought < n ? 0 : 9);
+        measure(FRESH, 0);
+        measure(SERVE, 0);
+        measure(ENTER, sought % 17 < SLEEP_STATIONS ? 0 : 21);
+        measure(SERVE, sought < n || sought % 17 == SLEEP_STATIONS ? 0 : 9);
         measure(MAKE_PACKET, sought < n ? 0 : 9);
         if (sought < n) measure(CHECK_PACKET, 0);
         measure(COMPARE_PACKETS, sought < n ? 0 : 9);
@@ -122,6 +132,9 @@ static void measure_damage(void) {
         measure(COMPARE, 0);
         sought = n - 1;
         measure(READ, k == 0 ? 10 : 0);
+        measure(FRESH, 0);
+        measure(ENTER, sought % 17 < SLEEP_STATIONS ? 0 : 21);
+        measure(SERVE, k == 0 && sought % 17 < SLEEP_STATIONS ? 10 : 0);
         *wrong[k] ^= 1;
     }
 }
@@ -177,6 +190,9 @@ static void measure_depth(void) {
     sought = 0;
     measure(BYTE, 0);
     measure(READ, 0);
+    measure(FRESH, 0);
+    measure(ENTER, 0);
+    measure(SERVE, 0);
     measure(MAKE_PACKET, 0);
     measure(CHECK_PACKET, 13);
     measure(APPEND, 2);

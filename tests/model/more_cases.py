@@ -1,6 +1,7 @@
 """Cases of the model beyond the scope's [T] rows: the calls agree with the images, every refusal has its order and
 place, and the comparing walk and the walk along two packets find the collisions of a weak hash.  Prints one line."""
 
+import copy
 import sys
 
 sys.dont_write_bytecode = True  # nothing generated lies beside the sources
@@ -8,6 +9,8 @@ from needs import completed, needs
 from rfc7693 import blocks_of
 from samples import grow, sampled
 from sleep_model import *
+from stations import (LAST, MOST_WAITING, NUMBERS, STATIONS, Numbers, Table, enter, enter_numbers, fresh, fresh_numbers, serve, serve_numbers,
+                      table_of)
 
 
 def weak(message):
@@ -258,6 +261,61 @@ def weak_rows():
         yield 'weak row', compare_packets(row_packet(*first), row_packet(*second), n, i, bytes([root] * HASH), two_bits), expected
 
 
+def round_from(last):
+    """The stations in the order in which they come after the one last served."""
+    return sorted(range(STATIONS), key=lambda station: (station - last - 1) % STATIONS)
+
+
+def tables():
+    """Runs on tables beside a plain list of the reads that wait, in the order in which they came, and beside the numbers of a lent table."""
+    metadata, content = sampled(7, 4), spoilt(sampled(13, 5), 'data', 13)
+    for seed in range(12):
+        numbers, table, lent, waiting, last = Numbers(seed), fresh(), fresh_numbers(), [], STATIONS - 1
+        for _ in range(150):
+            before = copy.deepcopy(table)
+            if numbers.below(7) < 2 + seed % 4:
+                station, name, chunk = numbers.below(18), ('metadata', 'content')[numbers.below(2)], numbers.below(15)
+                full = sum(one == station for one, _ in waiting) == MOST_WAITING
+                expected = refused(21) if station >= STATIONS else refused(22) if full else ('done',)
+                yield 'enter', (enter(table, station, name, chunk), enter_numbers(lent, station, name, chunk)), (expected, expected)
+                waiting += [(station, (name, chunk))] if expected == ('done',) else []
+                yield 'refused and changed', expected != ('done',) and table != before, False
+            elif not waiting:
+                yield 'none', (serve(table, metadata, content), table), (('none',), before)
+                yield 'none', serve_numbers(lent, metadata, content), (('none',), None)
+            else:
+                last = next(station for station in round_from(last) if any(one == station for one, _ in waiting))
+                oldest = next(one for one in waiting if one[0] == last)
+                expected = 'served', last, read(metadata, content, *oldest[1])
+                yield 'serve', serve(table, metadata, content), expected
+                yield 'serve', serve_numbers(lent, metadata, content), (expected, oldest[1])
+                waiting.remove(oldest)
+            expected = Table([[one for s, one in waiting if s == station] for station in range(STATIONS)], last)
+            yield 'table', (table, table_of(lent)), (expected, expected)
+    for lent in ([LAST] * NUMBERS, [4] * NUMBERS, [k % 23 for k in range(NUMBERS)]):
+        count = sum(map(len, table_of(lent).waiting))
+        yield 'spoilt', [serve_numbers(lent, metadata, content)[0][0] for _ in range(count + 1)], ['served'] * count + ['none']
+
+
+def fairness():
+    """However the others flood a table, a station that waits is served after at most 15 servings of others."""
+    none = register_of([])
+    for last in range(STATIONS):
+        for station in range(STATIONS):
+            table, count = fresh(), 0
+            enter(table, last, 'content', 0)
+            serve(table, none, none)
+            enter(table, station, 'content', 0)
+            while True:
+                for other in range(STATIONS):
+                    while enter(table, other, 'metadata', 0) == ('done',):
+                        pass
+                if serve(table, none, none)[1] == station:
+                    break
+                count += 1
+            yield 'servings of others', (count, count <= STATIONS - 1), ((station - last - 1) % STATIONS, True)
+
+
 def spoilt_size(none):
     r = told(none, size=1)
     r.data.append(0)
@@ -289,5 +347,5 @@ def walks():
 
 
 if __name__ == '__main__':
-    groups = (agreement, borders, refusals, jobs, lists, walks, old_roots, packet_walks, weak_rows)
+    groups = (agreement, borders, refusals, jobs, lists, tables, fairness, walks, old_roots, packet_walks, weak_rows)
     print('model: %d more cases agree' % sum(check(*case) for cases in groups for case in cases()))

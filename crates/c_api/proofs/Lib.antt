@@ -1,2 +1,3 @@
 -- Laws on the two ways that a call's answer goes.
 pub mod Laws
+pub mod Turns

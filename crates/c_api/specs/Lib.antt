@@ -1,3 +1,4 @@
 -- What C is answered.
 pub mod Number
 pub mod Encoding
+pub mod Waiting

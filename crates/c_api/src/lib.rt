@@ -8,3 +8,4 @@ pub mod jobs;
 pub mod lookups;
 pub mod packets;
 pub mod registers;
+pub mod waiting;

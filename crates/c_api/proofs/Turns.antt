@@ -1,0 +1,64 @@
+-- What the calls on a table of waiting reads answer to C.
+use Prim.Native.Nat.{ℕ}
+use mathlib.Core.Path.{_≡_, sym, ap, ap₂, _∙_, subst}
+use mathlib.Core.List.{List}
+use Rattle.counts.specs.Said.{said}
+use Rattle.counts.specs.declared.Answer.{Answer}
+use Rattle.blake2b.specs.Hash.{nodeHash}
+use Rattle.files.specs.Belongs.{Register}
+use Rattle.lookup.specs.Read.{Name, named}
+use Rattle.lookup.specs.Said.{nameOf, readFound}
+use Rattle.lookup.specs.declared.reading.Name.{Name as CodeName}
+use Rattle.stations.specs.Table.{Read, Turn, nobody, turn, next}
+use Rattle.stations.specs.Words.{tableOf}
+use Rattle.stations.specs.Calls.{Entered, Left}
+use Rattle.serving.specs.Serving.{numberOf, namedBy}
+use Rattle.c_api.specs.Encoding.{encoded, verdictOf, numbersUnless, Gives, asPart}
+use Rattle.c_api.specs.Waiting.{Enters, Hands, encodedNobody, encodedServing, numbersServed}
+use Rattle.c_api.specs.declared.answers.SleepAnswer.{SleepAnswer}
+use Rattle.c_api.specs.declared.waiting.SleepServing.{SleepServing}
+
+-- an entry, from the register that a number names
+pub enters : (s k c : ℕ) (n : Name) (before : List ℕ) (a : Answer) (after : List ℕ) (answer : SleepAnswer) → n ≡ namedBy k
+    → Entered s (record { register = numberOf n; chunk = c }) before a after → answer ≡ encoded (said a)
+    → Enters s (record { register = numberOf (namedBy k); chunk = c }) before answer after
+enters s k c n before a after answer by h e =
+    subst (λ (x : Name). Enters s (record { register = numberOf x; chunk = c }) before answer after) by
+    (record { answers = e ∙ ap encoded (h .answers); table = h .table; numbers = h .numbers })
+
+-- a read of the register that a case of its name stands for
+pub gives-named : (x y : CodeName) (m c : Register) (i : ℕ) (before : List ℕ) (answer : SleepAnswer) (after : List ℕ) → x ≡ y
+    → Gives (asPart (readFound nodeHash (named (nameOf y) m c) i)) before answer after
+    → Gives (asPart (readFound nodeHash (named (nameOf x) m c) i)) before answer after
+gives-named x y m c i before answer after e g =
+    subst (λ (z : CodeName). Gives (asPart (readFound nodeHash (named (nameOf z) m c) i)) before answer after) (sym e) g
+
+abbrev toldOf : ℕ → ℕ → ℕ → SleepAnswer → SleepServing
+toldOf s i j b = record { served = 1; station = s; name = j; chunk = i; answer = b }
+
+-- a serving, from whose turn it is
+module _ (m c : Register) (before after two : List ℕ) (l : Left before after) where
+  pub hands-nobody : (answer : SleepServing) → nobody ≡ next (tableOf before) → answer ≡ encodedNobody → Hands m c before two answer after two
+  hands-nobody answer e a =
+      record {
+        answers = a ∙ ap (encodedServing m c) e;
+        part = ap (λ (v : Turn). numbersServed m c v two) e;
+        table = l .table;
+        numbers = l .numbers;
+      }
+
+  pub hands-turn : (s : ℕ) (r : Read) (n : Name) (k : ℕ) (a : SleepAnswer) (twoAfter : List ℕ) → turn s r ≡ next (tableOf before)
+      → n ≡ namedBy (r .register) → k ≡ numberOf n → Gives (asPart (readFound nodeHash (named n m c) (r .chunk))) two a twoAfter
+      → Hands m c before two (record { served = 1; station = s; name = k; chunk = r .chunk; answer = a }) after twoAfter
+  hands-turn s r n k a twoAfter e by number g =
+      record {
+        answers =
+            ap₂ (toldOf s (r .chunk)) (number ∙ ap numberOf by)
+            (g .answers ∙ ap (λ (x : Name). encoded (verdictOf (asPart (readFound nodeHash (named x m c) (r .chunk))))) by)
+            ∙ ap (encodedServing m c) e;
+        part =
+            g .numbers ∙ ap (λ (x : Name). numbersUnless (asPart (readFound nodeHash (named x m c) (r .chunk))) two) by
+            ∙ ap (λ (v : Turn). numbersServed m c v two) e;
+        table = l .table;
+        numbers = l .numbers;
+      }

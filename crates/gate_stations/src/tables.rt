@@ -1,0 +1,43 @@
+// Tables made anew.
+use super::tally::Tally;
+
+// A fresh one; one with four reads for each station; or one of numbers that no call wrote, by their seed.
+pub enum How {
+    Fresh,
+    Full,
+    Spoilt(u64),
+}
+
+pub fn made(table: &mut [u64; 161], how: How, t: Tally) -> Tally {
+    match how {
+        How::Fresh => *table = stations::fresh(),
+        How::Full => fill(table),
+        How::Spoilt(seed) => spoil(table, seed),
+    }
+    t
+}
+
+fn fill(table: &mut [u64; 161]) {
+    let t = super::tally::new(false);
+    let mut k = 0;
+    while k < 64 {
+        super::calls::entered(table, k / 4, 0, k % 4, t);
+        k += 1;
+    }
+}
+
+fn spoil(table: &mut [u64; 161], seed: u64) {
+    let mut k = 0;
+    while k < 161 {
+        table[k] = anything(seed, k as u64);
+        k += 1;
+    }
+}
+
+// The last number of all in every place, or numbers below 23.
+fn anything(seed: u64, k: u64) -> u64 {
+    if seed == 0 {
+        return 18446744073709551615;
+    }
+    (7 * (k % 161) + seed % 23) % 23
+}

@@ -1,0 +1,2 @@
+-- What a serving answers and leaves.
+pub mod Serving

@@ -13,29 +13,37 @@ pub enum Case {
     Lookups,
     Append,
     List,
+    Release,
 }
 
 /// The chunks of a list.
 pub const LISTED: usize = 40;
 
+/// Chunks of the first bitfield entry that are released, at edges of its groups of 16 and of its bytes.
+pub const RELEASED: [u64; 6] = [0, 7, 8, 15, 4096, 8191];
+
 /// The chunk counts and what is called there, from the largest down; each append is previewed first. What an append does beside its hashing follows from the parents that it
 /// completes, the roots that it leaves, and how far its bitfield entry is filled, whose Index it makes anew; so there are appends that have
 /// these three in common at very different n. Lists are appended beside the single calls that leave the same, one of them across the border of
-/// two bitfield entries.
-pub const CASES: [(usize, Case); 19] = [
+/// two bitfield entries. Chunks are released where their entry is full, at very different n.
+pub const CASES: [(usize, Case); 23] = [
     (CHUNKS, Case::Lookups),
+    (CHUNKS, Case::Release),
     (1_048_575, Case::Append),
     (1_048_536, Case::List),
     (1_041_384, Case::Append),
+    (525_288, Case::Release),
     (525_288, Case::Append),
     (525_287, Case::Append),
     (65_535, Case::Append),
     (33_768, Case::Append),
     (33_767, Case::Append),
     (30_000, Case::Lookups),
+    (30_000, Case::Release),
     (30_000, Case::List),
     (9192, Case::Append),
     (9191, Case::Append),
+    (8192, Case::Release),
     (8191, Case::Append),
     (8172, Case::List),
     (1000, Case::List),

@@ -7,7 +7,7 @@ mod simple_blake2b;
 mod simple_register;
 mod timing;
 
-use cases::{cut_back, picked, Case, CASES, CHUNKS, LENGTH, LISTED};
+use cases::{cut_back, picked, Case, CASES, CHUNKS, LENGTH, LISTED, RELEASED};
 use proved::Store;
 
 /// Counts of first chunks, with no roots, with nine, with one and with six.
@@ -40,6 +40,32 @@ fn singly(store: &mut Store, n: usize) -> [u8; 32] {
     root
 }
 
+/// The search where all chunks are held, and where the Index says of no group that it is: then it reads every data bit.
+fn searched(store: &mut Store, n: usize) {
+    assert_eq!(store.register().search(0), Ok(None));
+    println!("search {n}");
+    for entry in store.bitfield[32..].chunks_mut(3328) {
+        entry[3072..].fill(0);
+    }
+    assert_eq!(store.register().search(0), Ok(None));
+    println!("bits {n}");
+    cut_back(store, n);
+}
+
+/// The place of a chunk and its release; then the register is as it was.
+fn released(store: &mut Store, n: usize, chunk: u64) {
+    let (start, length) = store.register().place(chunk).unwrap();
+    println!("found{chunk} {n}");
+    let at = start as usize..(start + length) as usize;
+    let bytes = store.data[at.clone()].to_vec();
+    store.release(chunk).unwrap();
+    println!("release{chunk} {n}");
+    assert_eq!(store.register().search(0), Ok(Some(chunk)));
+    println!("missing{chunk} {n}");
+    cut_back(store, n);
+    store.data[at].copy_from_slice(&bytes);
+}
+
 fn main() {
     let folder = std::env::args().nth(1).expect("the folder of the images");
     let mut store = loaded(&folder);
@@ -58,6 +84,12 @@ fn main() {
                 for offset in picked(store.size) {
                     store.register().byte(offset).unwrap();
                     println!("byte {n}");
+                }
+                searched(&mut store, n);
+            }
+            Case::Release => {
+                for chunk in RELEASED {
+                    released(&mut store, n, chunk);
                 }
             }
             Case::Append => {

@@ -166,6 +166,12 @@ extern "C" {
     fn sleep_read(t: In, tl: usize, g: In, gl: usize, b: In, bl: usize, d: In, dl: usize, n: u64, s: u64, size: u64,
         chunk: u64, out: *mut u64) -> Answer;
     #[rustfmt::skip]
+    fn sleep_search(t: In, tl: usize, g: In, gl: usize, b: In, bl: usize, d: In, dl: usize, n: u64, s: u64, size: u64,
+        from: u64, out: *mut u64) -> Answer;
+    #[rustfmt::skip]
+    fn sleep_release(t: In, tl: usize, g: In, gl: usize, b: Out, bl: usize, d: Out, dl: usize, n: u64, s: u64, size: u64,
+        chunk: u64) -> Answer;
+    #[rustfmt::skip]
     fn sleep_make_packet(t: In, tl: usize, g: In, gl: usize, b: In, bl: usize, d: In, dl: usize, n: u64, s: u64, size: u64,
         chunk: u64, out: Out, out_length: usize, length: *mut u64) -> Answer;
     fn sleep_needs(n: u64, size: u64, lengths: *const u64, lengths_count: usize, out: *mut u64) -> Answer;
@@ -314,7 +320,7 @@ impl<'a> Register<'a> {
         reading!(sleep_audit, self).result(())
     }
 
-    /// Start and length of a chunk.
+    /// Start and length of a chunk, held or not.
     pub fn place(&self, chunk: u64) -> Result<Pair, Refusal> {
         let mut out = [0; 2];
         let answer = reading!(sleep_place, self, chunk, out.as_mut_ptr());
@@ -328,12 +334,20 @@ impl<'a> Register<'a> {
         answer.result((out[0], out[1]))
     }
 
-    /// The bytes of a chunk, where they lie, after their hash was compared.
+    /// The bytes of a chunk that is held, where they lie, after their hash was compared.
     pub fn read(&self, chunk: u64) -> Result<&'a [u8], Refusal> {
         let mut out = [0; 2];
         let answer = reading!(sleep_read, self, chunk, out.as_mut_ptr());
         answer.result(())?;
         Ok(part(self.data, out))
+    }
+
+    /// The first chunk from a number on, below n, that is not held.
+    pub fn search(&self, from: u64) -> Result<Option<u64>, Refusal> {
+        let mut out = [0; 2];
+        let answer = reading!(sleep_search, self, from, out.as_mut_ptr());
+        answer.result(())?;
+        Ok((out[0] == 1).then_some(out[1]))
     }
 
     /// The packet of a chunk at the front of `out`; its length.
@@ -344,7 +358,7 @@ impl<'a> Register<'a> {
         Ok(length as usize)
     }
 
-    /// The audit of both registers, and then the comparing walk.
+    /// The checks of both registers, which have to hold all their chunks, and then the comparing walk.
     pub fn compare(&self, second: &Register) -> Comparison {
         let b = second;
         #[rustfmt::skip]
@@ -475,5 +489,16 @@ impl Store {
         answer.result(())?;
         self.s += 1;
         Ok(())
+    }
+
+    /// Makes room: the chunk is no longer held, and its bytes are zeros.
+    pub fn release(&mut self, chunk: u64) -> Result<(), Refusal> {
+        let (t, g, b, d) = (&self.tree, &self.signatures, &mut self.bitfield, &mut self.data);
+        let (bl, dl) = (b.len(), d.len());
+        #[rustfmt::skip]
+        let answer = unsafe {
+            sleep_release(t.as_ptr(), t.len(), g.as_ptr(), g.len(), b.as_mut_ptr(), bl, d.as_mut_ptr(), dl, self.n, self.s, self.size, chunk)
+        };
+        answer.result(())
     }
 }

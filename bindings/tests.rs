@@ -253,6 +253,31 @@ fn a_job_takes_what_it_needs() {
 }
 
 #[test]
+fn a_released_chunk_keeps_its_place() {
+    let mut store = filled(&[b"AB", b"", b"CDE", b"F"]);
+    let whole = filled(&[b"AB", b"", b"CDE", b"F"]);
+    let root = store.register().root_hash();
+    assert_eq!(store.register().search(0), Ok(None));
+    assert_eq!(store.release(4), refused(9, Place::None));
+    assert_eq!(store.release(2), Ok(()));
+    assert_eq!(store.release(2), refused(18, Place::TreeIndex(4)));
+    assert_eq!(&store.data[..6], b"AB\0\0\0F");
+    let register = store.register();
+    assert_eq!((register.audit(), register.root_hash()), (Ok(()), root));
+    assert_eq!((register.search(0), register.search(2), register.search(3), register.search(u64::MAX)), (Ok(Some(2)), Ok(Some(2)), Ok(None), Ok(None)));
+    assert_eq!((register.place(2), register.byte(3)), (Ok((2, 3)), Ok((2, 1))));
+    assert_eq!(register.read(2), refused(18, Place::TreeIndex(4)));
+    assert_eq!(register.read(3), Ok(&b"F"[..]));
+    let mut packet = [0; 3 + PACKET_EXTRA];
+    assert_eq!(register.make_packet(2, &mut packet), refused(18, Place::TreeIndex(4)));
+    let length = register.make_packet(3, &mut packet).unwrap();
+    assert_eq!(check_packet(&packet[..length], 4, 3, &root.unwrap()), Ok(&b"F"[..]));
+    let gone = Refusal { number: 18, place: Place::TreeIndex(4) };
+    assert_eq!(whole.register().compare(&register), Comparison::SecondRefused(gone));
+    assert_eq!(register.compare(&whole.register()), Comparison::FirstRefused(gone));
+}
+
+#[test]
 fn stations_take_turns() {
     let (names, pieces) = (filled(&[b"names", b"more"]), filled(&[b"AB", b"", b"CDE"]));
     let (m, c) = (names.register(), pieces.register());

@@ -1,6 +1,6 @@
 /* A register in fixed buffers: three pieces, each previewed, signed, appended and stored with its signature, an audit, a verified read, a packet
- * made and checked, a label, two registers compared, a coat of 40 pieces stored wholly or left out, and stations whose reads take turns. Build and
- * run: make -C examples */
+ * made and checked, a label, two registers compared, a coat of 40 pieces stored wholly or left out, stations whose reads take turns, and a piece
+ * released to make room. Build and run: make -C examples */
 #include <inttypes.h>
 #include <stdio.h>
 #include <stdlib.h>
@@ -132,6 +132,20 @@ static void take_turns(const store *r) {
     expect("nobody waits", sleep_serve(table, LENT(r), COUNTS(r), LENT(r), COUNTS(r), part).served, 0);
 }
 
+/* The machine makes room: a piece that the office keeps is dropped. Its place stays, and every other piece is read as before. */
+static void make_room(store *r, uint64_t chunk) {
+    uint64_t part[2];
+    expect("all are held", (sleep_search(LENT(r), COUNTS(r), 0, part), part[0]), 0);
+    expect("release", sleep_release(LENT(r), COUNTS(r), chunk).number, 0);
+    expect("audit", sleep_audit(LENT(r), COUNTS(r)).number, 0);
+    expect("search", sleep_search(LENT(r), COUNTS(r), 0, part).number, 0);
+    expect("one is not held", part[0], 1);
+    printf("chunk %" PRIu64 " is not held\n", part[1]);
+    expect("a read of it", sleep_read(LENT(r), COUNTS(r), chunk, part).number, 18);
+    expect("its place", sleep_place(LENT(r), COUNTS(r), chunk, part).number, 0);
+    for (uint64_t k = 0; k < part[1]; k++) expect("its bytes", r->data[part[0] + k], 0);
+}
+
 int main(void) {
     static store first, second;
     uint8_t root[32], again[32];
@@ -161,5 +175,12 @@ int main(void) {
     c = compared(&first, &second);
     expect("a damaged copy", c.outcome, SLEEP_SECOND_REFUSED);
     printf("damaged copy: refusal %" PRIu64 " at tree index %" PRIu64 "\n", c.answer.number, c.answer.place);
-    return c.answer.place_kind == SLEEP_PLACE_TREE_INDEX && c.answer.place == 4 ? 0 : 1;
+    expect("the kind of its place", c.answer.place_kind, SLEEP_PLACE_TREE_INDEX);
+    expect("its place", c.answer.place, 4);
+
+    make_room(&first, 0);
+    c = compared(&first, &second);
+    expect("a comparison with a piece gone", c.outcome, SLEEP_FIRST_REFUSED);
+    expect("and its number", c.answer.number, 18);
+    return 0;
 }

@@ -6,8 +6,13 @@
  *     s     the count of stored signatures: n, or n - 1 while the newest chunk's signature is owed
  *     size  the count of data bytes
  *   No call changes n, s or size: after a done append the caller adds 1 to n and the chunk's length to size, after a done signature
- *   1 to s, after a done list of k chunks k to n, k - 1 to s and the bytes lent to size. No call keeps memory of its own, allocates, reads
- *   or writes a file, or waits: each ends, on every input.
+ *   1 to s, after a done list of k chunks k to n, k - 1 to s and the bytes lent to size. A release changes none of the three. No call keeps
+ *   memory of its own, allocates, reads or writes a file, or waits: each ends, on every input.
+ *
+ * HELD AND RELEASED CHUNKS
+ *   A chunk is held while its data bit in the bitfield is 1, and an append makes it so. sleep_release makes room: it clears the bit and writes
+ *   zeros over the chunk's bytes, as many as before, so no other chunk moves. The tree entries stay, and with them the root hash, old root hashes
+ *   and the packets of other chunks. A released chunk still has its place, and can't be read, packed, released or compared here (18).
  *
  * THE BUFFERS
  *   Each is a pointer and a length in bytes, and may hold anything: what it holds is checked before it is used. The length may be larger
@@ -46,7 +51,7 @@
  *     160         the station last served, modulo 16
  *
  * WHAT FIRMWARE HAS TO PROVIDE
- *   Code: at most 48,000 bytes with its read-only constants (some 43,000 today). The archive has no variables: no static data, zeroed or
+ *   Code: at most 48,000 bytes with its read-only constants (some 45,000 today). The archive has no variables: no static data, zeroed or
  *   not, and nothing to set up. From outside it needs memcpy and memset, and nothing else; it allocates nothing. The stack that each call
  *   takes at most, counted from the caller's frame, with arguments, return address and what memcpy or memset takes, is SLEEP_STACK_.. below.
  *   tests/run holds the archive to all of this, the stack by calls on a painted one.
@@ -73,6 +78,8 @@
  *     8       an append while a signature is owed, or a signature while none is            none
  *     9       the chunk number is not below n, the byte offset is above size, the count of
  *             first chunks is above n, or the size told of a job is above 65,536 n         none
+ *     18      a chunk that is to be read, packed, released or compared is not held (the
+ *             lowest for a comparison, which judges this just before 10)                   tree index of its leaf
  *     10      a lookup meets wrong lengths, a read another leaf hash, or the audit
  *             a wrong tree entry (the lowest)                                              tree index
  *     11      the audit finds a wrong byte in the bitfield (the lowest)                    byte offset in the bitfield image
@@ -85,7 +92,7 @@
  *     22      four reads of the station wait already                                       none
  *
  *   1, 17, 2 to 4, 16, 7 to 9, 14, 21 and 22 point at the call: a number or a buffer that doesn't fit. 5 and 6 mean that the images are not those of a
- *   register with these numbers: other files, other numbers, or damage. 10 and 11 mean damage where the place says. 12 and 13 mean that a
+ *   register with these numbers: other files, other numbers, or damage. 18 means that the chunk was released here; the office may have it. 10 and 11 mean damage where the place says. 12 and 13 mean that a
  *   packet shows nothing of this chunk under this root hash.
  */
 #ifndef SLEEP_REGISTER_H
@@ -119,6 +126,7 @@ extern "C" {
 #define SLEEP_STACK_GROUP 512u
 #define SLEEP_STACK_UNGROUP 512u
 #define SLEEP_STACK_STORE_SIGNATURE 2048u
+#define SLEEP_STACK_SEARCH 2048u
 #define SLEEP_STACK_HASH 3072u
 #define SLEEP_STACK_HASH_PARTS 3072u
 #define SLEEP_STACK_LABEL 3072u
@@ -126,6 +134,7 @@ extern "C" {
 #define SLEEP_STACK_PLACE 4096u
 #define SLEEP_STACK_BYTE 4096u
 #define SLEEP_STACK_READ 4096u
+#define SLEEP_STACK_RELEASE 4096u
 #define SLEEP_STACK_SERVE 4096u
 #define SLEEP_STACK_MAKE_PACKET 5120u
 #define SLEEP_STACK_ROOT_HASH 6144u
@@ -150,7 +159,7 @@ enum {
     SLEEP_ROOTS_DIFFER = 1,       /* the root hashes differ, and so do the chunks */
     SLEEP_COLLISION_AT_ROOTS = 2, /* equal root hashes of different root messages */
     SLEEP_COLLISION_AT_INDEX = 3, /* equal hashes of different messages at the tree index answer.place: the lowest, of packets the nearest the leaf */
-    SLEEP_FIRST_REFUSED = 4,      /* answer is the refusal of the first register's audit, or of the first packet's check */
+    SLEEP_FIRST_REFUSED = 4,      /* answer is the refusal of the first register, or of the first packet's check */
     SLEEP_SECOND_REFUSED = 5      /* answer is the refusal of the second one's */
 };
 
@@ -249,7 +258,8 @@ sleep_answer sleep_root_hash(SLEEP_REGISTER_READ, uint8_t root[32]) SLEEP_NOT_NU
  * register. Refusals: 2 to 6, 9 for m above n. */
 sleep_answer sleep_old_root(SLEEP_REGISTER_READ, uint64_t m, uint8_t root[32]) SLEEP_NOT_NULL;
 
-/* Whether the images are those of some chunks: hashes every chunk again. Refusals: 2 to 6, 10, 11. */
+/* Whether the images are those of some chunks: hashes every chunk that is held again; of one that was released the bytes must be zeros, and its leaf
+ * entry is taken as it stands. Refusals: 2 to 6, 10, 11. */
 sleep_answer sleep_audit(SLEEP_REGISTER_READ) SLEEP_NOT_NULL;
 
 /* Where a chunk lies in data, as a part: out[0] its offset, out[1] its length. Nothing is hashed. Refusals: 2 to 6, 9, 10. */
@@ -261,12 +271,22 @@ sleep_answer sleep_place(SLEEP_REGISTER_READ, uint64_t chunk, uint64_t out[2]) S
 sleep_answer sleep_byte(SLEEP_REGISTER_READ, uint64_t offset, uint64_t out[2]) SLEEP_NOT_NULL;
 
 /* A verified read: the chunk's part of data, as sleep_place gives it, after its bytes were hashed where they lie and their hash was found to
- * be the stored one. Of two registers, lend the one that is meant. Refusals: 2 to 6, 9, 10. */
+ * be the stored one. Of two registers, lend the one that is meant. Refusals: 2 to 6, 9, 18, 10. */
 sleep_answer sleep_read(SLEEP_REGISTER_READ, uint64_t chunk, uint64_t out[2]) SLEEP_NOT_NULL;
+
+/* Makes room: the chunk, found as sleep_place finds it, is held no longer. Clears its data bit, makes the Index of its bitfield entry anew and writes
+ * zeros over its bytes; tree and signatures are only read. Refusals: 2 to 6, 9, 18, 10. */
+sleep_answer sleep_release(const uint8_t *tree, size_t tree_length, const uint8_t *signatures, size_t signatures_length,
+                           uint8_t *bitfield, size_t bitfield_length, uint8_t *data, size_t data_length, uint64_t n, uint64_t s,
+                           uint64_t size, uint64_t chunk) SLEEP_NOT_NULL;
+
+/* The first chunk from number from on, below n, that is not held: out is 1 and its number, or 0 and 0 where there is none, also for a from of n or more.
+ * It passes over each group of 16 chunks whose Index tuple says that all are held, and believes it. Refusals: 2 to 6. */
+sleep_answer sleep_search(SLEEP_REGISTER_READ, uint64_t from, uint64_t out[2]) SLEEP_NOT_NULL;
 
 /* The packet of a chunk: its bytes with the entries that show it to stand under the register's root hash. It reads the chunk as sleep_read
  * does, writes the packet at the front of out, leaves the rest of out as it was, and gives the packet's length. out needs room for the
- * chunk's length and at most SLEEP_PACKET_EXTRA bytes more. Refusals: 2 to 6, 9, 10, 14. */
+ * chunk's length and at most SLEEP_PACKET_EXTRA bytes more. Refusals: 2 to 6, 9, 18, 10, 14. */
 sleep_answer sleep_make_packet(SLEEP_REGISTER_READ, uint64_t chunk, uint8_t *out, size_t out_length, uint64_t *length) SLEEP_NOT_NULL;
 
 /* Whether a packet, of exactly packet_length bytes, shows its bytes to be chunk number chunk of the n chunks whose root hash is root. After
@@ -281,7 +301,8 @@ sleep_answer sleep_check_packet(const uint8_t *packet, size_t packet_length, uin
 sleep_comparison sleep_compare_packets(const uint8_t *first, size_t first_length, const uint8_t *second, size_t second_length, uint64_t n,
                                        uint64_t chunk, const uint8_t root[32]) SLEEP_NOT_NULL;
 
-/* The comparing walk: audits the first register, then the second, then compares them. A refusal (2 to 6, 10, 11) says which register. */
+/* The comparing walk, of registers that hold all their chunks: makes all checks of the first register, then all of the second, then compares them. A
+ * refusal (2 to 6, 18 at the lowest chunk not held, then 10 and 11 as the audit has them) says which register. */
 sleep_comparison sleep_compare(SLEEP_REGISTER_READ, const uint8_t *tree2, size_t tree2_length, const uint8_t *signatures2,
                                size_t signatures2_length, const uint8_t *bitfield2, size_t bitfield2_length, const uint8_t *data2,
                                size_t data2_length, uint64_t n2, uint64_t s2, uint64_t size2) SLEEP_NOT_NULL;
@@ -309,7 +330,7 @@ sleep_answer sleep_enter(uint64_t table[161], uint64_t station, uint64_t name, u
 
 /* A serving: of the station next in rising number, going round after the one last served, that has a read waiting, the read that came first. It
  * is answered as sleep_read answers it now, on the register that it names, and out is its part of that register's data; after a refusal (2 to 6,
- * 9, 10, of the named register alone) out is as it was. The read leaves the table either way. Where no read waits, table and out stay as they are. */
+ * 9, 18, 10, of the named register alone) out is as it was. The read leaves the table either way. Where no read waits, table and out stay as they are. */
 sleep_serving sleep_serve(uint64_t table[161], SLEEP_ARCHIVE_READ, uint64_t out[2]) SLEEP_NOT_NULL;
 
 /* EMPTY BUFFERS
@@ -387,6 +408,16 @@ static inline sleep_answer sleep_read_front(SLEEP_REGISTER_READ, uint64_t chunk,
     return sleep_read(SLEEP_REGISTER_LENT, chunk, out);
 }
 
+static inline sleep_answer sleep_release_front(const uint8_t *tree, size_t tree_length, const uint8_t *signatures, size_t signatures_length,
+                                               uint8_t *bitfield, size_t bitfield_length, uint8_t *data, size_t data_length, uint64_t n,
+                                               uint64_t s, uint64_t size, uint64_t chunk) {
+    return sleep_release(SLEEP_REGISTER_LENT, chunk);
+}
+
+static inline sleep_answer sleep_search_front(SLEEP_REGISTER_READ, uint64_t from, uint64_t out[2]) {
+    return sleep_search(SLEEP_REGISTER_LENT, from, out);
+}
+
 static inline sleep_answer sleep_make_packet_front(SLEEP_REGISTER_READ, uint64_t chunk, uint8_t *out, size_t out_length,
                                                    uint64_t *length) {
     return sleep_make_packet(SLEEP_REGISTER_LENT, chunk, SLEEP_LENT(out), length);
@@ -451,6 +482,8 @@ static inline sleep_serving sleep_serve_front(uint64_t table[161], SLEEP_ARCHIVE
 #define sleep_place sleep_place_front
 #define sleep_byte sleep_byte_front
 #define sleep_read sleep_read_front
+#define sleep_release sleep_release_front
+#define sleep_search sleep_search_front
 #define sleep_make_packet sleep_make_packet_front
 #define sleep_check_packet sleep_check_packet_front
 #define sleep_compare_packets sleep_compare_packets_front

@@ -7,7 +7,8 @@ changed in a buffer, wrong n, s or size, shortened buffers, numbers at their bou
 walked along, root hashes of the first chunks are asked for, and registers compared with copies, with other cuts of the same bytes, with one more empty chunk and with damaged ones. On every register
 that is made, damaged or not, a preview is compared with the append on a copy. Lists are appended, and where one is done its chunks are
 appended singly on a copy, with stored zero signatures between them: every buffer is the same. Bytes of any length about the limits are grouped and
-ungrouped, with and without room, and the needs of jobs are asked about all of their limits. Reads of sixteen stations are entered in tables,
+ungrouped, with and without room, and the needs of jobs are asked about all of their limits. Chunks are released, some registers are left with few chunks or
+none, and chunks that are not held are searched for, by an Index that is right or changed. Reads of sixteen stations are entered in tables,
 grown from a fresh one or holding anything, and served from two registers, as direct reads made then. One in fifty calls
 is on registers of 16,383 to 16,386 chunks, where the third bitfield entry begins and the tree gets its deepest hole. No pair of chunk
 sequences that collide under BLAKE2b is known, so those two answers of the comparing walk and of the walk along two packets stand in no call here.
@@ -30,13 +31,14 @@ IMAGES = ('tree', 'signatures', 'bitfield', 'data')
 EXPECTED = {Answer: answer_of, Comparison: comparison_of, Serving: serving_of, NUMBER: lambda answer: answer_of(answer)[:8], None: lambda answer: b''}
 
 
-def chunks_of(r):
-    """The chunks of a register that belongs to some."""
-    chunks, start = [], 0
+def pieces_of(r):
+    """The pieces of a register that belongs to some: chunks, and the leaf entries of released ones."""
+    pieces, start = [], 0
     for k in range(r.n):
-        chunks.append(r.part(start, r.node(2 * k)[1]))
-        start += len(chunks[-1])
-    return chunks
+        node = r.node(2 * k)
+        pieces.append(r.part(start, node[1]) if model.held(r, k) else node)
+        start += node[1]
+    return pieces
 
 
 def root_shown(packet, n, chunk):
@@ -143,6 +145,14 @@ class Calls:
 
     def old_root(self, r, m):
         self.call('old_root', [r], [m, self.result(32, lambda root: root)], lambda: model.old_root(r, m))
+
+    def release(self, r, chunk):
+        self.call('release', [r], [chunk], lambda: model.release(r, chunk))
+
+    def search(self, r, number):
+        """Two numbers: 1 and the chunk, or 0 and 0 where there is none."""
+        given = self.result(16, lambda found: numbers(0, 0) if found is None else numbers(1, found))
+        self.call('search', [r], [number, given], lambda: model.first_not_held(r, number))
 
     def audit(self, r):
         self.call('audit', [r], [], lambda: model.audit(r))
@@ -388,8 +398,8 @@ class Run(Calls):
     # ---- pairs
     def recut(self, r):
         """The same bytes in as many chunks, cut at another place, where there are two chunks to cut."""
-        chunks = chunks_of(r)
-        pairs = [k for k in range(r.n - 1) if chunks[k] or chunks[k + 1]]
+        chunks = pieces_of(r)
+        pairs = [k for k in range(r.n - 1) if not any(map(model.is_released, chunks[k:k + 2])) and chunks[k] + chunks[k + 1]]
         if pairs:
             k = self.random.choice(pairs)
             both = chunks[k] + chunks[k + 1]
@@ -403,11 +413,11 @@ class Run(Calls):
         if pick == 0:
             pair = [r, r]
         elif pick == 1:
-            pair = [r, model.register_of(chunks_of(r))]
+            pair = [r, model.register_of(pieces_of(r))]
         elif pick == 2:
             pair = [r, self.recut(r)]
         elif pick == 3:
-            pair = [r, model.register_of(chunks_of(r) + [b''])]
+            pair = [r, model.register_of(pieces_of(r) + [b''])]
         else:
             pair = [r, self.damage(r)]
         self.agree(pair[1], self.chunk())
@@ -422,7 +432,9 @@ class Run(Calls):
             self.root_hash(r)
         elif pick < 12:
             self.old_root(r, self.number(r.n))
-        elif pick < 32:
+        elif pick < 18:
+            self.search(r, self.number(r.n))
+        elif pick < 35:
             self.place(r, self.number(r.n))
         elif pick < 52:
             self.byte(r, self.number(r.size))
@@ -460,6 +472,8 @@ class Run(Calls):
             self.sign(r)
         elif pick < 8:
             self.listing(r)
+        elif pick < 10:
+            self.release(r, self.number(r.n))
         else:
             self.reading(r)
 
@@ -474,6 +488,8 @@ class Run(Calls):
                 image[self.random.randrange(min(within, len(image)))] = self.random.randrange(256)
             elif pick < 9 and r.n > 0:
                 self.damage_entry(r)
+            elif pick == 9 and r.n > 0:
+                self.damage_bits(r)
             elif pick < 11:
                 del image[self.random.randrange(len(image) + 1):]
             else:
@@ -482,6 +498,17 @@ class Run(Calls):
                 setattr(r, name, self.random.choice((near, near, near, 0, 1048576, 1048577, 2 ** 64 - 1)))
         self.agree(r, self.chunk())
         return r
+
+    def damage_bits(self, r):
+        """A data bit of a chunk below n or just behind turned, or the Index byte that has its tuple, and at times the Index made to follow."""
+        chunk = self.random.randrange(min(r.n + 2, 8192 * model.bitfield_entries(r.n)))
+        at, alone = model.bit_at(chunk, model.CHUNKS_PER_ENTRY, 0)
+        index = model.HEADER + model.BITFIELD_ENTRY * (chunk // 8192 + 1) - 256 + 2 * (chunk % 8192 // 64)
+        if index < len(r.bitfield):
+            pick = self.random.randrange(4)
+            r.bitfield[index if pick == 0 else at] ^= self.random.randrange(256) if pick == 0 else alone
+            if pick > 1 and model.HEADER + model.BITFIELD_ENTRY * (chunk // 8192 + 1) <= len(r.bitfield):
+                model.put_index(r, chunk)
 
     def damage_entry(self, r):
         """Moves a length from one entry to another, or writes one, small or so large that a sum would wrap."""
@@ -509,7 +536,7 @@ class Run(Calls):
             if self.total() >= calls:
                 return
             self.agree(r, self.chunk())
-            pick = self.random.randrange(40)
+            pick = self.random.randrange(41)
             owed = r.s < r.n if pick > 3 else self.random.random() < 0.5
             if pick < 16 and owed:
                 self.sign(r)
@@ -521,8 +548,16 @@ class Run(Calls):
                 self.reading(r)
             elif pick < 26:
                 self.comparing(r)
+            elif pick < 28:
+                self.letting_go(r)
             else:
                 self.any_call(self.damage(r))
+
+    def letting_go(self, r):
+        """One chunk released, or at times many."""
+        for _ in range(self.random.choice((1, 1, 1, r.n // 2 + 1, 2 * r.n))):
+            self.release(r, self.number(r.n))
+        self.search(r, self.number(r.n))
 
     # ---- large registers
     def built(self, chunks):
@@ -561,6 +596,14 @@ class Run(Calls):
                 self.comparing(r, kind)
             for lent in [r] + [self.damage(r) for _ in range(4)]:
                 self.audit(lent)
+            gone = copy.deepcopy(r)
+            for chunk in (8191, 8192, r.n - 1, self.number(r.n)):
+                self.release(gone, chunk)
+                self.search(gone, self.number(r.n))
+            for lent in [gone, self.damage(gone)]:
+                self.audit(lent)
+                self.looking(lent)
+                self.compare(lent, r)
             for lent in [self.damage(r), copy.deepcopy(r)]:
                 self.listing(lent)
             for lent in [self.damage(r), r]:

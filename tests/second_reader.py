@@ -131,11 +131,11 @@ def index_part(data_bits):
     return bytes(index)
 
 @functools.lru_cache(maxsize=16)
-def bitfield_of(n):
-    """The used part of the bitfield of n chunks, with its header."""
+def bitfield_of(n, held):
+    """The used part of the bitfield of n chunks, of which those are held that `held` tells, with its header."""
     out = bytearray(HEADERS["bitfield"])
     for e in range((n + 8191) // 8192):
-        data_bits = pack(k < n for k in range(8192 * e, 8192 * (e + 1)))
+        data_bits = pack(k < n and held(k) for k in range(8192 * e, 8192 * (e + 1)))
         tree_bits = pack(filled(i, n) for i in range(16384 * e, 16384 * (e + 1)))
         out += data_bits + tree_bits + index_part(data_bits)
     return bytes(out)
@@ -156,6 +156,9 @@ class Register:
 
     def length(self, i):
         return self.entry(i)[1]
+
+    def held(self, k):
+        return self.files["bitfield"][HEADER + 3328 * (k // 8192) + k % 8192 // 8] >> 7 - k % 8 & 1 == 1
 
     def bytes_at(self, start, length):
         return bytes(self.files["data"][start:start + length])
@@ -196,12 +199,14 @@ def audit(register):
         else:
             refuse_unless(register.raw(i) == bytes(ENTRY), 10, "tree", i)
     bitfield = register.files["bitfield"]
-    for at, byte in enumerate(bitfield_of(register.n)):     # step 7
+    for at, byte in enumerate(bitfield_of(register.n, register.held)):  # step 7
         refuse_unless(bitfield[at] == byte, 11, "bitfield", at)
 
 def right_leaf(register, i, start):
     length = register.length(i)
-    return length <= MAX_CHUNK and start + length <= register.size and register.entry(i) == leaf_of(register.bytes_at(start, length))
+    there = register.bytes_at(start, length)
+    fits = length <= MAX_CHUNK and start + length <= register.size
+    return fits and (register.entry(i) == leaf_of(there) if register.held(i // 2) else there == bytes(length))
 
 def right_parent(register, i):
     left, right = (register.entry(child) for child in children(i))
@@ -210,10 +215,11 @@ def right_parent(register, i):
 
 # --- finding and reading
 
-def find(register, k):
+def find(register, k, to_read=False):
     """Where chunk k begins, and its length."""
     first_checks(register)                          # step 1
     refuse_unless(k < register.n, 9)                # step 2
+    refuse_unless(not to_read or register.held(k), 18, "tree", 2 * k)
     start, above = 0, iter(roots(register.n))       # step 3
     i = next(above)
     while k >= behind(i):
@@ -232,7 +238,7 @@ def find(register, k):
     return start, register.length(i)                # step 6
 
 def read(register, k):
-    chunk = register.bytes_at(*find(register, k))
+    chunk = register.bytes_at(*find(register, k, to_read=True))
     refuse_unless(leaf_of(chunk)[0] == register.entry(2 * k)[0], 10, "tree", 2 * k)     # step 7
     return chunk
 
@@ -427,10 +433,10 @@ def tables_differ(text):
     if [row[0] for row in of_index] != ["10", "16", "64", "128"]:
         return "the Index: other rows"
     for n, row in of_index:
-        if bytes.fromhex(row) != bitfield_of(int(n))[3104:3108]:
+        if bytes.fromhex(row) != bitfield_of(int(n), lambda k: True)[3104:3108]:
             return f"the Index of {n} chunks"
     numbers = [row[0] for row in rows_of(text, "Number")]
-    return None if numbers == [str(number) for number in (*range(1, 15), 16, 17, 21, 22)] else "the numbers of what can be wrong"
+    return None if numbers == [str(number) for number in (*range(1, 15), 16, 17, 18, 21, 22)] else "the numbers of what can be wrong"
 
 def drawing_differs(text):
     """The tree of ten chunks: each entry stands at its depth, from left to right in the order of the file, above both children; holes in brackets."""
@@ -637,13 +643,22 @@ def answers_differ(text):
         return "the answers: others"
     return None
 
+def released_differ(text):
+    """The example of a cleared data bit, in the register of three chunks."""
+    register, root = next((register, root) for register, root, _ in registers_in(text) if register.n == 3)
+    kept = changed(register, "bitfield", 32, 0x60)
+    gone = changed(changed(kept, "data", 0, 0), "data", 1, 0)
+    given = [answer(audit, gone), answer(root_hash, gone), answer(find, gone, 2), answer(read, gone, 0), answer(audit, kept)]
+    expected = ["done", answer(root_hash, register), answer(find, register, 2), "refused 18 tree 0", "refused 10 tree 0"]
+    return given != expected and f"a cleared data bit: {given}"
+
 def main(path):
     with open(path, encoding="utf-8") as file:
         text = file.read()
     return (tables_differ(text) or drawing_differs(text) or hashes_differ(text) or registers_differ(text) or outside_differs(text)
-            or packets_differ(text) or all_packets_differ() or answers_differ(text))
+            or packets_differ(text) or all_packets_differ() or answers_differ(text) or released_differ(text))
 
 if __name__ == "__main__":
     wrong = main(sys.argv[1])
-    print(wrong or "tables, drawing, 7 hashes, 6 registers, the hash from outside, 2 packets and 28 answers agree")
+    print(wrong or "tables, drawing, 7 hashes, 6 registers, the hash from outside, 2 packets, 28 answers and a cleared data bit agree")
     sys.exit(1 if wrong else 0)

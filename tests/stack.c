@@ -33,6 +33,8 @@ static void audit(void) { number = sleep_audit(REGISTER).number; }
 static void place(void) { number = sleep_place(REGISTER, sought, out).number; }
 static void byte(void) { number = sleep_byte(REGISTER, sought, out).number; }
 static void verified_read(void) { number = sleep_read(REGISTER, sought, out).number; }
+static void release(void) { number = sleep_release(REGISTER, sought).number; }
+static void search(void) { number = sleep_search(REGISTER, sought, out).number; }
 static void make_packet(void) { number = sleep_make_packet(REGISTER, sought, packet, sizeof packet, &packet_length).number; }
 static void check_packet(void) { number = sleep_check_packet(packet, packet_length, n, sought, root, out).number; }
 static void group(void) { number = sleep_group(chunk, sizeof chunk, packet, sizeof packet).number; }
@@ -44,7 +46,7 @@ static void enter(void) { number = sleep_enter(table, sought % 17, SLEEP_CONTENT
 static void serve(void) { number = sleep_serve(table, REGISTER, REGISTER, out).answer.number; }
 static void compare(void) { outcome = sleep_compare(REGISTER, REGISTER).outcome; }
 
-enum { START, HASH, HASH_PARTS, LABEL, APPEND, APPEND_LIST, PREVIEW, STORE_SIGNATURE, ROOT_HASH, OLD_ROOT, AUDIT, PLACE, BYTE, READ, MAKE_PACKET, CHECK_PACKET, COMPARE_PACKETS, COMPARE, GROUP, UNGROUP, NEEDS, FRESH, ENTER, SERVE, CALLS };
+enum { START, HASH, HASH_PARTS, LABEL, APPEND, APPEND_LIST, PREVIEW, STORE_SIGNATURE, ROOT_HASH, OLD_ROOT, AUDIT, PLACE, BYTE, READ, RELEASE, SEARCH, MAKE_PACKET, CHECK_PACKET, COMPARE_PACKETS, COMPARE, GROUP, UNGROUP, NEEDS, FRESH, ENTER, SERVE, CALLS };
 
 static struct {
     const char *name;
@@ -65,6 +67,8 @@ static struct {
     {"sleep_place", place, SLEEP_STACK_PLACE, 0},
     {"sleep_byte", byte, SLEEP_STACK_BYTE, 0},
     {"sleep_read", verified_read, SLEEP_STACK_READ, 0},
+    {"sleep_release", release, SLEEP_STACK_RELEASE, 0},
+    {"sleep_search", search, SLEEP_STACK_SEARCH, 0},
     {"sleep_make_packet", make_packet, SLEEP_STACK_MAKE_PACKET, 0},
     {"sleep_check_packet", check_packet, SLEEP_STACK_CHECK_PACKET, 0},
     {"sleep_compare_packets", compare_packets, SLEEP_STACK_COMPARE_PACKETS, 0},
@@ -98,6 +102,26 @@ static void measure(int which, uint64_t expected) {
     }
 }
 
+/* The chunk that is sought, released; then its bitfield entry and its bytes are put back. */
+static void measure_release(void) {
+    static uint8_t entry[3328], bytes[SLEEP_LONGEST_CHUNK];
+    uint8_t *const bits = bitfield + 32 + 3328 * (sought / 8192);
+    uint64_t at, length;
+    measure(PLACE, 0);
+    at = out[0];
+    length = out[1];
+    memcpy(entry, bits, sizeof entry);
+    memcpy(bytes, data + at, length);
+    measure(RELEASE, 0);
+    measure(RELEASE, 18);
+    measure(SEARCH, 0);
+    measure(READ, 18);
+    measure(MAKE_PACKET, 18);
+    measure(COMPARE, 0);
+    memcpy(bits, entry, sizeof entry);
+    memcpy(data + at, bytes, length);
+}
+
 /* Every call that reads the register, for the first, a middle, the last and no chunk. */
 static void measure_reads(void) {
     const uint64_t some[4] = {0, n / 2, n - 1, n};
@@ -107,6 +131,9 @@ static void measure_reads(void) {
     for (int k = 0; k < 4; k++) {
         sought = some[k];
         measure(OLD_ROOT, 0);
+        measure(SEARCH, 0);
+        if (sought < n) measure_release();
+        else measure(RELEASE, 9);
         measure(PLACE, sought < n ? 0 : 9);
         measure(READ, sought < n ? 0 : 9);
         measure(FRESH, 0);
@@ -190,6 +217,7 @@ static void measure_depth(void) {
     sought = 0;
     measure(BYTE, 0);
     measure(READ, 0);
+    measure_release();
     measure(FRESH, 0);
     measure(ENTER, 0);
     measure(SERVE, 0);

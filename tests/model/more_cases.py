@@ -316,6 +316,51 @@ def fairness():
             yield 'servings of others', (count, count <= STATIONS - 1), ((station - last - 1) % STATIONS, True)
 
 
+def pieces_of(r):
+    """The pieces that the stored entries and data bits tell of, or None where their lengths can't be right."""
+    nodes = [r.node(2 * k) for k in range(r.n)]
+    lengths = [length for _, length in nodes]
+    if max(lengths, default=0) > LONGEST_CHUNK or sum(lengths) != r.size:
+        return None
+    chunks = cut(r.data, lengths)
+    return [chunk if held(r, k) else node for k, (chunk, node) in enumerate(zip(chunks, nodes))]
+
+
+def pieces():
+    """A release takes the image of pieces to that of pieces, and the audit accepts exactly these images."""
+    for F in (node_hash, weak):
+        for n, order in ((1, (0,)), (6, (4, 0, 5, 1)), (17, (16, 3, 15))):
+            several = chunk_list(n)
+            r = register_of(several, F)
+            for chunk in order:
+                several[chunk] = leaf_node(several[chunk], F)
+                yield 'release', (release(r, chunk), r), (('done',), register_of(several, F))
+                yield 'audit', audit(r, F), ('done',)
+                yield 'not held', read(r, None, 'metadata', chunk, F), refused(18, ('tree', 2 * chunk))
+        other = bytes(31) + b'\5', 3
+        for several in ([b'AB', b'', b'CDE'], [b'AB', other, b''], [other, b'', b'\0\0'], [b'\0', other], [other]):
+            r = register_of(several, F)
+            yield 'pieces', (audit(r, F), pieces_of(r)), (('done',), several)
+            bits = [*range(HEADER, HEADER + 2), *range(1056, 1058), *range(3104, 3108)]
+            places = {'tree': range(HEADER, len(r.tree)), 'bitfield': bits, 'data': range(len(r.data))}
+            for image, at, mask in [(image, at, mask) for image in places for at in places[image] for mask in (1, 64, 128)]:
+                changed = spoilt(r, image, at, getattr(r, image)[at] ^ mask)
+                found = pieces_of(changed)
+                imaged = found is not None and images_of(register_of(found, F)) == images_of(changed)
+                yield '%s %d of pieces' % (image, at), audit(changed, F) == ('done',), imaged
+
+
+def searches():
+    """By the Index and without it, on accepted registers."""
+    for n in (0, 1, 15, 16, 17, 50):
+        for step in (1, 5, 16, 17, 100):
+            gone = set(range(3, n, step))
+            r = register_of([(bytes(32), 0) if k in gone else b'' for k in range(n)])
+            for number in (*range(n + 2), 2 ** 64 - 1):
+                plain = next((k for k in sorted(gone) if k >= number), None)
+                yield 'search of %d from %d' % (n, number), first_not_held(r, number), ('done', plain)
+
+
 def spoilt_size(none):
     r = told(none, size=1)
     r.data.append(0)
@@ -347,5 +392,5 @@ def walks():
 
 
 if __name__ == '__main__':
-    groups = (agreement, borders, refusals, jobs, lists, tables, fairness, walks, old_roots, packet_walks, weak_rows)
+    groups = (agreement, borders, refusals, jobs, lists, tables, fairness, pieces, searches, walks, old_roots, packet_walks, weak_rows)
     print('model: %d more cases agree' % sum(check(*case) for cases in groups for case in cases()))

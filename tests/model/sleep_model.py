@@ -22,6 +22,7 @@ MOST_LISTED = 256  # chunks in a list
 HEADER, ENTRY, SIGNATURE, HASH = 32, 40, 64, 32
 BITFIELD_ENTRY, DATA_BYTES, TREE_BYTES, INDEX_BYTES = 3328, 1024, 2048, 256
 CHUNKS_PER_ENTRY, NODES_PER_ENTRY = 8192, 16384
+CHUNKS_PER_TUPLE, TUPLES_PER_BYTE = 16, 4
 HOLE = bytes(ENTRY)
 
 # ---- Refusals ----
@@ -180,13 +181,18 @@ def bitfield_entries(n):
     return -(-n // CHUNKS_PER_ENTRY)
 
 @functools.cache
-def bitfield_image(n):
+def tree_bits(n, e):
+    """Those of an entry: 1 for each tree entry that is no hole."""
+    return bits_where(8 * TREE_BYTES, lambda k: filled(n, NODES_PER_ENTRY * e + k))
+
+@functools.lru_cache(maxsize=64)
+def bitfield_image(n, released=frozenset()):
+    """A data bit is 1 for each chunk below n that is not among the released ones."""
     image = bytearray(BITFIELD_HEADER)
     for e in range(bitfield_entries(n)):
-        chunk, node = CHUNKS_PER_ENTRY * e, NODES_PER_ENTRY * e
-        data_bits = bits_where(8 * DATA_BYTES, lambda k: chunk + k < n)
-        tree_bits = bits_where(8 * TREE_BYTES, lambda k: filled(n, node + k))
-        image += data_bits + tree_bits + index_bytes(data_bits)
+        first = CHUNKS_PER_ENTRY * e
+        data_bits = bits_where(8 * DATA_BYTES, lambda k: first + k < n and first + k not in released)
+        image += data_bits + tree_bits(n, e) + index_bytes(data_bits)
     return bytes(image)
 
 # ---- Registers ----
@@ -218,22 +224,28 @@ class Register:
         """Of the stored roots of the first m chunks, or of all."""
         return root_message([(index, self.node(index)) for index in roots(self.n if m is None else m)])
 
-def tree_image(chunks, F=node_hash):
-    """The tree file that this document gives for a chunk sequence."""
-    n, nodes = len(chunks), {}
+def is_released(piece):
+    """A piece is a chunk that is held, its bytes, or one that is released: then its leaf's (hash, length) is handed in."""
+    return isinstance(piece, tuple)
+
+def tree_image(pieces, F=node_hash):
+    """The tree file that this document gives for a sequence of pieces."""
+    n, nodes = len(pieces), {}
     for index in sorted(range(tree_entries(n)), key=depth):
         if filled(n, index):
             if index % 2 == 0:
-                nodes[index] = leaf_node(chunks[index // 2], F)
+                piece = pieces[index // 2]
+                nodes[index] = piece if is_released(piece) else leaf_node(piece, F)
             else:
                 nodes[index] = parent_node(*map(nodes.get, children(index)), F)
     entries = [entry_bytes(nodes[i]) if i in nodes else HOLE for i in range(tree_entries(n))]
     return TREE_HEADER + b''.join(entries)
 
-def register_of(chunks, F=node_hash):
-    """A register that belongs to the chunk sequence, with as many signatures, all zero."""
-    data, n = b''.join(chunks), len(chunks)
-    images = (tree_image(chunks, F), SIGNATURES_HEADER + bytes(SIGNATURE * n), bitfield_image(n), data)
+def register_of(pieces, F=node_hash):
+    """A register that belongs to the pieces, with as many signatures, all zero; the data of a released one are zeros."""
+    data, n = b''.join(bytes(piece[1]) if is_released(piece) else piece for piece in pieces), len(pieces)
+    released = frozenset(k for k, piece in enumerate(pieces) if is_released(piece))
+    images = (tree_image(pieces, F), SIGNATURES_HEADER + bytes(SIGNATURE * n), bitfield_image(n, released), data)
     return Register(*map(bytearray, images), n, n, len(data))
 
 # ---- What every call on a register checks ----
@@ -283,7 +295,7 @@ def append(r, chunk, F=node_hash):
         index = parent(index)
         put_filled(r, index, parent_node(*map(r.node, children(index)), F))
     set_bit(r, r.n, CHUNKS_PER_ENTRY, 0)
-    r.bitfield[at + DATA_BYTES + TREE_BYTES:at + BITFIELD_ENTRY] = index_bytes(r.bitfield[at:at + DATA_BYTES])
+    put_index(r, r.n)
     r.n, r.size = r.n + 1, data
     return (F(r.root_message()),)
 
@@ -312,10 +324,20 @@ def put_filled(r, index, node):
     r.put(index, entry_bytes(node))
     set_bit(r, index, NODES_PER_ENTRY, DATA_BYTES)
 
-def set_bit(r, number, per_entry, section):
-    """The bit of a chunk number or a tree index, in its bitfield entry and from the start of its section on."""
+def bit_at(number, per_entry, section):
+    """The bit of a chunk number or a tree index, in its bitfield entry and from the start of its section on: the byte's
+    offset and the byte with that bit alone."""
     e, k = divmod(number, per_entry)
-    r.bitfield[HEADER + BITFIELD_ENTRY * e + section + k // 8] |= bit(k)
+    return HEADER + BITFIELD_ENTRY * e + section + k // 8, bit(k)
+
+def set_bit(r, number, per_entry, section):
+    at, alone = bit_at(number, per_entry, section)
+    r.bitfield[at] |= alone
+
+def put_index(r, chunk):
+    """Regenerates the Index of the chunk's bitfield entry from the data bits as they are."""
+    at = HEADER + BITFIELD_ENTRY * (chunk // CHUNKS_PER_ENTRY)
+    r.bitfield[at + DATA_BYTES + TREE_BYTES:at + BITFIELD_ENTRY] = index_bytes(r.bitfield[at:at + DATA_BYTES])
 
 @call
 def store_signature(r, signature):
@@ -332,24 +354,73 @@ def store_signature(r, signature):
 @call
 def audit(r, F=node_hash):
     check_register(r)
+    judge_entries(r, F)
+    judge_bits(r)
+    return ()
+
+def judge_entries(r, F):
     start_of_leaf = 0
     for index in range(tree_entries(r.n)):
         refuse_if(not entry_right(r, index, start_of_leaf, F), 10, ('tree', index))
         start_of_leaf += r.node(index)[1] if index % 2 == 0 else 0
-    for at, byte in enumerate(bitfield_image(r.n)):
+
+def judge_bits(r):
+    """Data bits below n may be either; all other bytes follow from n and from them."""
+    released = frozenset(chunk for chunk in range(r.n) if not held(r, chunk))
+    for at, byte in enumerate(bitfield_image(r.n, released)):
         refuse_if(r.bitfield[at] != byte, 11, ('bitfield', at))
-    return ()
 
 def entry_right(r, index, start_of_leaf, F):
     """By the leaf's place in the data, from the parent's stored children, or as a hole."""
     if not filled(r.n, index):
         return r.entry(index) == HOLE
-    node = r.node(index)
     if index % 2 == 0:
-        within = node[1] <= LONGEST_CHUNK and start_of_leaf + node[1] <= r.size
-        return within and node == leaf_node(r.part(start_of_leaf, node[1]), F)
-    left, right = map(r.node, children(index))
+        return leaf_right(r, index // 2, start_of_leaf, F)
+    node, left, right = map(r.node, (index, *children(index)))
     return node[1] == left[1] + right[1] and node == parent_node(left, right, F)
+
+def leaf_right(r, chunk, start_of_leaf, F):
+    """A chunk that is held has this hash; of a released one all bytes are zero, and the hash may be any."""
+    node = r.node(2 * chunk)
+    if node[1] > LONGEST_CHUNK or start_of_leaf + node[1] > r.size:
+        return False
+    found = r.part(start_of_leaf, node[1])
+    return node == leaf_node(found, F) if held(r, chunk) else not any(found)
+
+# ---- What is held ----
+def held(r, chunk):
+    """What the stored data bit says, whether an audit would take it or not."""
+    at, alone = bit_at(chunk, CHUNKS_PER_ENTRY, 0)
+    return r.bitfield[at] & alone != 0
+
+@call
+def release(r, chunk):
+    """Clears the data bit of a chunk that is held, regenerates the Index and writes zeros over its bytes; the tree stays."""
+    start_of_chunk, length = place_of(r, chunk, to_be_held=True)
+    at, alone = bit_at(chunk, CHUNKS_PER_ENTRY, 0)
+    r.bitfield[at] ^= alone
+    put_index(r, chunk)
+    r.data[start_of_chunk:start_of_chunk + length] = bytes(length)
+    return ()
+
+@call
+def first_not_held(r, number):
+    """The first chunk from the given number on, below n, that isn't held, or None.  A group of 16 chunks whose stored tuple
+    is 11 is passed over, and of the other groups the data bits are read."""
+    check_register(r)
+    for group in range(number // CHUNKS_PER_TUPLE, -(-r.n // CHUNKS_PER_TUPLE)):
+        if stored_tuple(r, group) != 0b11:
+            first = CHUNKS_PER_TUPLE * group
+            for chunk in range(max(number, first), min(first + CHUNKS_PER_TUPLE, r.n)):
+                if not held(r, chunk):
+                    return (chunk,)
+    return (None,)
+
+def stored_tuple(r, group):
+    """Of a group of 16 chunks: four to each even Index byte, the first one highest."""
+    e, k = divmod(group, CHUNKS_PER_ENTRY // CHUNKS_PER_TUPLE)
+    at = HEADER + BITFIELD_ENTRY * e + DATA_BYTES + TREE_BYTES + 2 * (k // TUPLES_PER_BYTE)
+    return r.bitfield[at] >> 6 - 2 * (k % TUPLES_PER_BYTE) & 0b11
 
 @call
 def root_hash(r, F=node_hash):
@@ -364,10 +435,11 @@ def old_root(r, m, F=node_hash):
     return (F(r.root_message(m)),)
 
 # ---- Lookups and reads ----
-def place_of(r, chunk):
+def place_of(r, chunk, to_be_held=False):
     """Start and length of a chunk."""
     check_register(r)
     refuse_if(chunk >= r.n, 9)
+    refuse_if(to_be_held and not held(r, chunk), 18, ('tree', 2 * chunk))
     root = root_above(r.n, chunk)
     start_of_root = sum(r.node(other)[1] for other in roots(r.n) if other < root)
     return descend(r, root, start_of_root, lambda right, start_of_right: chunk >= chunks_below(right).start)[1:]
@@ -409,7 +481,7 @@ def read(metadata, content, name, chunk, F=node_hash):
     return (chunk_bytes({'metadata': metadata, 'content': content}[name], chunk, F),)
 
 def chunk_bytes(r, chunk, F):
-    found = r.part(*place_of(r, chunk))
+    found = r.part(*place_of(r, chunk, to_be_held=True))
     refuse_if(F(leaf_message(found)) != r.node(2 * chunk)[0], 10, ('tree', 2 * chunk))
     return found
 
@@ -469,11 +541,21 @@ def cut(data, sizes):
     return parts
 
 # ---- The comparing walk ----
+@call
+def audit_whole(r, F):
+    """The audit of a register that is to be compared, which has to hold all its chunks."""
+    check_register(r)
+    for chunk in range(r.n):
+        refuse_if(not held(r, chunk), 18, ('tree', 2 * chunk))
+    judge_entries(r, F)
+    judge_bits(r)
+    return ()
+
 def compare(first, second, F=node_hash):
     """('equal',), ('roots differ',), ('collision', 'at the roots'), ('collision', ('tree', index)), or a refusal with
     'first' or 'second' after its place."""
     for r, which in ((first, 'first'), (second, 'second')):
-        answer = audit(r, F)
+        answer = audit_whole(r, F)
         if answer[0] == 'refused':
             return answer + (which,)
     if F(first.root_message()) != F(second.root_message()):

@@ -16,73 +16,68 @@ use Rattle.counts.specs.Verdict.{Verdict, bitfield, done, refused}
 use Rattle.sequences.specs.Lists.{part, run, joined}
 use Rattle.sequences.proofs.Lists.{getD-behind, getD-part, length-part, part-joined}
 use Rattle.tree_index.specs.Tree.{filled}
-use Rattle.bitfield.specs.Bits.{byteOf, bytesOf}
+use Rattle.bitfield.specs.Bits.{byteOf}
 use Rattle.bitfield.specs.Index.{indexBytes}
-use Rattle.bitfield.specs.Image.{dataBytes, treeBytes, entry, entryCount, heldBelow, entriesOf}
+use Rattle.bitfield.specs.Image.{dataBytes, treeBytes, entry, entryCount, entriesOf}
+use Rattle.bitfield.proofs.Bits.{getD-bytesOf}
 use Rattle.bitfield.proofs.Image.{length-data, length-tree, length-entry}
 use Rattle.files.specs.Sizes.{usedBitfield}
 use Rattle.files.specs.Headers.{bitfieldHeader}
 use Rattle.files.specs.Images.{bitfieldImage}
 use Rattle.files.proofs.OfImage.{bitfieldHeader-length}
-use Rattle.audit.specs.Audit.{Lowest, lowest, byteRight, refusedAt}
+use Rattle.audit.specs.Audit.{Lowest, lowest, heldBits, byteRight, refusedAt}
 use Rattle.audit.specs.Bytes.{entryWith, BitsIn, AtBits}
 use Rattle.audit.proofs.Search.{lowest-on, lowest-off, lowest-end, lowest-agree, andThen, search-parts}
 
 -- ---- the bytes of an entry
 
-getD-bytesOf : (p : ℕ → Bool) (b k j : ℕ) → j < k → getD (bytesOf p b k) j 0 ≡ byteOf p (b + 8 * j)
-unfolding bytesOf
-getD-bytesOf p b zero j h = absurd (omega arith)
-getD-bytesOf p b (suc k) zero h = ap (byteOf p) (omega arith)
-getD-bytesOf p b (suc k) (suc j) h = getD-bytesOf p (b + 8) k j (omega arith) ∙ ap (byteOf p) (omega arith)
-
-module _ (n e : ℕ) (ix : List ℕ) where
-  pub with-data : (j : ℕ) → j < 1024 → byteOf (heldBelow n) (8192 * e + 8 * j) ≡ getD (entryWith n e ix) j 0
+module _ (held : ℕ → Bool) (n e : ℕ) (ix : List ℕ) where
+  pub with-data : (j : ℕ) → j < 1024 → byteOf held (8192 * e + 8 * j) ≡ getD (entryWith held n e ix) j 0
   unfolding entryWith dataBytes
   with-data j h =
-      sym (List·getD-append (dataBytes (heldBelow n) e) (treeBytes (filled n) e ++ ix) 0 j (omega (arith, length-data (heldBelow n) e))
-      ∙ getD-bytesOf (heldBelow n) (8192 * e) 1024 j h)
+      sym (List·getD-append (dataBytes held e) (treeBytes (filled n) e ++ ix) 0 j (omega (arith, length-data held e))
+      ∙ getD-bytesOf held (8192 * e) 1024 j h)
 
-  behind-data : (j : ℕ) → getD (entryWith n e ix) (1024 + j) 0 ≡ getD (treeBytes (filled n) e ++ ix) j 0
+  behind-data : (j : ℕ) → getD (entryWith held n e ix) (1024 + j) 0 ≡ getD (treeBytes (filled n) e ++ ix) j 0
   unfolding entryWith
-  behind-data j = getD-behind (dataBytes (heldBelow n) e) (treeBytes (filled n) e ++ ix) 1024 j 0 (length-data (heldBelow n) e)
+  behind-data j = getD-behind (dataBytes held e) (treeBytes (filled n) e ++ ix) 1024 j 0 (length-data held e)
 
-  pub with-tree : (j : ℕ) → 1024 ≤ j → j < 3072 → byteOf (filled n) (16384 * e + 8 * (j - 1024)) ≡ getD (entryWith n e ix) j 0
+  pub with-tree : (j : ℕ) → 1024 ≤ j → j < 3072 → byteOf (filled n) (16384 * e + 8 * (j - 1024)) ≡ getD (entryWith held n e ix) j 0
   unfolding treeBytes
   with-tree j h g =
       let k : ℕ = j - 1024 in
       let q : 1024 + k ≡ j = omega arith in
-      sym (ap (λ (x : ℕ). getD (entryWith n e ix) x 0) (sym q) ∙ behind-data k
+      sym (ap (λ (x : ℕ). getD (entryWith held n e ix) x 0) (sym q) ∙ behind-data k
       ∙ List·getD-append (treeBytes (filled n) e) ix 0 k (omega (arith, length-tree (filled n) e))
       ∙ getD-bytesOf (filled n) (16384 * e) 2048 k (omega arith))
 
-  pub with-index : (j : ℕ) → 3072 ≤ j → getD ix (j - 3072) 0 ≡ getD (entryWith n e ix) j 0
+  pub with-index : (j : ℕ) → 3072 ≤ j → getD ix (j - 3072) 0 ≡ getD (entryWith held n e ix) j 0
   with-index j h =
       let k : ℕ = j - 3072 in
       let q : 1024 + (2048 + k) ≡ j = omega arith in
-      sym (ap (λ (x : ℕ). getD (entryWith n e ix) x 0) (sym q) ∙ behind-data (2048 + k)
+      sym (ap (λ (x : ℕ). getD (entryWith held n e ix) x 0) (sym q) ∙ behind-data (2048 + k)
       ∙ getD-behind (treeBytes (filled n) e) ix 2048 k 0 (length-tree (filled n) e))
 
 -- entries that differ in their Index bytes are the same before them
-with-before : (n e : ℕ) (ix iy : List ℕ) (j : ℕ) → j < 3072 → getD (entryWith n e ix) j 0 ≡ getD (entryWith n e iy) j 0
-with-before n e ix iy j h = elim (decLt j 1024) [
-  | yes l ↦ sym (with-data n e ix j l) ∙ with-data n e iy j l
-  | no l ↦ sym (with-tree n e ix j (omega arith) h) ∙ with-tree n e iy j (omega arith) h
+with-before : (held : ℕ → Bool) (n e : ℕ) (ix iy : List ℕ) (j : ℕ) → j < 3072 → getD (entryWith held n e ix) j 0 ≡ getD (entryWith held n e iy) j 0
+with-before held n e ix iy j h = elim (decLt j 1024) [
+  | yes l ↦ sym (with-data held n e ix j l) ∙ with-data held n e iy j l
+  | no l ↦ sym (with-tree held n e ix j (omega arith) h) ∙ with-tree held n e iy j (omega arith) h
 ]
 
 -- ---- the image's bytes
 
-image-byte : (n e j : ℕ) → e < entryCount n → j < 3328
-    → getD (bitfieldImage n) (32 + 3328 * e + j) 0 ≡ getD (entryWith n e (indexBytes (dataBytes (heldBelow n) e))) j 0
+image-byte : (held : ℕ → Bool) (n e j : ℕ) → e < entryCount n → j < 3328
+    → getD (bitfieldImage held n) (32 + 3328 * e + j) 0 ≡ getD (entryWith held n e (indexBytes (dataBytes held e))) j 0
 unfolding bitfieldImage entriesOf entry entryWith
-image-byte n e j h g =
+image-byte held n e j h g =
     let q : 32 + 3328 * e + j ≡ 32 + (e * 3328 + j) = omega arith in
-    ap (λ (x : ℕ). getD (bitfieldHeader ++ entriesOf n) x 0) q
-    ∙ getD-behind bitfieldHeader (entriesOf n) 32 (e * 3328 + j) 0 bitfieldHeader-length
-    ∙ sym (getD-part (entriesOf n) (e * 3328) 3328 j 0 g)
+    ap (λ (x : ℕ). getD (bitfieldHeader ++ entriesOf held n) x 0) q
+    ∙ getD-behind bitfieldHeader (entriesOf held n) 32 (e * 3328 + j) 0 bitfieldHeader-length
+    ∙ sym (getD-part (entriesOf held n) (e * 3328) 3328 j 0 g)
     ∙ ap (λ (xs : List ℕ). getD xs j 0)
-    (part-joined (entry (heldBelow n) (filled n)) 3328 (length-entry (heldBelow n) (filled n)) 0 (entryCount n) e h
-    ∙ ap (entry (heldBelow n) (filled n)) (zero-add e))
+    (part-joined (entry held (filled n)) 3328 (length-entry held (filled n)) 0 (entryCount n) e h
+    ∙ ap (entry held (filled n)) (zero-add e))
 
 -- ---- an entry judged by the Index of its stored data bytes
 
@@ -102,23 +97,23 @@ index-by xs e at m r p h q = q ∙ ap₂ (λ (k b : ℕ). indexBytes (take k (dr
 
 -- the test that the code makes of the byte at place b of the file
 abbrev pub byStored : List ℕ → ℕ → ℕ → ℕ → Bool
-byStored xs n e b = eqb (getD xs b 0) (getD (entryWith n e (indexBytes (part xs (32 + 3328 * e) 1024))) (b - (32 + 3328 * e)) 0)
+byStored xs n e b = eqb (getD xs b 0) (getD (entryWith (heldBits xs n) n e (indexBytes (part xs (32 + 3328 * e) 1024))) (b - (32 + 3328 * e)) 0)
 
 module _ (xs : List ℕ) (n e : ℕ) (w : AtBits xs n e) where
   abbrev at : ℕ
   at = 32 + 3328 * e
 
   -- where all data bytes are right, they are the image's
-  data-right : ((m : ℕ) → at ≤ m → m < at + 1024 → byteRight xs n m ≡ true) → part xs at 1024 ≡ dataBytes (heldBelow n) e
+  data-right : ((m : ℕ) → at ≤ m → m < at + 1024 → byteRight xs n m ≡ true) → part xs at 1024 ≡ dataBytes (heldBits xs n) e
   unfolding byteRight entryWith
   data-right h =
       let long : length (part xs at 1024) ≡ 1024 = length-part xs at 1024 (omega (arith, entry-room xs n e w .1)) in
-      ext-getD 0 (part xs at 1024) (dataBytes (heldBelow n) e) (long ∙ sym (length-data (heldBelow n) e))
+      ext-getD 0 (part xs at 1024) (dataBytes (heldBits xs n) e) (long ∙ sym (length-data (heldBits xs n) e))
       (λ j l. getD-part xs at 1024 j 0 (omega (arith, long))
-      ∙ eqb-true (getD xs (at + j) 0) (getD (bitfieldImage n) (at + j) 0) (h (at + j) (omega arith) (omega (arith, long)))
-      ∙ image-byte n e j (w .entry) (omega (arith, long))
-      ∙ List·getD-append (dataBytes (heldBelow n) e) (treeBytes (filled n) e ++ indexBytes (dataBytes (heldBelow n) e)) 0 j
-      (omega (arith, long, length-data (heldBelow n) e)))
+      ∙ eqb-true (getD xs (at + j) 0) (getD (bitfieldImage (heldBits xs n) n) (at + j) 0) (h (at + j) (omega arith) (omega (arith, long)))
+      ∙ image-byte (heldBits xs n) n e j (w .entry) (omega (arith, long))
+      ∙ List·getD-append (dataBytes (heldBits xs n) e) (treeBytes (filled n) e ++ indexBytes (dataBytes (heldBits xs n) e)) 0 j
+      (omega (arith, long, length-data (heldBits xs n) e)))
 
   -- the code's test and the definition's find the same byte
   agree : (b : ℕ) → at ≤ b → b < at + 3328 → ((m : ℕ) → at ≤ m → m < b → byteRight xs n m ≡ true) → byStored xs n e b ≡ byteRight xs n b
@@ -126,12 +121,12 @@ module _ (xs : List ℕ) (n e : ℕ) (w : AtBits xs n e) where
   agree b l h before =
       let j : ℕ = b - at in
       let q : at + j ≡ b = omega arith in
-      let own : getD (bitfieldImage n) b 0 ≡ getD (entryWith n e (indexBytes (dataBytes (heldBelow n) e))) j 0 =
-      ap (λ (x : ℕ). getD (bitfieldImage n) x 0) (sym q) ∙ image-byte n e j (w .entry) (omega arith) in
+      let own : getD (bitfieldImage (heldBits xs n) n) b 0 ≡ getD (entryWith (heldBits xs n) n e (indexBytes (dataBytes (heldBits xs n) e))) j 0 =
+      ap (λ (x : ℕ). getD (bitfieldImage (heldBits xs n) n) x 0) (sym q) ∙ image-byte (heldBits xs n) n e j (w .entry) (omega arith) in
       ap (λ (y : ℕ). eqb (getD xs b 0) y)
       (elim (decLt j 3072) [
-        | yes f ↦ with-before n e (indexBytes (part xs at 1024)) (indexBytes (dataBytes (heldBelow n) e)) j f
-        | no f ↦ ap (λ (d : List ℕ). getD (entryWith n e (indexBytes d)) j 0) (data-right (λ m s t. before m s (omega arith)))
+        | yes f ↦ with-before (heldBits xs n) n e (indexBytes (part xs at 1024)) (indexBytes (dataBytes (heldBits xs n) e)) j f
+        | no f ↦ ap (λ (d : List ℕ). getD (entryWith (heldBits xs n) n e (indexBytes d)) j 0) (data-right (λ m s t. before m s (omega arith)))
       ] ∙ sym own)
 
   pub entry-agrees : lowest (byStored xs n e) at 3328 ≡ lowest (byteRight xs n) at 3328
@@ -158,14 +153,14 @@ module _ (xs : List ℕ) (n e at : ℕ) (index : List ℕ) where
 
   module _ (j : ℕ) (w : Passing xs n e at j index) where
     -- what the code compares
-    tested : (b : Bool) → eqb (getD xs (at + j) 0) (getD (entryWith n e index) j 0) ≡ b → byStored xs n e (at + j) ≡ b
+    tested : (b : Bool) → eqb (getD xs (at + j) 0) (getD (entryWith (heldBits xs n) n e index) j 0) ≡ b → byStored xs n e (at + j) ≡ b
     tested b h =
-        (λ i. eqb (getD xs (at + j) 0) (getD (entryWith n e (sym (w .by) i)) (k i) 0)) ∙ h
+        (λ i. eqb (getD xs (at + j) 0) (getD (entryWith (heldBits xs n) n e (sym (w .by) i)) (k i) 0)) ∙ h
       where
         k : at + j - (32 + 3328 * e) ≡ j
         k = omega (arith, w .place)
 
-    pub passing-next : j < 3328 → getD xs (at + j) 0 ≡ getD (entryWith n e index) j 0 → Passing xs n e at (j + 1) index
+    pub passing-next : j < 3328 → getD xs (at + j) 0 ≡ getD (entryWith (heldBits xs n) n e index) j 0 → Passing xs n e at (j + 1) index
     passing-next h r =
         let q : at + j + 1 ≡ at + (j + 1) = omega arith in
         record {
@@ -180,7 +175,7 @@ module _ (xs : List ℕ) (n e at : ℕ) (index : List ℕ) where
       agreed : lowest (byteRight xs n) (32 + 3328 * e) 3328 ≡ lowest (byStored xs n e) (at + j) (at + 3328 - (at + j))
       agreed = sym (entry-agrees xs n e b) ∙ ap (λ (x : ℕ). lowest (byStored xs n e) x 3328) (sym (w .place)) ∙ w .rest
 
-      pub passing-found : (v : Verdict) → j < 3328 → (getD xs (at + j) 0 ≡ getD (entryWith n e index) j 0 → ⊥) → v ≡ refused 11 (bitfield (at + j))
+      pub passing-found : (v : Verdict) → j < 3328 → (getD xs (at + j) 0 ≡ getD (entryWith (heldBits xs n) n e index) j 0 → ⊥) → v ≡ refused 11 (bitfield (at + j))
           → v ≡ refusedAt 11 bitfield (lowest (byteRight xs n) (32 + 3328 * e) 3328) done
       unfolding refusedAt
       passing-found v h r q =

@@ -3,13 +3,12 @@
 use Prim.Native.Nat.{ℕ, zero, suc, _+_, _-_, _*_, _/_, _%_, _^_, _≤_, _<_}
 use mathlib.Core.Path.{_≡_, refl, sym, ap, ap₂, _∙_, subst}
 use mathlib.Core.Logic.{_⊎_, inl, inr, ⊎-elim}
-use mathlib.Core.Bool.{Bool, true, false, _&&_}
-use mathlib.Core.List.{List, [], _∷_}
+use mathlib.Core.Bool.{Bool, true, false, cond}
+use mathlib.Core.List.{List}
 use native.Mathlib.Nat.{add-zero, zero-add}
 use native.Mathlib.Omega.{arith}
 use borrow.Author.Tests.{le-leb, lt-leb, eq-eqb, ne-eqb, ltb-true, lt-ltb}
-use lib.ListN.{length, take, drop, replicate}
-use lib.Dec.{eqb}
+use lib.ListN.{length, take, drop}
 use Rattle.counts.specs.Verdict.{Verdict, tree, done, refused}
 use Rattle.sequences.specs.Lists.{part, run, total, sameList, allZero, zeros}
 use Rattle.sequences.proofs.Lists.{length-part}
@@ -17,8 +16,11 @@ use Rattle.tree_index.specs.Tree.{index, depth, block, leftChild, rightChild, f
 use Rattle.tree_index.proofs.Index.{index-leaf, depth-index, by-coordinates}
 use Rattle.tree_index.proofs.Filled.{filled-leaf, filled-below, children-below}
 use Rattle.tree_index.proofs.Words.{leaf-block}
+use Rattle.bitfield.specs.Image.{entryCount}
+use Rattle.bitfield.specs.Append.{bitsPlace}
+use Rattle.bitfield.specs.Release.{storedHeld}
 use Rattle.bitfield.proofs.Levels.{same-or}
-use Rattle.files.specs.Sizes.{longestChunk, entryPlace, usedTree}
+use Rattle.files.specs.Sizes.{longestChunk, entryPlace, usedBitfield}
 use Rattle.files.specs.Messages.{leafMessage, parentMessage}
 use Rattle.files.specs.Stored.{storedHash, storedSize, storedStart, storedChunk}
 use Rattle.files.specs.Within.{EntryIn, RootsIn}
@@ -26,8 +28,8 @@ use Rattle.files.proofs.Spans.{total-run-add}
 use Rattle.files.proofs.OfImage.{entry-inside}
 use Rattle.checks.proofs.Steps.{and-stop, and-pass}
 use Rattle.audit.specs.Audit.{Lowest, lowest, leafRight, parentRight, holeRight, entryRight, refusedAt}
-use Rattle.audit.specs.Walked.{leavesBefore, Started, AtEntry, AtLeaf, AtParent}
-use Rattle.audit.proofs.Audited.{leaf-right, even-entry, odd-entry, entryRight-hole}
+use Rattle.audit.specs.Walked.{leavesBefore, FilesIn, Started, AtEntry, AtLeaf, AtParent}
+use Rattle.audit.proofs.Audited.{zero-same, leaf-right, even-entry, odd-entry, entryRight-hole}
 use Rattle.audit.proofs.Search.{lowest-on, lowest-off, lowest-end}
 
 -- ---- where an entry lies
@@ -88,26 +90,40 @@ behind-parent t i start h e = let a : (i + 1) / 2 ≡ (i + 1 + 1) / 2 = omega ar
 
 -- ---- one entry
 
-module _ (F : List ℕ → List ℕ) (t d : List ℕ) (size k : ℕ) where
-  pub leaf-long : (len : ℕ) → len ≡ storedSize t (2 * k) → longestChunk < len → false ≡ leafRight F t d size k
+module _ (F : List ℕ → List ℕ) (t d : List ℕ) (size : ℕ) (held : Bool) (k : ℕ) where
+  pub leaf-long : (len : ℕ) → len ≡ storedSize t (2 * k) → longestChunk < len → false ≡ leafRight F t d size held k
   unfolding leafRight
   leaf-long len e h = and-stop _ _ (lt-leb (storedSize t (2 * k)) longestChunk (omega (arith, e)))
 
-  pub leaf-past : (start len : ℕ) → start ≡ storedStart t k → len ≡ storedSize t (2 * k) → len ≤ longestChunk → size - start < len
-      → start ≤ size → false ≡ leafRight F t d size k
-  unfolding leafRight
-  leaf-past start len e q s h g =
-      and-pass _ _ false (le-leb (storedSize t (2 * k)) longestChunk (omega arith))
-      (and-stop _ _ (lt-leb (storedStart t k + storedSize t (2 * k)) size (omega arith)))
+  module _ (start len : ℕ) (e : start ≡ storedStart t k) (q : len ≡ storedSize t (2 * k)) (s : len ≤ longestChunk) (g : start ≤ size) where
+    pub leaf-past : size - start < len → false ≡ leafRight F t d size held k
+    unfolding leafRight
+    leaf-past h =
+        and-pass _ _ false (le-leb (storedSize t (2 * k)) longestChunk (omega arith))
+        (and-stop _ _ (lt-leb (storedStart t k + storedSize t (2 * k)) size (omega arith)))
 
-  pub leaf-same : (start len m : ℕ) (stored expected : List ℕ) (r : Bool) → start ≡ storedStart t k → len ≡ storedSize t (2 * k)
-      → len ≤ longestChunk → len ≤ size - start → start ≤ size → m ≡ len → stored ≡ storedHash t (2 * k)
-      → expected ≡ F (leafMessage (take m (drop start d))) → r ≡ sameList stored expected → r ≡ leafRight F t d size k
-  unfolding leafRight storedChunk part
-  leaf-same start len m stored expected r e q s h g me st ex rr =
-      and-pass _ _ r (le-leb (storedSize t (2 * k)) longestChunk (omega arith))
-      (and-pass _ _ r (le-leb (storedStart t k + storedSize t (2 * k)) size (omega arith))
-      (rr ∙ ap₂ sameList st (ex ∙ ap₂ (λ (a b : ℕ). F (leafMessage (take a (drop b d)))) (me ∙ q) e)))
+    -- the last test, of a leaf that passes those of its length
+    module _ (m : ℕ) (h : len ≤ size - start) (me : m ≡ len) (r : Bool) where
+      abbrev lastTest : Bool → Bool
+      lastTest x = cond x (sameList (storedHash t (2 * k)) (F (leafMessage (storedChunk t d k)))) (allZero (storedChunk t d k))
+
+      last-test : r ≡ lastTest held → r ≡ leafRight F t d size held k
+      unfolding leafRight
+      last-test l =
+          and-pass _ _ r (le-leb (storedSize t (2 * k)) longestChunk (omega arith))
+          (and-pass _ _ r (le-leb (storedStart t k + storedSize t (2 * k)) size (omega arith)) l)
+
+      chunk-is : take m (drop start d) ≡ storedChunk t d k
+      unfolding storedChunk part
+      chunk-is = ap₂ (λ (a b : ℕ). take a (drop b d)) (me ∙ q) e
+
+      pub leaf-zero : held ≡ false → r ≡ allZero (take m (drop start d)) → r ≡ leafRight F t d size held k
+      leaf-zero f rr = last-test (rr ∙ ap allZero chunk-is ∙ ap lastTest (sym f))
+
+      pub leaf-same : held ≡ true → (stored expected : List ℕ) → stored ≡ storedHash t (2 * k) → expected ≡ F (leafMessage (take m (drop start d)))
+          → r ≡ sameList stored expected → r ≡ leafRight F t d size held k
+      leaf-same f stored expected st ex rr =
+          last-test (rr ∙ ap₂ sameList st (ex ∙ ap (λ (c : List ℕ). F (leafMessage c)) chunk-is) ∙ ap lastTest (sym f))
 
 module _ (F : List ℕ → List ℕ) (t : List ℕ) (i here first : ℕ) (h : here ≡ storedSize t i) (f : first ≡ storedSize t (leftChild i)) where
   pub parent-less : here < first → false ≡ parentRight F t i
@@ -129,11 +145,6 @@ module _ (F : List ℕ → List ℕ) (t : List ℕ) (i here first : ℕ) (h : he
       and-pass _ _ r (eq-eqb (storedSize t i) (storedSize t (leftChild i) + storedSize t (rightChild i)) sum)
       (rr ∙ ap₂ sameList st (ex ∙ (λ j. F (parentMessage ((h ∙ sum) j) (ae j) (be j)))))
 
-zero-same : (xs : List ℕ) → allZero xs ≡ sameList xs (zeros (length xs))
-unfolding allZero sameList
-zero-same [] = refl
-zero-same (x ∷ xs) = ap (λ (b : Bool). eqb x 0 && b) (zero-same xs)
-
 pub hole-same : (F : List ℕ → List ℕ) (t : List ℕ) (i from m : ℕ) (r : Bool) → EntryIn t i → from ≡ entryPlace i → m ≡ 40
     → r ≡ allZero (take m (drop from t)) → r ≡ holeRight F t i
 unfolding holeRight part
@@ -143,9 +154,9 @@ hole-same F t i from m r p f me rr =
 
 -- ---- an entry, whichever it is
 
-module _ (F : List ℕ → List ℕ) (t d : List ℕ) (n size i start : ℕ) (p : AtEntry t d n size i start) where
+module _ (F : List ℕ → List ℕ) (t bits d : List ℕ) (n size i start : ℕ) (p : AtEntry t bits d n size i start) where
   pub at-entry : EntryIn t i
-  at-entry = entry-in t n i (p .room) (p .entry)
+  at-entry = entry-in t n i (p .files .nodes) (p .entry)
 
   -- a leaf that is an entry is filled
   even-filled : i % 2 ≡ 0 → filled n i ≡ true
@@ -160,39 +171,47 @@ module _ (F : List ℕ → List ℕ) (t d : List ℕ) (n size i start : ℕ) (p 
       let b : k ≡ i / 2 = e ∙ sym (leaf-block i h) in
       record {
         entry = entry-as t (omega arith) at-entry;
-        held = p .held;
+        bytes = p .files .bytes;
         here = p .here ∙ ap (storedStart t) (omega arith);
         inside = p .inside;
       }
 
   pub at-parent : (i % 2 ≡ 0 → ⊥) → filled n i ≡ true → AtParent t i
-  at-parent = parent-in t n i (p .room)
+  at-parent = parent-in t n i (p .files .nodes)
 
-  pub leaf-entry : (k : ℕ) (r : Bool) → i % 2 ≡ 0 → filled n i ≡ true → k ≡ block i → r ≡ leafRight F t d size k → r ≡ entryRight F t d n size i
-  leaf-entry k r h f e rr = rr ∙ ap (leafRight F t d size) e ∙ sym (even-entry F t d n size i (even-depth i h) f)
+  -- the data bit of a leaf's chunk lies within the file
+  pub at-bit : (k : ℕ) → i % 2 ≡ 0 → k ≡ block i → bitsPlace (k / 8192 + 1) ≤ length bits
+  unfolding bitsPlace usedBitfield entryCount entries
+  at-bit k h e =
+      let b : k ≡ i / 2 = e ∙ sym (leaf-block i h) in
+      omega (arith, p .entry, p .files .field .inside)
 
-  pub parent-entry : (r : Bool) → (i % 2 ≡ 0 → ⊥) → filled n i ≡ true → r ≡ parentRight F t i → r ≡ entryRight F t d n size i
+  pub leaf-entry : (k : ℕ) (held r : Bool) → i % 2 ≡ 0 → filled n i ≡ true → k ≡ block i → held ≡ storedHeld bits k
+      → r ≡ leafRight F t d size held k → r ≡ entryRight F t bits d n size i
+  leaf-entry k held r h f e b rr = rr ∙ ap₂ (leafRight F t d size) (b ∙ ap (storedHeld bits) e) e ∙ sym (even-entry F t d bits n size i (even-depth i h) f)
+
+  pub parent-entry : (r : Bool) → (i % 2 ≡ 0 → ⊥) → filled n i ≡ true → r ≡ parentRight F t i → r ≡ entryRight F t bits d n size i
   parent-entry r h f rr =
       let e : depth i ≡ suc (depth i - 1) = omega (arith, odd-depth i h) in
-      rr ∙ sym (odd-entry F t d n size i (depth i - 1) e f)
+      rr ∙ sym (odd-entry F t d bits n size i (depth i - 1) e f)
 
-  pub hole-entry : (r : Bool) → filled n i ≡ false → r ≡ holeRight F t i → r ≡ entryRight F t d n size i
-  hole-entry r f rr = rr ∙ sym (entryRight-hole F t d n size i f)
+  pub hole-entry : (r : Bool) → filled n i ≡ false → r ≡ holeRight F t i → r ≡ entryRight F t bits d n size i
+  hole-entry r f rr = rr ∙ sym (entryRight-hole F t d bits n size i f)
 
   -- a right leaf ends within the data
-  leaf-inside : entryRight F t d n size i ≡ true → i % 2 ≡ 0 → start + storedSize t i ≤ size
+  leaf-inside : entryRight F t bits d n size i ≡ true → i % 2 ≡ 0 → start + storedSize t i ≤ size
   leaf-inside r h =
       let k : ℕ = block i in
       let b : i / 2 ≡ k = leaf-block i h in
       let a : start ≡ storedStart t k = p .here ∙ ap (storedStart t) (omega arith) in
       let z : storedSize t i ≡ storedSize t (2 * k) = ap (storedSize t) (omega arith) in
-      let l = leaf-right F t d size k (sym (even-entry F t d n size i (even-depth i h) (even-filled h)) ∙ r) in
+      let l = leaf-right F t d size (storedHeld bits k) k (sym (even-entry F t d bits n size i (even-depth i h) (even-filled h)) ∙ r) in
       omega (arith, l .inside)
 
-  pub at-start : size < 2 ^ 64 → entryRight F t d n size i ≡ true → Started t i start
+  pub at-start : size < 2 ^ 64 → entryRight F t bits d n size i ≡ true → Started t i start
   at-start s r = record { entry = at-entry; here = p .here; fits = λ h. omega (arith, leaf-inside r h) }
 
-  next-inside : (next : ℕ) → entryRight F t d n size i ≡ true → next ≡ storedStart t (leavesBefore (i + 1)) → next ≤ size
+  next-inside : (next : ℕ) → entryRight F t bits d n size i ≡ true → next ≡ storedStart t (leavesBefore (i + 1)) → next ≤ size
   next-inside next r e =
       ⊎-elim (λ h. omega (arith, leaf-inside r h, behind-leaf t i start (storedSize t i) h (p .here) refl))
       (λ h. omega (arith, behind-parent t i start h (p .here), p .inside)) (same-or (i % 2) 0)
@@ -200,15 +219,15 @@ module _ (F : List ℕ → List ℕ) (t d : List ℕ) (n size i start : ℕ) (p 
 -- ---- the walk over all entries
 
 -- at the entry i: what is left from there decides
-pub record Walking (F : List ℕ → List ℕ) (t d : List ℕ) (n size count i start : ℕ) : Type 0 where
+pub record Walking (F : List ℕ → List ℕ) (t bits d : List ℕ) (n size count i start : ℕ) : Type 0 where
   pub end : count ≡ entries n
   pub below : i ≤ count
   pub here : start ≡ storedStart t (leavesBefore i)
   pub inside : start ≤ size
-  pub rest : lowest (entryRight F t d n size) 0 (entries n) ≡ lowest (entryRight F t d n size) i (count - i)
+  pub rest : lowest (entryRight F t bits d n size) 0 (entries n) ≡ lowest (entryRight F t bits d n size) i (count - i)
 
-module _ (F : List ℕ → List ℕ) (t d : List ℕ) (n size count : ℕ) where
-  pub walking-start : count ≡ entries n → Walking F t d n size count 0 0
+module _ (F : List ℕ → List ℕ) (t bits d : List ℕ) (n size count : ℕ) where
+  pub walking-start : count ≡ entries n → Walking F t bits d n size count 0 0
   unfolding storedStart run total
   walking-start e =
       record {
@@ -216,30 +235,29 @@ module _ (F : List ℕ → List ℕ) (t d : List ℕ) (n size count : ℕ) where
         below = omega arith;
         here = refl;
         inside = omega arith;
-        rest = ap (lowest (entryRight F t d n size) 0) (omega arith);
+        rest = ap (lowest (entryRight F t bits d n size) 0) (omega arith);
       }
 
-  module _ (i start : ℕ) (w : Walking F t d n size count i start) where
-    pub walking-entry : RootsIn t n → size ≤ length d → i < count → AtEntry t d n size i start
-    walking-entry p s h =
-        record { room = p; entry = omega (arith, w .end); held = s; here = w .here; inside = w .inside }
+  module _ (i start : ℕ) (w : Walking F t bits d n size count i start) where
+    pub walking-entry : FilesIn t bits d n size → i < count → AtEntry t bits d n size i start
+    walking-entry p h = record { files = p; entry = omega (arith, w .end); here = w .here; inside = w .inside }
 
-    pub walking-next : (next : ℕ) → AtEntry t d n size i start → i < count → entryRight F t d n size i ≡ true
-        → next ≡ storedStart t (leavesBefore (i + 1)) → Walking F t d n size count (i + 1) next
+    pub walking-next : (next : ℕ) → AtEntry t bits d n size i start → i < count → entryRight F t bits d n size i ≡ true
+        → next ≡ storedStart t (leavesBefore (i + 1)) → Walking F t bits d n size count (i + 1) next
     walking-next next p h r e =
         record {
           end = w .end;
           below = omega arith;
           here = e;
-          inside = next-inside F t d n size i start p next r e;
-          rest = w .rest ∙ lowest-on (entryRight F t d n size) i count h r;
+          inside = next-inside F t bits d n size i start p next r e;
+          rest = w .rest ∙ lowest-on (entryRight F t bits d n size) i count h r;
         }
 
-    pub walking-found : (v : Verdict) → i < count → entryRight F t d n size i ≡ false → v ≡ refused 10 (tree i)
-        → v ≡ refusedAt 10 tree (lowest (entryRight F t d n size) 0 (entries n)) done
+    pub walking-found : (v : Verdict) → i < count → entryRight F t bits d n size i ≡ false → v ≡ refused 10 (tree i)
+        → v ≡ refusedAt 10 tree (lowest (entryRight F t bits d n size) 0 (entries n)) done
     unfolding refusedAt
-    walking-found v h r e = e ∙ ap (λ (l : Lowest). refusedAt 10 tree l done) (sym (w .rest ∙ lowest-off (entryRight F t d n size) i count h r))
+    walking-found v h r e = e ∙ ap (λ (l : Lowest). refusedAt 10 tree l done) (sym (w .rest ∙ lowest-off (entryRight F t bits d n size) i count h r))
 
-    pub walking-done : count ≤ i → done ≡ refusedAt 10 tree (lowest (entryRight F t d n size) 0 (entries n)) done
+    pub walking-done : count ≤ i → done ≡ refusedAt 10 tree (lowest (entryRight F t bits d n size) 0 (entries n)) done
     unfolding refusedAt
-    walking-done h = ap (λ (l : Lowest). refusedAt 10 tree l done) (sym (w .rest ∙ lowest-end (entryRight F t d n size) i count h))
+    walking-done h = ap (λ (l : Lowest). refusedAt 10 tree l done) (sym (w .rest ∙ lowest-end (entryRight F t bits d n size) i count h))

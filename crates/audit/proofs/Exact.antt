@@ -5,7 +5,7 @@ use mathlib.Core.Path.{_≡_, refl, sym, ap, ap₂, _∙_, subst}
 use mathlib.Core.Bool.{Bool, true, false, _||_}
 use mathlib.Core.Logic.{_⊎_, inl, inr}
 use mathlib.Core.List.{List, [], _∷_, _++_}
-use native.Mathlib.Nat.{suc-inj, suc-ne-zero, mul-zero, mul-suc}
+use native.Mathlib.Nat.{suc-inj, suc-ne-zero, mul-zero, mul-one, mul-suc}
 use native.Mathlib.Omega.{arith}
 use borrow.Author.Tests.{eqb-true, eq-eqb}
 use lib.Dec.{eqb}
@@ -13,17 +13,27 @@ use lib.ListN.{length, getD, take, drop, length-append}
 use lib.Seq.{take-add, take-at, drop-at, ext-getD}
 use Rattle.sequences.specs.Lists.{part, run, joined}
 use Rattle.sequences.proofs.Lists.{length-part, length-run, getD-run, parts-joined}
+use Rattle.tree_index.specs.Tree.{index, filled}
+use Rattle.tree_index.proofs.Filled.{end-filled}
+use Rattle.bitfield.specs.Release.{storedHeld}
+use Rattle.bitfield.proofs.Bits.{cases}
 use Rattle.files.specs.Headers.{signaturesHeader}
 use Rattle.files.specs.Sizes.{usedSignatures}
+use Rattle.files.specs.Stored.{storedChunk}
 use Rattle.files.specs.Messages.{HashFunction}
-use Rattle.files.specs.Images.{signaturesImage}
-use Rattle.files.specs.Belongs.{Register, Lent, Within, Belongs}
-use Rattle.files.proofs.OfImage.{signaturesHeader-length, stored-chunk}
+use Rattle.files.specs.Images.{signaturesImage, leaves}
+use Rattle.files.specs.Nodes.{Entry, node}
+use Rattle.files.specs.Slots.{Slot, held, released, isHeld, slotEntry, contents, heldIn, Within}
+use Rattle.files.specs.Belongs.{Register, Lent, Belongs}
+use Rattle.files.proofs.Slots.{slotAt, held-at, held-slot, leaf-at}
+use Rattle.files.proofs.Nodes.{nodeAt-index}
+use Rattle.files.proofs.OfImage.{signaturesHeader-length, stored-chunk, stored-node-hash, stored-node-size}
+use Rattle.files.proofs.Held.{stored-held}
 use Rattle.checks.specs.Checks.{signedRight}
 use Rattle.audit.specs.Audit.{Accepted}
 use Rattle.audit.specs.Exact.{Imaged, AuditExact, AuditExactForAll}
 use Rattle.audit.proofs.Accepts.{front-long, front-header, belongs-accepted}
-use Rattle.audit.proofs.Only.{cut, accepted-belongs}
+use Rattle.audit.proofs.Only.{pick, storedLeaf, cutAt, cut, accepted-belongs}
 
 -- ---- the signatures
 
@@ -84,7 +94,7 @@ sigs-each r l k h =
     ∙ length-part (r .signatures) (32 + 64 * (0 + k)) 64 (omega arith)
 
 module _ (F : List ℕ → List ℕ) (hf : HashFunction F) where
-  accepted-imaged : (r : Register) → Lent r → Accepted F r → (cs : List (List ℕ)) × (sigs : List (List ℕ)) × Imaged F r cs sigs
+  accepted-imaged : (r : Register) → Lent r → Accepted F r → (ss : List Slot) × (sigs : List (List ℕ)) × Imaged F r ss sigs
   unfolding sigsOf signaturesImage usedSignatures part
   accepted-imaged r l e =
       let a = accepted-belongs F hf r l e in (
@@ -100,24 +110,59 @@ module _ (F : List ℕ → List ℕ) (hf : HashFunction F) where
         },
       )
 
-  pub imaged-accepted : (r : Register) (cs sigs : List (List ℕ)) → Imaged F r cs sigs → Accepted F r
+  pub imaged-accepted : (r : Register) (ss : List Slot) (sigs : List (List ℕ)) → Imaged F r ss sigs → Accepted F r
   unfolding signaturesImage usedSignatures
-  imaged-accepted r cs sigs m =
-      belongs-accepted F hf cs (m .within) r (m .belongs)
+  imaged-accepted r ss sigs m =
+      belongs-accepted F hf ss (m .within) r (m .belongs)
       (record {
         count = signed-right (r .n) (r .s) (m .signed);
         long = front-long (r .signatures) (signaturesImage sigs) (usedSignatures (r .s)) (m .signatures) (signaturesImage-length sigs (m .each) ∙ ap usedSignatures (m .count));
         front = front-header (r .signatures) signaturesHeader (joined sigs) (usedSignatures (r .s)) (m .signatures) signaturesHeader-length (omega arith);
       })
 
-  pub chunks-determined : (r : Register) (cs ds : List (List ℕ)) → Within cs → Within ds → Belongs F r cs → Belongs F r ds → cs ≡ ds
-  chunks-determined r cs ds w v b c =
-      ext-getD [] cs ds (sym (b .count) ∙ c .count)
-      (λ k h. sym (stored-chunk F hf cs w r b k (subst (λ (n : ℕ). k < n) (sym (b .count)) h)) ∙ stored-chunk F hf ds v r c k (subst (λ (n : ℕ). k < n) (sym (b .count)) h))
+  -- ---- the slots of a register
 
-  sigs-determined : (r : Register) (cs ds sigs tigs : List (List ℕ)) → Imaged F r cs sigs → Imaged F r ds tigs → sigs ≡ tigs
+  -- a slot that is not held is its leaf entry
+  released-is : (s : Slot) → isHeld s ≡ false → s ≡ released (slotEntry F s)
+  released-is (held c) e = let z : _≡_ {A = ℕ} 0 1 = cc in absurd (omega arith)
+  released-is (released x) e = refl
+
+  -- the leaf entry of each is the stored one
+  entry-stored : (r : Register) (ss : List Slot) → Within ss → Belongs F r ss → (k : ℕ) → k < r .n → slotEntry F (slotAt ss k) ≡ storedLeaf r k
+  unfolding index node
+  entry-stored r ss w b k h =
+      let f : filled (r .n) (index 0 k) ≡ true = end-filled (r .n) 0 k (omega (arith, mul-one (k + 1))) in
+      let e : slotEntry F (slotAt ss k) ≡ node F (leaves F ss) 0 k = sym (leaf-at F ss k (subst (λ (n : ℕ). k < n) (b .count) h)) in
+      e ∙ sym (nodeAt-index F (leaves F ss) 0 k)
+      ∙ (λ i. record { hash = sym (stored-node-hash F hf ss w r b (index 0 k) f) i; size = sym (stored-node-size F hf ss w r b (index 0 k) f) i })
+
+  -- each is what the register stores: its chunk where its data bit is 1, else its entry
+  slot-stored : (r : Register) (ss : List Slot) → Within ss → Belongs F r ss → (k : ℕ) → k < r .n → slotAt ss k ≡ cutAt r k
+  unfolding cutAt
+  slot-stored r ss w b k h = split (cases (storedHeld (r .bitfield) k))
+    where
+      below : k < length ss
+      below = subst (λ (n : ℕ). k < n) (b .count) h
+
+      told : storedHeld (r .bitfield) k ≡ heldIn ss k
+      told = stored-held F ss r b k h
+
+      split : (storedHeld (r .bitfield) k ≡ true) ⊎ (storedHeld (r .bitfield) k ≡ false) → slotAt ss k ≡ pick (storedHeld (r .bitfield) k) (storedChunk (r .tree) (r .content) k) (storedLeaf r k)
+      split (inl e) =
+          held-slot ss k below (sym told ∙ e) ∙ ap held (sym (stored-chunk F hf ss w r b k h))
+          ∙ ap (λ (x : Bool). pick x (storedChunk (r .tree) (r .content) k) (storedLeaf r k)) (sym e)
+      split (inr e) =
+          released-is (slotAt ss k) (sym (held-at ss k below) ∙ sym told ∙ e) ∙ ap released (entry-stored r ss w b k h)
+          ∙ ap (λ (x : Bool). pick x (storedChunk (r .tree) (r .content) k) (storedLeaf r k)) (sym e)
+
+  pub slots-determined : (r : Register) (ss ts : List Slot) → Within ss → Within ts → Belongs F r ss → Belongs F r ts → ss ≡ ts
+  slots-determined r ss ts w v b c =
+      ext-getD (held []) ss ts (sym (b .count) ∙ c .count)
+      (λ k h. let l : k < r .n = subst (λ (n : ℕ). k < n) (sym (b .count)) h in slot-stored r ss w b k l ∙ sym (slot-stored r ts v c k l))
+
+  sigs-determined : (r : Register) (ss ts : List Slot) (sigs tigs : List (List ℕ)) → Imaged F r ss sigs → Imaged F r ts tigs → sigs ≡ tigs
   unfolding signaturesImage
-  sigs-determined r cs ds sigs tigs m o =
+  sigs-determined r ss ts sigs tigs m o =
       joined-inj 64 sigs tigs (m .count ∙ sym (o .count)) (m .each) (o .each)
       (sym (drop-at signaturesHeader (joined sigs) 32 signaturesHeader-length) ∙ ap (drop 32) (sym (m .signatures) ∙ o .signatures)
       ∙ drop-at signaturesHeader (joined tigs) 32 signaturesHeader-length)
@@ -126,8 +171,8 @@ module _ (F : List ℕ → List ℕ) (hf : HashFunction F) where
   audit-exact =
       record {
         exactly = λ r l. (accepted-imaged r l, λ m. imaged-accepted r (m .0) (m .1) (m .2));
-        determined = λ r cs ds sigs tigs m o.
-            (chunks-determined r cs ds (m .within) (o .within) (m .belongs) (o .belongs), sigs-determined r cs ds sigs tigs m o);
+        determined = λ r ss ts sigs tigs m o.
+            (slots-determined r ss ts (m .within) (o .within) (m .belongs) (o .belongs), sigs-determined r ss ts sigs tigs m o);
       }
 
 pub audit-exact-for-all : AuditExactForAll

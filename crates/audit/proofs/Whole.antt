@@ -1,61 +1,69 @@
 -- The audit as the code makes it: three verdicts one after the other.
 -- Assumes nothing.
-use Prim.Native.Nat.{ℕ, _-_, _≤_}
-use mathlib.Core.Path.{_≡_, sym, ap, _∙_}
-use mathlib.Core.List.{List}
-use lib.ListN.{length}
+use Prim.Native.Nat.{ℕ, _-_}
+use mathlib.Core.Path.{_≡_, refl, sym, ap, _∙_}
+use mathlib.Core.List.{List, []}
 use Rattle.counts.specs.Verdict.{Verdict, tree, bitfield, done}
 use Rattle.counts.specs.Said.{said}
 use Rattle.counts.specs.declared.Refusal.{Refusal}
 use Rattle.counts.specs.declared.Answer.{Answer}
-use Rattle.counts.specs.declared.Answer.the-variants.{Done, Refused}
+use Rattle.counts.specs.declared.Answer.the-variants.{Refused}
 use Rattle.tree_index.specs.Tree.{entries}
 use Rattle.files.specs.Sizes.{usedBitfield}
 use Rattle.files.specs.Belongs.{Register}
-use Rattle.files.specs.Within.{RootsIn}
 use Rattle.checks.specs.Checks.{judged, registerChecks}
+use Rattle.checks.specs.Given.{registerOf}
 use Rattle.checks.proofs.Passed.{Passed, passed}
-use Rattle.audit.specs.Audit.{Lowest, lowest, entryRight, wrongEntry, byteRight, wrongByte, refusedAt, audit, Accepted}
-use Rattle.audit.specs.Bytes.{BitsIn}
+use Rattle.audit.specs.Audit.{lowest, entryRight, wrongEntry, byteRight, wrongByte, refusedAt, imagesVerdict}
+use Rattle.audit.specs.Walked.{FilesIn}
 use Rattle.audit.proofs.Search.{andThen, stops, judged-then, refused-then}
+
+-- ---- the checks 2 to 6, and what comes next
+
+module _ (r : Register) (next : Verdict) (x : Answer) (checked : said x ≡ judged (registerChecks r) done) where
+  then-next : judged (registerChecks r) next ≡ andThen (said x) next
+  then-next = judged-then (registerChecks r) next ∙ ap (λ (v : Verdict). andThen v next) (sym checked)
+
+  pub checks-refuse : (m : Refusal) → x ≡ Refused m → said x ≡ judged (registerChecks r) next
+  checks-refuse m e = sym (then-next ∙ stops x m e next)
+
+  pub checks-pass : said x ≡ done → (v : Verdict) → v ≡ next → v ≡ judged (registerChecks r) next
+  checks-pass ok v e = e ∙ sym (then-next ∙ ap (λ (w : Verdict). andThen w next) ok)
+
+  -- a register that passes them
+  pub files-in : said x ≡ done → FilesIn (r .tree) (r .bitfield) (r .content) (r .n) (r .size)
+  files-in ok =
+      record {
+        nodes = record { count = p .count; inside = p .tree };
+        field = record { count = p .count; inside = p .bitfield };
+        bytes = p .content;
+      }
+    where
+      p : Passed r
+      p = passed r done (sym checked ∙ ok) .0
+
+-- ---- 10 and 11
 
 module _ (F : List ℕ → List ℕ) (r : Register) where
   -- the verdicts on the tree file and on the bitfield file
   abbrev onTree : Verdict
-  onTree = refusedAt 10 tree (lowest (entryRight F (r .tree) (r .content) (r .n) (r .size)) 0 (entries (r .n))) done
+  onTree = refusedAt 10 tree (lowest (entryRight F (r .tree) (r .bitfield) (r .content) (r .n) (r .size)) 0 (entries (r .n))) done
 
   abbrev onBitfield : Verdict
   onBitfield = refusedAt 11 bitfield (lowest (byteRight (r .bitfield) (r .n)) 32 (usedBitfield (r .n) - 32)) done
 
-  parts : audit F r ≡ andThen (judged (registerChecks r) done) (andThen onTree onBitfield)
-  unfolding audit wrongEntry wrongByte
-  parts =
-      judged-then (registerChecks r) (refusedAt 10 tree (wrongEntry F r) onBitfield)
-      ∙ ap (andThen (judged (registerChecks r) done)) (refused-then 10 tree (wrongEntry F r) onBitfield)
+  module _ (y : Answer) (q : said y ≡ onTree) where
+    parts : imagesVerdict F r ≡ andThen (said y) onBitfield
+    unfolding imagesVerdict wrongEntry wrongByte
+    parts = refused-then 10 tree (wrongEntry F r) onBitfield ∙ ap (λ (v : Verdict). andThen v onBitfield) (sym q)
 
-  module _ (x : Answer) (checked : said x ≡ judged (registerChecks r) done) where
-    pub checks-refuse : (m : Refusal) → x ≡ Refused m → said x ≡ audit F r
-    checks-refuse m e = sym (parts ∙ ap (λ (v : Verdict). andThen v (andThen onTree onBitfield)) (sym checked) ∙ stops x m e (andThen onTree onBitfield))
+    pub tree-refuses : (m : Refusal) → y ≡ Refused m → said y ≡ imagesVerdict F r
+    tree-refuses m e = sym (parts ∙ stops y m e onBitfield)
 
-    module _ (ok : said x ≡ done) where
-      has-passed : Passed r
-      has-passed = passed r done (sym checked ∙ ok) .0
+    pub bitfield-says : said y ≡ done → (v : Verdict) → v ≡ onBitfield → v ≡ imagesVerdict F r
+    bitfield-says e v b = b ∙ sym (parts ∙ ap (λ (w : Verdict). andThen w onBitfield) e)
 
-      pub tree-room : RootsIn (r .tree) (r .n) × (r .size ≤ length (r .content))
-      tree-room = (record { count = has-passed .count; inside = has-passed .tree }, has-passed .content)
-
-      pub bits-room : BitsIn (r .bitfield) (r .n)
-      bits-room = record { count = has-passed .count; inside = has-passed .bitfield }
-
-      later : audit F r ≡ andThen onTree onBitfield
-      later = parts ∙ ap (λ (v : Verdict). andThen v (andThen onTree onBitfield)) (sym checked ∙ ok)
-
-      pub tree-refuses : (y : Answer) (m : Refusal) → said y ≡ onTree → y ≡ Refused m → said y ≡ audit F r
-      tree-refuses y m q e = sym (later ∙ ap (λ (v : Verdict). andThen v onBitfield) (sym q) ∙ stops y m e onBitfield)
-
-      pub bitfield-says : (y z : Answer) → said y ≡ onTree → said y ≡ done → said z ≡ onBitfield → said z ≡ audit F r
-      bitfield-says y z q e b = b ∙ sym (later ∙ ap (λ (v : Verdict). andThen v onBitfield) (sym q ∙ e))
-
--- a register whose audit says done is accepted
-pub says-accepted : (F : List ℕ → List ℕ) (r : Register) (x : Answer) → said x ≡ audit F r → x ≡ Done → Accepted F r
-says-accepted F r x e d = sym e ∙ ap said d
+  -- no signature is looked at
+  pub images-of : imagesVerdict F (registerOf (r .tree) [] (r .bitfield) (r .content) (r .n) 0 (r .size)) ≡ imagesVerdict F r
+  unfolding imagesVerdict wrongEntry wrongByte
+  images-of = refl

@@ -6,10 +6,17 @@ use lib.ListN.{length}
 use Rattle.tree_index.specs.Tree.{depth, leftChild, rightChild, entries}
 use Rattle.files.specs.Stored.{storedSize, storedStart}
 use Rattle.files.specs.Within.{EntryIn, RootsIn}
+use Rattle.audit.specs.Bytes.{BitsIn}
 
 -- how many leaves stand before the tree index i
 abbrev pub leavesBefore : ℕ → ℕ
 leavesBefore i = (i + 1) / 2
+
+-- what the checks 2 to 6 give of the lent bytes: they hold the files of n chunks and of a data size
+pub record FilesIn (tree bits content : List ℕ) (n size : ℕ) : Type 0 where
+  pub nodes : RootsIn tree n
+  pub field : BitsIn bits n
+  pub bytes : size ≤ length content
 
 -- at the entry i the next leaf starts at `start`; if i is that leaf, its end is a number of 64 bits
 pub record Started (tree : List ℕ) (i start : ℕ) : Type 0 where
@@ -18,17 +25,16 @@ pub record Started (tree : List ℕ) (i start : ℕ) : Type 0 where
   pub fits : i % 2 ≡ 0 → start + storedSize tree i < 2 ^ 64
 
 -- an entry i that a register of n chunks has, and the start of the next leaf, which is within the data
-pub record AtEntry (tree content : List ℕ) (n size i start : ℕ) : Type 0 where
-  pub room : RootsIn tree n
+pub record AtEntry (tree bits content : List ℕ) (n size i start : ℕ) : Type 0 where
+  pub files : FilesIn tree bits content n size
   pub entry : i < entries n
-  pub held : size ≤ length content
   pub here : start ≡ storedStart tree (leavesBefore i)
   pub inside : start ≤ size
 
 -- a leaf that is to be judged
 pub record AtLeaf (tree content : List ℕ) (size k start : ℕ) : Type 0 where
   pub entry : EntryIn tree (2 * k)
-  pub held : size ≤ length content
+  pub bytes : size ≤ length content
   pub here : start ≡ storedStart tree k
   pub inside : start ≤ size
 

@@ -10,9 +10,8 @@ ghost use Rattle.counts.specs.Verdict.{bitfield as atByte, done};
 ghost use Rattle.counts.specs.Said.{said};
 ghost use Rattle.tree_index.specs.Tree.{filled};
 ghost use Rattle.bitfield.specs.Bits.{bit, byteOf};
-ghost use Rattle.bitfield.specs.Image.{heldBelow};
 ghost use Rattle.files.specs.Sizes.{usedBitfield};
-ghost use Rattle.audit.specs.Audit.{lowest, byteRight, refusedAt};
+ghost use Rattle.audit.specs.Audit.{lowest, heldBits, byteRight, refusedAt};
 ghost use Rattle.audit.specs.Bytes.{eight, entryWith, BitsIn, AtBits};
 
 fn bit_of(b: bool) -> u8
@@ -32,28 +31,32 @@ fn byte_of(a: bool, b: bool, c: bool, d: bool, e: bool, f: bool, g: bool, h: boo
     high + 8 * bit_of(e) + 4 * bit_of(f) + 2 * bit_of(g) + bit_of(h)
 }
 
-// Whether the chunk k behind a chunk is one of n.
-fn held_behind(n: u64, c: ChunkNumber, k: u64) -> bool
-    requires { ⌜ c .0 + k < 4194304 ⌝ }
-    ensures { λ r. ⌜ r ≡ heldBelow n (c .0 + k) ⌝ }
+// Whether the chunk k behind a chunk is one of n and held: its stored data bit, and 0 from n on.
+fn held_behind(xs: &[u8], n: u64, c: ChunkNumber, k: u64) -> bool
+    requires { ⌜ (c .0 + k < 4194304) × BitsIn (now xs) n ⌝ }
+    ensures { λ r. ⌜ r ≡ heldBits (now (xs .entry)) n (c .0 + k) ⌝ }
 {
-    c.0 + k < n
+    let behind = ChunkNumber(c.0 + k);
+    if n <= behind.0 {
+        return false;
+    }
+    bitfield::is_held(xs, behind)
 }
 
-// The byte of the data bits from a chunk on.
-fn data_byte(n: u64, c: ChunkNumber) -> u8
-    requires { ⌜ c .0 + 7 < 4194304 ⌝ }
-    ensures { λ r. ⌜ r ≡ byteOf (heldBelow n) (c .0) ⌝ }
+// The byte of the data bits from a chunk on, as they are right: those that are stored below n, and zeros behind them.
+fn data_byte(xs: &[u8], n: u64, c: ChunkNumber) -> u8
+    requires { ⌜ (c .0 + 7 < 4194304) × BitsIn (now xs) n ⌝ }
+    ensures { λ r. ⌜ r ≡ byteOf (heldBits (now (xs .entry)) n) (c .0) ⌝ }
 {
     byte_of(
-        held_behind(n, c, 0),
-        held_behind(n, c, 1),
-        held_behind(n, c, 2),
-        held_behind(n, c, 3),
-        held_behind(n, c, 4),
-        held_behind(n, c, 5),
-        held_behind(n, c, 6),
-        held_behind(n, c, 7),
+        held_behind(xs, n, c, 0),
+        held_behind(xs, n, c, 1),
+        held_behind(xs, n, c, 2),
+        held_behind(xs, n, c, 3),
+        held_behind(xs, n, c, 4),
+        held_behind(xs, n, c, 5),
+        held_behind(xs, n, c, 6),
+        held_behind(xs, n, c, 7),
     )
 }
 
@@ -99,12 +102,12 @@ fn first_index(e: u64, j: u64) -> TreeIndex
 }
 
 // The byte j of entry e, with the Index bytes that are handed in.
-fn expected_byte(n: u64, e: u64, j: u64, index: &[u8; 256]) -> u8
-    requires { ⌜ (e < 128) × (j < 3328) ⌝ }
-    ensures { λ r. ⌜ r ≡ getD (entryWith n e (now (index .entry))) j 0 ⌝ }
+fn expected_byte(xs: &[u8], n: u64, e: u64, j: u64, index: &[u8; 256]) -> u8
+    requires { ⌜ (e < 128) × (j < 3328) × BitsIn (now xs) n ⌝ }
+    ensures { λ r. ⌜ r ≡ getD (entryWith (heldBits (now (xs .entry)) n) n e (now (index .entry))) j 0 ⌝ }
 {
     if j < 1024 {
-        return data_byte(n, first_chunk(e, j));
+        return data_byte(xs, n, first_chunk(e, j));
     }
     if j < 3072 {
         return tree_byte(n, first_index(e, j - 1024));
@@ -133,7 +136,7 @@ fn wrong_in_entry(xs: &[u8], n: u64, e: u64) -> Answer
     let mut j: u64 = 0;
     while j < 3328 {
         let place = (at.0 + j) as usize;
-        if xs[place] != expected_byte(n, e, j, &index) {
+        if xs[place] != expected_byte(xs, n, e, j, &index) {
             return counts::refuse_byte(11, ByteOffset(at.0 + j));
         }
         j += 1;

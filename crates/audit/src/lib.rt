@@ -1,4 +1,4 @@
-// The audit of a register: whether its used bytes are the images of some chunk sequence and some signatures.
+// The audit of a register: whether its used bytes are the images of some chunks, held or released, and some signatures.
 mod bits;
 mod tree;
 
@@ -6,10 +6,29 @@ use counts::Answer;
 pub use tree::entry_count;
 pub use tree::start_behind;
 ghost use mathlib.Core.Path.{_≡_};
+ghost use mathlib.Core.List.{[]};
 ghost use Rattle.counts.specs.Said.{said};
 ghost use Rattle.blake2b.specs.Hash.{nodeHash};
 ghost use Rattle.checks.specs.Given.{registerOf};
 ghost use Rattle.audit.specs.Audit as spec;
+ghost use Rattle.audit.specs.Walked.{FilesIn};
+
+// Inner: 10 at the lowest wrong tree entry, then 11 at the lowest wrong byte of the bitfield file. It requires what the checks 2 to 6
+// give, and looks at no signature.
+pub fn images(tree: &[u8], bitfield: &[u8], content: &[u8], n: u64, size: u64) -> Answer
+    requires { ⌜ FilesIn (now tree) (now bitfield) (now content) n size ⌝ }
+    ensures { λ r.
+        ⌜
+        said r ≡
+        spec.imagesVerdict nodeHash (registerOf (now (tree .entry)) [] (now (bitfield .entry)) (now (content .entry)) n 0 size)
+        ⌝ }
+{
+    let entry = tree::wrong_entry(tree, bitfield, content, n, size);
+    let Answer::Done = entry else {
+        return entry;
+    };
+    bits::wrong_byte(bitfield, n)
+}
 
 // The checks 2 to 6, then 10 at the lowest wrong tree entry, then 11 at the lowest wrong byte of the bitfield file.
 pub fn audit(
@@ -32,9 +51,5 @@ pub fn audit(
     let Answer::Done = checked else {
         return checked;
     };
-    let entry = tree::wrong_entry(tree, content, n, size);
-    let Answer::Done = entry else {
-        return entry;
-    };
-    bits::wrong_byte(bitfield, n)
+    images(tree, bitfield, content, n, size)
 }

@@ -1,20 +1,20 @@
 // The tree file: "a leaf .. is wrong if it is over 65,536, runs past the data or has another hash; a parent if it doesn't follow
-// from its stored children, sums taken in whole numbers; a hole if it isn't zero." All of these are inner.
+// from its stored children, sums taken in whole numbers; a hole if it isn't zero." The leaf of a released chunk has any hash, and zeros for
+// its data. All of these are inner.
 use counts::Answer;
 use counts::ByteOffset;
 use counts::ChunkNumber;
 use counts::TreeIndex;
 ghost use mathlib.Core.Path.{_≡_};
 ghost use Prim.Native.Nat.{_+_, _≤_};
-ghost use lib.ListN.{length};
 ghost use Rattle.counts.specs.Verdict.{tree as atTree, done};
 ghost use Rattle.counts.specs.Said.{said};
 ghost use Rattle.tree_index.specs.Tree.{entries as entriesOf};
 ghost use Rattle.blake2b.specs.Hash.{nodeHash};
 ghost use Rattle.files.specs.Stored.{storedStart};
-ghost use Rattle.files.specs.Within.{EntryIn, RootsIn};
+ghost use Rattle.files.specs.Within.{EntryIn};
 ghost use Rattle.audit.specs.Audit.{lowest, leafRight, parentRight, holeRight, entryRight, refusedAt};
-ghost use Rattle.audit.specs.Walked.{leavesBefore, Started, AtEntry, AtLeaf, AtParent};
+ghost use Rattle.audit.specs.Walked.{leavesBefore, FilesIn, Started, AtEntry, AtLeaf, AtParent};
 
 // Inner: how many entries the tree file of n chunks has.
 pub fn entry_count(n: u64) -> u64
@@ -38,10 +38,17 @@ pub fn start_behind(tree: &[u8], i: TreeIndex, start: ByteOffset) -> ByteOffset
     start
 }
 
-// Whether a leaf is right. Its chunk is hashed from its place in the data.
-fn leaf_right(tree: &[u8], content: &[u8], size: u64, c: ChunkNumber, start: ByteOffset) -> bool
+// Whether a leaf is right. A chunk that is held is hashed from its place in the data; there one that is not held is zero.
+fn leaf_right(
+    tree: &[u8],
+    content: &[u8],
+    size: u64,
+    held: bool,
+    c: ChunkNumber,
+    start: ByteOffset,
+) -> bool
     requires { ⌜ AtLeaf (now tree) (now content) size (c .0) (start .0) ⌝ }
-    ensures { λ r. ⌜ r ≡ leafRight nodeHash (now (tree .entry)) (now (content .entry)) size (c .0) ⌝ }
+    ensures { λ r. ⌜ r ≡ leafRight nodeHash (now (tree .entry)) (now (content .entry)) size held (c .0) ⌝ }
 {
     let i = tree_index::leaf_index(c);
     let length = files::entries::stored_size(tree, i);
@@ -53,6 +60,9 @@ fn leaf_right(tree: &[u8], content: &[u8], size: u64, c: ChunkNumber, start: Byt
     }
     let from = start.0 as usize;
     let end = from + (length as usize);
+    if !held {
+        return sequences::is_zero(&content[from..end]);
+    }
     let expected = files::hashes::leaf_hash(&content[from..end]);
     let stored = files::entries::stored_hash(tree, i);
     sequences::same(&stored, &expected)
@@ -94,33 +104,37 @@ fn hole_right(tree: &[u8], i: TreeIndex) -> bool
 // Whether an entry is right, whichever it is.
 fn entry_right(
     tree: &[u8],
+    bitfield: &[u8],
     content: &[u8],
     n: u64,
     size: u64,
     i: TreeIndex,
     start: ByteOffset,
 ) -> bool
-    requires { ⌜ AtEntry (now tree) (now content) n size (i .0) (start .0) ⌝ }
-    ensures { λ r. ⌜ r ≡ entryRight nodeHash (now (tree .entry)) (now (content .entry)) n size (i .0) ⌝ }
+    requires { ⌜ AtEntry (now tree) (now bitfield) (now content) n size (i .0) (start .0) ⌝ }
+    ensures { λ r.
+        ⌜ r ≡ entryRight nodeHash (now (tree .entry)) (now (bitfield .entry)) (now (content .entry)) n size (i .0) ⌝ }
 {
     if !tree_index::is_filled(n, i) {
         return hole_right(tree, i);
     }
     if i.0 % 2 == 0 {
-        return leaf_right(tree, content, size, tree_index::chunk_of_leaf(i), start);
+        let c = tree_index::chunk_of_leaf(i);
+        let held = bitfield::is_held(bitfield, c);
+        return leaf_right(tree, content, size, held, c, start);
     }
     parent_right(tree, i)
 }
 
 // The lowest wrong entry, found by one walk from the left that carries the start of the next leaf, so that each byte of the data is
 // read once.
-pub fn wrong_entry(tree: &[u8], content: &[u8], n: u64, size: u64) -> Answer
-    requires { ⌜ RootsIn (now tree) n × (size ≤ length (now content)) ⌝ }
+pub fn wrong_entry(tree: &[u8], bitfield: &[u8], content: &[u8], n: u64, size: u64) -> Answer
+    requires { ⌜ FilesIn (now tree) (now bitfield) (now content) n size ⌝ }
     ensures { λ r.
         ⌜
         said r ≡
         refusedAt 10 atTree
-        (lowest (entryRight nodeHash (now (tree .entry)) (now (content .entry)) n size) 0 (entriesOf n))
+        (lowest (entryRight nodeHash (now (tree .entry)) (now (bitfield .entry)) (now (content .entry)) n size) 0 (entriesOf n))
         done
         ⌝ }
 {
@@ -128,7 +142,7 @@ pub fn wrong_entry(tree: &[u8], content: &[u8], n: u64, size: u64) -> Answer
     let mut i = TreeIndex(0);
     let mut start = ByteOffset(0);
     while i.0 < count {
-        if !entry_right(tree, content, n, size, i, start) {
+        if !entry_right(tree, bitfield, content, n, size, i, start) {
             return counts::refuse_entry(10, i);
         }
         let next = start_behind(tree, i, start);

@@ -17,13 +17,13 @@ use Rattle.sequences.specs.Lists.{part, put, zeros, run, joined, among}
 use Rattle.sequences.proofs.Lists.{run-suc, run-ext, around, joined-run-suc}
 use Rattle.tree_index.specs.Tree.{index, completed, filledBy, filled}
 use Rattle.tree_index.proofs.Appended.{filled-suc}
-use Rattle.bitfield.specs.Bits.{setBit}
+use Rattle.bitfield.specs.Bits.{withDigit, setBit}
 use Rattle.bitfield.specs.Index.{indexBytes}
 use Rattle.bitfield.specs.Image.{dataBytes, treeBytes, entry, entryCount, heldBelow, entriesOf}
 use Rattle.bitfield.specs.Append.{bitsPlace, zeroedIfNew, setDataBit, setTreeBit, setTreeBits, regenerated, withBits, appended}
-use Rattle.bitfield.proofs.Bits.{cases}
+use Rattle.bitfield.proofs.Bits.{cases, with-one, sets}
 use Rattle.bitfield.proofs.Levels.{same-or, length-index}
-use Rattle.bitfield.proofs.Image.{entryWith, entry-is, with-one, data-other, data-file, tree-file, index-file, zero-entry, entry-ext, known-ext, length-entries}
+use Rattle.bitfield.proofs.Image.{entryWith, entry-is, data-other, data-file, tree-file, index-file, zero-entry, entry-ext, known-ext, length-entries}
 use Rattle.bitfield.proofs.TreeFacts.{filled-place, width-le, filled-above}
 
 -- ---- the two cases of a new chunk's entry
@@ -121,7 +121,7 @@ module _ (held : ℕ → Bool) (ix : ℕ → List ℕ) (long : (j : ℕ) → len
   unfolding setTreeBit bitsPlace file
   tree-bit known i h =
       let e : 32 + 3328 * (i / 16384) + 1024 ≡ 32 + (i / 16384 * 3328 + 1024) = omega arith in
-      ap (λ (p : ℕ). setBit (file known) p (i % 16384)) e ∙ tree-file held known ix long head tail front k i h
+      ap (λ (p : ℕ). setBit (file known) p (i % 16384)) e ∙ tree-file withDigit with-one sets held known ix long head tail front k i h
 
   tree-bits : (known : ℕ → Bool) (is : List ℕ) → Under k is → setTreeBits (file known) is ≡ file (or-among known is)
   unfolding setTreeBits Under among
@@ -130,7 +130,8 @@ module _ (held : ℕ → Bool) (ix : ℕ → List ℕ) (long : (j : ℕ) → len
       ap (λ (l : List ℕ). setTreeBits l is) (tree-bit known i (u .0)) ∙ tree-bits (with-one known i) is (u .1)
       ∙ file-ext (or-among (with-one known i) is) (or-among known (i ∷ is)) (λ j. or-assoc (known j) (eqb j i) (among j is))
 
-held-next : (n j : ℕ) → with-one (heldBelow n) n j ≡ heldBelow (n + 1) j
+-- all of n chunks and one more
+pub held-next : (n j : ℕ) → with-one (heldBelow n) n j ≡ heldBelow (n + 1) j
 held-next n j =
     ⊎-elim
     (λ e. ap (λ (b : Bool). b || eqb j n) e ∙ sym (lt-ltb j (n + 1) (omega (arith, ltb-true j n e))))
@@ -159,9 +160,15 @@ unfolding entryCount
 entries-after n = omega arith
 
 -- the entries of n chunks, of which there are c
-entries-run : (n c : ℕ) → entryCount n ≡ c → entriesOf n ≡ joined (run (entry (heldBelow n) (filled n)) 0 c)
+pub entries-run : (held : ℕ → Bool) (n c : ℕ) → entryCount n ≡ c → entriesOf held n ≡ joined (run (entry held (filled n)) 0 c)
 unfolding entriesOf
-entries-run n c e = ap (λ (t : ℕ). joined (run (entry (heldBelow n) (filled n)) 0 t)) e
+entries-run held n c e = ap (λ (t : ℕ). joined (run (entry held (filled n)) 0 t)) e
+
+-- of tests that agree
+pub entries-ext : (p q : ℕ → Bool) (n : ℕ) → ((j : ℕ) → p j ≡ q j) → entriesOf p n ≡ entriesOf q n
+unfolding entriesOf
+entries-ext p q n h =
+    ap joined (run-ext (entry p (filled n)) (entry q (filled n)) 0 (entryCount n) (λ e a b. entry-ext p q (filled n) (filled n) h (λ j. refl) e))
 
 -- a place right behind a part
 put-next : (xs zs ys : List ℕ) (a b c : ℕ) → part xs a b ≡ ys → length zs ≡ c → put xs (a + b) zs ≡ take a xs ++ ((ys ++ zs) ++ drop (a + (b + c)) xs)
@@ -171,30 +178,37 @@ put-next xs zs ys a b c p l =
     ∙ ap (λ (t : ℕ). take a xs ++ ys ++ (zs ++ drop t xs)) (ap (λ (t : ℕ). a + b + t) l ∙ add-assoc a b c)
     ∙ simp append-assoc
 
-new-entry : (n : ℕ) → n % 8192 ≡ 0 → entry (heldBelow n) (filled n) (n / 8192) ≡ zeros 3328
-new-entry n e =
-    zero-entry (heldBelow n) (filled n) (n / 8192) (λ j h. le-ltb j n (omega arith)) (λ j h. filled-above n j (omega arith))
+-- no chunk from n on is held
+abbrev pub NoneFrom : (ℕ → Bool) → ℕ → Type 0
+NoneFrom held n = (j : ℕ) → n ≤ j → held j ≡ false
 
-ix-ext : (held known : ℕ → Bool) (ix iy : ℕ → List ℕ) (j : ℕ) → ix j ≡ iy j → entryWith held known ix j ≡ entryWith held known iy j
+pub none-below : (n : ℕ) → NoneFrom (heldBelow n) n
+none-below n j h = le-ltb j n h
+
+new-entry : (held : ℕ → Bool) (n : ℕ) → NoneFrom held n → n % 8192 ≡ 0 → entry held (filled n) (n / 8192) ≡ zeros 3328
+new-entry held n none e = zero-entry held (filled n) (n / 8192) (λ j h. none j (omega arith)) (λ j h. filled-above n j (omega arith))
+
+pub ix-ext : (held known : ℕ → Bool) (ix iy : ℕ → List ℕ) (j : ℕ) → ix j ≡ iy j → entryWith held known ix j ≡ entryWith held known iy j
 unfolding entryWith
 ix-ext held known ix iy j e = ap (λ (r : List ℕ). dataBytes held j ++ (treeBytes known j ++ r)) e
 
-module _ (xs : List ℕ) (n : ℕ) (few : n < 1048576) (room : bitsPlace (n / 8192 + 1) ≤ length xs) (image : part xs 32 (3328 * entryCount n) ≡ entriesOf n) where
+module _ (xs : List ℕ) (was : ℕ → Bool) (n : ℕ) (none : NoneFrom was n) (few : n < 1048576) (room : bitsPlace (n / 8192 + 1) ≤ length xs)
+    (image : part xs 32 (3328 * entryCount n) ≡ entriesOf was n) where
   abbrev k : ℕ
   k = n / 8192 + 1
 
   abbrev ix : ℕ → List ℕ
-  ix j = indexBytes (dataBytes (heldBelow n) j)
+  ix j = indexBytes (dataBytes was j)
 
   abbrev tail : List ℕ
   tail = drop (32 + 3328 * k) xs
 
   abbrev before : ℕ → List ℕ
-  before = entry (heldBelow n) (filled n)
+  before = entry was (filled n)
 
   -- the part of the entries of n chunks, of which there are c
   part-run : (c : ℕ) → entryCount n ≡ c → part xs 32 (3328 * c) ≡ joined (run before 0 c)
-  part-run c e = ap (λ (t : ℕ). part xs 32 (3328 * t)) (sym e) ∙ image ∙ entries-run n c e
+  part-run c e = ap (λ (t : ℕ). part xs 32 (3328 * t)) (sym e) ∙ image ∙ entries-run was n c e
 
   opened-old : (n % 8192 ≡ 0 → ⊥) → zeroedIfNew xs n ≡ take 32 xs ++ (joined (run before 0 k) ++ tail)
   opened-old e =
@@ -207,7 +221,7 @@ module _ (xs : List ℕ) (n : ℕ) (few : n < 1048576) (room : bitsPlace (n / 81
       let q : ℕ = n / 8192 in
       zeroed-new xs n e
       ∙ put-next xs (zeros 3328) (joined (run before 0 q)) 32 (3328 * q) 3328 (part-run q (entries-new n e)) (length-replicate {A = ℕ} 3328 0)
-      ∙ ap (λ (r : List ℕ). take 32 xs ++ ((joined (run before 0 q) ++ r) ++ drop (32 + (3328 * q + 3328)) xs)) (sym (new-entry n e) ∙ ap before (sym (zero-add q)))
+      ∙ ap (λ (r : List ℕ). take 32 xs ++ ((joined (run before 0 q) ++ r) ++ drop (32 + (3328 * q + 3328)) xs)) (sym (new-entry was n none e) ∙ ap before (sym (zero-add q)))
       ∙ ap (λ (r : List ℕ). take 32 xs ++ (r ++ drop (32 + (3328 * q + 3328)) xs)) (sym (joined-run-suc before 0 q) ∙ ap (λ (t : ℕ). joined (run before 0 t)) (sym (add-one q)))
       ∙ ap (λ (t : ℕ). take 32 xs ++ (joined (run before 0 k) ++ drop (32 + t) xs)) (places q)
     where
@@ -219,28 +233,28 @@ module _ (xs : List ℕ) (n : ℕ) (few : n < 1048576) (room : bitsPlace (n / 81
   front = length-take-le 32 xs (omega arith)
 
   -- the entry of the new chunk is there, with the bits of n chunks
-  opened : zeroedIfNew xs n ≡ file (heldBelow n) ix (λ j. length-index (dataBytes (heldBelow n) j)) (take 32 xs) tail front k (filled n)
+  opened : zeroedIfNew xs n ≡ file was ix (λ j. length-index (dataBytes was j)) (take 32 xs) tail front k (filled n)
   unfolding file
   opened =
       ⊎-elim opened-new opened-old (same-or (n % 8192) 0)
-      ∙ ap (λ (r : List (List ℕ)). take 32 xs ++ (joined r ++ tail)) (run-ext before (entryWith (heldBelow n) (filled n) ix) 0 k (λ j a b. entry-is (heldBelow n) (filled n) j))
+      ∙ ap (λ (r : List (List ℕ)). take 32 xs ++ (joined r ++ tail)) (run-ext before (entryWith was (filled n) ix) 0 k (λ j a b. entry-is was (filled n) j))
 
   abbrev held : ℕ → Bool
-  held = with-one (heldBelow n) n
+  held = with-one was n
 
   abbrev known : ℕ → Bool
   known = or-among (filled n) (filledBy n)
 
   long : (j : ℕ) → length (ix j) ≡ 256
-  long j = length-index (dataBytes (heldBelow n) j)
+  long j = length-index (dataBytes was j)
 
   data-set : setDataBit (zeroedIfNew xs n) n ≡ file held ix long (take 32 xs) tail front k (filled n)
   unfolding setDataBit bitsPlace file
   data-set =
       let e : 32 + 3328 * (n / 8192) ≡ 32 + (n / 8192 * 3328 + 0) = omega arith in
       ap (λ (l : List ℕ). setBit l (32 + 3328 * (n / 8192)) (n % 8192)) opened
-      ∙ ap (λ (p : ℕ). setBit (take 32 xs ++ (joined (run (entryWith (heldBelow n) (filled n) ix) 0 k) ++ tail)) p (n % 8192)) e
-      ∙ data-file (heldBelow n) (filled n) ix long (take 32 xs) tail front k n (omega arith)
+      ∙ ap (λ (p : ℕ). setBit (take 32 xs ++ (joined (run (entryWith was (filled n) ix) 0 k) ++ tail)) p (n % 8192)) e
+      ∙ data-file withDigit with-one sets was (filled n) ix long (take 32 xs) tail front k n (omega arith)
 
   bits-set : setTreeBits (setDataBit (zeroedIfNew xs n) n) (filledBy n) ≡ file held ix long (take 32 xs) tail front k known
   bits-set =
@@ -259,25 +273,25 @@ module _ (xs : List ℕ) (n : ℕ) (few : n < 1048576) (room : bitsPlace (n / 81
       ∙ ap (λ (p : ℕ). put l (32 + (q * 3328 + 3072)) (indexBytes (part l p 1024))) f
       ∙ index-file held known ix long (take 32 xs) tail front k q (omega arith) g here other
 
-  entry-next : (j : ℕ) → entry held known j ≡ entry (heldBelow (n + 1)) (filled (n + 1)) j
-  entry-next j = entry-ext held (heldBelow (n + 1)) known (filled (n + 1)) (held-next n) (λ i. sym (filled-suc n i (omega arith))) j
+  entry-next : (j : ℕ) → entry held known j ≡ entry held (filled (n + 1)) j
+  entry-next j = entry-ext held held known (filled (n + 1)) (λ i. refl) (λ i. sym (filled-suc n i (omega arith))) j
 
-  other-next : (j : ℕ) → (j ≡ n / 8192 → ⊥) → entryWith held known ix j ≡ entry (heldBelow (n + 1)) (filled (n + 1)) j
+  other-next : (j : ℕ) → (j ≡ n / 8192 → ⊥) → entryWith held known ix j ≡ entry held (filled (n + 1)) j
   other-next j h =
-      ix-ext held known ix (λ i. indexBytes (dataBytes held i)) j (ap indexBytes (data-other (heldBelow n) n j h))
+      ix-ext held known ix (λ i. indexBytes (dataBytes held i)) j (ap indexBytes (data-other withDigit with-one sets was n j h))
       ∙ sym (entry-is held known j) ∙ entry-next j
 
-  appended-run : appended xs n ≡ take 32 xs ++ (joined (run (entry (heldBelow (n + 1)) (filled (n + 1))) 0 k) ++ tail)
+  appended-run : appended xs n ≡ take 32 xs ++ (joined (run (entry held (filled (n + 1))) 0 k) ++ tail)
   unfolding appended withBits
   appended-run =
       ap (λ (l : List ℕ). regenerated l (n / 8192)) bits-set
-      ∙ regenerated-is (entry (heldBelow (n + 1)) (filled (n + 1))) (entry-next (n / 8192)) other-next
+      ∙ regenerated-is (entry held (filled (n + 1))) (entry-next (n / 8192)) other-next
 
   -- the file after the append: what it was, with the entries of n + 1 chunks behind its header
-  pub appended-image : appended xs n ≡ put xs 32 (entriesOf (n + 1))
+  pub appended-image : appended xs n ≡ put xs 32 (entriesOf (with-one was n) (n + 1))
   unfolding put
   appended-image =
       let c : entryCount (n + 1) ≡ k = entries-after n in
-      let l : length (entriesOf (n + 1)) ≡ 3328 * k = length-entries (n + 1) ∙ ap (λ (t : ℕ). 3328 * t) c in
-      appended-run ∙ ap (λ (r : List ℕ). take 32 xs ++ (r ++ tail)) (sym (entries-run (n + 1) k c))
-      ∙ ap (λ (t : ℕ). take 32 xs ++ (entriesOf (n + 1) ++ drop (32 + t) xs)) (sym l)
+      let l : length (entriesOf held (n + 1)) ≡ 3328 * k = length-entries held (n + 1) ∙ ap (λ (t : ℕ). 3328 * t) c in
+      appended-run ∙ ap (λ (r : List ℕ). take 32 xs ++ (r ++ tail)) (sym (entries-run held (n + 1) k c))
+      ∙ ap (λ (t : ℕ). take 32 xs ++ (entriesOf held (n + 1) ++ drop (32 + t) xs)) (sym l)

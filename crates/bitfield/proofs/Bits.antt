@@ -1,19 +1,20 @@
 -- Laws of bits in bytes. Assumes nothing.
 use mathlib.Core.Path.{_≡_, refl, sym, ap, _∙_, subst}
 use mathlib.Core.Logic.{_⊎_, inl, inr, ⊎-elim}
-use mathlib.Core.Bool.{Bool, true, false, _&&_, _||_}
+use mathlib.Core.Bool.{Bool, true, false, not, _&&_, _||_}
 use mathlib.Core.List.{List, [], _∷_, _++_}
 use Prim.Native.Nat.{ℕ, zero, suc, _+_, _-_, _*_, _/_, _%_, _^_, _<_, _≤_}
-use native.Mathlib.Nat.{add-zero, zero-add, add-assoc, suc-add}
+use native.Mathlib.Nat.{add-zero, zero-add, add-assoc, suc-add, le-trans, mul-le-mul-left, mod-le, mul-div-le}
 use native.Mathlib.Omega.{arith}
 use lib.Dec.{T, eqb, ltb, eqb→eq}
 use lib.ListN.{length, getD, set, List·getD-append}
 use lib.Seq.{set-append-left}
 use lib.Bits.{bitOr}
+use lib.Pow.{pow-pos}
 use borrow.Author.Tests.{eqb-true, eqb-false, eq-eqb, ne-eqb, ltb-true, ltb-false}
-use Rattle.sequences.specs.Lists.{Bytes}
-use Rattle.sequences.proofs.Lists.{getD-behind}
-use Rattle.bitfield.specs.Bits.{bit, byteOf, bytesOf, setBit}
+use Rattle.sequences.specs.Lists.{part, Bytes}
+use Rattle.sequences.proofs.Lists.{getD-behind, getD-part}
+use Rattle.bitfield.specs.Bits.{bit, byteOf, bytesOf, digit, bitAt, changeBit, withDigit, withoutDigit}
 
 -- the bit number r of a byte, the first the highest
 pub mask : (r : ℕ) → r < 8 → 128 / 2 ^ r ≡ 2 ^ (7 - r)
@@ -29,6 +30,13 @@ mask (suc (suc (suc (suc (suc (suc (suc (suc r)))))))) h = absurd (over r h)
   where
     over : (r : ℕ) → suc (suc (suc (suc (suc (suc (suc (suc r))))))) < 8 → ⊥
     over r h = omega arith
+
+pub positive : (r : ℕ) → r < 8 → 0 < 2 ^ (7 - r)
+positive r h = pow-pos (7 - r)
+
+-- a digit's share of a number is no more than it
+pub digit-le : (x m : ℕ) → m * (x / m % 2) ≤ x
+digit-le x m = le-trans (mul-le-mul-left m (mod-le (x / m) 2)) (mul-div-le x m)
 
 -- ---- one byte: a test computed at every byte and every bit
 
@@ -67,26 +75,46 @@ below8-at f t (suc (suc (suc (suc (suc (suc (suc (suc r)))))))) h = absurd (over
     over : (r : ℕ) → suc (suc (suc (suc (suc (suc (suc (suc r))))))) < 8 → ⊥
     over r h = omega arith
 
-right : ℕ → Bool → Bool → Bool → Bool → Bool → Bool → Bool → Bool → Bool
-right r a b c d e f g h =
-    eqb (bitOr (byte8 a b c d e f g h) (2 ^ (7 - r)))
+-- what holds of every bit and of every eight bits is computed once
+pub record Table (right : ℕ → Bool → Bool → Bool → Bool → Bool → Bool → Bool → Bool → Bool) : Type 0 where
+  pub all : T (below8 (λ r. both (λ a. both (λ b. both (λ c. both (λ d. both (λ e. both (λ f. both (λ g. both (λ h. right r a b c d e f g h))))))))))
+
+all-at : (right : ℕ → Bool → Bool → Bool → Bool → Bool → Bool → Bool → Bool → Bool) → Table right → (r : ℕ) → r < 8 → (a b c d e f g h : Bool) → T (right r a b c d e f g h)
+all-at right t r l a b c d e f g h =
+    both-at (λ h. right r a b c d e f g h) (both-at (λ g. both (λ h. right r a b c d e f g h)) (both-at (λ f. both (λ g. both (λ h. right r a b c d e f g h))) (both-at (λ e. both (λ f. both (λ g. both (λ h. right r a b c d e f g h)))) (both-at (λ d. both (λ e. both (λ f. both (λ g. both (λ h. right r a b c d e f g h))))) (both-at (λ c. both (λ d. both (λ e. both (λ f. both (λ g. both (λ h. right r a b c d e f g h)))))) (both-at (λ b. both (λ c. both (λ d. both (λ e. both (λ f. both (λ g. both (λ h. right r a b c d e f g h))))))) (both-at (λ a. both (λ b. both (λ c. both (λ d. both (λ e. both (λ f. both (λ g. both (λ h. right r a b c d e f g h)))))))) (below8-at (λ r. both (λ a. both (λ b. both (λ c. both (λ d. both (λ e. both (λ f. both (λ g. both (λ h. right r a b c d e f g h))))))))) (t .all) r l) a) b) c) d) e) f) g) h
+
+set-right : ℕ → Bool → Bool → Bool → Bool → Bool → Bool → Bool → Bool → Bool
+set-right r a b c d e f g h =
+    eqb (withDigit (byte8 a b c d e f g h) (7 - r))
     (byte8 (a || eqb 0 r) (b || eqb 1 r) (c || eqb 2 r) (d || eqb 3 r) (e || eqb 4 r) (f || eqb 5 r) (g || eqb 6 r) (h || eqb 7 r))
 
-all-right : T (below8 (λ r. both (λ a. both (λ b. both (λ c. both (λ d. both (λ e. both (λ f. both (λ g. both (λ h. right r a b c d e f g h))))))))))
-unfolding right
-all-right = tt
+set-table : Table set-right
+unfolding set-right
+set-table = record { all = tt }
 
-all-at : (r : ℕ) → r < 8 → (a b c d e f g h : Bool) → T (right r a b c d e f g h)
-all-at r l a b c d e f g h =
-    both-at (λ h. right r a b c d e f g h) (both-at (λ g. both (λ h. right r a b c d e f g h)) (both-at (λ f. both (λ g. both (λ h. right r a b c d e f g h))) (both-at (λ e. both (λ f. both (λ g. both (λ h. right r a b c d e f g h)))) (both-at (λ d. both (λ e. both (λ f. both (λ g. both (λ h. right r a b c d e f g h))))) (both-at (λ c. both (λ d. both (λ e. both (λ f. both (λ g. both (λ h. right r a b c d e f g h)))))) (both-at (λ b. both (λ c. both (λ d. both (λ e. both (λ f. both (λ g. both (λ h. right r a b c d e f g h))))))) (both-at (λ a. both (λ b. both (λ c. both (λ d. both (λ e. both (λ f. both (λ g. both (λ h. right r a b c d e f g h)))))))) (below8-at (λ r. both (λ a. both (λ b. both (λ c. both (λ d. both (λ e. both (λ f. both (λ g. both (λ h. right r a b c d e f g h))))))))) all-right r l) a) b) c) d) e) f) g) h
+-- p but for the number i
+abbrev but : Bool → Bool → Bool
+but p i = p && not i
 
-or-byte : (r : ℕ) → r < 8 → (a b c d e f g h : Bool) → bitOr (byte8 a b c d e f g h) (2 ^ (7 - r))
-    ≡ byte8 (a || eqb 0 r) (b || eqb 1 r) (c || eqb 2 r) (d || eqb 3 r) (e || eqb 4 r) (f || eqb 5 r) (g || eqb 6 r) (h || eqb 7 r)
-unfolding right
-or-byte r l a b c d e f g h =
-    eqb→eq (bitOr (byte8 a b c d e f g h) (2 ^ (7 - r)))
-    (byte8 (a || eqb 0 r) (b || eqb 1 r) (c || eqb 2 r) (d || eqb 3 r) (e || eqb 4 r) (f || eqb 5 r) (g || eqb 6 r) (h || eqb 7 r))
-    (all-at r l a b c d e f g h)
+clear-right : ℕ → Bool → Bool → Bool → Bool → Bool → Bool → Bool → Bool → Bool
+clear-right r a b c d e f g h =
+    eqb (withoutDigit (byte8 a b c d e f g h) (7 - r))
+    (byte8 (but a (eqb 0 r)) (but b (eqb 1 r)) (but c (eqb 2 r)) (but d (eqb 3 r)) (but e (eqb 4 r)) (but f (eqb 5 r)) (but g (eqb 6 r)) (but h (eqb 7 r)))
+
+clear-table : Table clear-right
+unfolding clear-right digit
+clear-table = record { all = tt }
+
+-- the bit r of eight
+abbrev nth : ℕ → Bool → Bool → Bool → Bool → Bool → Bool → Bool → Bool → Bool
+nth r a b c d e f g h = getD (a ∷ b ∷ c ∷ d ∷ e ∷ f ∷ g ∷ h ∷ []) r false
+
+digit-right : ℕ → Bool → Bool → Bool → Bool → Bool → Bool → Bool → Bool → Bool
+digit-right r a b c d e f g h = eqb (digit (byte8 a b c d e f g h) (7 - r)) (bit (nth r a b c d e f g h))
+
+digit-table : Table digit-right
+unfolding digit-right digit
+digit-table = record { all = tt }
 
 pub cases : (t : Bool) → (t ≡ true) ⊎ (t ≡ false)
 cases true = inl refl
@@ -103,11 +131,38 @@ eqb-add b i r =
 eqb-base : (b r : ℕ) → eqb b (b + r) ≡ eqb 0 r
 eqb-base b r = ap (λ (t : ℕ). eqb t (b + r)) (sym (add-zero b)) ∙ eqb-add b 0 r
 
-pub or-of : (p : ℕ → Bool) (b r : ℕ) → r < 8 → bitOr (byteOf p b) (2 ^ (7 - r)) ≡ byteOf (λ j. p j || eqb j (b + r)) b
-unfolding byteOf
+or-of : (p : ℕ → Bool) (b r : ℕ) → r < 8 → withDigit (byteOf p b) (7 - r) ≡ byteOf (λ j. p j || eqb j (b + r)) b
+unfolding byteOf set-right
 or-of p b r h =
-    or-byte r h (p b) (p (b + 1)) (p (b + 2)) (p (b + 3)) (p (b + 4)) (p (b + 5)) (p (b + 6)) (p (b + 7))
+    eqb→eq _ _ (all-at set-right set-table r h (p b) (p (b + 1)) (p (b + 2)) (p (b + 3)) (p (b + 4)) (p (b + 5)) (p (b + 6)) (p (b + 7)))
     ∙ sym (simp (eqb-base, eqb-add))
+
+but-of : (p : ℕ → Bool) (b r : ℕ) → r < 8 → withoutDigit (byteOf p b) (7 - r) ≡ byteOf (λ j. p j && not (eqb j (b + r))) b
+unfolding byteOf clear-right
+but-of p b r h =
+    eqb→eq _ _ (all-at clear-right clear-table r h (p b) (p (b + 1)) (p (b + 2)) (p (b + 3)) (p (b + 4)) (p (b + 5)) (p (b + 6)) (p (b + 7)))
+    ∙ sym (simp (eqb-base, eqb-add))
+
+-- the digit r of the byte of a test is what the test says of its bit
+eight-at : (p : ℕ → Bool) (b r : ℕ) → r < 8 → nth r (p b) (p (b + 1)) (p (b + 2)) (p (b + 3)) (p (b + 4)) (p (b + 5)) (p (b + 6)) (p (b + 7)) ≡ p (b + r)
+eight-at p b zero h = ap p (sym (add-zero b))
+eight-at p b (suc zero) h = refl
+eight-at p b (suc (suc zero)) h = refl
+eight-at p b (suc (suc (suc zero))) h = refl
+eight-at p b (suc (suc (suc (suc zero)))) h = refl
+eight-at p b (suc (suc (suc (suc (suc zero))))) h = refl
+eight-at p b (suc (suc (suc (suc (suc (suc zero)))))) h = refl
+eight-at p b (suc (suc (suc (suc (suc (suc (suc zero))))))) h = refl
+eight-at p b (suc (suc (suc (suc (suc (suc (suc (suc r)))))))) h = absurd (over r h)
+  where
+    over : (r : ℕ) → suc (suc (suc (suc (suc (suc (suc (suc r))))))) < 8 → ⊥
+    over r h = omega arith
+
+pub digit-of : (p : ℕ → Bool) (b r : ℕ) → r < 8 → digit (byteOf p b) (7 - r) ≡ bit (p (b + r))
+unfolding byteOf digit-right
+digit-of p b r h =
+    eqb→eq _ _ (all-at digit-right digit-table r h (p b) (p (b + 1)) (p (b + 2)) (p (b + 3)) (p (b + 4)) (p (b + 5)) (p (b + 6)) (p (b + 7)))
+    ∙ ap bit (eight-at p b r h)
 
 -- bytes of the same bits
 byte-ext : (p q : ℕ → Bool) (b : ℕ) → ((j : ℕ) → b ≤ j → j < b + 8 → p j ≡ q j) → byteOf p b ≡ byteOf q b
@@ -152,62 +207,110 @@ set-behind : (xs ys : List ℕ) (n i v : ℕ) → length xs ≡ n → set (xs ++
 set-behind xs ys n i v e = subst (λ (k : ℕ). set (xs ++ ys) (k + i) v ≡ xs ++ set ys i v) e (set-append-add xs ys i v)
 
 -- behind a list, and within the first of two
-pub setBit-behind : (xs ys : List ℕ) (n p b : ℕ) → length xs ≡ n → setBit (xs ++ ys) (n + p) b ≡ xs ++ setBit ys p b
-unfolding setBit
-setBit-behind xs ys n p b e =
-    let f : n + p + b / 8 ≡ n + (p + b / 8) = add-assoc n p (b / 8) in
-    let g : getD (xs ++ ys) (n + p + b / 8) 0 ≡ getD ys (p + b / 8) 0 = ap (λ (i : ℕ). getD (xs ++ ys) i 0) f ∙ getD-behind xs ys n (p + b / 8) 0 e in
-    ap (λ (v : ℕ). set (xs ++ ys) (n + p + b / 8) (bitOr v (2 ^ (7 - b % 8)))) g
-    ∙ ap (λ (i : ℕ). set (xs ++ ys) i (bitOr (getD ys (p + b / 8) 0) (2 ^ (7 - b % 8)))) f
-    ∙ set-behind xs ys n (p + b / 8) (bitOr (getD ys (p + b / 8) 0) (2 ^ (7 - b % 8))) e
+pub change-behind : (f : ℕ → ℕ → ℕ) (xs ys : List ℕ) (n p b : ℕ) → length xs ≡ n → changeBit f (xs ++ ys) (n + p) b ≡ xs ++ changeBit f ys p b
+unfolding changeBit
+change-behind f xs ys n p b e =
+    let g : n + p + b / 8 ≡ n + (p + b / 8) = add-assoc n p (b / 8) in
+    let h : getD (xs ++ ys) (n + p + b / 8) 0 ≡ getD ys (p + b / 8) 0 = ap (λ (i : ℕ). getD (xs ++ ys) i 0) g ∙ getD-behind xs ys n (p + b / 8) 0 e in
+    ap (λ (v : ℕ). set (xs ++ ys) (n + p + b / 8) (f v (7 - b % 8))) h
+    ∙ ap (λ (i : ℕ). set (xs ++ ys) i (f (getD ys (p + b / 8) 0) (7 - b % 8))) g
+    ∙ set-behind xs ys n (p + b / 8) (f (getD ys (p + b / 8) 0) (7 - b % 8)) e
 
-pub setBit-within : (xs ys : List ℕ) (p b : ℕ) → p + b / 8 < length xs → setBit (xs ++ ys) p b ≡ setBit xs p b ++ ys
-unfolding setBit
-setBit-within xs ys p b h =
-    ap (λ (v : ℕ). set (xs ++ ys) (p + b / 8) (bitOr v (2 ^ (7 - b % 8)))) (List·getD-append xs ys 0 (p + b / 8) h)
-    ∙ set-append-left xs ys (p + b / 8) (bitOr (getD xs (p + b / 8) 0) (2 ^ (7 - b % 8))) h
+pub change-within : (f : ℕ → ℕ → ℕ) (xs ys : List ℕ) (p b : ℕ) → p + b / 8 < length xs → changeBit f (xs ++ ys) p b ≡ changeBit f xs p b ++ ys
+unfolding changeBit
+change-within f xs ys p b h =
+    ap (λ (v : ℕ). set (xs ++ ys) (p + b / 8) (f v (7 - b % 8))) (List·getD-append xs ys 0 (p + b / 8) h)
+    ∙ set-append-left xs ys (p + b / 8) (f (getD xs (p + b / 8) 0) (7 - b % 8)) h
 
-setBit-head : (x : ℕ) (xs : List ℕ) (b : ℕ) → b < 8 → setBit (x ∷ xs) 0 b ≡ bitOr x (2 ^ (7 - b)) ∷ xs
-unfolding setBit
-setBit-head x xs b h =
+change-head : (f : ℕ → ℕ → ℕ) (x : ℕ) (xs : List ℕ) (b : ℕ) → b < 8 → changeBit f (x ∷ xs) 0 b ≡ f x (7 - b) ∷ xs
+unfolding changeBit
+change-head f x xs b h =
     let e : 0 + b / 8 ≡ 0 = omega arith in
-    let f : b % 8 ≡ b = omega arith in
-    ap (λ (i : ℕ). set (x ∷ xs) i (bitOr (getD (x ∷ xs) i 0) (2 ^ (7 - b % 8)))) e ∙ ap (λ (t : ℕ). bitOr x (2 ^ (7 - t)) ∷ xs) f
+    let g : b % 8 ≡ b = omega arith in
+    ap (λ (i : ℕ). set (x ∷ xs) i (f (getD (x ∷ xs) i 0) (7 - b % 8))) e ∙ ap (λ (t : ℕ). f x (7 - t) ∷ xs) g
 
-setBit-tail : (x : ℕ) (xs : List ℕ) (b : ℕ) → 8 ≤ b → setBit (x ∷ xs) 0 b ≡ x ∷ setBit xs 0 (b - 8)
-unfolding setBit
-setBit-tail x xs b h =
+change-tail : (f : ℕ → ℕ → ℕ) (x : ℕ) (xs : List ℕ) (b : ℕ) → 8 ≤ b → changeBit f (x ∷ xs) 0 b ≡ x ∷ changeBit f xs 0 (b - 8)
+unfolding changeBit
+change-tail f x xs b h =
     let e : 0 + b / 8 ≡ suc (0 + (b - 8) / 8) = omega arith in
-    let f : b % 8 ≡ (b - 8) % 8 = omega arith in
-    ap (λ (i : ℕ). set (x ∷ xs) i (bitOr (getD (x ∷ xs) i 0) (2 ^ (7 - b % 8)))) e
-    ∙ ap (λ (t : ℕ). x ∷ set xs (0 + (b - 8) / 8) (bitOr (getD xs (0 + (b - 8) / 8) 0) (2 ^ (7 - t)))) f
+    let g : b % 8 ≡ (b - 8) % 8 = omega arith in
+    ap (λ (i : ℕ). set (x ∷ xs) i (f (getD (x ∷ xs) i 0) (7 - b % 8))) e
+    ∙ ap (λ (t : ℕ). x ∷ set xs (0 + (b - 8) / 8) (f (getD xs (0 + (b - 8) / 8) 0) (7 - t))) g
+
+low-or-high : (b : ℕ) → (b < 8) ⊎ (8 ≤ b)
+low-or-high b = ⊎-elim (λ e. inl (ltb-true b 8 e)) (λ e. inr (ltb-false b 8 e)) (cases (ltb b 8))
+
+-- a change of one bit, and what it does to a test: of a byte it gives the byte of the changed test, and it leaves what the test says of other numbers
+pub record Changes (f : ℕ → ℕ → ℕ) (to : (ℕ → Bool) → ℕ → ℕ → Bool) : Type 0 where
+  pub byte : (p : ℕ → Bool) (b r : ℕ) → r < 8 → f (byteOf p b) (7 - r) ≡ byteOf (to p (b + r)) b
+  pub other : (p : ℕ → Bool) (i j : ℕ) → (j ≡ i → ⊥) → p j ≡ to p i j
+
+-- one law: changing bit number b of the bytes of p gives the bytes of the changed test
+pub change-bytesOf : {f : ℕ → ℕ → ℕ} {to : (ℕ → Bool) → ℕ → ℕ → Bool} → Changes f to → (p : ℕ → Bool) (s k b : ℕ) → b < 8 * k
+    → changeBit f (bytesOf p s k) 0 b ≡ bytesOf (to p (s + b)) s k
+unfolding bytesOf
+change-bytesOf {f} {to} w p s zero b h = absurd (none b h)
+  where
+    none : (b : ℕ) → b < 8 * zero → ⊥
+    none b h = omega arith
+change-bytesOf {f} {to} w p s (suc k) b h =
+    ⊎-elim
+    (λ l. change-head f (byteOf p s) (bytesOf p (s + 8) k) b l
+    ∙ ap (λ (x : ℕ). x ∷ bytesOf p (s + 8) k) (w .byte p s b l)
+    ∙ ap (λ (r : List ℕ). byteOf (to p (s + b)) s ∷ r)
+    (bytesOf-ext p (to p (s + b)) (s + 8) k (λ j m n. w .other p (s + b) j (λ z. omega arith))))
+    (λ l.
+    let e : s + 8 + (b - 8) ≡ s + b = omega arith in
+    change-tail f (byteOf p s) (bytesOf p (s + 8) k) b l
+    ∙ ap (λ (r : List ℕ). byteOf p s ∷ r) (change-bytesOf w p (s + 8) k (b - 8) (omega arith) ∙ ap (λ (t : ℕ). bytesOf (to p t) (s + 8) k) e)
+    ∙ ap (λ (x : ℕ). x ∷ bytesOf (to p (s + b)) (s + 8) k) (byte-ext p (to p (s + b)) s (λ j m n. w .other p (s + b) j (λ z. omega arith))))
+    (low-or-high b)
+
+-- ---- a bit set, and a bit cleared
+
+abbrev pub with-one : (ℕ → Bool) → ℕ → ℕ → Bool
+with-one p i j = p j || eqb j i
+
+abbrev pub without-one : (ℕ → Bool) → ℕ → ℕ → Bool
+without-one p i j = p j && not (eqb j i)
 
 or-false : (a b : Bool) → b ≡ false → a ≡ (a || b)
 or-false true b e = refl
 or-false false b e = sym e
 
-pub not-bit : (p : ℕ → Bool) (i j : ℕ) → (j ≡ i → ⊥) → p j ≡ (p j || eqb j i)
-not-bit p i j h = or-false (p j) (eqb j i) (ne-eqb j i h)
+and-true : (a b : Bool) → b ≡ false → a ≡ (a && not b)
+and-true true b e = sym (ap not e)
+and-true false b e = refl
 
-low-or-high : (b : ℕ) → (b < 8) ⊎ (8 ≤ b)
-low-or-high b = ⊎-elim (λ e. inl (ltb-true b 8 e)) (λ e. inr (ltb-false b 8 e)) (cases (ltb b 8))
+pub sets : Changes withDigit with-one
+sets = record { byte = or-of; other = λ p i j h. or-false (p j) (eqb j i) (ne-eqb j i h) }
 
--- one law: setting bit number b of the bytes of p gives the bytes of "p, or that bit"
-pub setBit-bytesOf : (p : ℕ → Bool) (s k b : ℕ) → b < 8 * k → setBit (bytesOf p s k) 0 b ≡ bytesOf (λ j. p j || eqb j (s + b)) s k
+pub clears : Changes withoutDigit without-one
+clears = record { byte = but-of; other = λ p i j h. and-true (p j) (eqb j i) (ne-eqb j i h) }
+
+-- ---- a bit read
+
+bit-eqb : (b : Bool) → eqb (bit b) 1 ≡ b
+bit-eqb true = refl
+bit-eqb false = refl
+
+pub getD-bytesOf : (p : ℕ → Bool) (s k j : ℕ) → j < k → getD (bytesOf p s k) j 0 ≡ byteOf p (s + 8 * j)
 unfolding bytesOf
-setBit-bytesOf p s zero b h = absurd (none b h)
-  where
-    none : (b : ℕ) → b < 8 * zero → ⊥
-    none b h = omega arith
-setBit-bytesOf p s (suc k) b h =
-    ⊎-elim
-    (λ l. setBit-head (byteOf p s) (bytesOf p (s + 8) k) b l
-    ∙ ap (λ (x : ℕ). x ∷ bytesOf p (s + 8) k) (or-of p s b l)
-    ∙ ap (λ (r : List ℕ). byteOf (λ j. p j || eqb j (s + b)) s ∷ r)
-    (bytesOf-ext p (λ j. p j || eqb j (s + b)) (s + 8) k (λ j m n. not-bit p (s + b) j (λ z. omega arith))))
-    (λ l.
-    let e : s + 8 + (b - 8) ≡ s + b = omega arith in
-    setBit-tail (byteOf p s) (bytesOf p (s + 8) k) b l
-    ∙ ap (λ (r : List ℕ). byteOf p s ∷ r) (setBit-bytesOf p (s + 8) k (b - 8) (omega arith) ∙ ap (λ (t : ℕ). bytesOf (λ j. p j || eqb j t) (s + 8) k) e)
-    ∙ ap (λ (x : ℕ). x ∷ bytesOf (λ j. p j || eqb j (s + b)) (s + 8) k) (byte-ext p (λ j. p j || eqb j (s + b)) s (λ j m n. not-bit p (s + b) j (λ z. omega arith))))
-    (low-or-high b)
+getD-bytesOf p s zero j h = absurd (omega arith)
+getD-bytesOf p s (suc k) zero h = ap (byteOf p) (sym (add-zero s))
+getD-bytesOf p s (suc k) (suc j) h = getD-bytesOf p (s + 8) k j (omega arith) ∙ ap (byteOf p) (omega arith)
+
+-- the bits of a test are read back from its bytes
+pub bit-bytesOf : (p : ℕ → Bool) (s k b : ℕ) → b < 8 * k → bitAt (bytesOf p s k) 0 b ≡ p (s + b)
+unfolding bitAt
+bit-bytesOf p s k b h =
+    let e : s + 8 * (0 + b / 8) + b % 8 ≡ s + b = omega arith in
+    ap (λ (x : ℕ). eqb (digit x (7 - b % 8)) 1) (getD-bytesOf p s k (0 + b / 8) (omega arith))
+    ∙ ap (λ (x : ℕ). eqb x 1) (digit-of p (s + 8 * (0 + b / 8)) (b % 8) (omega arith))
+    ∙ bit-eqb (p (s + 8 * (0 + b / 8) + b % 8)) ∙ ap p e
+
+pub bit-part : (xs : List ℕ) (p m b : ℕ) → b < 8 * m → bitAt xs p b ≡ bitAt (part xs p m) 0 b
+unfolding bitAt
+bit-part xs p m b h =
+    ap (λ (x : ℕ). eqb (digit x (7 - b % 8)) 1)
+    (sym (ap (λ (i : ℕ). getD (part xs p m) i 0) (zero-add (b / 8)) ∙ getD-part xs p m (b / 8) 0 (omega arith)))

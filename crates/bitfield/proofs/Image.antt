@@ -1,20 +1,19 @@
 -- The bitfield's entries: their lengths, their bytes, and what one bit or a new Index does to them. Assumes nothing.
 use mathlib.Core.Path.{_≡_, refl, sym, ap, _∙_, subst}
-use mathlib.Core.Bool.{Bool, false, _||_}
+use mathlib.Core.Bool.{Bool, false}
 use mathlib.Core.List.{List, _∷_, _++_, append-assoc, append-nil}
 use Prim.Native.Nat.{ℕ, zero, suc, _+_, _-_, _*_, _/_, _%_, _<_, _≤_}
 use native.Mathlib.Nat.{add-zero, zero-add, add-assoc, mul-comm, suc-mul, mul-le-mul-right}
 use native.Mathlib.Omega.{arith}
-use lib.Dec.{eqb}
 use lib.ListN.{length, take, drop, length-append, replicate-append-replicate}
 use lib.Seq.{take-append-le, drop-append-le, drop-length}
 use Rattle.sequences.specs.Lists.{part, put, run, joined, Bytes, zeros}
 use Rattle.sequences.proofs.Lists.{take-behind, drop-behind, joined-run-add, length-joined, run-ext, bytes-append, bytes-joined, part-behind, part-left, part-part, part-joined, part-front}
 use Rattle.tree_index.specs.Tree.{filled, depth, block, trailingOnes}
-use Rattle.bitfield.specs.Bits.{bytesOf, byteOf, setBit}
+use Rattle.bitfield.specs.Bits.{bytesOf, byteOf, changeBit}
 use Rattle.bitfield.specs.Index.{indexBytes, indexByte, node, tuples, tuple, combined, combine, four}
-use Rattle.bitfield.specs.Image.{dataBytes, treeBytes, entry, entryCount, heldBelow, entriesOf}
-use Rattle.bitfield.proofs.Bits.{bytesOf-ext, length-bytesOf, bytes-bytesOf, setBit-bytesOf, setBit-behind, setBit-within, not-bit}
+use Rattle.bitfield.specs.Image.{dataBytes, treeBytes, entry, entryCount, entriesOf}
+use Rattle.bitfield.proofs.Bits.{Changes, bytesOf-ext, length-bytesOf, bytes-bytesOf, change-bytesOf, change-behind, change-within}
 use Rattle.bitfield.proofs.Levels.{length-index, bytes-index}
 
 -- ---- a change at a place of a list, which leaves what lies behind and before it
@@ -23,8 +22,8 @@ pub record Local (op : List ℕ → ℕ → List ℕ) (w : ℕ) : Type 0 where
   pub within : (xs ys : List ℕ) (p : ℕ) → p + w ≤ length xs → op (xs ++ ys) p ≡ op xs p ++ ys
   pub behind : (xs ys : List ℕ) (n p : ℕ) → length xs ≡ n → op (xs ++ ys) (n + p) ≡ xs ++ op ys p
 
-pub bit-local : (b : ℕ) → Local (λ xs p. setBit xs p b) (b / 8 + 1)
-bit-local b = record { within = λ xs ys p h. setBit-within xs ys p b (omega arith); behind = λ xs ys n p e. setBit-behind xs ys n p b e }
+pub bit-local : (f : ℕ → ℕ → ℕ) (b : ℕ) → Local (λ xs p. changeBit f xs p b) (b / 8 + 1)
+bit-local f b = record { within = λ xs ys p h. change-within f xs ys p b (omega arith); behind = λ xs ys n p e. change-behind f xs ys n p b e }
 
 put-within : (zs xs ys : List ℕ) (p : ℕ) → p + length zs ≤ length xs → put (xs ++ ys) p zs ≡ put xs p zs ++ ys
 unfolding put
@@ -106,25 +105,21 @@ length-entry held known e =
     ap length (entry-is held known e)
     ∙ length-entryWith held known (λ j. indexBytes (dataBytes held j)) (λ j. length-index (dataBytes held j)) e
 
-pub length-entries : (n : ℕ) → length (entriesOf n) ≡ 3328 * entryCount n
+pub length-entries : (held : ℕ → Bool) (n : ℕ) → length (entriesOf held n) ≡ 3328 * entryCount n
 unfolding entriesOf
-length-entries n =
-    length-joined (entry (heldBelow n) (filled n)) 3328 (length-entry (heldBelow n) (filled n)) 0 (entryCount n) ∙ mul-comm (entryCount n) 3328
+length-entries held n = length-joined (entry held (filled n)) 3328 (length-entry held (filled n)) 0 (entryCount n) ∙ mul-comm (entryCount n) 3328
 
 -- every byte of the entries is below 256
-pub bytes-entries : (n : ℕ) → Bytes (entriesOf n)
+pub bytes-entries : (held : ℕ → Bool) (n : ℕ) → Bytes (entriesOf held n)
 unfolding entriesOf entry dataBytes treeBytes
-bytes-entries n =
-    bytes-joined (entry (heldBelow n) (filled n)) 0 (entryCount n)
-    (λ e. bytes-append (bytesOf (heldBelow n) (8192 * e) 1024) (bytesOf (filled n) (16384 * e) 2048 ++ indexBytes (bytesOf (heldBelow n) (8192 * e) 1024))
-    (bytes-bytesOf (heldBelow n) (8192 * e) 1024)
-    (bytes-append (bytesOf (filled n) (16384 * e) 2048) (indexBytes (bytesOf (heldBelow n) (8192 * e) 1024))
-    (bytes-bytesOf (filled n) (16384 * e) 2048) (bytes-index (bytesOf (heldBelow n) (8192 * e) 1024))))
+bytes-entries held n =
+    bytes-joined (entry held (filled n)) 0 (entryCount n)
+    (λ e. bytes-append (bytesOf held (8192 * e) 1024) (bytesOf (filled n) (16384 * e) 2048 ++ indexBytes (bytesOf held (8192 * e) 1024))
+    (bytes-bytesOf held (8192 * e) 1024)
+    (bytes-append (bytesOf (filled n) (16384 * e) 2048) (indexBytes (bytesOf held (8192 * e) 1024))
+    (bytes-bytesOf (filled n) (16384 * e) 2048) (bytes-index (bytesOf held (8192 * e) 1024))))
 
--- ---- one bit more
-
-abbrev pub with-one : (ℕ → Bool) → ℕ → ℕ → Bool
-with-one p i j = p j || eqb j i
+-- ---- one bit changed
 
 pub data-ext : (p q : ℕ → Bool) (e : ℕ) → ((j : ℕ) → 8192 * e ≤ j → j < 8192 * e + 8192 → p j ≡ q j) → dataBytes p e ≡ dataBytes q e
 unfolding dataBytes
@@ -134,59 +129,60 @@ pub tree-ext : (p q : ℕ → Bool) (e : ℕ) → ((j : ℕ) → 16384 * e ≤ j
 unfolding treeBytes
 tree-ext p q e h = bytesOf-ext p q (16384 * e) 2048 h
 
--- the bits of another entry
-pub data-other : (held : ℕ → Bool) (n e : ℕ) → (e ≡ n / 8192 → ⊥) → dataBytes held e ≡ dataBytes (with-one held n) e
-data-other held n e h = data-ext held (with-one held n) e (λ j a b. not-bit held n j (λ z. h (omega arith)))
+module _ (f : ℕ → ℕ → ℕ) (to : (ℕ → Bool) → ℕ → ℕ → Bool) (w : Changes f to) where
+  -- the bits of another entry
+  pub data-other : (held : ℕ → Bool) (n e : ℕ) → (e ≡ n / 8192 → ⊥) → dataBytes held e ≡ dataBytes (to held n) e
+  data-other held n e h = data-ext held (to held n) e (λ j a b. w .other held n j (λ z. h (omega arith)))
 
-pub tree-other : (known : ℕ → Bool) (i e : ℕ) → (e ≡ i / 16384 → ⊥) → treeBytes known e ≡ treeBytes (with-one known i) e
-tree-other known i e h = tree-ext known (with-one known i) e (λ j a b. not-bit known i j (λ z. h (omega arith)))
+  pub tree-other : (known : ℕ → Bool) (i e : ℕ) → (e ≡ i / 16384 → ⊥) → treeBytes known e ≡ treeBytes (to known i) e
+  tree-other known i e h = tree-ext known (to known i) e (λ j a b. w .other known i j (λ z. h (omega arith)))
 
-module _ (held known : ℕ → Bool) (ix : ℕ → List ℕ) where
-  data-there : (n : ℕ) → setBit (entryWith held known ix (n / 8192)) 0 (n % 8192) ≡ entryWith (with-one held n) known ix (n / 8192)
-  unfolding entryWith dataBytes
-  data-there n =
-      let e : ℕ = n / 8192 in
-      let s : 8192 * e + n % 8192 ≡ n = omega arith in
-      setBit-within (bytesOf held (8192 * e) 1024) (treeBytes known e ++ ix e) 0 (n % 8192)
-      (subst (λ (t : ℕ). 0 + n % 8192 / 8 < t) (sym (length-bytesOf held (8192 * e) 1024)) (omega arith))
-      ∙ ap (λ (r : List ℕ). r ++ (treeBytes known e ++ ix e))
-      (setBit-bytesOf held (8192 * e) 1024 (n % 8192) (omega arith) ∙ ap (λ (t : ℕ). bytesOf (with-one held t) (8192 * e) 1024) s)
+  module _ (held known : ℕ → Bool) (ix : ℕ → List ℕ) where
+    data-there : (n : ℕ) → changeBit f (entryWith held known ix (n / 8192)) 0 (n % 8192) ≡ entryWith (to held n) known ix (n / 8192)
+    unfolding entryWith dataBytes
+    data-there n =
+        let e : ℕ = n / 8192 in
+        let s : 8192 * e + n % 8192 ≡ n = omega arith in
+        change-within f (bytesOf held (8192 * e) 1024) (treeBytes known e ++ ix e) 0 (n % 8192)
+        (subst (λ (t : ℕ). 0 + n % 8192 / 8 < t) (sym (length-bytesOf held (8192 * e) 1024)) (omega arith))
+        ∙ ap (λ (r : List ℕ). r ++ (treeBytes known e ++ ix e))
+        (change-bytesOf w held (8192 * e) 1024 (n % 8192) (omega arith) ∙ ap (λ (t : ℕ). bytesOf (to held t) (8192 * e) 1024) s)
 
-  tree-there : (i : ℕ) → setBit (entryWith held known ix (i / 16384)) 1024 (i % 16384) ≡ entryWith held (with-one known i) ix (i / 16384)
-  unfolding entryWith treeBytes
-  tree-there i =
-      let e : ℕ = i / 16384 in
-      let s : 16384 * e + i % 16384 ≡ i = omega arith in
-      ap (λ (t : ℕ). setBit (dataBytes held e ++ (bytesOf known (16384 * e) 2048 ++ ix e)) t (i % 16384)) (sym (add-zero 1024))
-      ∙ setBit-behind (dataBytes held e) (bytesOf known (16384 * e) 2048 ++ ix e) 1024 0 (i % 16384) (length-data held e)
-      ∙ ap (λ (r : List ℕ). dataBytes held e ++ r)
-      (setBit-within (bytesOf known (16384 * e) 2048) (ix e) 0 (i % 16384)
-      (subst (λ (t : ℕ). 0 + i % 16384 / 8 < t) (sym (length-bytesOf known (16384 * e) 2048)) (omega arith))
-      ∙ ap (λ (r : List ℕ). r ++ ix e)
-      (setBit-bytesOf known (16384 * e) 2048 (i % 16384) (omega arith) ∙ ap (λ (t : ℕ). bytesOf (with-one known t) (16384 * e) 2048) s))
+    tree-there : (i : ℕ) → changeBit f (entryWith held known ix (i / 16384)) 1024 (i % 16384) ≡ entryWith held (to known i) ix (i / 16384)
+    unfolding entryWith treeBytes
+    tree-there i =
+        let e : ℕ = i / 16384 in
+        let s : 16384 * e + i % 16384 ≡ i = omega arith in
+        ap (λ (t : ℕ). changeBit f (dataBytes held e ++ (bytesOf known (16384 * e) 2048 ++ ix e)) t (i % 16384)) (sym (add-zero 1024))
+        ∙ change-behind f (dataBytes held e) (bytesOf known (16384 * e) 2048 ++ ix e) 1024 0 (i % 16384) (length-data held e)
+        ∙ ap (λ (r : List ℕ). dataBytes held e ++ r)
+        (change-within f (bytesOf known (16384 * e) 2048) (ix e) 0 (i % 16384)
+        (subst (λ (t : ℕ). 0 + i % 16384 / 8 < t) (sym (length-bytesOf known (16384 * e) 2048)) (omega arith))
+        ∙ ap (λ (r : List ℕ). r ++ ix e)
+        (change-bytesOf w known (16384 * e) 2048 (i % 16384) (omega arith) ∙ ap (λ (t : ℕ). bytesOf (to known t) (16384 * e) 2048) s))
 
-  data-elsewhere : (n j : ℕ) → (j ≡ n / 8192 → ⊥) → entryWith held known ix j ≡ entryWith (with-one held n) known ix j
-  unfolding entryWith
-  data-elsewhere n j h = ap (λ (r : List ℕ). r ++ (treeBytes known j ++ ix j)) (data-other held n j h)
+    data-elsewhere : (n j : ℕ) → (j ≡ n / 8192 → ⊥) → entryWith held known ix j ≡ entryWith (to held n) known ix j
+    unfolding entryWith
+    data-elsewhere n j h = ap (λ (r : List ℕ). r ++ (treeBytes known j ++ ix j)) (data-other held n j h)
 
-  tree-elsewhere : (i j : ℕ) → (j ≡ i / 16384 → ⊥) → entryWith held known ix j ≡ entryWith held (with-one known i) ix j
-  unfolding entryWith
-  tree-elsewhere i j h = ap (λ (r : List ℕ). dataBytes held j ++ (r ++ ix j)) (tree-other known i j h)
+    tree-elsewhere : (i j : ℕ) → (j ≡ i / 16384 → ⊥) → entryWith held known ix j ≡ entryWith held (to known i) ix j
+    unfolding entryWith
+    tree-elsewhere i j h = ap (λ (r : List ℕ). dataBytes held j ++ (r ++ ix j)) (tree-other known i j h)
 
-  module _ (long : (j : ℕ) → length (ix j) ≡ 256) (head tail : List ℕ) (front : length head ≡ 32) (k : ℕ) where
-    pub data-file : (n : ℕ) → n / 8192 < k
-        → setBit (head ++ (joined (run (entryWith held known ix) 0 k) ++ tail)) (32 + (n / 8192 * 3328 + 0)) (n % 8192)
-        ≡ head ++ (joined (run (entryWith (with-one held n) known ix) 0 k) ++ tail)
-    data-file n h =
-        op-file (λ xs p. setBit xs p (n % 8192)) (n % 8192 / 8 + 1) (bit-local (n % 8192)) (entryWith held known ix) (entryWith (with-one held n) known ix) 3328
-        (length-entryWith held known ix long) (n / 8192) 0 (omega arith) (data-there n) (data-elsewhere n) head tail 32 k front h
+    module _ (long : (j : ℕ) → length (ix j) ≡ 256) (head tail : List ℕ) (front : length head ≡ 32) (k : ℕ) where
+      pub data-file : (n : ℕ) → n / 8192 < k
+          → changeBit f (head ++ (joined (run (entryWith held known ix) 0 k) ++ tail)) (32 + (n / 8192 * 3328 + 0)) (n % 8192)
+          ≡ head ++ (joined (run (entryWith (to held n) known ix) 0 k) ++ tail)
+      data-file n h =
+          op-file (λ xs p. changeBit f xs p (n % 8192)) (n % 8192 / 8 + 1) (bit-local f (n % 8192)) (entryWith held known ix) (entryWith (to held n) known ix) 3328
+          (length-entryWith held known ix long) (n / 8192) 0 (omega arith) (data-there n) (data-elsewhere n) head tail 32 k front h
 
-    pub tree-file : (i : ℕ) → i / 16384 < k
-        → setBit (head ++ (joined (run (entryWith held known ix) 0 k) ++ tail)) (32 + (i / 16384 * 3328 + 1024)) (i % 16384)
-        ≡ head ++ (joined (run (entryWith held (with-one known i) ix) 0 k) ++ tail)
-    tree-file i h =
-        op-file (λ xs p. setBit xs p (i % 16384)) (i % 16384 / 8 + 1) (bit-local (i % 16384)) (entryWith held known ix) (entryWith held (with-one known i) ix) 3328
-        (length-entryWith held known ix long) (i / 16384) 1024 (omega arith) (tree-there i) (tree-elsewhere i) head tail 32 k front h
+      pub tree-file : (i : ℕ) → i / 16384 < k
+          → changeBit f (head ++ (joined (run (entryWith held known ix) 0 k) ++ tail)) (32 + (i / 16384 * 3328 + 1024)) (i % 16384)
+          ≡ head ++ (joined (run (entryWith held (to known i) ix) 0 k) ++ tail)
+      tree-file i h =
+          op-file (λ xs p. changeBit f xs p (i % 16384)) (i % 16384 / 8 + 1) (bit-local f (i % 16384)) (entryWith held known ix) (entryWith held (to known i) ix) 3328
+          (length-entryWith held known ix long) (i / 16384) 1024 (omega arith) (tree-there i) (tree-elsewhere i) head tail 32 k front h
 
 -- ---- a new Index
 
@@ -210,7 +206,7 @@ module _ (held known : ℕ → Bool) (ix : ℕ → List ℕ) (long : (j : ℕ) �
       ∙ ap (λ (r : List ℕ). treeBytes known e ++ r) (put-all (ix e) zs (long e ∙ sym (length-index (dataBytes held e)))))
 
   module _ (head tail : List ℕ) (front : length head ≡ 32) (k e : ℕ) (h : e < k) where
-    data-part : part (head ++ (joined (run (entryWith held known ix) 0 k) ++ tail)) (32 + e * 3328) 1024 ≡ dataBytes held e
+    pub data-part : part (head ++ (joined (run (entryWith held known ix) 0 k) ++ tail)) (32 + e * 3328) 1024 ≡ dataBytes held e
     data-part =
         let s : List ℕ = joined (run (entryWith held known ix) 0 k) in
         let l : length s ≡ k * 3328 = length-joined (entryWith held known ix) 3328 (length-entryWith held known ix long) 0 k in

@@ -4,3 +4,4 @@ pub mod Bits
 pub mod Levels
 pub mod Image
 pub mod Append
+pub mod Release

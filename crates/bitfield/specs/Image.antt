@@ -24,11 +24,11 @@ entry held known e = dataBytes held e ++ (treeBytes known e ++ indexBytes (dataB
 unfoldable pub entryCount : ℕ → ℕ
 entryCount n = (n + 8191) / 8192
 
--- "A data bit is 1 for each chunk below n"
+-- "A data bit is 1 for each chunk below n": where all of them are held
 abbrev pub heldBelow : ℕ → ℕ → Bool
 heldBelow n k = ltb k n
 
--- the entries of a register of n chunks. "a tree bit for each entry that is no hole; others are 0": among the entries from 0 to
--- 2n − 2 those that are no hole are the filled ones, and no entry behind them is filled
-unfoldable pub entriesOf : ℕ → List ℕ
-entriesOf n = joined (run (entry (heldBelow n) (filled n)) 0 (entryCount n))
+-- the entries of a register of n chunks, of which those are held that a test says. "a tree bit for each entry that is no hole; others are 0":
+-- among the entries from 0 to 2n − 2 those that are no hole are the filled ones, and no entry behind them is filled
+unfoldable pub entriesOf : (ℕ → Bool) → ℕ → List ℕ
+entriesOf held n = joined (run (entry held (filled n)) 0 (entryCount n))

@@ -3,4 +3,6 @@ pub mod Bits
 pub mod Index
 pub mod Image
 pub mod Append
+pub mod Release
+pub mod Missing
 pub mod Levels

@@ -4,10 +4,14 @@ pub mod index;
 use counts::ChunkNumber;
 use counts::TreeIndex;
 ghost use mathlib.Core.Path.{_≡_};
-ghost use Prim.Native.Nat.{_+_, _/_, _%_, _^_, _<_, _≤_};
+ghost use Prim.Native.Nat.{_+_, _-_, _/_, _%_, _^_, _<_, _≤_};
 ghost use lib.ListN.{length};
-ghost use Rattle.bitfield.specs.Bits.{setBit};
+ghost use Rattle.sequences.specs.Lowest.{lowest};
+ghost use Rattle.bitfield.specs.Bits.{bitAt, setBit, clearBit};
 ghost use Rattle.bitfield.specs.Append.{bitsPlace, zeroedIfNew, setDataBit, setTreeBit, setTreeBits, regenerated, withBits, appended};
+ghost use Rattle.bitfield.specs.Image.{entryCount};
+ghost use Rattle.bitfield.specs.Release.{storedHeld, clearDataBit, releasedBits};
+ghost use Rattle.bitfield.specs.Missing.{foundAt};
 ghost use Rattle.tree_index.specs.Tree.{filledBy};
 
 // The entry that has the data bit of a chunk.
@@ -46,14 +50,42 @@ fn entry_place(e: usize) -> usize
     32 + 3328 * e
 }
 
-// Inner: the bit number b, counted from the byte at place p, becomes 1. The first bit of a byte is its highest.
+// The value that the bit number b has in its byte. The first bit of a byte is its highest.
+fn bit_value(b: usize) -> u8
+    ensures { λ r. ⌜ (r ≡ 2 ^ (7 - b % 8)) × (0 < r) ⌝ }
+{
+    let r = (b % 8) as u8;
+    128u8 >> r
+}
+
+// Inner: the bit number b, counted from the byte at place p, becomes 1.
 fn set_bit(xs: &mut [u8], p: usize, b: usize)
     requires { ⌜ p + b / 8 < length (now xs) ⌝ }
     ensures { λ _. ⌜ now (xs .exit) ≡ setBit (now (xs .entry)) p b ⌝ }
 {
     let at = p + b / 8;
-    let r = (b % 8) as u8;
-    xs[at] = xs[at] | (128u8 >> r);
+    xs[at] = xs[at] | bit_value(b);
+}
+
+// Inner: the same bit becomes 0.
+fn clear_bit(xs: &mut [u8], p: usize, b: usize)
+    requires { ⌜ p + b / 8 < length (now xs) ⌝ }
+    ensures { λ _. ⌜ now (xs .exit) ≡ clearBit (now (xs .entry)) p b ⌝ }
+{
+    let at = p + b / 8;
+    let value = bit_value(b);
+    let x = xs[at];
+    xs[at] = x - value * (x / value % 2);
+}
+
+// Inner: whether that bit is 1.
+fn bit_is_set(xs: &[u8], p: usize, b: usize) -> bool
+    requires { ⌜ p + b / 8 < length (now xs) ⌝ }
+    ensures { λ r. ⌜ r ≡ bitAt (now (xs .entry)) p b ⌝ }
+{
+    let at = p + b / 8;
+    let value = bit_value(b);
+    xs[at] / value % 2 == 1
 }
 
 // Inner: the data bit of a chunk, whose entry has its room.
@@ -135,5 +167,53 @@ pub fn append_bits(xs: &mut [u8], c: ChunkNumber)
     ensures { λ _. ⌜ now (xs .exit) ≡ appended (now (xs .entry)) (c .0) ⌝ }
 {
     set_bits(xs, c);
+    make_index(xs, c);
+}
+
+// Inner: whether the data bit of a chunk is 1, which says that it is held.
+pub fn is_held(xs: &[u8], c: ChunkNumber) -> bool
+    requires { ⌜ bitsPlace (c .0 / 8192 + 1) ≤ length (now xs) ⌝ }
+    ensures { λ r. ⌜ r ≡ storedHeld (now (xs .entry)) (c .0) ⌝ }
+{
+    let at = entry_place(entry_of_chunk(c));
+    bit_is_set(xs, at, data_bit(c))
+}
+
+// What a search for a chunk that is not held finds.
+pub enum Found {
+    At(ChunkNumber),
+    Nothing,
+}
+
+// Inner: the first chunk from a given number on, below n, that is not held. The data bits are read in order.
+pub fn first_missing(xs: &[u8], from: ChunkNumber, n: u64) -> Found
+    requires { ⌜ bitsPlace (entryCount n) ≤ length (now xs) ⌝ }
+    ensures { λ r. ⌜ foundAt r ≡ lowest (storedHeld (now (xs .entry))) (from .0) (n - from .0) ⌝ }
+{
+    let mut c = from;
+    while c.0 < n {
+        if !is_held(xs, c) {
+            return Found::At(c);
+        }
+        c = ChunkNumber(c.0 + 1);
+    }
+    Found::Nothing
+}
+
+// Inner: the data bit of a chunk, whose entry has its room, becomes 0.
+fn clear_data_bit(xs: &mut [u8], c: ChunkNumber)
+    requires { ⌜ bitsPlace (c .0 / 8192 + 1) ≤ length (now xs) ⌝ }
+    ensures { λ _. ⌜ now (xs .exit) ≡ clearDataBit (now (xs .entry)) (c .0) ⌝ }
+{
+    let at = entry_place(entry_of_chunk(c));
+    clear_bit(xs, at, data_bit(c));
+}
+
+// Inner: what the release of a chunk does to the bitfield file.
+pub fn release_bits(xs: &mut [u8], c: ChunkNumber)
+    requires { ⌜ bitsPlace (c .0 / 8192 + 1) ≤ length (now xs) ⌝ }
+    ensures { λ _. ⌜ now (xs .exit) ≡ releasedBits (now (xs .entry)) (c .0) ⌝ }
+{
+    clear_data_bit(xs, c);
     make_index(xs, c);
 }

@@ -7,6 +7,8 @@ use Rattle.blake2b.specs.Hash.{nodeHash}
 use Rattle.files.specs.Belongs.{Register}
 use Rattle.needs.specs.Needs.{Need, needOf, needVerdict}
 use Rattle.lookup.specs.Lookup.{Found, refusal, found, foundUnless}
+use Rattle.sequences.specs.Lowest.{nowhere, first}
+use Rattle.search.specs.Search.{Sought, refusal as unsought, answer as sought}
 use Rattle.packet.specs.Packet.{makeVerdict, madeLength, afterMake}
 use Rattle.packet.specs.Check.{chunkLength, packetVerdict}
 use Rattle.compare.specs.Walk.{Comparison, rootsDiffer, equal}
@@ -42,6 +44,12 @@ pub record Gives (f : Found) (before : List ℕ) (answer : SleepAnswer) (after :
 abbrev pub asPart : Found → Found
 asPart (refusal number at) = refusal number at
 asPart (found from end) = found from (end - from)
+
+-- a search, as two numbers: 1 and the chunk, or 0 and 0 where there is none
+abbrev pub asFound : Sought → Found
+asFound (unsought number at) = refusal number at
+asFound (sought nowhere) = found 0 0
+asFound (sought (first c)) = found 1 c
 
 -- the chunk's part of a packet that passes the check: `packetChunk` (packet, Check) is this part
 unfoldable pub packetPart : List ℕ → ℕ → ℕ → List ℕ → Found

@@ -1,16 +1,18 @@
-// The lookups and the verified read. Each gives two numbers, in `out`, which is as it was after a refusal.
+// The lookups, the verified read and the search. Each gives two numbers, in `out`, which is as it was after a refusal.
 use super::answers::SleepAnswer;
 use counts::ByteOffset;
 use counts::ChunkNumber;
 use lookup::Located;
 use lookup::Placed;
 use lookup::Verified;
+use search::Searched;
 ghost use mathlib.Core.Path.{_≡_};
 ghost use Rattle.blake2b.specs.Hash.{nodeHash};
 ghost use Rattle.checks.specs.Given.{registerOf};
 ghost use Rattle.lookup.specs.Lookup.{placeOf, byteAt};
 ghost use Rattle.lookup.specs.Said.{readFound};
-ghost use Rattle.c_api.specs.Encoding.{Gives, asPart};
+ghost use Rattle.search.specs.Search.{searchFor};
+ghost use Rattle.c_api.specs.Encoding.{Gives, asPart, asFound};
 
 // Where the bytes of a chunk begin in `content`, and how many they are.
 #[no_mangle]
@@ -126,6 +128,49 @@ pub extern "C" fn sleep_read(
         Verified::Refused(refusal) => super::answers::refused(refusal),
         Verified::Part(start, end) => {
             *out = [start.0, end.0 - start.0];
+            super::answers::encode(counts::Answer::Done)
+        }
+    }
+}
+
+// The first chunk from a given number on, below n, that is not held: 1 and its number, or 0 and 0 where there is none.
+#[no_mangle]
+pub extern "C" fn sleep_search(
+    tree: &[u8],
+    signatures: &[u8],
+    bitfield: &[u8],
+    content: &[u8],
+    n: u64,
+    s: u64,
+    size: u64,
+    from: u64,
+    out: &mut [u64; 2],
+) -> SleepAnswer
+    ensures { λ r.
+        ⌜
+        Gives
+        (asFound (searchFor (registerOf (now (tree .entry)) (now (signatures .entry)) (now (bitfield .entry)) (now (content .entry)) n s size) from))
+        (now (out .entry)) r (now (out .exit))
+        ⌝ }
+{
+    let found = search::search(
+        tree,
+        signatures,
+        bitfield,
+        content,
+        n,
+        s,
+        size,
+        ChunkNumber(from),
+    );
+    match found {
+        Searched::Refused(refusal) => super::answers::refused(refusal),
+        Searched::At(chunk) => {
+            *out = [1, chunk.0];
+            super::answers::encode(counts::Answer::Done)
+        }
+        Searched::Nothing => {
+            *out = [0, 0];
             super::answers::encode(counts::Answer::Done)
         }
     }

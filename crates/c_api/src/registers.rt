@@ -1,6 +1,7 @@
 // The calls that start, write and audit a register, and its root hashes. A register is lent as its four images `tree`, `signatures`,
 // `bitfield` and `content` (the data), and told the chunk count `n`, the signature count `s` and the data size `size`.
 use super::answers::SleepAnswer;
+use counts::ChunkNumber;
 ghost use mathlib.Core.Path.{_≡_};
 ghost use Rattle.counts.specs.Verdict.{unlessRefused};
 ghost use Rattle.blake2b.specs.Hash.{nodeHash};
@@ -10,6 +11,7 @@ ghost use Rattle.writing.specs.Start.{startVerdict, afterStart};
 ghost use Rattle.writing.specs.Append.{appendVerdict, appendRoot, afterAppend};
 ghost use Rattle.writing.specs.Sign.{signVerdict, afterSign};
 ghost use Rattle.list_append.specs.Append.{listVerdict, listRoot, afterList};
+ghost use Rattle.release.specs.Release.{releaseVerdict, afterRelease};
 ghost use Rattle.writing.specs.RootHash.{rootVerdict, rootAnswer};
 ghost use Rattle.writing.specs.Post.{lent};
 ghost use Rattle.old_root.specs.OldRoot.{oldVerdict, oldRoot};
@@ -135,6 +137,33 @@ pub extern "C" fn sleep_store_signature(
     ))
 }
 
+// A chunk that is held makes room: its data bit is cleared, and its bytes become zeros.
+#[no_mangle]
+pub extern "C" fn sleep_release(
+    tree: &[u8],
+    signatures: &[u8],
+    bitfield: &mut [u8],
+    content: &mut [u8],
+    n: u64,
+    s: u64,
+    size: u64,
+    chunk: u64,
+) -> SleepAnswer
+    ensures answers { λ r. ⌜ r ≡ encoded (releaseVerdict (registerOf (now (tree .entry)) (now (signatures .entry)) (now (bitfield .entry)) (now (content .entry)) n s size) chunk) ⌝ }
+    ensures buffers { λ _. ⌜ lent (now (tree .exit)) (now (signatures .exit)) (now (bitfield .exit)) (now (content .exit)) ≡ afterRelease (registerOf (now (tree .entry)) (now (signatures .entry)) (now (bitfield .entry)) (now (content .entry)) n s size) chunk ⌝ }
+{
+    super::answers::encode(release::release(
+        tree,
+        signatures,
+        bitfield,
+        content,
+        n,
+        s,
+        size,
+        ChunkNumber(chunk),
+    ))
+}
+
 // The root hash that the stored roots give, in `root`.
 #[no_mangle]
 pub extern "C" fn sleep_root_hash(
@@ -178,7 +207,7 @@ pub extern "C" fn sleep_old_root(
     super::answers::give_hash(answer, hash, root)
 }
 
-// Whether the used bytes of all four images are those of some chunk sequence and some signatures.
+// Whether the used bytes of all four images are those of some chunks, held or released, and some signatures.
 #[no_mangle]
 pub extern "C" fn sleep_audit(
     tree: &[u8],

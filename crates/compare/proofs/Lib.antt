@@ -3,4 +3,5 @@ pub mod Local
 pub mod Apart
 pub mod RootMessages
 pub mod Same
+pub mod Whole
 pub mod Walked

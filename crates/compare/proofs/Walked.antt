@@ -1,4 +1,4 @@
--- The walk over two registers as the code makes it, and what the audits give it.
+-- The walk over two registers as the code makes it, and what their checks give it.
 -- Assumes nothing.
 use Prim.Native.Nat.{ℕ, zero, suc, _+_, _-_, _*_, _≤_, _<_}
 use mathlib.Core.Path.{_≡_, refl, sym, ap, _∙_, subst}
@@ -20,14 +20,14 @@ use Rattle.tree_index.proofs.Filled.{filled-below, end-filled}
 use Rattle.files.specs.Stored.{storedHash, storedSize, storedStart, storedMessage, storedRootMessage}
 use Rattle.files.specs.Belongs.{Register}
 use Rattle.files.specs.Within.{RootsIn}
-use Rattle.audit.specs.Audit.{Lowest, nowhere, first, lowest, audit, Accepted}
+use Rattle.audit.specs.Audit.{Lowest, nowhere, first, lowest, Accepted}
 use Rattle.audit.specs.Walked.{leavesBefore}
 use Rattle.audit.proofs.Audited.{Audited, accepted-audited, leaf-says, odd-entry, parent-right}
 use Rattle.audit.proofs.Search.{lowest-on, lowest-off, lowest-end}
-use Rattle.audit.proofs.Whole.{says-accepted}
-use Rattle.compare.specs.Walk.{Comparison, firstRefused, secondRefused, rootsDiffer, atRoots, atIndex, equal, found, walk, unlessRefused, compare}
+use Rattle.compare.specs.Walk.{Comparison, firstRefused, secondRefused, rootsDiffer, atRoots, atIndex, equal, found, walk, unlessRefused, wholeVerdict, compare}
 use Rattle.compare.specs.Inner.{Walkable, ReadAt, collidesAt}
 use Rattle.compare.proofs.RootMessages.{same-count}
+use Rattle.compare.proofs.Whole.{whole-accepted}
 
 -- ---- an accepted register can be read
 
@@ -38,7 +38,7 @@ walkable F r e =
       chunk = λ k h. omega (arith, leaf k h, a .checked .content);
       sum = λ i f p.
           let z : depth i ≡ suc (depth i - 1) = omega arith in
-          parent-right F (r .tree) (r .content) i (sym (odd-entry F (r .tree) (r .content) (r .n) (r .size) i (depth i - 1) z f) ∙ a .entry i (filled-below (r .n) i f)) .sum;
+          parent-right F (r .tree) (r .content) i (sym (odd-entry F (r .tree) (r .content) (r .bitfield) (r .n) (r .size) i (depth i - 1) z f) ∙ a .entry i (filled-below (r .n) i f)) .sum;
     }
   where
     a : Audited F r
@@ -48,7 +48,7 @@ walkable F r e =
     there k h = end-filled (r .n) zero k (omega (arith, mul-one (k + 1)))
 
     leaf : (k : ℕ) → k < r .n → storedStart (r .tree) k + storedSize (r .tree) (2 * k) ≤ r .size
-    leaf k h = leaf-says F (r .tree) (r .content) (r .n) (r .size) k (there k h) (a .entry (index zero k) (filled-below (r .n) (index zero k) (there k h))) .inside
+    leaf k h = leaf-says F (r .tree) (r .content) (r .bitfield) (r .n) (r .size) k (there k h) (a .entry (index zero k) (filled-below (r .n) (index zero k) (there k h))) .inside
 
 -- ---- the walk over the entries
 
@@ -133,26 +133,26 @@ module _ (F : List ℕ → List ℕ) (t d u e : List ℕ) (n m : ℕ) where
   walk-count p q r v g =
       subst (Walkable u e) (sym (same-count t u n m (p .room) (q .room) (same-eq (storedRootMessage t n) (storedRootMessage u m) (sym v ∙ g)))) q
 
--- ---- the audits, then the walk
+-- ---- the checks of both, then the walk
 
-module _ (F : List ℕ → List ℕ) (a b : Register) (x : Answer) (p : said x ≡ audit F a) where
+module _ (F : List ℕ → List ℕ) (a b : Register) (x : Answer) (p : said x ≡ wholeVerdict F a) where
   abbrev last : Comparison
   last = walked F (a .tree) (a .content) (b .tree) (b .content) (a .n) (b .n)
 
-  parts : compare F a b ≡ unlessRefused (said x) (audit F b) last
+  parts : compare F a b ≡ unlessRefused (said x) (wholeVerdict F b) last
   unfolding compare
-  parts = ap (λ (v : Verdict). unlessRefused v (audit F b) last) (sym p)
+  parts = ap (λ (v : Verdict). unlessRefused v (wholeVerdict F b) last) (sym p)
 
   pub first-refuses : (m : Refusal) → x ≡ Refused m → firstRefused (m .number) (spotOf (m .place)) ≡ compare F a b
-  first-refuses m e = sym (parts ∙ ap (λ (y : Answer). unlessRefused (said y) (audit F b) last) e)
+  first-refuses m e = sym (parts ∙ ap (λ (y : Answer). unlessRefused (said y) (wholeVerdict F b) last) e)
 
-  module _ (e : x ≡ Done) (y : Answer) (q : said y ≡ audit F b) where
+  module _ (e : x ≡ Done) (y : Answer) (q : said y ≡ wholeVerdict F b) where
     pub second-refuses : (m : Refusal) → y ≡ Refused m → secondRefused (m .number) (spotOf (m .place)) ≡ compare F a b
     second-refuses m g = sym (parts ∙ (λ j. unlessRefused (said (e j)) (sym q j) last) ∙ ap (λ (z : Answer). unlessRefused done (said z) last) g)
 
     module _ (g : y ≡ Done) where
       pub both-walkable : Walkable (a .tree) (a .content) (a .n) × Walkable (b .tree) (b .content) (b .n)
-      both-walkable = (walkable F a (says-accepted F a x p e), walkable F b (says-accepted F b y q g))
+      both-walkable = (walkable F a (whole-accepted F a (sym p ∙ ap said e)), walkable F b (whole-accepted F b (sym q ∙ ap said g)))
 
       pub walk-says : (c : Comparison) → c ≡ last → c ≡ compare F a b
       walk-says c z = z ∙ sym (parts ∙ (λ j. unlessRefused (said (e j)) (sym q j) last) ∙ ap (λ (w : Answer). unlessRefused done (said w) last) g)

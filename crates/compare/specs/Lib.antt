@@ -2,3 +2,4 @@
 pub mod Walk
 pub mod Answered
 pub mod Inner
+pub mod Answers

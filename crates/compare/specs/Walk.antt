@@ -2,12 +2,14 @@
 use Prim.Native.Nat.{ℕ, zero, suc}
 use mathlib.Core.Bool.{Bool, true, false, cond, not, _&&_, _||_}
 use mathlib.Core.List.{List}
-use Rattle.counts.specs.Verdict.{Spot, Verdict, done, refused}
+use Rattle.counts.specs.Verdict.{Spot, Verdict, tree, done, refused}
 use Rattle.sequences.specs.Lists.{sameList}
-use Rattle.tree_index.specs.Tree.{filled, entries}
+use Rattle.tree_index.specs.Tree.{index, filled, entries}
+use Rattle.bitfield.specs.Release.{storedHeld}
 use Rattle.files.specs.Stored.{storedHash, storedMessage, storedRootMessage}
 use Rattle.files.specs.Belongs.{Register}
-use Rattle.audit.specs.Audit.{Lowest, nowhere, first, lowest, audit}
+use Rattle.checks.specs.Checks.{judged, registerChecks}
+use Rattle.audit.specs.Audit.{Lowest, nowhere, first, lowest, refusedAt, imagesVerdict}
 
 -- what the walk answers: a refusal that says which register, or "equal", "roots differ", or a collision "at the roots" or at a tree index
 pub data Comparison : Type 0 where
@@ -41,11 +43,21 @@ unlessRefused (refused m at) v next = firstRefused m at
 unlessRefused done (refused m at) next = secondRefused m at
 unlessRefused done done next = next
 
+-- the lowest chunk that is not held
+unfoldable pub missing : Register → Lowest
+missing r = lowest (storedHeld (r .bitfield)) 0 (r .n)
+
 module _ (F : List ℕ → List ℕ) where
-  -- "The comparing walk audits the first register, then the second, and a refusal says which. Then" the walk, over what the two store
+  -- the checks of one register: 2 to 6; "It refuses with 18 .. a comparison that needs a chunk not held; the place is its leaf's tree index, the lowest
+  -- for a comparison"; then 10 and 11 as the audit has them
+  unfoldable pub wholeVerdict : Register → Verdict
+  wholeVerdict r = judged (registerChecks r) (refusedAt 18 (λ k. tree (index 0 k)) (missing r) (imagesVerdict F r))
+
+  -- "The comparing walk audits the first register, then the second, and a refusal says which", "which goes through all checks of the first register
+  -- before the second's". Then the walk, over what the two store
   unfoldable pub compare : Register → Register → Comparison
   compare a b =
-      unlessRefused (audit F a) (audit F b)
+      unlessRefused (wholeVerdict a) (wholeVerdict b)
       (walk (F (storedRootMessage (a .tree) (a .n))) (F (storedRootMessage (b .tree) (b .n)))
       (storedRootMessage (a .tree) (a .n)) (storedRootMessage (b .tree) (b .n)) (storedMessage (a .tree) (a .content))
       (storedMessage (b .tree) (b .content)) (storedHash (a .tree)) (storedHash (b .tree)) (filled (a .n)) (entries (a .n)))

@@ -1,12 +1,15 @@
-// The comparing walk on two registers. It reads the lent bytes and changes nothing.
+// The comparing walk on two registers that hold all their chunks. It reads the lent bytes and changes nothing.
 mod messages;
 
+use bitfield::Found;
 use counts::Answer;
 use counts::ByteOffset;
+use counts::ChunkNumber;
 use counts::Refusal;
 use counts::TreeIndex;
 ghost use mathlib.Core.Path.{_≡_};
 ghost use mathlib.Core.Bool.{not};
+ghost use Rattle.counts.specs.Said.{said};
 ghost use Rattle.tree_index.specs.Tree.{filled, entries};
 ghost use Rattle.blake2b.specs.Hash.{nodeHash};
 ghost use Rattle.files.specs.Stored.{storedHash, storedMessage, storedRootMessage};
@@ -57,7 +60,7 @@ fn lowest_collision(tree: &[u8], content: &[u8], tree2: &[u8], content2: &[u8], 
     Compared::Equal
 }
 
-// Inner: the walk on two audited registers: the root hashes first, then the root messages, then index by index.
+// Inner: the walk on two registers that passed their checks: the root hashes first, then the root messages, then index by index.
 fn walk(tree: &[u8], content: &[u8], n: u64, tree2: &[u8], content2: &[u8], n2: u64) -> Compared
     requires { ⌜ Walkable (now tree) (now content) n × Walkable (now tree2) (now content2) n2 ⌝ }
     ensures { λ r.
@@ -87,7 +90,36 @@ fn walk(tree: &[u8], content: &[u8], n: u64, tree2: &[u8], content2: &[u8], n2: 
     lowest_collision(tree, content, tree2, content2, n)
 }
 
-// The audit of the first register, then of the second, then the walk.
+// Inner: the checks of one register: 2 to 6, then 18 at the leaf of the lowest chunk that is not held, then 10 and 11 as in the audit.
+fn judge_whole(
+    tree: &[u8],
+    signatures: &[u8],
+    bitfield: &[u8],
+    content: &[u8],
+    n: u64,
+    s: u64,
+    size: u64,
+) -> Answer
+    ensures { λ r.
+        ⌜
+        said r ≡
+        spec.wholeVerdict
+        nodeHash
+        (registerOf (now (tree .entry)) (now (signatures .entry)) (now (bitfield .entry)) (now (content .entry)) n s size)
+        ⌝ }
+{
+    let checked = checks::judge(tree, signatures, bitfield, content, n, s, size);
+    let Answer::Done = checked else {
+        return checked;
+    };
+    let missing = bitfield::first_missing(bitfield, ChunkNumber(0), n);
+    if let Found::At(c) = missing {
+        return counts::refuse_entry(18, tree_index::leaf_index(c));
+    }
+    audit::images(tree, bitfield, content, n, size)
+}
+
+// All checks of the first register, then those of the second, then the walk.
 pub fn compare(
     tree: &[u8],
     signatures: &[u8],
@@ -113,11 +145,11 @@ pub fn compare(
         (registerOf (now (tree2 .entry)) (now (signatures2 .entry)) (now (bitfield2 .entry)) (now (content2 .entry)) n2 s2 size2)
         ⌝ }
 {
-    let first = audit::audit(tree, signatures, bitfield, content, n, s, size);
+    let first = judge_whole(tree, signatures, bitfield, content, n, s, size);
     if let Answer::Refused(refusal) = first {
         return Compared::FirstRefused(refusal);
     }
-    let second = audit::audit(tree2, signatures2, bitfield2, content2, n2, s2, size2);
+    let second = judge_whole(tree2, signatures2, bitfield2, content2, n2, s2, size2);
     if let Answer::Refused(refusal) = second {
         return Compared::SecondRefused(refusal);
     }

@@ -1,15 +1,18 @@
 -- Demand 2: the proof of `Demand2ForAll`.
 -- Assumes nothing.
-use Prim.Native.Nat.{ℕ}
-use mathlib.Core.Path.{_≡_, refl, ap, _∙_}
+use Prim.Native.Nat.{ℕ, _<_}
+use lib.ListN.{length}
+use mathlib.Core.Path.{_≡_, refl, sym, ap, _∙_, subst}
 use mathlib.Core.Logic.{inl}
 use mathlib.Core.List.{List, []}
 use native.Mathlib.Omega.{arith}
 use Rattle.counts.specs.Verdict.{Spot, Verdict, done, refused}
 use Rattle.files.specs.Messages.{HashFunction}
 use Rattle.files.specs.Stored.{storedRootMessage}
+use Rattle.files.specs.Slots.{Slot}
 use Rattle.files.specs.Belongs.{Buffers, Register, buffersOf}
-use Rattle.checks.specs.Checks.{judged, registerChecks}
+use Rattle.files.proofs.Slots.{contents-length}
+use Rattle.checks.specs.Checks.{judged, registerChecks, holds}
 use Rattle.checks.proofs.Passed.{Passed, passes}
 use Rattle.audit.specs.Audit.{Accepted}
 use Rattle.audit.specs.Exact.{Imaged}
@@ -22,11 +25,14 @@ use Rattle.writing.proofs.Written.{within-nil}
 use Rattle.writing.proofs.Started.{fits-start, start-refused, started-belongs, started-signatures, start-tree-rest, start-signatures-rest, start-bitfield-rest}
 use Rattle.writing.proofs.Orders.{left-done, left-refused}
 use Rattle.writing.proofs.Lent.{start-lent}
+use Rattle.lookup.specs.Read.{andThen, readVerdict}
 use Rattle.lookup.proofs.Answers.{answers}
+use Rattle.packet.specs.Packet.{packetOf, roomOr14, makeVerdict}
 use Rattle.packet.proofs.Answers.{packet-answers}
-use Rattle.demands.specs.Demand2.{Beyond, StartWrites, RootAnswers, Written, fromStart, fromImages, andAppended, andListed, andSigned, Demand2ForAll}
+use Rattle.demands.specs.Demand2.{Beyond, StartWrites, RootAnswers, Written, fromStart, fromImages, andAppended, andListed, andReleased, andSigned, Demand2ForAll}
 use Rattle.demands.proofs.Singles.{append-imaged, append-writes, sign-imaged, sign-writes, root-hash}
 use Rattle.demands.proofs.Lists.{list-imaged, list-writes}
+use Rattle.demands.proofs.Releases.{checks-passed, release-imaged, release-writes}
 
 -- ---- a start
 
@@ -82,22 +88,25 @@ pub root-answers : (F : List ℕ → List ℕ) → HashFunction F → RootAnswer
 root-answers F hf =
     record {
       takes = λ r a. root-done r (accepted-audited F r a .checked);
-      answers = λ r cs w b e. root-answered F r e ∙ root-hash F hf r cs w b;
+      answers = λ r ss w b e. root-answered F r e ∙ root-hash F hf r ss w b;
     }
 
 -- ---- what is read from it
 
-checks-passed : (F : List ℕ → List ℕ) (r : Register) → Accepted F r → judged (registerChecks r) done ≡ done
-checks-passed F r a = passes r done (accepted-audited F r a .checked)
+-- a read that is refused makes no packet
+no-packet : (F : List ℕ → List ℕ) (r : Register) (i : ℕ) (out : List ℕ) {m : ℕ} {at : Spot} → readVerdict F r i ≡ refused m at → makeVerdict F r i out ≡ refused m at
+unfolding makeVerdict
+no-packet F r i out e = ap (λ (v : Verdict). andThen v (roomOr14 (holds out (length (packetOf r i))))) e
 
 -- ---- whatever calls wrote it
 
-written-imaged : (F : List ℕ → List ℕ) → HashFunction F → {r : Register} {cs sigs : List (List ℕ)} → Written F r cs sigs → Imaged F r cs sigs
+written-imaged : (F : List ℕ → List ℕ) → HashFunction F → {r : Register} {ss : List Slot} {sigs : List (List ℕ)} → Written F r ss sigs → Imaged F r ss sigs
 written-imaged F hf (fromStart b e) = start-imaged F b
 written-imaged F hf (fromImages m) = m
-written-imaged F hf (andAppended {r} {cs} {sigs} chunk m p e) = append-imaged F r chunk hf p e cs sigs (written-imaged F hf m)
-written-imaged F hf (andListed {r} {cs} {sigs} lengths bytes m p e) = list-imaged F hf r cs sigs lengths bytes (written-imaged F hf m) p e
-written-imaged F hf (andSigned {r} {cs} {sigs} signature m g e) = sign-imaged F r signature g e cs sigs (written-imaged F hf m)
+written-imaged F hf (andAppended {r} {ss} {sigs} chunk m p e) = append-imaged F r chunk hf p e ss sigs (written-imaged F hf m)
+written-imaged F hf (andListed {r} {ss} {sigs} lengths bytes m p e) = list-imaged F hf r ss sigs lengths bytes (written-imaged F hf m) p e
+written-imaged F hf (andReleased {r} {ss} {sigs} c m e) = release-imaged F hf r ss sigs c (written-imaged F hf m) e
+written-imaged F hf (andSigned {r} {ss} {sigs} signature m g e) = sign-imaged F r signature g e ss sigs (written-imaged F hf m)
 
 pub demand-2 : Demand2ForAll
 demand-2 F hf =
@@ -106,9 +115,11 @@ demand-2 F hf =
       append = append-writes F hf;
       list = list-writes F hf;
       sign = sign-writes F hf;
+      release = release-writes F hf;
       root = root-answers F hf;
-      written = λ r cs sigs m. written-imaged F hf m;
+      written = λ r ss sigs m. written-imaged F hf m;
       audit = audit-exact F hf;
-      reads = λ r cs w b a. answers F hf cs w r b (checks-passed F r a);
-      packets = λ r cs w b a. packet-answers F hf cs w r b (checks-passed F r a);
+      reads = λ r ss w b a. answers F hf ss w r b (checks-passed F r a);
+      packets = λ r ss w b a. packet-answers F hf ss w r b (checks-passed F r a);
+      noPacket = λ r ss w b a i l h out. no-packet F r i out (answers F hf ss w r b (checks-passed F r a) .notHeld i (subst (λ (n : ℕ). i < n) (sym (contents-length ss)) l) h);
     }

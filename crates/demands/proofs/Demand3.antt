@@ -8,7 +8,8 @@ use native.Mathlib.Decide.{decLt}
 use native.Mathlib.Omega.{arith}
 use Rattle.files.specs.Messages.{HashFunction}
 use Rattle.files.specs.Images.{rootHashFor, rootMessageFor, messageFor}
-use Rattle.files.specs.Belongs.{Register, Within, Belongs}
+use Rattle.files.specs.Slots.{allHeld, Within}
+use Rattle.files.specs.Belongs.{Register, Belongs}
 use Rattle.audit.specs.Audit.{Accepted}
 use Rattle.audit.proofs.Accepts.{has-register}
 use Rattle.compare.specs.Walk.{Comparison, rootsDiffer, atRoots, atIndex, equal, compare}
@@ -24,7 +25,7 @@ never e = omega arith
 module _ (F : List ℕ → List ℕ) (cs ds : List (List ℕ)) where
   -- what a collision rules out
   not-equal : {i : ℕ} → CollisionAt F cs ds i → cs ≢ ds
-  not-equal {i} c e = c .collision .differ (ap (λ (es : List (List ℕ)). messageFor F es i) e)
+  not-equal {i} c e = c .collision .differ (ap (λ (es : List (List ℕ)). messageFor F (allHeld es) i) e)
 
   -- two lowest collisions stand at one index
   one-place : (i j : ℕ) → CollisionAt F cs ds i → CollisionAt F cs ds j → ((k : ℕ) → k < i → CollisionAt F cs ds k → ⊥)
@@ -36,14 +37,14 @@ module _ (F : List ℕ → List ℕ) (cs ds : List (List ℕ)) where
       ]
 
   -- every claim of `Tells`, of an answer w that says what it must
-  module _ (w : Comparison) (one : rootMessageFor F cs ≡ rootMessageFor F ds → ((i : ℕ) → CollisionAt F cs ds i → ⊥) → cs ≡ ds) where
+  module _ (w : Comparison) (one : rootMessageFor F (allHeld cs) ≡ rootMessageFor F (allHeld ds) → ((i : ℕ) → CollisionAt F cs ds i → ⊥) → cs ≡ ds) where
     equal-exactly : Answer F cs ds w → (w ≡ equal) ↔ (cs ≡ ds)
-    equal-exactly (differ e h) = ((λ g. absurd (never cc)), (λ g. absurd (h (ap (rootHashFor F) g))))
-    equal-exactly (roots e c) = ((λ g. absurd (never cc)), (λ g. absurd (c .differ (ap (rootMessageFor F) g))))
+    equal-exactly (differ e h) = ((λ g. absurd (never cc)), (λ g. absurd (h (ap (λ (l : List (List ℕ)). rootHashFor F (allHeld l)) g))))
+    equal-exactly (roots e c) = ((λ g. absurd (never cc)), (λ g. absurd (c .differ (ap (λ (l : List (List ℕ)). rootMessageFor F (allHeld l)) g))))
     equal-exactly (place i e r c p) = ((λ g. absurd (never cc)), (λ g. absurd (not-equal c g)))
     equal-exactly (same e r p) = ((λ g. one r p), (λ g. e))
 
-    differ-exactly : Answer F cs ds w → (w ≡ rootsDiffer) ↔ (rootHashFor F cs ≢ rootHashFor F ds)
+    differ-exactly : Answer F cs ds w → (w ≡ rootsDiffer) ↔ (rootHashFor F (allHeld cs) ≢ rootHashFor F (allHeld ds))
     unfolding rootHashFor
     differ-exactly (differ e h) = ((λ g. h), (λ g. e))
     differ-exactly (roots e c) = ((λ g. absurd (never cc)), (λ g. absurd (g (c .oneHash))))
@@ -56,7 +57,7 @@ module _ (F : List ℕ → List ℕ) (cs ds : List (List ℕ)) where
     named (place i e r c _) p q = inr (i, e)
     named (same e r _) p q = absurd (p e)
 
-    roots-exactly : Answer F cs ds w → (w ≡ atRoots) ↔ Collision F (rootMessageFor F cs) (rootMessageFor F ds)
+    roots-exactly : Answer F cs ds w → (w ≡ atRoots) ↔ Collision F (rootMessageFor F (allHeld cs)) (rootMessageFor F (allHeld ds))
     unfolding rootHashFor
     roots-exactly (differ e h) = ((λ g. absurd (never cc)), (λ g. absurd (h (g .oneHash))))
     roots-exactly (roots e c) = ((λ g. c), (λ g. e))
@@ -65,7 +66,7 @@ module _ (F : List ℕ → List ℕ) (cs ds : List (List ℕ)) where
 
     -- the lowest collision of messages under one root message
     abbrev LowestAt : ℕ → Type 0
-    LowestAt i = (rootMessageFor F cs ≡ rootMessageFor F ds) × CollisionAt F cs ds i × ((j : ℕ) → j < i → CollisionAt F cs ds j → ⊥)
+    LowestAt i = (rootMessageFor F (allHeld cs) ≡ rootMessageFor F (allHeld ds)) × CollisionAt F cs ds i × ((j : ℕ) → j < i → CollisionAt F cs ds j → ⊥)
 
     index-exactly : Answer F cs ds w → (i : ℕ) → (w ≡ atIndex i) ↔ LowestAt i
     unfolding rootHashFor
@@ -75,11 +76,11 @@ module _ (F : List ℕ → List ℕ) (cs ds : List (List ℕ)) where
         ((λ g. let s : j ≡ i = cc in subst LowestAt s (r, c, p)), (λ g. e ∙ ap atIndex (one-place j i c (g .1) p (g .2))))
     index-exactly (same e r p) i = ((λ g. absurd (never cc)), (λ g. absurd (p i (g .1))))
 
-    same-exactly : Answer F cs ds w → (cs ≡ ds) ↔ ((rootHashFor F cs ≡ rootHashFor F ds) × (NamesCollision w → ⊥))
-    same-exactly (differ e h) = ((λ g. absurd (h (ap (rootHashFor F) g))), (λ g. absurd (h (g .0))))
-    same-exactly (roots e c) = ((λ g. absurd (c .differ (ap (rootMessageFor F) g))), (λ g. absurd (g .1 (inl e))))
+    same-exactly : Answer F cs ds w → (cs ≡ ds) ↔ ((rootHashFor F (allHeld cs) ≡ rootHashFor F (allHeld ds)) × (NamesCollision w → ⊥))
+    same-exactly (differ e h) = ((λ g. absurd (h (ap (λ (l : List (List ℕ)). rootHashFor F (allHeld l)) g))), (λ g. absurd (h (g .0))))
+    same-exactly (roots e c) = ((λ g. absurd (c .differ (ap (λ (l : List (List ℕ)). rootMessageFor F (allHeld l)) g))), (λ g. absurd (g .1 (inl e))))
     same-exactly (place i e r c p) = ((λ g. absurd (not-equal c g)), (λ g. absurd (g .1 (inr (i, e)))))
-    same-exactly (same e r p) = ((λ g. (ap (rootHashFor F) g, unnamed)), (λ g. one r p))
+    same-exactly (same e r p) = ((λ g. (ap (λ (l : List (List ℕ)). rootHashFor F (allHeld l)) g, unnamed)), (λ g. one r p))
       where
         unnamed : NamesCollision w → ⊥
         unnamed (inl g) = never cc
@@ -87,7 +88,7 @@ module _ (F : List ℕ → List ℕ) (cs ds : List (List ℕ)) where
 
 module _ (F : List ℕ → List ℕ) (H : HashFunction F) where
   -- of every two accepted registers
-  pub tells : (cs ds : List (List ℕ)) → Within cs → Within ds → (a b : Register) → Accepted F a → Accepted F b → Belongs F a cs → Belongs F b ds
+  pub tells : (cs ds : List (List ℕ)) → Within (allHeld cs) → Within (allHeld ds) → (a b : Register) → Accepted F a → Accepted F b → Belongs F a (allHeld cs) → Belongs F b (allHeld ds)
       → Tells F a b cs ds
   tells cs ds W W′ a b A A′ B B′ =
       record {
@@ -106,8 +107,8 @@ module _ (F : List ℕ → List ℕ) (H : HashFunction F) where
       v : Answer F cs ds w
       v = subst (Answer F cs ds) (sym (compare-walks F H cs ds W W′ a b B B′ A A′)) (answer F cs ds H W W′)
 
-      one : rootMessageFor F cs ≡ rootMessageFor F ds → ((i : ℕ) → CollisionAt F cs ds i → ⊥) → cs ≡ ds
+      one : rootMessageFor F (allHeld cs) ≡ rootMessageFor F (allHeld ds) → ((i : ℕ) → CollisionAt F cs ds i → ⊥) → cs ≡ ds
       one = one-sequence F H cs ds W W′
 
 pub demand-3 : Demand3ForAll
-demand-3 F H = record { tells = tells F H; has = λ cs W. has-register F cs H W }
+demand-3 F H = record { tells = tells F H; has = λ cs W. has-register F (allHeld cs) H W }

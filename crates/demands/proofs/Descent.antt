@@ -18,8 +18,10 @@ use Rattle.tree_index.proofs.Cover.{inBlock, inBlock-index, roots-cover}
 use Rattle.files.specs.Messages.{HashFunction}
 use Rattle.files.specs.Nodes.{Entry, node}
 use Rattle.files.specs.Images.{leaves, messageFor, rootMessageFor}
-use Rattle.files.specs.Belongs.{Within}
-use Rattle.files.proofs.Nodes.{nodeAt-index, nodeAt-hash, node-proper, message-leaf, message-parent}
+use Rattle.files.specs.Slots.{allHeld, Within}
+use Rattle.files.proofs.Slots.{all-length}
+use Rattle.files.proofs.Nodes.{nodeAt-index, message-parent}
+use Rattle.files.proofs.AllHeld.{chunks-hash, chunks-leaf, chunks-node}
 use Rattle.demands.specs.Demand3.{CollisionAt}
 use Rattle.compare.proofs.Local.{Every, map-every, told}
 use Rattle.compare.proofs.Apart.{leaf-injective, SameParent, parent-injective}
@@ -43,11 +45,11 @@ block-parent f d k =
     double : 2 ^ suc d ≡ 2 ^ d + 2 ^ d
     double = omega (arith, pow-succ' 2 d)
 
-module _ (F : List ℕ → List ℕ) (H : HashFunction F) (cs ds : List (List ℕ)) (W : Within cs) (W′ : Within ds) (count : length cs ≡ length ds)
+module _ (F : List ℕ → List ℕ) (H : HashFunction F) (cs ds : List (List ℕ)) (W : Within (allHeld cs)) (W′ : Within (allHeld ds)) (count : length cs ≡ length ds)
     (free : (i : ℕ) → CollisionAt F cs ds i → ⊥) where
   -- the node of the block k of 2^d chunks, and a chunk
   abbrev nodeOf : List (List ℕ) → ℕ → ℕ → Entry
-  nodeOf es d k = node F (leaves F es) d k
+  nodeOf es d k = node F (leaves F (allHeld es)) d k
 
   abbrev chunk : List (List ℕ) → ℕ → List ℕ
   chunk es k = getD es k []
@@ -56,19 +58,19 @@ module _ (F : List ℕ → List ℕ) (H : HashFunction F) (cs ds : List (List �
   in-second i f = ap (λ (n : ℕ). filled n i) (sym count) ∙ f
 
   -- where one hash stands, one message was hashed
-  one-message : (i : ℕ) → filled (length cs) i ≡ true → hashFor F cs i ≡ hashFor F ds i → messageFor F cs i ≡ messageFor F ds i
-  one-message i f e = elim (told (messageFor F cs i) (messageFor F ds i)) [ inl s ↦ s .0 | inr s ↦ absurd (collide (s .0)) ]
+  one-message : (i : ℕ) → filled (length cs) i ≡ true → hashFor F cs i ≡ hashFor F ds i → messageFor F (allHeld cs) i ≡ messageFor F (allHeld ds) i
+  one-message i f e = elim (told (messageFor F (allHeld cs) i) (messageFor F (allHeld ds) i)) [ inl s ↦ s .0 | inr s ↦ absurd (collide (s .0)) ]
     where
-      collide : messageFor F cs i ≢ messageFor F ds i → ⊥
+      collide : messageFor F (allHeld cs) i ≢ messageFor F (allHeld ds) i → ⊥
       collide s =
           free i (record {
             inFirst = f;
             inSecond = in-second i f;
-            collision = record { differ = s; oneHash = sym (nodeAt-hash F cs i f) ∙ e ∙ nodeAt-hash F ds i (in-second i f) };
+            collision = record { differ = s; oneHash = sym (chunks-hash F cs i f) ∙ e ∙ chunks-hash F ds i (in-second i f) };
           })
 
   hash-index : (es : List (List ℕ)) (d k : ℕ) → hashFor F es (index d k) ≡ nodeOf es d k .hash
-  hash-index es d k = ap (λ (e : Entry). e .hash) (nodeAt-index F (leaves F es) d k)
+  hash-index es d k = ap (λ (e : Entry). e .hash) (nodeAt-index F (leaves F (allHeld es)) d k)
 
   -- the children of nodes with one hash have one hash
   children : (d k : ℕ) → filled (length cs) (index (suc d) k) ≡ true → hashFor F cs (index (suc d) k) ≡ hashFor F ds (index (suc d) k)
@@ -79,15 +81,15 @@ module _ (F : List ℕ → List ℕ) (H : HashFunction F) (cs ds : List (List �
       sum : List (List ℕ) → ℕ
       sum es = nodeOf es d (2 * k) .size + nodeOf es d (2 * k + 1) .size
 
-      long : (es : List (List ℕ)) → Within es → filled (length es) (index (suc d) k) ≡ true → length (nodeOf es d (2 * k) .hash) ≡ 32
-      long es U g = node-proper F H es U d (2 * k) (filled-end (length es) d (2 * k) (filled-left (length es) d k g)) .long
+      long : (es : List (List ℕ)) → Within (allHeld es) → filled (length es) (index (suc d) k) ≡ true → length (nodeOf es d (2 * k) .hash) ≡ 32
+      long es U g = chunks-node F es H U d (2 * k) (filled-end (length es) d (2 * k) (filled-left (length es) d k g)) .long
 
       same : SameParent (sum cs) (sum ds) (nodeOf cs d (2 * k) .hash) (nodeOf ds d (2 * k) .hash) (nodeOf cs d (2 * k + 1) .hash)
           (nodeOf ds d (2 * k + 1) .hash)
       same =
           parent-injective (sum cs) (sum ds) (nodeOf cs d (2 * k) .hash) (nodeOf ds d (2 * k) .hash) (nodeOf cs d (2 * k + 1) .hash)
           (nodeOf ds d (2 * k + 1) .hash) (long cs W f) (long ds W′ (in-second (index (suc d) k) f))
-          (sym (message-parent F cs d k) ∙ one-message (index (suc d) k) f e ∙ message-parent F ds d k)
+          (sym (message-parent F (allHeld cs) d k) ∙ one-message (index (suc d) k) f e ∙ message-parent F (allHeld ds) d k)
 
   -- so the chunks under nodes with one hash are the same
   descend : (d k : ℕ) → filled (length cs) (index d k) ≡ true → hashFor F cs (index d k) ≡ hashFor F ds (index d k)
@@ -95,7 +97,7 @@ module _ (F : List ℕ → List ℕ) (H : HashFunction F) (cs ds : List (List �
   descend zero k f e =
       block-leaf (chunk cs) k
       ∙ ap (λ (c : List ℕ). c ∷ [])
-      (leaf-injective (chunk cs k) (chunk ds k) (sym (message-leaf F cs k) ∙ one-message (index zero k) f e ∙ message-leaf F ds k))
+      (leaf-injective (chunk cs k) (chunk ds k) (sym (chunks-leaf F cs k) ∙ one-message (index zero k) f e ∙ chunks-leaf F ds k))
       ∙ sym (block-leaf (chunk ds) k)
   descend (suc d) k f e =
       block-parent (chunk cs) d k
@@ -106,9 +108,9 @@ module _ (F : List ℕ → List ℕ) (H : HashFunction F) (cs ds : List (List �
   -- and all chunks are, where each root's hash is
   same-chunks : Every (λ i. hashFor F cs i ≡ hashFor F ds i) (roots (length cs)) → cs ≡ ds
   same-chunks h =
-      sym (under cs (length cs) refl (omega (arith, W .count)))
+      sym (under cs (length cs) refl (omega (arith, W .count, all-length cs)))
       ∙ ap joined (map-every (inBlock (chunk cs)) (inBlock (chunk ds)) (roots (length cs)) (λ j l. at _ (root-filled (length cs) j l) (h j l)))
-      ∙ under ds (length cs) (sym count) (omega (arith, W .count))
+      ∙ under ds (length cs) (sym count) (omega (arith, W .count, all-length cs))
     where
       under : (es : List (List ℕ)) (n : ℕ) → length es ≡ n → n < 2 ^ 21 → joined (map (inBlock (chunk es)) (roots n)) ≡ es
       under es n e l = roots-cover (chunk es) n l ∙ run-getD es n [] e
@@ -117,6 +119,6 @@ module _ (F : List ℕ → List ℕ) (H : HashFunction F) (cs ds : List (List �
       at = by-coordinates (λ i. filled (length cs) i ≡ true → hashFor F cs i ≡ hashFor F ds i → inBlock (chunk cs) i ≡ inBlock (chunk ds) i) descend
 
 -- the chunk side of demand 3: one root message and no collision make one sequence
-pub one-sequence : (F : List ℕ → List ℕ) → HashFunction F → (cs ds : List (List ℕ)) → Within cs → Within ds
-    → rootMessageFor F cs ≡ rootMessageFor F ds → ((i : ℕ) → CollisionAt F cs ds i → ⊥) → cs ≡ ds
+pub one-sequence : (F : List ℕ → List ℕ) → HashFunction F → (cs ds : List (List ℕ)) → Within (allHeld cs) → Within (allHeld ds)
+    → rootMessageFor F (allHeld cs) ≡ rootMessageFor F (allHeld ds) → ((i : ℕ) → CollisionAt F cs ds i → ⊥) → cs ≡ ds
 one-sequence F H cs ds W W′ e free = let r = same-roots F H cs ds W W′ e in same-chunks F H cs ds W W′ (r .count) free (r .hashes)

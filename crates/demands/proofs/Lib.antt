@@ -8,5 +8,6 @@ pub mod Corollaries
 pub mod Demand3
 pub mod Singles
 pub mod Lists
+pub mod Releases
 pub mod Demand2
 pub mod AtBlake2b

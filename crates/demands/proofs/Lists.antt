@@ -13,7 +13,8 @@ use Rattle.bitfield.specs.Image.{entryCount}
 use Rattle.files.specs.Sizes.{usedTree, usedSignatures, usedBitfield}
 use Rattle.files.specs.Messages.{HashFunction}
 use Rattle.files.specs.Stored.{storedRootMessage}
-use Rattle.files.specs.Belongs.{Buffers, Register, buffersOf, Lent, Within, Belongs}
+use Rattle.files.specs.Slots.{Slot, held, allHeld, Within}
+use Rattle.files.specs.Belongs.{Buffers, Register, buffersOf, Lent, Belongs}
 use Rattle.checks.proofs.Passed.{Passed}
 use Rattle.audit.specs.Audit.{Accepted}
 use Rattle.audit.specs.Exact.{Imaged}
@@ -46,33 +47,33 @@ full = length-replicate {A = ℕ} 64 0
 module _ (F : List ℕ → List ℕ) (hf : HashFunction F) where
   -- ---- the images
 
-  checked : (r : Register) (cs sigs : List (List ℕ)) → Imaged F r cs sigs → Passed r
-  checked r cs sigs m = accepted-audited F r (imaged-accepted F hf r cs sigs m) .checked
+  checked : (r : Register) (ss : List Slot) (sigs : List (List ℕ)) → Imaged F r ss sigs → Passed r
+  checked r ss sigs m = accepted-audited F r (imaged-accepted F hf r ss sigs m) .checked
 
-  imaged-long : (r : Register) (cs sigs : List (List ℕ)) (c : List ℕ) → Imaged F r cs sigs → Chunk c → AppendFits r c
+  imaged-long : (r : Register) (ss : List Slot) (sigs : List (List ℕ)) (c : List ℕ) → Imaged F r ss sigs → Chunk c → AppendFits r c
       → length (appendedTree F (r .tree) (r .n) c) ≡ length (r .tree)
-  imaged-long r cs sigs c m p a =
-      appended-length F hf cs (m .within) r (m .belongs) c (longer-within F hf cs (m .within) r (m .belongs) c (p .bytes) a) (a .tree)
+  imaged-long r ss sigs c m p a =
+      appended-length F hf ss (m .within) r (m .belongs) c (longer-within F hf ss (m .within) r (m .belongs) c (p .bytes) a) (a .tree)
 
-  imaged-more : (r : Register) (cs sigs : List (List ℕ)) (c : List ℕ) → Imaged F r cs sigs → Chunk c → AppendFits r c
-      → Imaged F (appendedRegister F r c) (cs ++ (c ∷ [])) sigs
-  imaged-more r cs sigs c m p a = append-imaged F r c hf (p .bytes) (passed-append r c (checked r cs sigs m) a) cs sigs m
+  imaged-more : (r : Register) (ss : List Slot) (sigs : List (List ℕ)) (c : List ℕ) → Imaged F r ss sigs → Chunk c → AppendFits r c
+      → Imaged F (appendedRegister F r c) (ss ++ (held c ∷ [])) sigs
+  imaged-more r ss sigs c m p a = append-imaged F r c hf (p .bytes) (passed-append r c (checked r ss sigs m) a) ss sigs m
 
-  imaged-sign : (r : Register) (cs sigs : List (List ℕ)) → Imaged F r cs sigs → SignFits r → Imaged F (signedRegister r (zeros 64)) cs (sigs ++ (zeros 64 ∷ []))
-  imaged-sign r cs sigs m f = sign-imaged F r (zeros 64) full (passed-sign r (checked r cs sigs m) f) cs sigs m
+  imaged-sign : (r : Register) (ss : List Slot) (sigs : List (List ℕ)) → Imaged F r ss sigs → SignFits r → Imaged F (signedRegister r (zeros 64)) ss (sigs ++ (zeros 64 ∷ []))
+  imaged-sign r ss sigs m f = sign-imaged F r (zeros 64) full (passed-sign r (checked r ss sigs m) f) ss sigs m
 
-  pub list-imaged : (r : Register) (cs sigs : List (List ℕ)) (ls bs : List ℕ) → Imaged F r cs sigs → Bytes bs → listVerdict r ls bs ≡ done
-      → Imaged F (appendedList F r (chunksOf ls bs)) (cs ++ chunksOf ls bs) (sigs ++ zeroSignatures (length ls - 1))
-  list-imaged r cs sigs ls bs m p e =
-      list-kept F (λ x ds gs. Imaged F x ds gs) imaged-long imaged-more imaged-sign r ls bs cs sigs (list-passed r ls bs e .1) p m
+  pub list-imaged : (r : Register) (ss : List Slot) (sigs : List (List ℕ)) (ls bs : List ℕ) → Imaged F r ss sigs → Bytes bs → listVerdict r ls bs ≡ done
+      → Imaged F (appendedList F r (chunksOf ls bs)) (ss ++ allHeld (chunksOf ls bs)) (sigs ++ zeroSignatures (length ls - 1))
+  list-imaged r ss sigs ls bs m p e =
+      list-kept F (λ x ds gs. Imaged F x ds gs) imaged-long imaged-more imaged-sign r ls bs ss sigs (list-passed r ls bs e .1) p m
 
   -- with buffers that hold bytes
-  imaged-lent : (r : Register) (cs sigs : List (List ℕ)) (ls bs : List ℕ) → Imaged F r cs sigs → Lent r → Bytes bs → ListFits r ls bs
-      → Imaged F (appendedList F r (chunksOf ls bs)) (cs ++ chunksOf ls bs) (sigs ++ zeroSignatures (length ls - 1)) × Lent (appendedList F r (chunksOf ls bs))
-  imaged-lent r cs sigs ls bs m l p f =
+  imaged-lent : (r : Register) (ss : List Slot) (sigs : List (List ℕ)) (ls bs : List ℕ) → Imaged F r ss sigs → Lent r → Bytes bs → ListFits r ls bs
+      → Imaged F (appendedList F r (chunksOf ls bs)) (ss ++ allHeld (chunksOf ls bs)) (sigs ++ zeroSignatures (length ls - 1)) × Lent (appendedList F r (chunksOf ls bs))
+  imaged-lent r ss sigs ls bs m l p f =
       list-kept F (λ x ds gs. Imaged F x ds gs × Lent x) (λ x ds gs c q. imaged-long x ds gs c (q .0))
       (λ x ds gs c q s a. (imaged-more x ds gs c (q .0) s a, append-lent F hf ds (q .0 .within) x (q .0 .belongs) c (s .bytes) a (q .1)))
-      (λ x ds gs q s. (imaged-sign x ds gs (q .0) s, sign-lent x (zeros 64) (q .1) (bytes-zeros 64))) r ls bs cs sigs f p (m, l)
+      (λ x ds gs q s. (imaged-sign x ds gs (q .0) s, sign-lent x (zeros 64) (q .1) (bytes-zeros 64))) r ls bs ss sigs f p (m, l)
 
   list-accepted : (r : Register) (ls bs : List ℕ) → Lent r → Accepted F r → Bytes bs → listVerdict r ls bs ≡ done
       → Accepted F (appendedList F r (chunksOf ls bs)) × Lent (appendedList F r (chunksOf ls bs))
@@ -83,18 +84,18 @@ module _ (F : List ℕ → List ℕ) (hf : HashFunction F) where
 
   -- ---- the chunk sequence alone
 
-  list-belongs : (r : Register) (cs : List (List ℕ)) (ls bs : List ℕ) → Within cs → Belongs F r cs → Bytes bs → listVerdict r ls bs ≡ done
-      → Within (cs ++ chunksOf ls bs) × Belongs F (appendedList F r (chunksOf ls bs)) (cs ++ chunksOf ls bs)
-  list-belongs r cs ls bs w b p e =
+  list-belongs : (r : Register) (ss : List Slot) (ls bs : List ℕ) → Within ss → Belongs F r ss → Bytes bs → listVerdict r ls bs ≡ done
+      → Within (ss ++ allHeld (chunksOf ls bs)) × Belongs F (appendedList F r (chunksOf ls bs)) (ss ++ allHeld (chunksOf ls bs))
+  list-belongs r ss ls bs w b p e =
       list-kept F (λ x ds _. Within ds × Belongs F x ds)
       (λ x ds _ c q s a. appended-length F hf ds (q .0) x (q .1) c (longer-within F hf ds (q .0) x (q .1) c (s .bytes) a) (a .tree))
       (λ x ds _ c q s a. (longer-within F hf ds (q .0) x (q .1) c (s .bytes) a, append-belongs F hf ds (q .0) x (q .1) c (s .bytes) a))
-      (λ x ds _ q _. (q .0, sign-belongs F x (zeros 64) ds (q .1))) r ls bs cs [] (list-passed r ls bs e .1) p (w, b)
+      (λ x ds _ q _. (q .0, sign-belongs F x (zeros 64) ds (q .1))) r ls bs ss [] (list-passed r ls bs e .1) p (w, b)
 
-  list-answers : (r : Register) (cs : List (List ℕ)) (ls bs : List ℕ) → Within cs → Belongs F r cs → Bytes bs → listVerdict r ls bs ≡ done
+  list-answers : (r : Register) (ss : List Slot) (ls bs : List ℕ) → Within ss → Belongs F r ss → Bytes bs → listVerdict r ls bs ≡ done
       → listRoot F r ls bs ≡ F (storedRootMessage (appendedList F r (chunksOf ls bs) .tree) (appendedList F r (chunksOf ls bs) .n))
   unfolding listRoot
-  list-answers r cs ls bs w b p e = ap (λ (v : Verdict). rootUnlessRefused F v (appendedList F r (chunksOf ls bs))) e
+  list-answers r ss ls bs w b p e = ap (λ (v : Verdict). rootUnlessRefused F v (appendedList F r (chunksOf ls bs))) e
 
 -- ---- the bytes beyond
 
@@ -169,10 +170,10 @@ list-writes F hf =
       singly = λ r ls bs l small p e. singly-done F hf r ls bs (l .tree) small p e;
       owed = λ r ls bs e. list-owed F r ls bs (list-passed r ls bs e .1);
       belongs = list-belongs F hf;
-      answers = λ r cs ls bs w b p e.
-          let q = list-belongs F hf r cs ls bs w b p e in
-          list-answers F hf r cs ls bs w b p e ∙ root-hash F hf (appendedList F r (chunksOf ls bs)) (cs ++ chunksOf ls bs) (q .0) (q .1);
-      images = λ r cs sigs ls bs m p e. list-imaged F hf r cs sigs ls bs m p e;
+      answers = λ r ss ls bs w b p e.
+          let q = list-belongs F hf r ss ls bs w b p e in
+          list-answers F hf r ss ls bs w b p e ∙ root-hash F hf (appendedList F r (chunksOf ls bs)) (ss ++ allHeld (chunksOf ls bs)) (q .0) (q .1);
+      images = λ r ss sigs ls bs m p e. list-imaged F hf r ss sigs ls bs m p e;
       accepted = list-accepted F hf;
       beyond = list-beyond F hf;
       unchanged = list-unchanged F;

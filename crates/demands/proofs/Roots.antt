@@ -13,8 +13,9 @@ use Rattle.tree_index.proofs.Roots.{root-filled}
 use Rattle.files.specs.Messages.{HashFunction, rootItem, rootMessage}
 use Rattle.files.specs.Nodes.{nodeAt, rootMessageOf}
 use Rattle.files.specs.Images.{leaves, rootMessageFor}
-use Rattle.files.specs.Belongs.{Within}
-use Rattle.files.proofs.Nodes.{leaves-length, nodeAt-proper}
+use Rattle.files.specs.Slots.{allHeld, Within}
+use Rattle.files.proofs.Slots.{all-length}
+use Rattle.files.proofs.AllHeld.{chunks-length, chunks-nodeAt}
 use Rattle.compare.proofs.Local.{Every}
 use Rattle.compare.proofs.Apart.{be-injective, SameItem, item-injective, length-item}
 use Rattle.compare.proofs.RootMessages.{roots-injective, items-injective}
@@ -22,22 +23,22 @@ use Rattle.compare.proofs.RootMessages.{roots-injective, items-injective}
 module _ (F : List ℕ → List ℕ) where
   -- the hash at a tree index
   abbrev pub hashFor : List (List ℕ) → ℕ → List ℕ
-  hashFor cs i = nodeAt F (leaves F cs) i .hash
+  hashFor cs i = nodeAt F (leaves F (allHeld cs)) i .hash
 
   -- the item of a root
   itemFor : List (List ℕ) → ℕ → List ℕ
-  itemFor cs i = rootItem (hashFor cs i) i (nodeAt F (leaves F cs) i .size)
+  itemFor cs i = rootItem (hashFor cs i) i (nodeAt F (leaves F (allHeld cs)) i .size)
 
-  items-for : (cs : List (List ℕ)) → rootMessageFor F cs ≡ rootMessage (map (itemFor cs) (roots (length cs)))
+  items-for : (cs : List (List ℕ)) → rootMessageFor F (allHeld cs) ≡ rootMessage (map (itemFor cs) (roots (length cs)))
   unfolding rootMessageFor rootMessageOf itemFor
-  items-for cs = ap (λ (n : ℕ). rootMessage (map (itemFor cs) (roots n))) (leaves-length F cs)
+  items-for cs = ap (λ (n : ℕ). rootMessage (map (itemFor cs) (roots n))) (chunks-length F cs)
 
   pub record SameRoots (cs ds : List (List ℕ)) : Type 0 where
     pub count : length cs ≡ length ds
     pub hashes : Every (λ i. hashFor cs i ≡ hashFor ds i) (roots (length cs))
 
   -- equal root messages have one number of chunks, and one hash at each root
-  pub same-roots : HashFunction F → (cs ds : List (List ℕ)) → Within cs → Within ds → rootMessageFor F cs ≡ rootMessageFor F ds → SameRoots cs ds
+  pub same-roots : HashFunction F → (cs ds : List (List ℕ)) → Within (allHeld cs) → Within (allHeld ds) → rootMessageFor F (allHeld cs) ≡ rootMessageFor F (allHeld ds) → SameRoots cs ds
   unfolding rootMessage itemFor entries
   same-roots H cs ds W W′ e =
       record {
@@ -48,21 +49,21 @@ module _ (F : List ℕ → List ℕ) where
             items i i f (ap (λ (n : ℕ). filled n i) (sym count′) ∙ f) (r .1 j l) .hash;
       }
     where
-      long : (es : List (List ℕ)) → Within es → (i : ℕ) → filled (length es) i ≡ true → length (hashFor es i) ≡ 32
-      long es U i f = nodeAt-proper F H es U i f .long
+      long : (es : List (List ℕ)) → Within (allHeld es) → (i : ℕ) → filled (length es) i ≡ true → length (hashFor es i) ≡ 32
+      long es U i f = chunks-nodeAt F es H U i f .long
 
-      wide : (es : List (List ℕ)) → Within es → (i : ℕ) → filled (length es) i ≡ true → length (itemFor es i) ≡ 48
-      wide es U i f = length-item (hashFor es i) i (nodeAt F (leaves F es) i .size) (long es U i f)
+      wide : (es : List (List ℕ)) → Within (allHeld es) → (i : ℕ) → filled (length es) i ≡ true → length (itemFor es i) ≡ 48
+      wide es U i f = length-item (hashFor es i) i (nodeAt F (leaves F (allHeld es)) i .size) (long es U i f)
 
       items : (i j : ℕ) → filled (length cs) i ≡ true → filled (length ds) j ≡ true → itemFor cs i ≡ itemFor ds j
-          → SameItem (hashFor cs i) (hashFor ds j) i j (nodeAt F (leaves F cs) i .size) (nodeAt F (leaves F ds) j .size)
+          → SameItem (hashFor cs i) (hashFor ds j) i j (nodeAt F (leaves F (allHeld cs)) i .size) (nodeAt F (leaves F (allHeld ds)) j .size)
       items i j f g s =
-          item-injective (hashFor cs i) (hashFor ds j) i j (nodeAt F (leaves F cs) i .size) (nodeAt F (leaves F ds) j .size) (long cs W i f)
+          item-injective (hashFor cs i) (hashFor ds j) i j (nodeAt F (leaves F (allHeld cs)) i .size) (nodeAt F (leaves F (allHeld ds)) j .size) (long cs W i f)
           (long ds W′ j g) s
 
       tell : (i j : ℕ) → filled (length cs) i ≡ true → filled (length ds) j ≡ true → itemFor cs i ≡ itemFor ds j → i ≡ j
       tell i j f g s =
-          be-injective 8 i j (omega (arith, filled-below (length cs) i f, W .count)) (omega (arith, filled-below (length ds) j g, W′ .count))
+          be-injective 8 i j (omega (arith, filled-below (length cs) i f, W .count, all-length cs)) (omega (arith, filled-below (length ds) j g, W′ .count, all-length ds))
           (items i j f g s .place)
 
       r : (roots (length cs) ≡ roots (length ds)) × Every (λ i. itemFor cs i ≡ itemFor ds i) (roots (length cs))
@@ -71,4 +72,4 @@ module _ (F : List ℕ → List ℕ) where
           (tail-eq-of-cons-eq (sym (items-for cs) ∙ e ∙ items-for ds))
 
       count′ : length cs ≡ length ds
-      count′ = roots-injective (length cs) (length ds) (omega (arith, W .count)) (omega (arith, W′ .count)) (r .0)
+      count′ = roots-injective (length cs) (length ds) (omega (arith, W .count, all-length cs)) (omega (arith, W′ .count, all-length ds)) (r .0)

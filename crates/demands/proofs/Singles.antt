@@ -9,7 +9,8 @@ use Rattle.sequences.specs.Lists.{Bytes, zeros}
 use Rattle.files.specs.Messages.{HashFunction}
 use Rattle.files.specs.Stored.{storedRootMessage}
 use Rattle.files.specs.Images.{rootHashFor}
-use Rattle.files.specs.Belongs.{Register, buffersOf, Lent, Within, Belongs}
+use Rattle.files.specs.Slots.{Slot, held, Within}
+use Rattle.files.specs.Belongs.{Register, buffersOf, Lent, Belongs}
 use Rattle.files.proofs.OfImage.{stored-root-message}
 use Rattle.audit.specs.Audit.{Accepted}
 use Rattle.audit.specs.Exact.{Imaged}
@@ -28,10 +29,10 @@ use Rattle.demands.specs.Demand2.{Beyond, AppendWrites, SignWrites}
 
 -- ---- the root hash of a register that belongs to a chunk sequence
 
-pub root-hash : (F : List ℕ → List ℕ) → HashFunction F → (r : Register) (cs : List (List ℕ)) → Within cs → Belongs F r cs
-    → F (storedRootMessage (r .tree) (r .n)) ≡ rootHashFor F cs
+pub root-hash : (F : List ℕ → List ℕ) → HashFunction F → (r : Register) (ss : List Slot) → Within ss → Belongs F r ss
+    → F (storedRootMessage (r .tree) (r .n)) ≡ rootHashFor F ss
 unfolding rootHashFor
-root-hash F hf r cs w b = ap F (stored-root-message F hf cs w r b)
+root-hash F hf r ss w b = ap F (stored-root-message F hf ss w r b)
 
 -- ---- an append
 
@@ -66,12 +67,12 @@ module _ (F : List ℕ → List ℕ) (r : Register) (chunk : List ℕ) where
     fits : AppendFits r chunk
     fits = append-passed r chunk e .1
 
-    pub append-imaged : (cs sigs : List (List ℕ)) → Imaged F r cs sigs → Imaged F (appendedRegister F r chunk) (cs ++ (chunk ∷ [])) sigs
+    pub append-imaged : (ss : List Slot) (sigs : List (List ℕ)) → Imaged F r ss sigs → Imaged F (appendedRegister F r chunk) (ss ++ (held chunk ∷ [])) sigs
     unfolding appendedRegister
-    append-imaged cs sigs m =
+    append-imaged ss sigs m =
         record {
-          within = longer-within F hf cs (m .within) r (m .belongs) chunk p fits;
-          belongs = append-belongs F hf cs (m .within) r (m .belongs) chunk p fits;
+          within = longer-within F hf ss (m .within) r (m .belongs) chunk p fits;
+          belongs = append-belongs F hf ss (m .within) r (m .belongs) chunk p fits;
           signed = inr (ap (λ (k : ℕ). k + 1) (fits .paid));
           count = m .count;
           each = m .each;
@@ -81,7 +82,7 @@ module _ (F : List ℕ → List ℕ) (r : Register) (chunk : List ℕ) where
     pub append-accepted : Lent r → Accepted F r → Accepted F (appendedRegister F r chunk) × Lent (appendedRegister F r chunk)
     append-accepted l a =
         let m = audit-exact F hf .exactly r l .0 a in (
-          imaged-accepted F hf (appendedRegister F r chunk) (m .0 ++ (chunk ∷ [])) (m .1) (append-imaged (m .0) (m .1) (m .2)),
+          imaged-accepted F hf (appendedRegister F r chunk) (m .0 ++ (held chunk ∷ [])) (m .1) (append-imaged (m .0) (m .1) (m .2)),
           append-lent F hf (m .0) (m .2 .within) r (m .2 .belongs) chunk p fits l,
         )
 
@@ -90,10 +91,10 @@ append-writes F hf =
     record {
       takes = λ r chunk a. (λ e. append-passed r chunk e .1, λ f. passed-append r chunk (accepted-audited F r a .checked) f);
       buffers = append-buffers F;
-      belongs = λ r cs chunk w b p e.
-          (longer-within F hf cs w r b chunk p (append-passed r chunk e .1), append-belongs F hf cs w r b chunk p (append-passed r chunk e .1));
-      answers = λ r cs chunk w b p e. answered F r chunk e ∙ append-root F hf cs w r b chunk p (append-passed r chunk e .1);
-      images = λ r cs sigs chunk m p e. append-imaged F r chunk hf p e cs sigs m;
+      belongs = λ r ss chunk w b p e.
+          (longer-within F hf ss w r b chunk p (append-passed r chunk e .1), append-belongs F hf ss w r b chunk p (append-passed r chunk e .1));
+      answers = λ r ss chunk w b p e. answered F r chunk e ∙ append-root F hf ss w r b chunk p (append-passed r chunk e .1);
+      images = λ r ss sigs chunk m p e. append-imaged F r chunk hf p e ss sigs m;
       accepted = λ r chunk l a p e. append-accepted F r chunk hf p e l a;
       beyond = λ r chunk l p e. append-beyond F r chunk hf p (l .tree) (append-passed r chunk e .1);
       unchanged = append-unchanged F;
@@ -118,12 +119,12 @@ module _ (F : List ℕ → List ℕ) (r : Register) (signature : List ℕ) where
     owes : SignFits r
     owes = sign-passed r e .1
 
-    pub sign-imaged : (cs sigs : List (List ℕ)) → Imaged F r cs sigs → Imaged F (signedRegister r signature) cs (sigs ++ (signature ∷ []))
+    pub sign-imaged : (ss : List Slot) (sigs : List (List ℕ)) → Imaged F r ss sigs → Imaged F (signedRegister r signature) ss (sigs ++ (signature ∷ []))
     unfolding signedRegister
-    sign-imaged cs sigs m =
+    sign-imaged ss sigs m =
         record {
           within = m .within;
-          belongs = sign-belongs F r signature cs (m .belongs);
+          belongs = sign-belongs F r signature ss (m .belongs);
           signed = inl (owes .owed);
           count = length-snoc sigs signature ∙ ap (λ (k : ℕ). k + 1) (m .count);
           each = each-below-snoc (λ (x : List ℕ). length x ≡ 64) sigs signature (m .each) long;
@@ -140,8 +141,8 @@ sign-writes F hf =
     record {
       takes = λ r a. (λ e. sign-passed r e .1, λ f. passed-sign r (accepted-audited F r a .checked) f);
       buffers = sign-buffers F;
-      belongs = λ r cs signature b. sign-belongs F r signature cs b;
-      images = λ r cs sigs signature m l e. sign-imaged F r signature l e cs sigs m;
+      belongs = λ r ss signature b. sign-belongs F r signature ss b;
+      images = λ r ss sigs signature m l e. sign-imaged F r signature l e ss sigs m;
       accepted = λ r signature l a p g e. sign-accepted F r signature g e hf l a p;
       beyond = λ r signature g e. sign-beyond F r signature g (sign-passed r e .1);
       unchanged = sign-unchanged F;

@@ -1,6 +1,7 @@
--- The images of a chunk sequence are bytes.
+-- The images are bytes.
 -- Assumes nothing.
 use Prim.Native.Nat.{ℕ, zero, suc, _-_, _<_}
+use mathlib.Core.Bool.{Bool}
 use mathlib.Core.List.{List, [], _∷_, _++_}
 use native.Mathlib.Omega.{arith}
 use lib.ListN.{length, getD}
@@ -15,7 +16,7 @@ use Rattle.files.specs.Headers.{front, header, treeHeader, signaturesHea
 use Rattle.files.specs.Messages.{HashFunction}
 use Rattle.files.specs.Nodes.{Entry, entryBytes, entryAt, treeEntries}
 use Rattle.files.specs.Images.{leaves, dataImage, bitfieldImage, signaturesImage, treeImage}
-use Rattle.files.specs.Belongs.{Within}
+use Rattle.files.specs.Slots.{Slot, contents, Within}
 use Rattle.files.proofs.Nodes.{bytes-cons, entryAt-proper}
 
 bytes-none : Bytes []
@@ -67,27 +68,27 @@ unfolding joined
 bytes-all [] h = bytes-none
 bytes-all (x ∷ xs) h = bytes-append x (joined xs) (h 0) (bytes-all xs (λ k. h (suc k)))
 
-pub bitfieldImage-bytes : (n : ℕ) → Bytes (bitfieldImage n)
+pub bitfieldImage-bytes : (held : ℕ → Bool) (n : ℕ) → Bytes (bitfieldImage held n)
 unfolding bitfieldImage
-bitfieldImage-bytes n = bytes-append bitfieldHeader (entriesOf n) bitfieldHeader-bytes (bytes-entries n)
+bitfieldImage-bytes held n = bytes-append bitfieldHeader (entriesOf held n) bitfieldHeader-bytes (bytes-entries held n)
 
 pub signaturesImage-bytes : (sigs : List (List ℕ)) → ((k : ℕ) → Bytes (getD sigs k [])) → Bytes (signaturesImage sigs)
 unfolding signaturesImage
 signaturesImage-bytes sigs h = bytes-append signaturesHeader (joined sigs) signaturesHeader-bytes (bytes-all sigs h)
 
-pub dataImage-bytes : (cs : List (List ℕ)) → Within cs → Bytes (dataImage cs)
+pub dataImage-bytes : (ss : List Slot) → Within ss → Bytes (dataImage (contents ss))
 unfolding dataImage
-dataImage-bytes cs w = bytes-all cs (w .bytes)
+dataImage-bytes ss w = bytes-all (contents ss) (w .bytes)
 
-module _ (F : List ℕ → List ℕ) (hf : HashFunction F) (cs : List (List ℕ)) (w : Within cs) where
-  pub entry-bytes : (i : ℕ) → Bytes (entryBytes (entryAt F (leaves F cs) i))
+module _ (F : List ℕ → List ℕ) (hf : HashFunction F) (ss : List Slot) (w : Within ss) where
+  pub entry-bytes : (i : ℕ) → Bytes (entryBytes (entryAt F (leaves F ss) i))
   unfolding entryBytes
   entry-bytes i =
-      let e : Entry = entryAt F (leaves F cs) i in
-      bytes-append (e .hash) (be 8 (e .size)) (entryAt-proper F hf cs w i .bytes) (bytes-be 8 (e .size))
+      let e : Entry = entryAt F (leaves F ss) i in
+      bytes-append (e .hash) (be 8 (e .size)) (entryAt-proper F hf ss w i .bytes) (bytes-be 8 (e .size))
 
-  pub treeImage-bytes : Bytes (treeImage F cs)
+  pub treeImage-bytes : Bytes (treeImage F ss)
   unfolding treeImage treeEntries
   treeImage-bytes =
-      bytes-append treeHeader (treeEntries F (leaves F cs)) treeHeader-bytes
-      (bytes-joined (λ i. entryBytes (entryAt F (leaves F cs) i)) 0 (entries (length (leaves F cs))) entry-bytes)
+      bytes-append treeHeader (treeEntries F (leaves F ss)) treeHeader-bytes
+      (bytes-joined (λ i. entryBytes (entryAt F (leaves F ss) i)) 0 (entries (length (leaves F ss))) entry-bytes)

@@ -1,4 +1,4 @@
--- The nodes of a chunk sequence: the lengths that they hold, hashes of 32 bytes, and the message that each one hashes.
+-- The nodes of a register's chunks: the lengths that they hold, hashes of 32 bytes, and the message that each one hashes.
 -- Assumes nothing.
 use Prim.Native.Nat.{ℕ, zero, suc, _+_, _*_, _^_, _≤_, _<_}
 use mathlib.Core.Path.{_≡_, refl, sym, ap, ap₂, _∙_, subst}
@@ -6,7 +6,7 @@ use mathlib.Core.Bool.{Bool, true, false, cond}
 use mathlib.Core.List.{List, [], _∷_, _++_}
 use native.Mathlib.Nat.{mul-one}
 use native.Mathlib.Omega.{arith}
-use lib.ListN.{length, getD, length-append, length-map, length-replicate}
+use lib.ListN.{length, getD, length-append, length-replicate}
 use Rattle.sequences.specs.Lists.{Bytes}
 use Rattle.sequences.specs.Numbers.{be}
 use Rattle.sequences.proofs.Lists.{bytes-append, bytes-zeros}
@@ -18,8 +18,9 @@ use Rattle.tree_index.proofs.Cover.{sizeAt, size-run}
 use Rattle.files.specs.Messages.{HashFunction, leafMessage, parentMessage}
 use Rattle.files.specs.Nodes.{Entry, hole, entryBytes, leaf, parentOf, node, nodeAt, entryAt}
 use Rattle.files.specs.Images.{leaves, messageFor}
-use Rattle.files.specs.Belongs.{Within}
+use Rattle.files.specs.Slots.{Slot, held, released, slotBytes, slotEntry, contents, heldIn, Handed, Within}
 use Rattle.files.proofs.Spans.{span, span-le}
+use Rattle.files.proofs.Slots.{slotAt, contents-at, leaves-length, leaf-at, leaf-size, leaf-held}
 
 -- ---- messages are byte strings
 
@@ -78,101 +79,93 @@ module _ (F : List ℕ → List ℕ) where
   unfolding entryAt
   entryAt-hole es i h = ap (λ (b : Bool). cond b (nodeAt F es i) hole) h
 
-  -- ---- leaves
-
-  pub leaves-length : (cs : List (List ℕ)) → length (leaves F cs) ≡ length cs
-  unfolding leaves
-  leaves-length cs = length-map cs (leaf F)
-
-  pub leaf-size : (cs : List (List ℕ)) (k : ℕ) → getD (leaves F cs) k hole .size ≡ length (getD cs k [])
-  unfolding leaves leaf hole
-  leaf-size [] k = refl
-  leaf-size (c ∷ cs) zero = refl
-  leaf-size (c ∷ cs) (suc k) = leaf-size cs k
-
-  pub leaf-at : (cs : List (List ℕ)) (k : ℕ) → k < length cs → getD (leaves F cs) k hole ≡ leaf F (getD cs k [])
-  unfolding leaves
-  leaf-at [] k h = absurd (omega arith)
-  leaf-at (c ∷ cs) zero h = refl
-  leaf-at (c ∷ cs) (suc k) h = leaf-at cs k (omega arith)
-
   -- ---- lengths
 
-  node-sizeAt : (cs : List (List ℕ)) (d k : ℕ) → node F (leaves F cs) d k .size ≡ sizeAt (λ j. length (getD cs j [])) d k
+  node-sizeAt : (ss : List Slot) (d k : ℕ) → node F (leaves F ss) d k .size ≡ sizeAt (λ j. length (getD (contents ss) j [])) d k
   unfolding node parentOf sizeAt
-  node-sizeAt cs zero k = leaf-size cs k
-  node-sizeAt cs (suc d) k = ap₂ _+_ (node-sizeAt cs d (2 * k)) (node-sizeAt cs d (2 * k + 1))
+  node-sizeAt ss zero k = leaf-size F ss k
+  node-sizeAt ss (suc d) k = ap₂ _+_ (node-sizeAt ss d (2 * k)) (node-sizeAt ss d (2 * k + 1))
 
   -- a node's length is that of the chunks of its block
-  pub node-size : (cs : List (List ℕ)) (d k : ℕ) → node F (leaves F cs) d k .size ≡ span cs (k * 2 ^ d) (2 ^ d)
+  pub node-size : (ss : List Slot) (d k : ℕ) → node F (leaves F ss) d k .size ≡ span (contents ss) (k * 2 ^ d) (2 ^ d)
   unfolding span
-  node-size cs d k = node-sizeAt cs d k ∙ size-run (λ j. length (getD cs j [])) d k
+  node-size ss d k = node-sizeAt ss d k ∙ size-run (λ j. length (getD (contents ss) j [])) d k
 
-  pub node-size-le : (cs : List (List ℕ)) → Within cs → (d k : ℕ) → (k + 1) * 2 ^ d ≤ length cs → node F (leaves F cs) d k .size ≤ 68719476736
-  node-size-le cs w d k h =
-      let s : span cs (k * 2 ^ d) (2 ^ d) ≤ 2 ^ d * 65536 = span-le cs 65536 (k * 2 ^ d) (2 ^ d) (w .short) in
-      omega (arith, node-size cs d k, block-end d k, w .count)
+  pub node-size-le : (ss : List Slot) → Within ss → (d k : ℕ) → (k + 1) * 2 ^ d ≤ length ss → node F (leaves F ss) d k .size ≤ 68719476736
+  node-size-le ss w d k h =
+      let s : span (contents ss) (k * 2 ^ d) (2 ^ d) ≤ 2 ^ d * 65536 = span-le (contents ss) 65536 (k * 2 ^ d) (2 ^ d) (w .short) in
+      omega (arith, node-size ss d k, block-end d k, w .count)
 
-  -- ---- the message that a node hashes
+  -- ---- the message that a node hashes, where all chunks are held
 
-  pub message-leaf : (cs : List (List ℕ)) (k : ℕ) → messageFor F cs (index zero k) ≡ leafMessage (getD cs k [])
+  abbrev pub AllHeld : List Slot → Type 0
+  AllHeld ss = (k : ℕ) → k < length ss → heldIn ss k ≡ true
+
+  pub message-leaf : (ss : List Slot) (k : ℕ) → messageFor F ss (index zero k) ≡ leafMessage (getD (contents ss) k [])
   unfolding messageFor
-  message-leaf cs k =
-      ap (λ (x : ℕ). byDepth x (leafMessage (getD cs (block (index zero k)) [])) (over (nodeAt F (leaves F cs) (leftChild (index zero k))) (nodeAt F (leaves F cs) (rightChild (index zero k)))))
+  message-leaf ss k =
+      ap (λ (x : ℕ). byDepth x (leafMessage (getD (contents ss) (block (index zero k)) [])) (over (nodeAt F (leaves F ss) (leftChild (index zero k))) (nodeAt F (leaves F ss) (rightChild (index zero k)))))
       (depth-index zero k)
-      ∙ ap (λ (b : ℕ). leafMessage (getD cs b [])) (block-index zero k)
+      ∙ ap (λ (b : ℕ). leafMessage (getD (contents ss) b [])) (block-index zero k)
 
-  pub message-parent : (cs : List (List ℕ)) (d k : ℕ) → messageFor F cs (index (suc d) k) ≡ over (node F (leaves F cs) d (2 * k)) (node F (leaves F cs) d (2 * k + 1))
+  pub message-parent : (ss : List Slot) (d k : ℕ) → messageFor F ss (index (suc d) k) ≡ over (node F (leaves F ss) d (2 * k)) (node F (leaves F ss) d (2 * k + 1))
   unfolding messageFor
-  message-parent cs d k =
-      ap (λ (x : ℕ). byDepth x (leafMessage (getD cs (block (index (suc d) k)) [])) (over (nodeAt F (leaves F cs) (leftChild (index (suc d) k))) (nodeAt F (leaves F cs) (rightChild (index (suc d) k)))))
+  message-parent ss d k =
+      ap (λ (x : ℕ). byDepth x (leafMessage (getD (contents ss) (block (index (suc d) k)) [])) (over (nodeAt F (leaves F ss) (leftChild (index (suc d) k))) (nodeAt F (leaves F ss) (rightChild (index (suc d) k)))))
       (depth-index (suc d) k)
       ∙ ap₂ over
-      (ap (nodeAt F (leaves F cs)) (leftChild-index d k) ∙ nodeAt-index (leaves F cs) d (2 * k))
-      (ap (nodeAt F (leaves F cs)) (rightChild-index d k) ∙ nodeAt-index (leaves F cs) d (2 * k + 1))
+      (ap (nodeAt F (leaves F ss)) (leftChild-index d k) ∙ nodeAt-index (leaves F ss) d (2 * k))
+      (ap (nodeAt F (leaves F ss)) (rightChild-index d k) ∙ nodeAt-index (leaves F ss) d (2 * k + 1))
 
-  pub node-hash : (cs : List (List ℕ)) (d k : ℕ) → (k + 1) * 2 ^ d ≤ length cs → node F (leaves F cs) d k .hash ≡ F (messageFor F cs (index d k))
+  pub node-hash : (ss : List Slot) → AllHeld ss → (d k : ℕ) → (k + 1) * 2 ^ d ≤ length ss → node F (leaves F ss) d k .hash ≡ F (messageFor F ss (index d k))
   unfolding node parentOf leaf
-  node-hash cs zero k h = ap (λ (e : Entry). e .hash) (leaf-at cs k (omega (arith, mul-one (k + 1)))) ∙ ap F (sym (message-leaf cs k))
-  node-hash cs (suc d) k h = ap F (sym (message-parent cs d k))
+  node-hash ss a zero k h =
+      let l : k < length ss = omega (arith, mul-one (k + 1)) in
+      ap (λ (e : Entry). e .hash) (leaf-held F ss k l (a k l)) ∙ ap F (sym (message-leaf ss k))
+  node-hash ss a (suc d) k h = ap F (sym (message-parent ss d k))
 
   -- "The message at a filled tree index is the byte string that the leaf or parent rule above hashes there"
-  pub nodeAt-hash : (cs : List (List ℕ)) (i : ℕ) → filled (length cs) i ≡ true → nodeAt F (leaves F cs) i .hash ≡ F (messageFor F cs i)
-  nodeAt-hash cs =
-      by-coordinates (λ i. filled (length cs) i ≡ true → nodeAt F (leaves F cs) i .hash ≡ F (messageFor F cs i))
-      (λ d k h. ap (λ (e : Entry). e .hash) (nodeAt-index (leaves F cs) d k) ∙ node-hash cs d k (filled-end (length cs) d k h))
+  pub nodeAt-hash : (ss : List Slot) → AllHeld ss → (i : ℕ) → filled (length ss) i ≡ true → nodeAt F (leaves F ss) i .hash ≡ F (messageFor F ss i)
+  nodeAt-hash ss a =
+      by-coordinates (λ i. filled (length ss) i ≡ true → nodeAt F (leaves F ss) i .hash ≡ F (messageFor F ss i))
+      (λ d k h. ap (λ (e : Entry). e .hash) (nodeAt-index (leaves F ss) d k) ∙ node-hash ss a d k (filled-end (length ss) d k h))
 
   -- ---- the nodes can be held by a file
 
-  module _ (hf : HashFunction F) (cs : List (List ℕ)) (w : Within cs) where
+  module _ (hf : HashFunction F) (ss : List Slot) (w : Within ss) where
     hashed : (m : List ℕ) → Bytes m → (z : ℕ) → z ≤ 68719476736 → Proper (record { hash = F m; size = z })
     hashed m p z h = record { long = hf .size m p; bytes = hf .byte m p; fits = omega arith }
 
-    pub node-proper : (d k : ℕ) → (k + 1) * 2 ^ d ≤ length cs → Proper (node F (leaves F cs) d k)
+    slot-proper : (s : Slot) → Handed s → Bytes (slotBytes s) → length (slotBytes s) ≤ 65536 → Proper (slotEntry F s)
+    unfolding leaf
+    slot-proper (held c) h p l = hashed (leafMessage c) (leafMessage-bytes c p) (length c) (omega arith)
+    slot-proper (released e) h p l = record { long = h .0; bytes = h .1; fits = omega (arith, length-replicate {A = ℕ} (e .size) 0) }
+
+    pub node-proper : (d k : ℕ) → (k + 1) * 2 ^ d ≤ length ss → Proper (node F (leaves F ss) d k)
     unfolding node parentOf leaf
     node-proper zero k h =
-        subst Proper (sym (leaf-at cs k (omega (arith, mul-one (k + 1)))))
-        (hashed (leafMessage (getD cs k [])) (leafMessage-bytes (getD cs k []) (w .bytes k)) (length (getD cs k [])) (omega (arith, w .short k)))
+        subst Proper (sym (leaf-at F ss k (omega (arith, mul-one (k + 1)))))
+        (slot-proper (slotAt ss k) (w .handed k) (subst Bytes (contents-at ss k) (w .bytes k)) (subst (λ (c : List ℕ). length c ≤ 65536) (contents-at ss k) (w .short k)))
     node-proper (suc d) k h =
-        let f : filled (length cs) (index (suc d) k) ≡ true = end-filled (length cs) (suc d) k h in
-        hashed (over (node F (leaves F cs) d (2 * k)) (node F (leaves F cs) d (2 * k + 1)))
-        (over-bytes (node F (leaves F cs) d (2 * k)) (node F (leaves F cs) d (2 * k + 1))
-        (node-proper d (2 * k) (filled-end (length cs) d (2 * k) (filled-left (length cs) d k f)))
-        (node-proper d (2 * k + 1) (filled-end (length cs) d (2 * k + 1) (filled-right (length cs) d k f))))
-        (node F (leaves F cs) (suc d) k .size) (node-size-le cs w (suc d) k h)
+        let f : filled (length ss) (index (suc d) k) ≡ true = end-filled (length ss) (suc d) k h in
+        hashed (over (node F (leaves F ss) d (2 * k)) (node F (leaves F ss) d (2 * k + 1)))
+        (over-bytes (node F (leaves F ss) d (2 * k)) (node F (leaves F ss) d (2 * k + 1))
+        (node-proper d (2 * k) (filled-end (length ss) d (2 * k) (filled-left (length ss) d k f)))
+        (node-proper d (2 * k + 1) (filled-end (length ss) d (2 * k + 1) (filled-right (length ss) d k f))))
+        (node F (leaves F ss) (suc d) k .size) (node-size-le ss w (suc d) k h)
 
-    pub nodeAt-proper : (i : ℕ) → filled (length cs) i ≡ true → Proper (nodeAt F (leaves F cs) i)
+    pub nodeAt-proper : (i : ℕ) → filled (length ss) i ≡ true → Proper (nodeAt F (leaves F ss) i)
     nodeAt-proper =
-        by-coordinates (λ i. filled (length cs) i ≡ true → Proper (nodeAt F (leaves F cs) i))
-        (λ d k h. subst Proper (sym (nodeAt-index (leaves F cs) d k)) (node-proper d k (filled-end (length cs) d k h)))
+        by-coordinates (λ i. filled (length ss) i ≡ true → Proper (nodeAt F (leaves F ss) i))
+        (λ d k h. subst Proper (sym (nodeAt-index (leaves F ss) d k)) (node-proper d k (filled-end (length ss) d k h)))
 
-    pub entryAt-proper : (i : ℕ) → Proper (entryAt F (leaves F cs) i)
+    pub entryAt-proper : (i : ℕ) → Proper (entryAt F (leaves F ss) i)
     unfolding entryAt
-    entryAt-proper i = go (filled (length (leaves F cs)) i) refl
+    entryAt-proper i = go (filled (length (leaves F ss)) i) refl
       where
-        go : (b : Bool) → filled (length (leaves F cs)) i ≡ b → Proper (cond b (nodeAt F (leaves F cs) i) hole)
-        go true e = nodeAt-proper i (ap (λ (m : ℕ). filled m i) (sym (leaves-length cs)) ∙ e)
+        go : (b : Bool) → filled (length (leaves F ss)) i ≡ b → Proper (cond b (nodeAt F (leaves F ss) i) hole)
+        go true e = nodeAt-proper i (ap (λ (m : ℕ). filled m i) (sym (leaves-length F ss)) ∙ e)
         go false e = hole-proper
 
-    pub entry-length : (i : ℕ) → length (entryBytes (entryAt F (leaves F cs) i)) ≡ 40
-    entry-length i = entryBytes-length (entryAt F (leaves F cs) i) (entryAt-proper i .long)
+    pub entry-length : (i : ℕ) → length (entryBytes (entryAt F (leaves F ss) i)) ≡ 40
+    entry-length i = entryBytes-length (entryAt F (leaves F ss) i) (entryAt-proper i .long)

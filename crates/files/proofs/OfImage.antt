@@ -1,8 +1,8 @@
--- What the bytes of a register say that belongs to a chunk sequence: at every place what the image has there.
+-- What the bytes of a register say that belongs to chunks, held or released: at every place what the image has there.
 -- Assumes nothing.
 use Prim.Native.Nat.{ℕ, zero, suc, _+_, _*_, _^_, _≤_, _<_}
 use mathlib.Core.Path.{_≡_, refl, sym, ap, ap₂, _∙_, subst}
-use mathlib.Core.Bool.{true}
+use mathlib.Core.Bool.{Bool, true}
 use mathlib.Core.List.{List, [], map}
 use native.Mathlib.Nat.{mul-one, mul-comm, zero-add, add-zero}
 use native.Mathlib.Omega.{arith}
@@ -24,9 +24,11 @@ use Rattle.files.specs.Messages.{HashFunction, leafMessage, parentMessag
 use Rattle.files.specs.Nodes.{Entry, entryBytes, node, nodeAt, entryAt, treeEntries, rootMessageOf}
 use Rattle.files.specs.Images.{dataImage, bitfieldImage, treeImage, leaves, messageFor, rootMessageFor}
 use Rattle.files.specs.Stored.{storedHash, storedSize, storedRootSizes, storedRootMessage, storedStart, storedChunk, storedMessage}
-use Rattle.files.specs.Belongs.{Register, Within, Belongs}
+use Rattle.files.specs.Slots.{Slot, contents, Within}
+use Rattle.files.specs.Belongs.{Register, Belongs}
 use Rattle.files.proofs.Spans.{span, map-ext, chunk-inside, span-all, span-one, part-chunk, cover}
-use Rattle.files.proofs.Nodes.{Proper, byDepth, leaves-length, nodeAt-index, entryAt-filled, entryAt-proper, entry-length, node-size, message-leaf, message-parent}
+use Rattle.files.proofs.Slots.{contents-length, leaves-length}
+use Rattle.files.proofs.Nodes.{Proper, byDepth, nodeAt-index, entryAt-filled, entryAt-proper, entry-length, node-size, message-leaf, message-parent}
 
 -- ---- lengths
 
@@ -42,9 +44,9 @@ pub bitfieldHeader-length : length bitfieldHeader ≡ 32
 unfolding bitfieldHeader header front be
 bitfieldHeader-length = refl
 
-pub bitfieldImage-length : (n : ℕ) → length (bitfieldImage n) ≡ usedBitfield n
+pub bitfieldImage-length : (held : ℕ → Bool) (n : ℕ) → length (bitfieldImage held n) ≡ usedBitfield n
 unfolding bitfieldImage usedBitfield
-bitfieldImage-length n = length-append bitfieldHeader (entriesOf n) ∙ ap₂ _+_ bitfieldHeader-length (length-entries n)
+bitfieldImage-length held n = length-append bitfieldHeader (entriesOf held n) ∙ ap₂ _+_ bitfieldHeader-length (length-entries held n)
 
 -- a part that lies within the front of a list
 pub part-take : (xs : List ℕ) (m a k : ℕ) → a + k ≤ m → part (take m xs) a k ≡ part xs a k
@@ -90,99 +92,99 @@ stored-parent t content d k =
 pub overs : {a b x y : ℕ} {l m u v : List ℕ} → a ≡ x → b ≡ y → l ≡ u → m ≡ v → parentMessage (a + b) l m ≡ parentMessage (x + y) u v
 overs p q s t = λ i. parentMessage (p i + q i) (s i) (t i)
 
-module _ (F : List ℕ → List ℕ) (hf : HashFunction F) (cs : List (List ℕ)) (w : Within cs) where
-  pub treeImage-length : length (treeImage F cs) ≡ usedTree (length cs)
+module _ (F : List ℕ → List ℕ) (hf : HashFunction F) (ss : List Slot) (w : Within ss) where
+  pub treeImage-length : length (treeImage F ss) ≡ usedTree (length ss)
   unfolding treeImage treeEntries usedTree
   treeImage-length =
-      length-append treeHeader (treeEntries F (leaves F cs))
+      length-append treeHeader (treeEntries F (leaves F ss))
       ∙ ap₂ _+_ treeHeader-length
-      (length-joined (λ i. entryBytes (entryAt F (leaves F cs) i)) 40 (entry-length F hf cs w) 0 (entries (length (leaves F cs)))
-      ∙ mul-comm (entries (length (leaves F cs))) 40 ∙ ap (λ (n : ℕ). 40 * entries n) (leaves-length F cs))
+      (length-joined (λ i. entryBytes (entryAt F (leaves F ss) i)) 40 (entry-length F hf ss w) 0 (entries (length (leaves F ss)))
+      ∙ mul-comm (entries (length (leaves F ss))) 40 ∙ ap (λ (n : ℕ). 40 * entries n) (leaves-length F ss))
 
-  pub image-entry : (i : ℕ) → i < entries (length cs) → part (treeImage F cs) (entryPlace i) 40 ≡ entryBytes (entryAt F (leaves F cs) i)
+  pub image-entry : (i : ℕ) → i < entries (length ss) → part (treeImage F ss) (entryPlace i) 40 ≡ entryBytes (entryAt F (leaves F ss) i)
   unfolding treeImage treeEntries entryPlace
   image-entry i h =
-      part-behind treeHeader (treeEntries F (leaves F cs)) 32 (40 * i) 40 treeHeader-length
-      ∙ ap (λ (a : ℕ). part (treeEntries F (leaves F cs)) a 40) (mul-comm 40 i)
-      ∙ part-joined (λ i. entryBytes (entryAt F (leaves F cs) i)) 40 (entry-length F hf cs w) 0 (entries (length (leaves F cs))) i
-      (subst (λ (n : ℕ). i < entries n) (sym (leaves-length F cs)) h)
-      ∙ ap (λ (j : ℕ). entryBytes (entryAt F (leaves F cs) j)) (zero-add i)
+      part-behind treeHeader (treeEntries F (leaves F ss)) 32 (40 * i) 40 treeHeader-length
+      ∙ ap (λ (a : ℕ). part (treeEntries F (leaves F ss)) a 40) (mul-comm 40 i)
+      ∙ part-joined (λ i. entryBytes (entryAt F (leaves F ss) i)) 40 (entry-length F hf ss w) 0 (entries (length (leaves F ss))) i
+      (subst (λ (n : ℕ). i < entries n) (sym (leaves-length F ss)) h)
+      ∙ ap (λ (j : ℕ). entryBytes (entryAt F (leaves F ss) j)) (zero-add i)
 
-  module _ (r : Register) (b : Belongs F r cs) where
-    pub stored-entry : (i : ℕ) → i < entries (r .n) → part (r .tree) (entryPlace i) 40 ≡ entryBytes (entryAt F (leaves F cs) i)
+  module _ (r : Register) (b : Belongs F r ss) where
+    pub stored-entry : (i : ℕ) → i < entries (r .n) → part (r .tree) (entryPlace i) 40 ≡ entryBytes (entryAt F (leaves F ss) i)
     stored-entry i h =
         sym (part-take (r .tree) (usedTree (r .n)) (entryPlace i) 40 (entry-inside i (r .n) h))
         ∙ ap (λ (l : List ℕ). part l (entryPlace i) 40) (b .tree)
         ∙ image-entry i (subst (λ (n : ℕ). i < entries n) (b .count) h)
 
-    pub stored-hash : (i : ℕ) → i < entries (r .n) → storedHash (r .tree) i ≡ entryAt F (leaves F cs) i .hash
-    stored-hash i h = entry-hash (r .tree) i (entryAt F (leaves F cs) i) (entryAt-proper F hf cs w i) (stored-entry i h)
+    pub stored-hash : (i : ℕ) → i < entries (r .n) → storedHash (r .tree) i ≡ entryAt F (leaves F ss) i .hash
+    stored-hash i h = entry-hash (r .tree) i (entryAt F (leaves F ss) i) (entryAt-proper F hf ss w i) (stored-entry i h)
 
-    pub stored-size : (i : ℕ) → i < entries (r .n) → storedSize (r .tree) i ≡ entryAt F (leaves F cs) i .size
-    stored-size i h = entry-size (r .tree) i (entryAt F (leaves F cs) i) (entryAt-proper F hf cs w i) (stored-entry i h)
+    pub stored-size : (i : ℕ) → i < entries (r .n) → storedSize (r .tree) i ≡ entryAt F (leaves F ss) i .size
+    stored-size i h = entry-size (r .tree) i (entryAt F (leaves F ss) i) (entryAt-proper F hf ss w i) (stored-entry i h)
 
     -- at a filled index they are the node's
-    as-node : (i : ℕ) → filled (r .n) i ≡ true → entryAt F (leaves F cs) i ≡ nodeAt F (leaves F cs) i
-    as-node i h = entryAt-filled F (leaves F cs) i (ap (λ (n : ℕ). filled n i) (leaves-length F cs ∙ sym (b .count)) ∙ h)
+    as-node : (i : ℕ) → filled (r .n) i ≡ true → entryAt F (leaves F ss) i ≡ nodeAt F (leaves F ss) i
+    as-node i h = entryAt-filled F (leaves F ss) i (ap (λ (n : ℕ). filled n i) (leaves-length F ss ∙ sym (b .count)) ∙ h)
 
-    pub stored-node-hash : (i : ℕ) → filled (r .n) i ≡ true → storedHash (r .tree) i ≡ nodeAt F (leaves F cs) i .hash
+    pub stored-node-hash : (i : ℕ) → filled (r .n) i ≡ true → storedHash (r .tree) i ≡ nodeAt F (leaves F ss) i .hash
     stored-node-hash i h = stored-hash i (filled-below (r .n) i h) ∙ ap (λ (e : Entry). e .hash) (as-node i h)
 
-    pub stored-node-size : (i : ℕ) → filled (r .n) i ≡ true → storedSize (r .tree) i ≡ nodeAt F (leaves F cs) i .size
+    pub stored-node-size : (i : ℕ) → filled (r .n) i ≡ true → storedSize (r .tree) i ≡ nodeAt F (leaves F ss) i .size
     stored-node-size i h = stored-size i (filled-below (r .n) i h) ∙ ap (λ (e : Entry). e .size) (as-node i h)
 
     -- by coordinates, a length is that of the chunks of the block
-    pub stored-span : (d k : ℕ) → (k + 1) * 2 ^ d ≤ r .n → storedSize (r .tree) (index d k) ≡ span cs (k * 2 ^ d) (2 ^ d)
+    pub stored-span : (d k : ℕ) → (k + 1) * 2 ^ d ≤ r .n → storedSize (r .tree) (index d k) ≡ span (contents ss) (k * 2 ^ d) (2 ^ d)
     stored-span d k h =
-        stored-node-size (index d k) (end-filled (r .n) d k h) ∙ ap (λ (e : Entry). e .size) (nodeAt-index F (leaves F cs) d k) ∙ node-size F cs d k
+        stored-node-size (index d k) (end-filled (r .n) d k h) ∙ ap (λ (e : Entry). e .size) (nodeAt-index F (leaves F ss) d k) ∙ node-size F ss d k
 
-    pub stored-leaf-size : (k : ℕ) → k < r .n → storedSize (r .tree) (2 * k) ≡ length (getD cs k [])
+    pub stored-leaf-size : (k : ℕ) → k < r .n → storedSize (r .tree) (2 * k) ≡ length (getD (contents ss) k [])
     unfolding index
-    stored-leaf-size k h = stored-span 0 k (omega (arith, mul-one (k + 1))) ∙ ap (λ (a : ℕ). span cs a 1) (mul-one k) ∙ span-one cs k
+    stored-leaf-size k h = stored-span 0 k (omega (arith, mul-one (k + 1))) ∙ ap (λ (a : ℕ). span (contents ss) a 1) (mul-one k) ∙ span-one (contents ss) k
 
     -- "a leaf starts at the sum of the leaf lengths before it"
-    pub stored-start : (k : ℕ) → k ≤ r .n → storedStart (r .tree) k ≡ span cs 0 k
+    pub stored-start : (k : ℕ) → k ≤ r .n → storedStart (r .tree) k ≡ span (contents ss) 0 k
     unfolding storedStart span
     stored-start k h =
-        ap total (run-ext (λ j. storedSize (r .tree) (2 * j)) (λ j. length (getD cs j [])) 0 k (λ j p q. stored-leaf-size j (omega arith)))
+        ap total (run-ext (λ j. storedSize (r .tree) (2 * j)) (λ j. length (getD (contents ss) j [])) 0 k (λ j p q. stored-leaf-size j (omega arith)))
 
-    pub stored-chunk : (k : ℕ) → k < r .n → storedChunk (r .tree) (r .content) k ≡ getD cs k []
+    pub stored-chunk : (k : ℕ) → k < r .n → storedChunk (r .tree) (r .content) k ≡ getD (contents ss) k []
     unfolding storedChunk dataImage
     stored-chunk k h =
-        let l : k < length cs = subst (λ (n : ℕ). k < n) (b .count) h in
+        let l : k < length (contents ss) = subst (λ (n : ℕ). k < n) (b .count ∙ sym (contents-length ss)) h in
         ap₂ (part (r .content)) (stored-start k (omega arith)) (stored-leaf-size k h)
-        ∙ sym (part-take (r .content) (r .size) (span cs 0 k) (length (getD cs k []))
-        (subst (λ (t : ℕ). span cs 0 k + length (getD cs k []) ≤ t) (sym (b .total)) (chunk-inside cs k l)))
-        ∙ ap (λ (l : List ℕ). part l (span cs 0 k) (length (getD cs k []))) (b .content) ∙ part-chunk cs k l
+        ∙ sym (part-take (r .content) (r .size) (span (contents ss) 0 k) (length (getD (contents ss) k []))
+        (subst (λ (t : ℕ). span (contents ss) 0 k + length (getD (contents ss) k []) ≤ t) (sym (b .total)) (chunk-inside (contents ss) k l)))
+        ∙ ap (λ (l : List ℕ). part l (span (contents ss) 0 k) (length (getD (contents ss) k []))) (b .content) ∙ part-chunk (contents ss) k l
 
-    pub stored-message : (i : ℕ) → filled (r .n) i ≡ true → storedMessage (r .tree) (r .content) i ≡ messageFor F cs i
-    stored-message = by-coordinates (λ i. filled (r .n) i ≡ true → storedMessage (r .tree) (r .content) i ≡ messageFor F cs i) go
+    pub stored-message : (i : ℕ) → filled (r .n) i ≡ true → storedMessage (r .tree) (r .content) i ≡ messageFor F ss i
+    stored-message = by-coordinates (λ i. filled (r .n) i ≡ true → storedMessage (r .tree) (r .content) i ≡ messageFor F ss i) go
       where
-        sizes : (d k : ℕ) → filled (r .n) (index d k) ≡ true → storedSize (r .tree) (index d k) ≡ node F (leaves F cs) d k .size
-        sizes d k h = stored-node-size (index d k) h ∙ ap (λ (e : Entry). e .size) (nodeAt-index F (leaves F cs) d k)
+        sizes : (d k : ℕ) → filled (r .n) (index d k) ≡ true → storedSize (r .tree) (index d k) ≡ node F (leaves F ss) d k .size
+        sizes d k h = stored-node-size (index d k) h ∙ ap (λ (e : Entry). e .size) (nodeAt-index F (leaves F ss) d k)
 
-        hashes : (d k : ℕ) → filled (r .n) (index d k) ≡ true → storedHash (r .tree) (index d k) ≡ node F (leaves F cs) d k .hash
-        hashes d k h = stored-node-hash (index d k) h ∙ ap (λ (e : Entry). e .hash) (nodeAt-index F (leaves F cs) d k)
+        hashes : (d k : ℕ) → filled (r .n) (index d k) ≡ true → storedHash (r .tree) (index d k) ≡ node F (leaves F ss) d k .hash
+        hashes d k h = stored-node-hash (index d k) h ∙ ap (λ (e : Entry). e .hash) (nodeAt-index F (leaves F ss) d k)
 
-        go : (d k : ℕ) → filled (r .n) (index d k) ≡ true → storedMessage (r .tree) (r .content) (index d k) ≡ messageFor F cs (index d k)
+        go : (d k : ℕ) → filled (r .n) (index d k) ≡ true → storedMessage (r .tree) (r .content) (index d k) ≡ messageFor F ss (index d k)
         go zero k h =
             stored-leaf (r .tree) (r .content) k
-            ∙ ap leafMessage (stored-chunk k (omega (arith, filled-end (r .n) zero k h, mul-one (k + 1)))) ∙ sym (message-leaf F cs k)
+            ∙ ap leafMessage (stored-chunk k (omega (arith, filled-end (r .n) zero k h, mul-one (k + 1)))) ∙ sym (message-leaf F ss k)
         go (suc d) k h =
             let f : filled (r .n) (index d (2 * k)) ≡ true = filled-left (r .n) d k h in
             let g : filled (r .n) (index d (2 * k + 1)) ≡ true = filled-right (r .n) d k h in
             stored-parent (r .tree) (r .content) d k
             ∙ overs (sizes d (2 * k) f) (sizes d (2 * k + 1) g) (hashes d (2 * k) f) (hashes d (2 * k + 1) g)
-            ∙ sym (message-parent F cs d k)
+            ∙ sym (message-parent F ss d k)
 
-    pub stored-root-message : storedRootMessage (r .tree) (r .n) ≡ rootMessageFor F cs
+    pub stored-root-message : storedRootMessage (r .tree) (r .n) ≡ rootMessageFor F ss
     unfolding storedRootMessage rootMessageFor rootMessageOf
     stored-root-message =
-        ap rootMessage (map-ext (λ i. rootItem (storedHash (r .tree) i) i (storedSize (r .tree) i)) (λ i. rootItem (nodeAt F (leaves F cs) i .hash) i (nodeAt F (leaves F cs) i .size)) (roots (r .n))
+        ap rootMessage (map-ext (λ i. rootItem (storedHash (r .tree) i) i (storedSize (r .tree) i)) (λ i. rootItem (nodeAt F (leaves F ss) i .hash) i (nodeAt F (leaves F ss) i .size)) (roots (r .n))
         (λ j l. ap₂ (λ (h : List ℕ) (z : ℕ). rootItem h (getD (roots (r .n)) j 0) z) (stored-node-hash (getD (roots (r .n)) j 0) (root-filled (r .n) j l)) (stored-node-size (getD (roots (r .n)) j 0) (root-filled (r .n) j l)))
-        ∙ ap (λ (n : ℕ). map (λ i. rootItem (nodeAt F (leaves F cs) i .hash) i (nodeAt F (leaves F cs) i .size)) (roots n)) (b .count ∙ sym (leaves-length F cs)))
+        ∙ ap (λ (n : ℕ). map (λ i. rootItem (nodeAt F (leaves F ss) i .hash) i (nodeAt F (leaves F ss) i .size)) (roots n)) (b .count ∙ sym (leaves-length F ss)))
 
     -- "The stored root lengths .. add up to the data size"
     pub stored-total : total (storedRootSizes (r .tree) (r .n)) ≡ r .size
     unfolding storedRootSizes
-    stored-total = cover cs (storedSize (r .tree)) (r .n) stored-span (subst (λ (n : ℕ). n ≤ 2 ^ 20) (sym (b .count)) (w .count)) ∙ ap (span cs 0) (b .count) ∙ span-all cs ∙ sym (b .total)
+    stored-total = cover (contents ss) (storedSize (r .tree)) (r .n) stored-span (subst (λ (n : ℕ). n ≤ 2 ^ 20) (sym (b .count)) (w .count)) ∙ ap (span (contents ss) 0) (b .count ∙ sym (contents-length ss)) ∙ span-all (contents ss) ∙ sym (b .total)

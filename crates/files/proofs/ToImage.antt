@@ -14,7 +14,8 @@ use Rattle.files.specs.Headers.{treeHeader}
 use Rattle.files.specs.Sizes.{entryPlace, usedTree}
 use Rattle.files.specs.Nodes.{hole, entryBytes, entryAt, treeEntries}
 use Rattle.files.specs.Images.{treeImage, leaves}
-use Rattle.files.proofs.Nodes.{leaves-length}
+use Rattle.files.specs.Slots.{Slot}
+use Rattle.files.proofs.Slots.{leaves-length}
 
 -- used bytes that are a header and what follows it, cut behind the header
 pub header-cut : (xs hs ys : List ℕ) (m k : ℕ) → length hs ≡ m → m ≤ length xs → take (m + k) xs ≡ hs ++ ys → (take m xs ≡ hs) × (part xs m k ≡ ys)
@@ -31,13 +32,13 @@ pub hole-zeros : entryBytes hole ≡ zeros 40
 unfolding entryBytes hole be
 hole-zeros = refl
 
--- a tree file with the header and with every entry of a chunk sequence
-pub tree-of-entries : (F : List ℕ → List ℕ) (cs : List (List ℕ)) (xs : List ℕ) (n : ℕ) → n ≡ length cs → take 32 xs ≡ treeHeader
-    → ((i : ℕ) → i < entries n → part xs (entryPlace i) 40 ≡ entryBytes (entryAt F (leaves F cs) i)) → take (usedTree n) xs ≡ treeImage F cs
+-- a tree file with the header and with every entry
+pub tree-of-entries : (F : List ℕ → List ℕ) (ss : List Slot) (xs : List ℕ) (n : ℕ) → n ≡ length ss → take 32 xs ≡ treeHeader
+    → ((i : ℕ) → i < entries n → part xs (entryPlace i) 40 ≡ entryBytes (entryAt F (leaves F ss) i)) → take (usedTree n) xs ≡ treeImage F ss
 unfolding usedTree treeImage treeEntries entryPlace part
-tree-of-entries F cs xs n e front each =
+tree-of-entries F ss xs n e front each =
     take-add 32 (40 * entries n) xs
     ∙ ap₂ _++_ front
     (sym (parts-joined xs 32 40 (entries n))
-    ∙ ap joined (run-ext (λ i. part xs (32 + 40 * i) 40) (λ i. entryBytes (entryAt F (leaves F cs) i)) 0 (entries n) (λ i p q. each i (omega arith))
-    ∙ ap (λ (m : ℕ). run (λ i. entryBytes (entryAt F (leaves F cs) i)) 0 (entries m)) (e ∙ sym (leaves-length F cs))))
+    ∙ ap joined (run-ext (λ i. part xs (32 + 40 * i) 40) (λ i. entryBytes (entryAt F (leaves F ss) i)) 0 (entries n) (λ i p q. each i (omega arith))
+    ∙ ap (λ (m : ℕ). run (λ i. entryBytes (entryAt F (leaves F ss) i)) 0 (entries m)) (e ∙ sym (leaves-length F ss))))

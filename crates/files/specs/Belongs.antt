@@ -1,10 +1,11 @@
--- A register, and the chunk sequences that it belongs to.
-use Prim.Native.Nat.{ℕ, _≤_}
+-- A register, and the chunks, held or released, that it belongs to.
+use Prim.Native.Nat.{ℕ}
 use mathlib.Core.Path.{_≡_}
-use mathlib.Core.List.{List, []}
-use lib.ListN.{length, getD, take}
+use mathlib.Core.List.{List}
+use lib.ListN.{length, take}
 use Rattle.sequences.specs.Lists.{Bytes}
-use Rattle.files.specs.Sizes.{mostChunks, longestChunk, usedTree, usedBitfield}
+use Rattle.files.specs.Sizes.{usedTree, usedBitfield}
+use Rattle.files.specs.Slots.{Slot, contents, heldIn}
 use Rattle.files.specs.Images.{dataSize, dataImage, bitfieldImage, treeImage}
 
 -- "A call on a register is lent its four images and told n, the signature count s and the data size."
@@ -34,17 +35,12 @@ pub record Lent (r : Register) : Type 0 where
   pub bitfield : Bytes (r .bitfield)
   pub content : Bytes (r .content)
 
--- "a chunk sequence (at most 1,048,576 chunks, each of at most 65,536 bytes)"
-pub record Within (cs : List (List ℕ)) : Type 0 where
-  pub count : length cs ≤ mostChunks
-  pub short : (k : ℕ) → length (getD cs k []) ≤ longestChunk
-  pub bytes : (k : ℕ) → Bytes (getD cs k [])
-
 -- "It belongs to a chunk sequence .. when n is the number of its chunks, the data size is the sum of their lengths, and the
--- used tree, bitfield and data bytes are this document's images for it."
-pub record Belongs (F : List ℕ → List ℕ) (r : Register) (cs : List (List ℕ)) : Type 0 where
-  pub count : r .n ≡ length cs
-  pub total : r .size ≡ dataSize cs
-  pub tree : take (usedTree (r .n)) (r .tree) ≡ treeImage F cs
-  pub bitfield : take (usedBitfield (r .n)) (r .bitfield) ≡ bitfieldImage (r .n)
-  pub content : take (r .size) (r .content) ≡ dataImage cs
+-- used tree, bitfield and data bytes are this document's images for it." With released chunks "the image is the one that these entries, zeros for
+-- their data, and the held chunks give"; it belongs to a chunk sequence cs where it belongs to `allHeld cs`.
+pub record Belongs (F : List ℕ → List ℕ) (r : Register) (ss : List Slot) : Type 0 where
+  pub count : r .n ≡ length ss
+  pub total : r .size ≡ dataSize (contents ss)
+  pub tree : take (usedTree (r .n)) (r .tree) ≡ treeImage F ss
+  pub bitfield : take (usedBitfield (r .n)) (r .bitfield) ≡ bitfieldImage (heldIn ss) (r .n)
+  pub content : take (r .size) (r .content) ≡ dataImage (contents ss)

@@ -1,5 +1,6 @@
--- The four images of a chunk sequence, and its root hash, with F for every leaf, parent and root message.
+-- The four images of a register's chunks, held or released, and its root hash, with F for every leaf, parent and root message.
 use Prim.Native.Nat.{ℕ, zero, suc, _+_}
+use mathlib.Core.Bool.{Bool}
 use mathlib.Core.List.{List, [], _++_, map}
 use lib.ListN.{length, getD}
 use Rattle.sequences.specs.Lists.{joined, total}
@@ -7,43 +8,46 @@ use Rattle.tree_index.specs.Tree.{depth, block, leftChild, rightChild}
 use Rattle.bitfield.specs.Image.{entriesOf}
 use Rattle.files.specs.Headers.{treeHeader, signaturesHeader, bitfieldHeader}
 use Rattle.files.specs.Messages.{leafMessage, parentMessage}
-use Rattle.files.specs.Nodes.{Entry, leaf, nodeAt, rootMessageOf, treeEntries}
+use Rattle.files.specs.Nodes.{Entry, nodeAt, rootMessageOf, treeEntries}
+use Rattle.files.specs.Slots.{Slot, slotEntry, contents}
 
--- the data size of a chunk sequence: the sum of the chunks' lengths
+-- the data size of byte strings: the sum of their lengths
 unfoldable pub dataSize : List (List ℕ) → ℕ
 dataSize cs = total (map length cs)
 
--- "The data file has no header": the chunks one behind the other
+-- "The data file has no header": they stand one behind the other
 unfoldable pub dataImage : List (List ℕ) → List ℕ
 dataImage cs = joined cs
 
-unfoldable pub bitfieldImage : ℕ → List ℕ
-bitfieldImage n = bitfieldHeader ++ entriesOf n
+-- of n chunks, of which those are held that a test says
+unfoldable pub bitfieldImage : (ℕ → Bool) → ℕ → List ℕ
+bitfieldImage held n = bitfieldHeader ++ entriesOf held n
 
 -- the signatures handed in, 64 bytes each
 unfoldable pub signaturesImage : List (List ℕ) → List ℕ
 signaturesImage sigs = signaturesHeader ++ joined sigs
 
 module _ (F : List ℕ → List ℕ) where
-  -- the leaf entries of a chunk sequence
-  unfoldable pub leaves : List (List ℕ) → List Entry
-  leaves cs = map (leaf F) cs
+  -- the leaf entries
+  unfoldable pub leaves : List Slot → List Entry
+  leaves ss = map (slotEntry F) ss
 
-  unfoldable pub treeImage : List (List ℕ) → List ℕ
-  treeImage cs = treeHeader ++ treeEntries F (leaves cs)
+  unfoldable pub treeImage : List Slot → List ℕ
+  treeImage ss = treeHeader ++ treeEntries F (leaves ss)
 
   -- "the root message the one that the root rule hashes"
-  unfoldable pub rootMessageFor : List (List ℕ) → List ℕ
-  rootMessageFor cs = rootMessageOf F (leaves cs)
+  unfoldable pub rootMessageFor : List Slot → List ℕ
+  rootMessageFor ss = rootMessageOf F (leaves ss)
 
-  unfoldable pub rootHashFor : List (List ℕ) → List ℕ
-  rootHashFor cs = F (rootMessageFor cs)
+  unfoldable pub rootHashFor : List Slot → List ℕ
+  rootHashFor ss = F (rootMessageFor ss)
 
-  -- "The message at a filled tree index is the byte string that the leaf or parent rule above hashes there"
-  unfoldable pub messageFor : List (List ℕ) → ℕ → List ℕ
-  messageFor cs i =
+  -- "The message at a filled tree index is the byte string that the leaf or parent rule above hashes there", at a leaf of the chunk, which is
+  -- held
+  unfoldable pub messageFor : List Slot → ℕ → List ℕ
+  messageFor ss i =
       elim (depth i) [
-        | zero ↦ leafMessage (getD cs (block i) [])
-        | suc d ↦ parentMessage (nodeAt F (leaves cs) (leftChild i) .size + nodeAt F (leaves cs) (rightChild i) .size)
-            (nodeAt F (leaves cs) (leftChild i) .hash) (nodeAt F (leaves cs) (rightChild i) .hash)
+        | zero ↦ leafMessage (getD (contents ss) (block i) [])
+        | suc d ↦ parentMessage (nodeAt F (leaves ss) (leftChild i) .size + nodeAt F (leaves ss) (rightChild i) .size)
+            (nodeAt F (leaves ss) (leftChild i) .hash) (nodeAt F (leaves ss) (rightChild i) .hash)
       ]

@@ -3,6 +3,7 @@ pub mod Headers
 pub mod Sizes
 pub mod Messages
 pub mod Nodes
+pub mod Slots
 pub mod Images
 pub mod Within
 pub mod Stored

@@ -13,6 +13,7 @@ use Rattle.bitfield.specs.Append.{appended}
 use Rattle.bitfield.specs.Image.{entryCount}
 use Rattle.files.specs.Sizes.{mostChunks, usedTree, usedSignatures, usedBitfield}
 use Rattle.files.specs.Images.{dataSize}
+use Rattle.files.specs.Slots.{Slot, held, allHeld}
 use Rattle.files.specs.Belongs.{Register}
 use Rattle.checks.proofs.Passed.{Passed}
 use Rattle.writing.specs.Append.{appendedTree, appendedRegister}
@@ -79,7 +80,7 @@ module _ (F : List ℕ → List ℕ) (r : Register) (c d : List ℕ) (cs : List 
       let signed : length (put (r .signatures) (32 + 64 * r .s) (zeros 64)) ≡ length (r .signatures) =
       length-put (r .signatures) (32 + 64 * r .s) (zeros 64) (omega (arith, f .signatures, f .paid))
       in
-      let held : length (put (r .content) (r .size) c) ≡ length (r .content) = length-put (r .content) (r .size) c (omega (arith, f .content)) in
+      let same : length (put (r .content) (r .size) c) ≡ length (r .content) = length-put (r .content) (r .size) c (omega (arith, f .content)) in
       record {
         fewer = omega (arith, f .fewer);
         paid = omega (arith, f .paid);
@@ -93,47 +94,47 @@ module _ (F : List ℕ → List ℕ) (r : Register) (c d : List ℕ) (cs : List 
 -- ---- what every step keeps
 
 -- P says something of a register, of its chunks and of its signatures
-module _ (F : List ℕ → List ℕ) (P : Register → List (List ℕ) → List (List ℕ) → Type 0)
-    (long : (r : Register) (cs sigs : List (List ℕ)) (c : List ℕ) → P r cs sigs → Chunk c → AppendFits r c
+module _ (F : List ℕ → List ℕ) (P : Register → List Slot → List (List ℕ) → Type 0)
+    (long : (r : Register) (ss : List Slot) (sigs : List (List ℕ)) (c : List ℕ) → P r ss sigs → Chunk c → AppendFits r c
     → length (appendedTree F (r .tree) (r .n) c) ≡ length (r .tree))
-    (more : (r : Register) (cs sigs : List (List ℕ)) (c : List ℕ) → P r cs sigs → Chunk c → AppendFits r c → P (appendedRegister F r c) (cs ++ (c ∷ [])) sigs)
-    (sign : (r : Register) (cs sigs : List (List ℕ)) → P r cs sigs → SignFits r → P (signedRegister r (zeros 64)) cs (sigs ++ (zeros 64 ∷ []))) where
-  kept : (cs : List (List ℕ)) (r : Register) (c : List ℕ) (ds sigs : List (List ℕ)) → ChunksFit r (c ∷ cs) → P r ds sigs
-      → P (appendedList F r (c ∷ cs)) (ds ++ (c ∷ cs)) (sigs ++ zeroSignatures (length cs))
-  unfolding appendedList
-  kept [] r c ds sigs f p =
-      subst (P (appendedRegister F r c) (ds ++ (c ∷ []))) (sym (append-nil sigs)) (more r ds sigs c p (f .each .0) (first-fits r c [] f))
-  kept (d ∷ cs) r c ds sigs f p =
+    (more : (r : Register) (ss : List Slot) (sigs : List (List ℕ)) (c : List ℕ) → P r ss sigs → Chunk c → AppendFits r c → P (appendedRegister F r c) (ss ++ (held c ∷ [])) sigs)
+    (sign : (r : Register) (ss : List Slot) (sigs : List (List ℕ)) → P r ss sigs → SignFits r → P (signedRegister r (zeros 64)) ss (sigs ++ (zeros 64 ∷ []))) where
+  kept : (cs : List (List ℕ)) (r : Register) (c : List ℕ) (ss : List Slot) (sigs : List (List ℕ)) → ChunksFit r (c ∷ cs) → P r ss sigs
+      → P (appendedList F r (c ∷ cs)) (ss ++ allHeld (c ∷ cs)) (sigs ++ zeroSignatures (length cs))
+  unfolding appendedList allHeld
+  kept [] r c ss sigs f p =
+      subst (P (appendedRegister F r c) (ss ++ (held c ∷ []))) (sym (append-nil sigs)) (more r ss sigs c p (f .each .0) (first-fits r c [] f))
+  kept (d ∷ cs) r c ss sigs f p =
       let a = first-fits r c (d ∷ cs) f in
-      let q : P (onward F r c) (ds ++ (c ∷ [])) (sigs ++ (zeros 64 ∷ [])) =
-      sign (appendedRegister F r c) (ds ++ (c ∷ [])) sigs (more r ds sigs c p (f .each .0) a) (zeros-fit F r c d cs f)
+      let q : P (onward F r c) (ss ++ (held c ∷ [])) (sigs ++ (zeros 64 ∷ [])) =
+      sign (appendedRegister F r c) (ss ++ (held c ∷ [])) sigs (more r ss sigs c p (f .each .0) a) (zeros-fit F r c d cs f)
       in
-      subst (λ (xs : List (List ℕ)). P (appendedList F (onward F r c) (d ∷ cs)) xs (sigs ++ (zeros 64 ∷ zeroSignatures (length cs)))) (append-assoc ds (c ∷ []) (d ∷ cs))
-      (subst (P (appendedList F (onward F r c) (d ∷ cs)) ((ds ++ (c ∷ [])) ++ (d ∷ cs))) (append-assoc sigs (zeros 64 ∷ []) (zeroSignatures (length cs)))
-      (kept cs (onward F r c) d (ds ++ (c ∷ [])) (sigs ++ (zeros 64 ∷ [])) (rest-fit F r c d cs f (long r ds sigs c p (f .each .0) a)) q))
+      subst (λ (xs : List Slot). P (appendedList F (onward F r c) (d ∷ cs)) xs (sigs ++ (zeros 64 ∷ zeroSignatures (length cs)))) (append-assoc ss (held c ∷ []) (allHeld (d ∷ cs)))
+      (subst (P (appendedList F (onward F r c) (d ∷ cs)) ((ss ++ (held c ∷ [])) ++ allHeld (d ∷ cs))) (append-assoc sigs (zeros 64 ∷ []) (zeroSignatures (length cs)))
+      (kept cs (onward F r c) d (ss ++ (held c ∷ [])) (sigs ++ (zeros 64 ∷ [])) (rest-fit F r c d cs f (long r ss sigs c p (f .each .0) a)) q))
 
   -- the same of a list, as it is lent
-  pub list-kept : (r : Register) (ls bs : List ℕ) (ds sigs : List (List ℕ)) → ListFits r ls bs → Bytes bs → P r ds sigs
-      → P (appendedList F r (chunksOf ls bs)) (ds ++ chunksOf ls bs) (sigs ++ zeroSignatures (length ls - 1))
+  pub list-kept : (r : Register) (ls bs : List ℕ) (ss : List Slot) (sigs : List (List ℕ)) → ListFits r ls bs → Bytes bs → P r ss sigs
+      → P (appendedList F r (chunksOf ls bs)) (ss ++ allHeld (chunksOf ls bs)) (sigs ++ zeroSignatures (length ls - 1))
   unfolding chunksOf
-  list-kept r [] bs ds sigs f p q = absurd (omega (arith, f .some))
-  list-kept r (l ∷ ls) bs ds sigs f p q =
+  list-kept r [] bs ss sigs f p q = absurd (omega (arith, f .some))
+  list-kept r (l ∷ ls) bs ss sigs f p q =
       let c : List ℕ = take l bs in
       let cs : List (List ℕ) = chunksOf ls (drop l bs) in
       let k : length cs ≡ suc (length ls) - 1 = omega (arith, chunks-count ls (drop l bs)) in
-      subst (λ (m : ℕ). P (appendedList F r (c ∷ cs)) (ds ++ (c ∷ cs)) (sigs ++ zeroSignatures m)) k
-      (kept cs r c ds sigs (list-chunks r (l ∷ ls) bs f p) q)
+      subst (λ (m : ℕ). P (appendedList F r (c ∷ cs)) (ss ++ allHeld (c ∷ cs)) (sigs ++ zeroSignatures m)) k
+      (kept cs r c ss sigs (list-chunks r (l ∷ ls) bs f p) q)
 
   -- where it says that 2 to 6 are passed, no single call is refused
-  pub singly : ((r : Register) (cs sigs : List (List ℕ)) → P r cs sigs → Passed r)
-      → (cs : List (List ℕ)) (r : Register) (c : List ℕ) (ds sigs : List (List ℕ)) → ChunksFit r (c ∷ cs) → P r ds sigs
+  pub singly : ((r : Register) (ss : List Slot) (sigs : List (List ℕ)) → P r ss sigs → Passed r)
+      → (cs : List (List ℕ)) (r : Register) (c : List ℕ) (ss : List Slot) (sigs : List (List ℕ)) → ChunksFit r (c ∷ cs) → P r ss sigs
       → Singly F r (c ∷ cs) (appendedList F r (c ∷ cs))
   unfolding appendedList
-  singly passes [] r c ds sigs f p = last (passed-append r c (passes r ds sigs p) (first-fits r c [] f))
-  singly passes (d ∷ cs) r c ds sigs f p =
+  singly passes [] r c ss sigs f p = last (passed-append r c (passes r ss sigs p) (first-fits r c [] f))
+  singly passes (d ∷ cs) r c ss sigs f p =
       let a = first-fits r c (d ∷ cs) f in
-      let m : P (appendedRegister F r c) (ds ++ (c ∷ [])) sigs = more r ds sigs c p (f .each .0) a in
+      let m : P (appendedRegister F r c) (ss ++ (held c ∷ [])) sigs = more r ss sigs c p (f .each .0) a in
       let s : SignFits (appendedRegister F r c) = zeros-fit F r c d cs f in
-      next (passed-append r c (passes r ds sigs p) a) (passed-sign (appendedRegister F r c) (passes (appendedRegister F r c) (ds ++ (c ∷ [])) sigs m) s)
-      (singly passes cs (onward F r c) d (ds ++ (c ∷ [])) (sigs ++ (zeros 64 ∷ [])) (rest-fit F r c d cs f (long r ds sigs c p (f .each .0) a))
-      (sign (appendedRegister F r c) (ds ++ (c ∷ [])) sigs m s))
+      next (passed-append r c (passes r ss sigs p) a) (passed-sign (appendedRegister F r c) (passes (appendedRegister F r c) (ss ++ (held c ∷ [])) sigs m) s)
+      (singly passes cs (onward F r c) d (ss ++ (held c ∷ [])) (sigs ++ (zeros 64 ∷ [])) (rest-fit F r c d cs f (long r ss sigs c p (f .each .0) a))
+      (sign (appendedRegister F r c) (ss ++ (held c ∷ [])) sigs m s))

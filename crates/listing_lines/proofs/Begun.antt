@@ -14,12 +14,13 @@ use Rattle.sequences.specs.Lists.{part}
 use Rattle.sequences.specs.Numbers.{number}
 use Rattle.sequences.proofs.Lists.{length-put}
 use Rattle.files.specs.Headers.{treeHeader, signaturesHeader, bitfieldHeader}
-use Rattle.files.specs.Belongs.{Buffers, Register, Within}
+use Rattle.files.specs.Slots.{allHeld, Within}
+use Rattle.files.specs.Belongs.{Buffers, Register}
 use Rattle.files.proofs.OfImage.{treeHeader-length, signaturesHeader-length, bitfieldHeader-length}
 use Rattle.checks.specs.Given.{registerOf}
 use Rattle.writing.specs.Start.{started, startedRegister, afterStart}
 use Rattle.writing.specs.Post.{lent, StartPost}
-use Rattle.writing.proofs.Written.{take-header}
+use Rattle.writing.proofs.Written.{take-header, within-nil}
 use Rattle.writing.proofs.Started.{fits-start, started-belongs}
 use Rattle.listing_lines.specs.Input.{Input, other, chunksIn, inputOf}
 use Rattle.listing_lines.specs.Inner.{Ready, Rooms, Read}
@@ -53,12 +54,13 @@ module _ (xs : List ℕ) where
 
 -- ---- the start
 
-none-within : Within []
-none-within = record { count = omega arith; short = λ k. omega arith; bytes = λ k i. omega arith }
+none-within : Within (allHeld [])
+unfolding allHeld
+none-within = within-nil
 
 module _ (t s b d : List ℕ) (h : Rooms t s b d) where
   start-ready : Ready (startedRegister (lent t s b d)) []
-  unfolding startedRegister started
+  unfolding startedRegister started allHeld
   start-ready =
       record {
         within = none-within;

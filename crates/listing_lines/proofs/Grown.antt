@@ -3,7 +3,7 @@
 use Prim.Native.Nat.{ℕ, _+_, _≤_, _<_}
 use mathlib.Core.Path.{_≡_, refl, sym, ap, _∙_, subst}
 use mathlib.Core.Bool.{Bool, true, false, _||_}
-use mathlib.Core.List.{List, [], _∷_, _++_}
+use mathlib.Core.List.{List, [], _∷_, _++_, map-append}
 use native.Mathlib.Omega.{arith}
 use borrow.Author.Tests.{eq-eqb}
 use lib.Dec.{eqb}
@@ -14,10 +14,12 @@ use Rattle.sequences.specs.Lists.{Bytes}
 use Rattle.sequences.proofs.Lists.{length-put, take-put}
 use Rattle.tree_index.specs.Tree.{entries}
 use Rattle.bitfield.specs.Image.{entryCount, entriesOf}
+use Rattle.bitfield.proofs.Bits.{with-one}
 use Rattle.bitfield.proofs.Image.{length-entries}
 use Rattle.files.specs.Headers.{signaturesHeader}
 use Rattle.files.specs.Sizes.{usedTree, usedSignatures, usedBitfield}
-use Rattle.files.specs.Belongs.{Buffers, Register, buffersOf, Within, Belongs}
+use Rattle.files.specs.Slots.{Slot, held, allHeld, heldIn, Within}
+use Rattle.files.specs.Belongs.{Buffers, Register, buffersOf, Belongs}
 use Rattle.files.proofs.Hashed.{hash-function}
 use Rattle.checks.specs.Checks.{signedRight}
 use Rattle.checks.specs.Given.{registerOf}
@@ -31,7 +33,7 @@ use Rattle.writing.specs.Post.{lent, AppendPost, SignPost}
 use Rattle.writing.proofs.Tree.{appended-length}
 use Rattle.writing.proofs.Orders.{left-done}
 use Rattle.writing.proofs.Verdicts.{passed-append, passed-sign}
-use Rattle.writing.proofs.Appended.{longer-within, append-belongs, bits-put}
+use Rattle.writing.proofs.Appended.{none-from, longer-within, append-belongs, bits-put}
 use Rattle.writing.proofs.Signed.{sign-belongs}
 use Rattle.listing_lines.specs.Inner.{Ready, Adds}
 
@@ -43,9 +45,9 @@ bits-room : (n : ℕ) → n < 64 → usedBitfield (n + 1) ≤ 3360
 unfolding usedBitfield entryCount
 bits-room n h = omega arith
 
-bits-end : (n : ℕ) → n < 64 → 32 + length (entriesOf (n + 1)) ≤ 3360
+bits-end : (has : ℕ → Bool) (n : ℕ) → n < 64 → 32 + length (entriesOf has (n + 1)) ≤ 3360
 unfolding entryCount
-bits-end n h = omega (arith, length-entries (n + 1))
+bits-end has n h = omega (arith, length-entries has (n + 1))
 
 sigs-room : (s : ℕ) → s ≤ 64 → usedSignatures s ≤ 4160
 unfolding usedSignatures
@@ -64,10 +66,10 @@ or-right true b q = refl
 or-right false b q = q
 
 -- the numbers 2 to 6 are passed by a register that belongs to chunks
-passed-of : (r : Register) (cs : List (List ℕ)) → Within cs → Belongs nodeHash r cs → signedRight (r .n) (r .s) ≡ true
+passed-of : (r : Register) (ss : List Slot) → Within ss → Belongs nodeHash r ss → signedRight (r .n) (r .s) ≡ true
     → usedSignatures (r .s) ≤ length (r .signatures) → take 32 (r .signatures) ≡ signaturesHeader → Passed r
-passed-of r cs w b s l f =
-    accepted-audited nodeHash r (belongs-accepted nodeHash hash-function cs w r b (record { count = s; long = l; front = f })) .checked
+passed-of r ss w b s l f =
+    accepted-audited nodeHash r (belongs-accepted nodeHash hash-function ss w r b (record { count = s; long = l; front = f })) .checked
 
 module _ (r : Register) (c : List ℕ) (p : Bytes c) (few : r .n < 64) (small : r .size + length c ≤ 4096) (cs : List (List ℕ)) (y : Ready r cs) where
   fits : AppendFits r c
@@ -87,7 +89,7 @@ module _ (r : Register) (c : List ℕ) (p : Bytes c) (few : r .n < 64) (small : 
   append-is-done : appendVerdict r c ≡ done
   append-is-done =
       passed-append r c
-      (passed-of r cs (y .within) (y .belongs) (ap (λ (b : Bool). b || eqb (r .s + 1) (r .n)) (eq-eqb (r .s) (r .n) (y .paid)))
+      (passed-of r (allHeld cs) (y .within) (y .belongs) (ap (λ (b : Bool). b || eqb (r .s + 1) (r .n)) (eq-eqb (r .s) (r .n) (y .paid)))
       (omega (arith, sigs-room (r .s) (omega (arith, y .paid, few)), y .signatures)) (y .front))
       fits
 
@@ -95,18 +97,25 @@ module _ (r : Register) (c : List ℕ) (p : Bytes c) (few : r .n < 64) (small : 
   unfolding afterAppend next
   appended-buffers = left-done (appendVerdict r c) (buffersOf (appendedRegister nodeHash r c)) (buffersOf r) append-is-done
 
-  wide : Within (cs ++ (c ∷ []))
-  wide = longer-within nodeHash hash-function cs (y .within) r (y .belongs) c p fits
+  longer : allHeld cs ++ (held c ∷ []) ≡ allHeld (cs ++ (c ∷ []))
+  unfolding allHeld
+  longer = sym (map-append held cs (c ∷ []))
 
-  next-belongs : Belongs nodeHash next (cs ++ (c ∷ []))
+  wider : Within (allHeld cs ++ (held c ∷ []))
+  wider = longer-within nodeHash hash-function (allHeld cs) (y .within) r (y .belongs) c p fits
+
+  wide : Within (allHeld (cs ++ (c ∷ [])))
+  wide = subst Within longer wider
+
+  next-belongs : Belongs nodeHash next (allHeld (cs ++ (c ∷ [])))
   unfolding next
-  next-belongs = append-belongs nodeHash hash-function cs (y .within) r (y .belongs) c p fits
+  next-belongs = subst (Belongs nodeHash (appendedRegister nodeHash r c)) longer (append-belongs nodeHash hash-function (allHeld cs) (y .within) r (y .belongs) c p fits)
 
   sign-is-done : signVerdict next ≡ done
   unfolding next appendedRegister
   sign-is-done =
       passed-sign next
-      (passed-of next (cs ++ (c ∷ [])) wide next-belongs
+      (passed-of next (allHeld (cs ++ (c ∷ []))) wide next-belongs
       (or-right (eqb (r .s) (r .n + 1)) (eqb (r .s + 1) (r .n + 1)) (eq-eqb (r .s + 1) (r .n + 1) (ap (λ (k : ℕ). k + 1) (y .paid))))
       (omega (arith, sigs-room (r .s) (omega (arith, y .paid, few)), y .signatures)) (y .front))
       (record { owed = ap (λ (k : ℕ). k + 1) (y .paid); room = omega (arith, sigs-room (r .s + 1) (omega (arith, y .paid, few)), y .signatures) })
@@ -121,13 +130,14 @@ module _ (r : Register) (c : List ℕ) (p : Bytes c) (few : r .n < 64) (small : 
     signed-ready =
         record {
           within = wide;
-          belongs = sign-belongs nodeHash next sig (cs ++ (c ∷ [])) next-belongs;
+          belongs = sign-belongs nodeHash next sig (allHeld (cs ++ (c ∷ []))) next-belongs;
           paid = ap (λ (k : ℕ). k + 1) (y .paid);
           front = take-put 32 (r .signatures) (usedSignatures (r .s)) sig (sigs-behind (r .s)) (omega (arith, sigs-end (r .s) (omega (arith, y .paid, few)), y .signatures)) ∙ y .front;
-          tree = appended-length nodeHash hash-function cs (y .within) r (y .belongs) c wide (fits .tree) ∙ y .tree;
+          tree = appended-length nodeHash hash-function (allHeld cs) (y .within) r (y .belongs) c wider (fits .tree) ∙ y .tree;
           signatures = length-put (r .signatures) (usedSignatures (r .s)) sig (omega (arith, long, sigs-end (r .s) (omega (arith, y .paid, few)), y .signatures)) ∙ y .signatures;
-          bitfield = ap length (bits-put (r .bitfield) (r .n) (fits .fewer) (fits .bitfield) (y .belongs .bitfield))
-              ∙ length-put (r .bitfield) 32 (entriesOf (r .n + 1)) (omega (arith, bits-end (r .n) few, y .bitfield)) ∙ y .bitfield;
+          bitfield = ap length (bits-put (r .bitfield) (heldIn (allHeld cs)) (r .n) (none-from nodeHash (allHeld cs) r (y .belongs)) (fits .fewer) (fits .bitfield) (y .belongs .bitfield))
+              ∙ length-put (r .bitfield) 32 (entriesOf (with-one (heldIn (allHeld cs)) (r .n)) (r .n + 1))
+              (omega (arith, bits-end (with-one (heldIn (allHeld cs)) (r .n)) (r .n) few, y .bitfield)) ∙ y .bitfield;
           content = length-put (r .content) (r .size) c (omega (arith, small, y .content)) ∙ y .content;
         }
 

@@ -20,8 +20,10 @@ use Rattle.tree_index.proofs.Index.{index-of}
 use Rattle.tree_index.proofs.Filled.{block-end, filled-end}
 use Rattle.files.specs.Stored.{storedSize, storedStart}
 use Rattle.files.specs.Images.{dataSize}
+use Rattle.files.specs.Slots.{allHeld}
 use Rattle.files.specs.Belongs.{Register}
 use Rattle.files.proofs.Spans.{span, span-all, span-add}
+use Rattle.files.proofs.Slots.{all-length, all-contents}
 use Rattle.files.proofs.OfImage.{stored-start, stored-span}
 use Rattle.listing_lines.specs.Input.{Input, chunks, before, inputOf}
 use Rattle.listing_lines.specs.Lines.{line, kindWord, holeWord, firstUnder, countUnder, startOf, lengthOf, firstLine, entryLine, linesOf, linesFor, refusedLine, listing}
@@ -56,19 +58,29 @@ abbrev shown : ℕ → ℕ → ℕ → Bool → List ℕ
 shown i start len f = elim f [ true ↦ line i (kindWord i) start len | false ↦ line i holeWord 0 0 ]
 
 module _ (r : Register) (cs : List (List ℕ)) (y : Ready r cs) where
+  counted : r .n ≡ length cs
+  counted = y .belongs .count ∙ all-length cs
+
+  summed : r .size ≡ dataSize cs
+  summed = y .belongs .total ∙ ap dataSize (all-contents cs)
+
+  starts : (k : ℕ) → k ≤ r .n → storedStart (r .tree) k ≡ span cs 0 k
+  starts k h = stored-start nodeHash hash-function (allHeld cs) (y .within) r (y .belongs) k h ∙ ap (λ (l : List (List ℕ)). span l 0 k) (all-contents cs)
+
   first-start : (i : ℕ) → filled (r .n) i ≡ true → storedStart (r .tree) (firstUnder i) ≡ startOf cs i
   unfolding startOf
   first-start i h =
-      stored-start nodeHash hash-function cs (y .within) r (y .belongs) (firstUnder i) (first-le (r .n) i h)
-      ∙ span-take cs (firstUnder i) (subst (λ (n : ℕ). firstUnder i ≤ n) (y .belongs .count) (first-le (r .n) i h))
+      starts (firstUnder i) (first-le (r .n) i h)
+      ∙ span-take cs (firstUnder i) (subst (λ (n : ℕ). firstUnder i ≤ n) counted (first-le (r .n) i h))
 
   entry-length : (i : ℕ) → filled (r .n) i ≡ true → storedSize (r .tree) i ≡ lengthOf cs i
   unfolding lengthOf firstUnder countUnder
   entry-length i h =
       ap (storedSize (r .tree)) (sym (index-of i))
-      ∙ stored-span nodeHash hash-function cs (y .within) r (y .belongs) (depth i) (block i)
+      ∙ stored-span nodeHash hash-function (allHeld cs) (y .within) r (y .belongs) (depth i) (block i)
       (filled-end (r .n) (depth i) (block i) (ap (filled (r .n)) (index-of i) ∙ h))
-      ∙ span-part cs (block i * 2 ^ depth i) (2 ^ depth i) (subst (λ (n : ℕ). block i * 2 ^ depth i + 2 ^ depth i ≤ n) (y .belongs .count) (under-end (r .n) i h))
+      ∙ ap (λ (l : List (List ℕ)). span l (block i * 2 ^ depth i) (2 ^ depth i)) (all-contents cs)
+      ∙ span-part cs (block i * 2 ^ depth i) (2 ^ depth i) (subst (λ (n : ℕ). block i * 2 ^ depth i + 2 ^ depth i ≤ n) counted (under-end (r .n) i h))
 
   by-filled : (i : ℕ) (f : Bool) → filled (r .n) i ≡ f
       → shown i (storedStart (r .tree) (firstUnder i)) (storedSize (r .tree) i) f ≡ shown i (startOf cs i) (lengthOf cs i) f
@@ -78,24 +90,24 @@ module _ (r : Register) (cs : List (List ℕ)) (y : Ready r cs) where
   line-same : (i : ℕ) → storedLine (r .tree) (r .n) i ≡ entryLine cs i
   unfolding storedLine entryLine
   line-same i =
-      by-filled i (filled (r .n) i) refl ∙ ap (λ (n : ℕ). shown i (startOf cs i) (lengthOf cs i) (filled n i)) (y .belongs .count)
+      by-filled i (filled (r .n) i) refl ∙ ap (λ (n : ℕ). shown i (startOf cs i) (lengthOf cs i) (filled n i)) counted
 
   pub lines-same : storedLines (r .tree) (r .n) (r .size) ≡ linesOf cs
   unfolding storedLines storedEntries linesOf firstOf rootsOf firstLine
   lines-same =
-      ap₂ _++_ (ap₂ firstOf (y .belongs .count) (y .belongs .total))
+      ap₂ _++_ (ap₂ firstOf counted summed)
       (ap joined
       (run-ext (storedLine (r .tree) (r .n)) (entryLine cs) 0 (entries (r .n)) (λ j p q. line-same j)
-      ∙ ap (λ (n : ℕ). run (entryLine cs) 0 (entries n)) (y .belongs .count)))
+      ∙ ap (λ (n : ℕ). run (entryLine cs) 0 (entries n)) counted))
 
   starts-small : r .size ≤ 4096 → (j : ℕ) → j ≤ r .n → storedStart (r .tree) j ≤ 4096
   starts-small s j h =
       let e : j + (r .n - j) ≡ r .n = omega arith in
       omega (
         arith,
-        stored-start nodeHash hash-function cs (y .within) r (y .belongs) j h,
+        starts j h,
         span-add cs 0 j (r .n - j),
-        ap (span cs 0) (e ∙ y .belongs .count) ∙ span-all cs ∙ sym (y .belongs .total),
+        ap (span cs 0) (e ∙ counted) ∙ span-all cs ∙ sym summed,
       )
 
   pub ready-printable : r .n ≤ 64 → r .size ≤ 4096 → Printable (r .tree) (r .n)

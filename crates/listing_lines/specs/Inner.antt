@@ -9,7 +9,8 @@ use Rattle.sequences.specs.Lists.{run, joined, Bytes}
 use Rattle.tree_index.specs.Tree.{filled, roots, entries}
 use Rattle.files.specs.Headers.{signaturesHeader}
 use Rattle.files.specs.Stored.{storedSize, storedStart}
-use Rattle.files.specs.Belongs.{Register, Within, Belongs}
+use Rattle.files.specs.Slots.{allHeld, Within}
+use Rattle.files.specs.Belongs.{Register, Belongs}
 use Rattle.listing_lines.specs.Input.{Input, other, chunks, before}
 use Rattle.listing_lines.specs.Lines.{decimal, chunksWord, bytesWord, rootsWord, holeWord, line, kindWord, firstUnder}
 
@@ -48,8 +49,8 @@ storedLines tree n size = firstOf n size ++ storedEntries tree n
 
 -- a register on the listing's buffers that belongs to the chunks cs and has all of their signatures
 pub record Ready (r : Register) (cs : List (List ℕ)) : Type 0 where
-  pub within : Within cs
-  pub belongs : Belongs nodeHash r cs
+  pub within : Within (allHeld cs)
+  pub belongs : Belongs nodeHash r (allHeld cs)
   pub paid : r .s ≡ r .n
   pub front : take 32 (r .signatures) ≡ signaturesHeader
   pub tree : length (r .tree) ≡ 5120

@@ -1,4 +1,4 @@
--- What lookups and reads answer: on a register that belongs to a chunk sequence, and on every one that passes the checks 2 to 6.
+-- What lookups and reads answer: on a register that belongs to chunks, held or released, and on every one that passes the checks 2 to 6.
 -- Assumes nothing.
 use Prim.Native.Nat.{ℕ, zero, suc, _+_, _-_, _*_, _^_, _≤_, _<_}
 use mathlib.Core.Path.{_≡_, refl, sym, ap, ap₂, _∙_, subst}
@@ -15,20 +15,24 @@ use Rattle.sequences.proofs.Lists.{length-part, run-ext}
 use Rattle.tree_index.specs.Tree.{index, filled}
 use Rattle.tree_index.proofs.Index.{index-leaf}
 use Rattle.tree_index.proofs.Filled.{block-end, end-filled}
+use Rattle.bitfield.specs.Release.{storedHeld}
 use Rattle.files.specs.Sizes.{mostChunks}
 use Rattle.files.specs.Messages.{HashFunction, leafMessage}
-use Rattle.files.specs.Images.{dataSize}
-use Rattle.files.specs.Nodes.{leaf}
+use Rattle.files.specs.Images.{dataSize, leaves}
+use Rattle.files.specs.Nodes.{Entry, leaf, node}
 use Rattle.files.specs.Stored.{storedSize, storedHash, storedChunk}
-use Rattle.files.specs.Belongs.{Register, Within, Belongs}
+use Rattle.files.specs.Slots.{Slot, contents, heldIn, Within}
+use Rattle.files.specs.Belongs.{Register, Belongs}
 use Rattle.files.proofs.Spans.{span, span-add, span-none, span-one, span-all, chunk-inside}
-use Rattle.files.proofs.Nodes.{nodeAt-hash, message-leaf}
+use Rattle.files.proofs.Slots.{contents-length, held-behind, leaf-held}
+use Rattle.files.proofs.Nodes.{nodeAt-index}
+use Rattle.files.proofs.Held.{stored-held}
 use Rattle.files.proofs.OfImage.{stored-span, stored-leaf-size, stored-start, stored-chunk, stored-node-hash}
 use Rattle.checks.specs.Checks.{judged, registerChecks}
 use Rattle.checks.proofs.Judged.{judged-append}
 use Rattle.checks.proofs.Passed.{Passed, passes, passed, same-of}
 use Rattle.lookup.specs.Descent.{Ending, stopped, reached, chunkWithin, byteWithin, descent}
-use Rattle.lookup.specs.Lookup.{refusal, found, stopRefused, foundUnless, chunkOf, startOf, toChunk, byteEnding, toByte, placeVerdict, byteVerdict, placeOf, byteAt}
+use Rattle.lookup.specs.Lookup.{refusal, found, stopRefused, foundUnless, chunkOf, startOf, toChunk, byteEnding, toByte, placeVerdict, heldVerdict, byteVerdict, placeOf, byteAt}
 use Rattle.lookup.specs.Read.{chunkBytes, andThen, partUnless, readVerdict, readPart}
 use Rattle.lookup.specs.Answers.{startIn, HasByte, Answers, AnswersForAll, Right, HoldsChunk, HoldsByte, Lies, Stops, LookupsStayInside, LookupsStayInsideForAll}
 use Rattle.lookup.proofs.Descents.{Steps, Landed, Halted, Ends, ends, chunk-order, byte-order, left-first, right-end, left-inside, twice}
@@ -57,6 +61,15 @@ place-verdict r c p h = nine-passed r (stopRefused (toChunk r c)) p (lt-ltb c (r
 no-place : (r : Register) (c : ℕ) → Passed r → r .n ≤ c → placeVerdict r c ≡ refused 9 none
 unfolding placeVerdict
 no-place r c p h = nine-refused r (stopRefused (toChunk r c)) p (le-ltb c (r .n) h)
+
+held-verdict : (r : Register) (c : ℕ) → Passed r → c < r .n
+    → heldVerdict r c ≡ cond (storedHeld (r .bitfield) c) (stopRefused (toChunk r c)) (refused 18 (tree (index 0 c)))
+unfolding heldVerdict
+held-verdict r c p h = nine-passed r (cond (storedHeld (r .bitfield) c) (stopRefused (toChunk r c)) (refused 18 (tree (index 0 c)))) p (lt-ltb c (r .n) h)
+
+pub no-held : (r : Register) (c : ℕ) → Passed r → r .n ≤ c → heldVerdict r c ≡ refused 9 none
+unfolding heldVerdict
+no-held r c p h = nine-refused r (cond (storedHeld (r .bitfield) c) (stopRefused (toChunk r c)) (refused 18 (tree (index 0 c)))) p (le-ltb c (r .n) h)
 
 byte-verdict : (r : Register) (b : ℕ) → Passed r → b ≤ r .size → byteVerdict r b ≡ stopRefused (toByte r b)
 unfolding byteVerdict
@@ -170,7 +183,7 @@ module _ (r : Register) (p : Passed r) where
 pub lookups-stay-inside : LookupsStayInsideForAll
 lookups-stay-inside r e = stays-inside r (passed r done e .0)
 
--- ---- a register that belongs to a chunk sequence
+-- ---- a register that belongs to chunks, held or released
 
 -- where a chunk starts, as a sum over the chunks before it
 start-span : (cs : List (List ℕ)) (i : ℕ) → i ≤ length cs → startIn cs i ≡ span cs 0 i
@@ -195,12 +208,18 @@ not-before cs b k l p q =
     lt-irrefl b
     (omega (arith, start-span cs k (omega (arith, p .below)), start-span cs l (omega (arith, q .below)), p .to, q .from, span-next cs k, span-mono cs (k + 1) l (omega arith)))))
 
-module _ (F : List ℕ → List ℕ) (hf : HashFunction F) (cs : List (List ℕ)) (w : Within cs) (r : Register) (b : Belongs F r cs) (p : Passed r) where
-  span-of : (d k : ℕ) → (k + 1) * 2 ^ d ≤ r .n → storedSize (r .tree) (index d k) ≡ span cs (k * 2 ^ d) (2 ^ d)
-  span-of = stored-span F hf cs w r b
+module _ (F : List ℕ → List ℕ) (hf : HashFunction F) (ss : List Slot) (w : Within ss) (r : Register) (b : Belongs F r ss) (p : Passed r) where
+  abbrev cs : List (List ℕ)
+  cs = contents ss
 
-  leaf-of : (k : ℕ) → k < r .n → storedSize (r .tree) (index 0 k) ≡ length (getD cs k [])
-  leaf-of k h = ap (storedSize (r .tree)) (index-leaf k) ∙ stored-leaf-size F hf cs w r b k h
+  counted : r .n ≡ length cs
+  counted = b .count ∙ sym (contents-length ss)
+
+  span-of : (d k : ℕ) → (k + 1) * 2 ^ d ≤ r .n → storedSize (r .tree) (index d k) ≡ span cs (k * 2 ^ d) (2 ^ d)
+  span-of = stored-span F hf ss w r b
+
+  pub leaf-of : (k : ℕ) → k < r .n → storedSize (r .tree) (index 0 k) ≡ length (getD cs k [])
+  leaf-of k h = ap (storedSize (r .tree)) (index-leaf k) ∙ stored-leaf-size F hf ss w r b k h
 
   starts : Steps (r .tree) (r .n) (λ k s. s ≡ span cs 0 k)
   starts d k s h e =
@@ -226,7 +245,7 @@ module _ (F : List ℕ → List ℕ) (hf : HashFunction F) (cs : List (List ℕ)
   starts-at {k = k} l = l .met .at ∙ ap (span cs 0) (mul-one k)
 
   -- the descent to a chunk
-  to-chunk : (c : ℕ) → c < r .n → toChunk r c ≡ reached c (span cs 0 c)
+  pub to-chunk : (c : ℕ) → c < r .n → toChunk r c ≡ reached c (span cs 0 c)
   to-chunk c h = must (toChunk r c) (chunk-lands r p (λ k s. s ≡ span cs 0 k) starts (sym (span-none cs 0)) c h)
     where
       must : (x : Ending) → Ends (r .tree) (r .n) (λ p s. p ≤ c) (λ p s. c < p) (λ k s. s ≡ span cs 0 k) x → x ≡ reached c (span cs 0 c)
@@ -244,45 +263,67 @@ module _ (F : List ℕ → List ℕ) (hf : HashFunction F) (cs : List (List ℕ)
       must (stopped i) l = absurd (never-stops l)
       must (reached k s) l =
           let in-r : k < r .n = omega (arith, l .met .inside) in
-          let below : k < length cs = subst (λ (n : ℕ). k < n) (b .count) in-r in
+          let below : k < length cs = subst (λ (n : ℕ). k < n) counted in-r in
           let e : startIn cs k ≡ s = start-span cs k (omega arith) ∙ sym (starts-at l) in
           (k, record { below = below; from = omega (arith, l .met .low); to = omega (arith, l .met .high, leaf-of k in-r) }, ap (reached k) (sym e))
 
   chunk-bytes : (c : ℕ) → c < r .n → chunkBytes r c ≡ getD cs c []
   unfolding chunkBytes storedChunk
   chunk-bytes c h =
-      ap₂ (part (r .content)) (ap startOf (to-chunk c h) ∙ sym (stored-start F hf cs w r b c (omega arith))) (ap (storedSize (r .tree)) (index-leaf c))
-      ∙ stored-chunk F hf cs w r b c h
+      ap₂ (part (r .content)) (ap startOf (to-chunk c h) ∙ sym (stored-start F hf ss w r b c (omega arith))) (ap (storedSize (r .tree)) (index-leaf c))
+      ∙ stored-chunk F hf ss w r b c h
 
-  leaf-hash : (c : ℕ) → c < r .n → storedHash (r .tree) (index 0 c) ≡ F (leafMessage (chunkBytes r c))
-  leaf-hash c h =
-      let f : (n : ℕ) → n ≡ r .n → filled n (index 0 c) ≡ true = λ n e. end-filled n 0 c (omega (arith, mul-one (c + 1))) in
-      stored-node-hash F hf cs w r b (index 0 c) (f (r .n) refl)
-      ∙ nodeAt-hash F cs (index 0 c) (f (length cs) (sym (b .count)))
-      ∙ ap F (message-leaf F cs c ∙ ap leafMessage (sym (chunk-bytes c h)))
+  -- of a chunk that is held
+  leaf-hash : (c : ℕ) → c < r .n → heldIn ss c ≡ true → storedHash (r .tree) (index 0 c) ≡ F (leafMessage (chunkBytes r c))
+  unfolding node leaf
+  leaf-hash c h e =
+      stored-node-hash F hf ss w r b (index 0 c) (end-filled (r .n) 0 c (omega (arith, mul-one (c + 1))))
+      ∙ ap (λ (x : Entry). x .hash) (nodeAt-index F (leaves F ss) 0 c ∙ leaf-held F ss c (subst (λ (n : ℕ). c < n) (b .count) h) e)
+      ∙ ap (λ (l : List ℕ). F (leafMessage l)) (sym (chunk-bytes c h))
 
   below-n : (c : ℕ) → c < length cs → c < r .n
-  below-n c h = subst (λ (n : ℕ). c < n) (sym (b .count)) h
+  below-n c h = subst (λ (n : ℕ). c < n) (sym counted) h
 
   above-n : (c : ℕ) → length cs ≤ c → r .n ≤ c
-  above-n c h = subst (λ (n : ℕ). n ≤ c) (sym (b .count)) h
+  above-n c h = subst (λ (n : ℕ). n ≤ c) (sym counted) h
+
+  -- no chunk behind the last is held
+  pub held-n : (c : ℕ) → heldIn ss c ≡ true → c < r .n
+  held-n c e =
+      lt-of-not-le (λ h.
+      let g : heldIn ss c ≡ false = held-behind ss c (subst (λ (n : ℕ). n ≤ c) (b .count) h) in
+      let z : _≡_ {A = ℕ} 0 1 = cc in
+      omega arith)
+
+  -- the stored bit says whether it is held
+  pub held-as : (c : ℕ) → c < r .n → (t : Bool) → heldIn ss c ≡ t → heldVerdict r c ≡ cond t (stopRefused (toChunk r c)) (refused 18 (tree (index 0 c)))
+  held-as c h t e =
+      held-verdict r c p h ∙ ap (λ (x : Bool). cond x (stopRefused (toChunk r c)) (refused 18 (tree (index 0 c)))) (stored-held F ss r b c h ∙ e)
 
   place-done : (c : ℕ) → c < r .n → placeVerdict r c ≡ done
   unfolding stopRefused
   place-done c h = place-verdict r c p h ∙ ap stopRefused (to-chunk c h)
 
-  read-done : (c : ℕ) → c < r .n → readVerdict F r c ≡ done
+  pub held-done-at : (c : ℕ) → heldIn ss c ≡ true → heldVerdict r c ≡ done
+  unfolding stopRefused
+  held-done-at c e = held-as c (held-n c e) true e ∙ ap stopRefused (to-chunk c (held-n c e))
+
+  -- the leaf hash compared
+  abbrev compared : ℕ → Verdict
+  compared c = cond (sameList (storedHash (r .tree) (index 0 c)) (F (leafMessage (chunkBytes r c)))) done (refused 10 (tree (index 0 c)))
+
+  read-done : (c : ℕ) → heldIn ss c ≡ true → readVerdict F r c ≡ done
   unfolding readVerdict
-  read-done c h =
-      ap (λ (v : Verdict). andThen v (cond (sameList (storedHash (r .tree) (index 0 c)) (F (leafMessage (chunkBytes r c)))) done (refused 10 (tree (index 0 c))))) (place-done c h)
-      ∙ ap (λ (x : Bool). cond x done (refused 10 (tree (index 0 c)))) (same-of (storedHash (r .tree) (index 0 c)) (F (leafMessage (chunkBytes r c))) (leaf-hash c h))
+  read-done c e =
+      ap (λ (v : Verdict). andThen v (compared c)) (held-done-at c e)
+      ∙ ap (λ (x : Bool). cond x done (refused 10 (tree (index 0 c)))) (same-of (storedHash (r .tree) (index 0 c)) (F (leafMessage (chunkBytes r c))) (leaf-hash c (held-n c e) e))
 
   has-size : (x k : ℕ) → HasByte cs x k → x < r .size
   has-size x k q = subst (λ (s : ℕ). x < s) (sym (b .total)) (omega (arith, q .to, start-span cs k (omega (arith, q .below)), chunk-inside cs k (q .below)))
 
-  pub answered : Answers F r cs
+  pub answered : Answers F r ss cs
   unfolding placeOf byteAt readVerdict readPart stopRefused
-  answered = record { place = at-place; noPlace = no-place-at; byte = at-byte; one = one-chunk; noOther = no-other; end = end-at; noByte = no-byte-at; readDone = done-at; read = read-at; noRead = no-read-at }
+  answered = record { place = at-place; noPlace = no-place-at; byte = at-byte; one = one-chunk; noOther = no-other; end = end-at; noByte = no-byte-at; readDone = done-at; read = read-at; notHeld = not-held-at; noRead = no-read-at }
     where
       at-place : (i : ℕ) → i < length cs → placeOf r i ≡ found (startIn cs i) (length (getD cs i []))
       at-place i h =
@@ -308,20 +349,22 @@ module _ (F : List ℕ → List ℕ) (hf : HashFunction F) (cs : List (List ℕ)
       one-chunk x h = let g = to-byte x (subst (λ (s : ℕ). x < s) (sym (b .total)) h) in (g .0, g .1)
 
       end-at : byteAt r (dataSize cs) ≡ found (length cs) 0
-      end-at = subst (λ (s : ℕ). byteAt r s ≡ found (length cs) 0) (b .total) (byte-at-end r p ∙ ap (λ (n : ℕ). found n 0) (b .count))
+      end-at = subst (λ (s : ℕ). byteAt r s ≡ found (length cs) 0) (b .total) (byte-at-end r p ∙ ap (λ (n : ℕ). found n 0) counted)
 
       no-byte-at : (x : ℕ) → dataSize cs < x → byteAt r x ≡ refusal 9 none
       no-byte-at x h = no-byte r x p (subst (λ (s : ℕ). s < x) (sym (b .total)) h)
 
-      done-at : (i : ℕ) → i < length cs → readVerdict F r i ≡ done
-      done-at i h = read-done i (below-n i h)
+      done-at : (i : ℕ) → heldIn ss i ≡ true → readVerdict F r i ≡ done
+      done-at i e = read-done i e
 
-      read-at : (i : ℕ) → i < length cs → readPart F r i ≡ getD cs i []
-      read-at i h = ap (λ (v : Verdict). partUnless F v (chunkBytes r i)) (read-done i (below-n i h)) ∙ chunk-bytes i (below-n i h)
+      read-at : (i : ℕ) → heldIn ss i ≡ true → readPart F r i ≡ getD cs i []
+      read-at i e = ap (λ (v : Verdict). partUnless F v (chunkBytes r i)) (read-done i e) ∙ chunk-bytes i (held-n i e)
+
+      not-held-at : (i : ℕ) → i < length cs → heldIn ss i ≡ false → readVerdict F r i ≡ refused 18 (tree (index 0 i))
+      not-held-at i h e = ap (λ (v : Verdict). andThen v (compared i)) (held-as i (below-n i h) false e)
 
       no-read-at : (i : ℕ) → length cs ≤ i → readVerdict F r i ≡ refused 9 none
-      no-read-at i h =
-          ap (λ (v : Verdict). andThen v (cond (sameList (storedHash (r .tree) (index 0 i)) (F (leafMessage (chunkBytes r i)))) done (refused 10 (tree (index 0 i))))) (no-place r i p (above-n i h))
+      no-read-at i h = ap (λ (v : Verdict). andThen v (compared i)) (no-held r i p (above-n i h))
 
 pub answers : AnswersForAll
-answers F hf cs w r b e = answered F hf cs w r b (passed r done e .0)
+answers F hf ss w r b e = answered F hf ss w r b (passed r done e .0)

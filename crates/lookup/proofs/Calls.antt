@@ -1,6 +1,6 @@
 -- What the calls need of the definitions: how the parts of a lookup and of a read come together.
 -- Assumes nothing.
-use Prim.Native.Nat.{ℕ, _+_, _-_, _^_, _≤_, _<_}
+use Prim.Native.Nat.{ℕ, _+_, _-_, _/_, _^_, _≤_, _<_}
 use mathlib.Core.Path.{_≡_, refl, sym, ap, ap₂, _∙_, subst}
 use mathlib.Core.Bool.{Bool, true, false, cond}
 use mathlib.Core.List.{List, [], _∷_, _++_}
@@ -13,16 +13,20 @@ use Rattle.counts.specs.Verdict.{Spot, Verdict, none, tree, done, refused}
 use Rattle.sequences.specs.Lists.{part, sameList}
 use Rattle.tree_index.specs.Tree.{index}
 use Rattle.tree_index.proofs.Filled.{end-filled}
+use Rattle.bitfield.specs.Append.{bitsPlace}
+use Rattle.bitfield.specs.Release.{storedHeld}
+use Rattle.bitfield.proofs.Release.{entry-below}
+use Rattle.files.specs.Sizes.{usedBitfield}
 use Rattle.files.specs.Messages.{leafMessage}
 use Rattle.files.specs.Stored.{storedSize, storedHash, storedRootSizes}
 use Rattle.files.specs.Within.{EntryIn}
 use Rattle.files.specs.Belongs.{Register}
 use Rattle.checks.specs.Checks.{Check, judged, registerChecks}
 use Rattle.checks.proofs.Judged.{judged-append, judged-refused}
-use Rattle.checks.proofs.Passed.{all-must, passes, passed}
+use Rattle.checks.proofs.Passed.{all-must, all-pass, passes, passed}
 use Rattle.lookup.specs.Descent.{Ending, stopped, reached, chunkWithin, byteWithin, descent}
-use Rattle.lookup.specs.Lookup.{Found, refusal, found, stopRefused, foundUnless, chunkOf, startOf, toChunk, byteEnding, toByte, placeVerdict, byteVerdict, placeOf, byteAt}
-use Rattle.lookup.specs.Steps.{Searched, SearchedFor, placeIn, byteIn}
+use Rattle.lookup.specs.Lookup.{Found, refusal, found, stopRefused, foundUnless, chunkOf, startOf, toChunk, byteEnding, toByte, placeVerdict, heldVerdict, byteVerdict, placeOf, heldPlaceOf, byteAt}
+use Rattle.lookup.specs.Steps.{Searched, SearchedFor, SearchedHeld, placeIn, heldPlaceIn, byteIn}
 use Rattle.lookup.specs.Read.{chunkBytes, andThen, partUnless, readVerdict, readPart}
 use Rattle.lookup.specs.Said.{readFound}
 use Rattle.lookup.proofs.Descents.{Ends, ends, byte-order}
@@ -55,6 +59,20 @@ unfolding placeOf placeVerdict placeIn toChunk
 place-passed r c =
     found-passed r (record { number = 9; right = ltb c (r .n) } ∷ []) (stopRefused (toChunk r c)) (startOf (toChunk r c)) (storedSize (r .tree) (index 0 c))
 
+-- what comes behind 9 for a chunk that must be held
+abbrev held-next : Register → ℕ → Verdict
+held-next r c = cond (storedHeld (r .bitfield) c) (stopRefused (toChunk r c)) (refused 18 (tree (index 0 c)))
+
+pub held-refused : (r : Register) (c m : ℕ) (at : Spot) → refused m at ≡ judged (registerChecks r) done → refusal m at ≡ heldPlaceOf r c
+unfolding heldPlaceOf heldVerdict
+held-refused r c =
+    found-refused-before r (record { number = 9; right = ltb c (r .n) } ∷ []) (held-next r c) (startOf (toChunk r c)) (storedSize (r .tree) (index 0 c))
+
+pub held-passed : (r : Register) (c : ℕ) → done ≡ judged (registerChecks r) done → heldPlaceIn (r .tree) (r .bitfield) (r .n) c ≡ heldPlaceOf r c
+unfolding heldPlaceOf heldVerdict heldPlaceIn toChunk
+held-passed r c =
+    found-passed r (record { number = 9; right = ltb c (r .n) } ∷ []) (held-next r c) (startOf (toChunk r c)) (storedSize (r .tree) (index 0 c))
+
 pub byte-refused : (r : Register) (b m : ℕ) (at : Spot) → refused m at ≡ judged (registerChecks r) done → refusal m at ≡ byteAt r b
 unfolding byteAt byteVerdict
 byte-refused r b =
@@ -73,22 +91,29 @@ searched r e h =
       adds = p .adds;
     }
 
+pub searched-held : (r : Register) → done ≡ judged (registerChecks r) done → r .size < 2 ^ 64 → SearchedHeld (r .tree) (r .bitfield) (r .n)
+searched-held r e h = record { searched = searched r e h .searched; bits = passed r done (sym e) .0 .bitfield }
+
 -- ---- the lookups
 
--- a check 9, and a descent that ends at x and gives a and b
-module _ (ok : Bool) (x : Ending) (a b : ℕ) where
+-- a check 9, what comes behind it, and what is given where that is done
+module _ (ok : Bool) (next : Verdict) (a b : ℕ) where
   abbrev answer : Found
-  answer = foundUnless (judged (record { number = 9; right = ok } ∷ []) (stopRefused x)) a b
+  answer = foundUnless (judged (record { number = 9; right = ok } ∷ []) next) a b
 
-  by : (v : Verdict) → cond ok (stopRefused x) (refused 9 none) ≡ v → foundUnless v a b ≡ answer
+  by : (v : Verdict) → cond ok next (refused 9 none) ≡ v → foundUnless v a b ≡ answer
   unfolding judged
   by v e = sym (ap (λ (y : Verdict). foundUnless y a b) e)
 
   at-nine : ok ≡ false → refusal 9 none ≡ answer
-  at-nine e = by (refused 9 none) (ap (λ (y : Bool). cond y (stopRefused x) (refused 9 none)) e)
+  at-nine e = by (refused 9 none) (ap (λ (y : Bool). cond y next (refused 9 none)) e)
 
-  ended : ok ≡ true → (y : Ending) → y ≡ x → foundUnless (stopRefused y) a b ≡ answer
-  ended e y f = by (stopRefused y) (ap (λ (z : Bool). cond z (stopRefused x) (refused 9 none)) e ∙ ap stopRefused (sym f))
+  behind-nine : ok ≡ true → (v : Verdict) → next ≡ v → foundUnless v a b ≡ answer
+  behind-nine e v f = by v (ap (λ (z : Bool). cond z next (refused 9 none)) e ∙ f)
+
+-- a descent behind it that ends at x
+ended : (ok : Bool) (x : Ending) (a b : ℕ) → ok ≡ true → (y : Ending) → y ≡ x → foundUnless (stopRefused y) a b ≡ answer ok (stopRefused x) a b
+ended ok x a b e y f = behind-nine ok (stopRefused x) a b e (stopRefused y) (ap stopRefused (sym f))
 
 module _ (t : List ℕ) (n c : ℕ) where
   abbrev ending : Ending
@@ -96,7 +121,7 @@ module _ (t : List ℕ) (n c : ℕ) where
 
   pub place-above : n ≤ c → refusal 9 none ≡ placeIn t n c
   unfolding placeIn
-  place-above h = at-nine (ltb c n) ending (startOf ending) (storedSize t (index 0 c)) (le-ltb c n h)
+  place-above h = at-nine (ltb c n) (stopRefused ending) (startOf ending) (storedSize t (index 0 c)) (le-ltb c n h)
 
   pub place-stopped : c < n → (i : ℕ) → stopped i ≡ descent (chunkWithin c) t n → refusal 10 (tree i) ≡ placeIn t n c
   unfolding placeIn stopRefused
@@ -106,6 +131,35 @@ module _ (t : List ℕ) (n c : ℕ) where
   unfolding placeIn stopRefused
   place-reached h k s z e f =
       ap₂ found (ap startOf e) f ∙ ended (ltb c n) ending (startOf ending) (storedSize t (index 0 c)) (lt-ltb c n h) (reached k s) e
+
+  -- ---- of a chunk that must be held, in a bitfield file
+  module _ (bits : List ℕ) where
+    abbrev held-ending : Verdict
+    held-ending = cond (storedHeld bits c) (stopRefused (descent (chunkWithin c) t n)) (refused 18 (tree (index 0 c)))
+
+    held-is : (b : Bool) → storedHeld bits c ≡ b → held-ending ≡ cond b (stopRefused (descent (chunkWithin c) t n)) (refused 18 (tree (index 0 c)))
+    held-is b e = ap (λ (x : Bool). cond x (stopRefused (descent (chunkWithin c) t n)) (refused 18 (tree (index 0 c)))) e
+
+    pub held-above : n ≤ c → refusal 9 none ≡ heldPlaceIn t bits n c
+    unfolding heldPlaceIn
+    held-above h = at-nine (ltb c n) held-ending (startOf ending) (storedSize t (index 0 c)) (le-ltb c n h)
+
+    pub held-gone : c < n → false ≡ storedHeld bits c → refusal 18 (tree (index 0 c)) ≡ heldPlaceIn t bits n c
+    unfolding heldPlaceIn
+    held-gone h e =
+        behind-nine (ltb c n) held-ending (startOf ending) (storedSize t (index 0 c)) (lt-ltb c n h) (refused 18 (tree (index 0 c))) (held-is false (sym e))
+
+    -- of one that is held the place lookup's
+    pub held-here : c < n → true ≡ storedHeld bits c → placeIn t n c ≡ heldPlaceIn t bits n c
+    unfolding heldPlaceIn placeIn
+    held-here h e =
+        sym (behind-nine (ltb c n) (stopRefused ending) (startOf ending) (storedSize t (index 0 c)) (lt-ltb c n h) (stopRefused ending) refl)
+        ∙ behind-nine (ltb c n) held-ending (startOf ending) (storedSize t (index 0 c)) (lt-ltb c n h) (stopRefused ending) (held-is true (sym e))
+
+    -- its data bit lies within the file
+    pub bit-in : usedBitfield n ≤ length bits → c < n → bitsPlace (c / 8192 + 1) ≤ length bits
+    unfolding usedBitfield bitsPlace
+    bit-in p h = omega (arith, entry-below n c h)
 
   -- the leaf of a chunk that is there lies within the tree file
   pub leaf-in : Searched t n → c < n → (c < 2097152) × EntryIn t (index 0 c)
@@ -119,7 +173,7 @@ module _ (t : List ℕ) (n size b : ℕ) where
 
   pub byte-above : size < b → refusal 9 none ≡ byteIn t n size b
   unfolding byteIn
-  byte-above h = at-nine (leb b size) byte-ending (chunkOf byte-ending) (b - startOf byte-ending) (lt-leb b size h)
+  byte-above h = at-nine (leb b size) (stopRefused byte-ending) (chunkOf byte-ending) (b - startOf byte-ending) (lt-leb b size h)
 
   byte-ended : b ≤ size → (x : Ending) → x ≡ byte-ending → foundUnless (stopRefused x) (chunkOf x) (b - startOf x) ≡ byteIn t n size b
   unfolding byteIn
@@ -157,7 +211,7 @@ found-done : (v : Verdict) (a b x y : ℕ) → found x y ≡ foundUnless v a b �
 found-done done a b x y e = (refl, cc, cc)
 found-done (refused m at) a b x y e = let z : _≡_ {A = ℕ} 0 1 = cc in absurd (omega arith)
 
-found-refused : (v : Verdict) (a b m : ℕ) (at : Spot) → refusal m at ≡ foundUnless v a b → v ≡ refused m at
+pub found-refused : (v : Verdict) (a b m : ℕ) (at : Spot) → refusal m at ≡ foundUnless v a b → v ≡ refused m at
 found-refused done a b m at e = let z : _≡_ {A = ℕ} 0 1 = cc in absurd (omega arith)
 found-refused (refused k s) a b m at e = cc
 
@@ -170,9 +224,22 @@ pub done-first : (v : Verdict) (x : Verdict) → andThen v x ≡ done → v ≡ 
 done-first done x e = refl
 done-first (refused m at) x e = e
 
--- the place of a chunk that was found
+held-must : (b : Bool) (v : Verdict) (m : ℕ) (at : Spot) → cond b v (refused m at) ≡ done → (b ≡ true) × (v ≡ done)
+held-must true v m at e = (refl, e)
+held-must false v m at e = let z : _≡_ {A = ℕ} 0 1 = cc in absurd (omega arith)
+
+-- a chunk that is found among the held ones is held, and the place lookup finds it
+pub held-done : (r : Register) (c : ℕ) → heldVerdict r c ≡ done → (storedHeld (r .bitfield) c ≡ true) × (placeVerdict r c ≡ done)
+unfolding heldVerdict placeVerdict
+held-done r c e =
+    let checks : List Check = registerChecks r ++ (record { number = 9; right = ltb c (r .n) } ∷ []) in
+    let a = all-must checks (held-next r c) e in
+    let b = held-must (storedHeld (r .bitfield) c) (stopRefused (toChunk r c)) 18 (tree (index 0 c)) (a .1) in
+    (b .0, all-pass checks (stopRefused (toChunk r c)) (a .0) ∙ b .1)
+
+-- the place of a held chunk that was found
 pub record Placing (r : Register) (c start size : ℕ) : Type 0 where
-  pub verdict : placeVerdict r c ≡ done
+  pub verdict : heldVerdict r c ≡ done
   pub starts : start ≡ startOf (toChunk r c)
   pub long : size ≡ storedSize (r .tree) (index 0 c)
   pub inside : start + size ≤ length (r .content)
@@ -195,11 +262,11 @@ verdict-inside r c e =
     let few : r .n ≤ 1048576 = p .count in
     (omega (arith, p .content), omega arith, filled-entry (r .tree) (r .n) (index 0 c) (p .count) (p .tree) (end-filled (r .n) 0 c (omega (arith, mul-one (c + 1)))))
 
-pub placing : (r : Register) (c start size : ℕ) → found start size ≡ placeOf r c → Placing r c start size
-unfolding placeOf
+pub placing : (r : Register) (c start size : ℕ) → found start size ≡ heldPlaceOf r c → Placing r c start size
+unfolding heldPlaceOf
 placing r c start size e =
-    let a = found-done (placeVerdict r c) (startOf (toChunk r c)) (storedSize (r .tree) (index 0 c)) start size e in
-    let b = verdict-inside r c (a .0) in
+    let a = found-done (heldVerdict r c) (startOf (toChunk r c)) (storedSize (r .tree) (index 0 c)) start size e in
+    let b = verdict-inside r c (held-done r c (a .0) .1) in
     record {
       verdict = a .0;
       starts = a .1;
@@ -219,10 +286,10 @@ module _ (F : List ℕ → List ℕ) (r : Register) (c : ℕ) where
   unfolding readFound
   verified-by v e = sym (ap (λ (x : Verdict). foundUnless x (startOf (toChunk r c)) (startOf (toChunk r c) + storedSize (r .tree) (index 0 c))) e)
 
-  pub verified-refused : (m : ℕ) (at : Spot) → refusal m at ≡ placeOf r c → refusal m at ≡ readFound F r c
-  unfolding placeOf readVerdict
+  pub verified-refused : (m : ℕ) (at : Spot) → refusal m at ≡ heldPlaceOf r c → refusal m at ≡ readFound F r c
+  unfolding heldPlaceOf readVerdict
   verified-refused m at e =
-      let v = found-refused (placeVerdict r c) (startOf (toChunk r c)) (storedSize (r .tree) (index 0 c)) m at e in
+      let v = found-refused (heldVerdict r c) (startOf (toChunk r c)) (storedSize (r .tree) (index 0 c)) m at e in
       verified-by (refused m at) (ap (λ (x : Verdict). andThen x next) v)
 
   read-by : (start size : ℕ) → Placing r c start size → (bytes : List ℕ) → bytes ≡ part (r .content) start size → (b : Bool)
@@ -255,7 +322,7 @@ module _ (F : List ℕ → List ℕ) (r : Register) (c : ℕ) where
   unfolding readFound readVerdict readPart chunkBytes part
   lying from end e =
       let a = found-done (readVerdict F r c) (startOf (toChunk r c)) (startOf (toChunk r c) + storedSize (r .tree) (index 0 c)) from end e in
-      let b = verdict-inside r c (done-first (placeVerdict r c) next (a .0)) in
+      let b = verdict-inside r c (held-done r c (done-first (heldVerdict r c) next (a .0)) .1) in
       let p = a .1 in
       let q = a .2 in
       let h = b .0 in

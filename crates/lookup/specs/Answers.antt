@@ -1,19 +1,21 @@
 -- Demand 2, of reads and lookups: "reading gives back the very chunks", and lookups answer as the scope defines them.
 --
--- The notions in it: `HashFunction` (files, Messages), `Register`, `Within` and `Belongs` (files, Belongs), `dataSize` (files, Images),
+-- The notions in it: `HashFunction` (files, Messages), `Slot` and `Within` (files, Slots), `Register` and `Belongs` (files, Belongs), `dataSize` (files, Images),
 -- `judged` and `registerChecks` (checks, Checks), `placeOf` and `byteAt` (Lookup), `readVerdict` and `readPart` (Read).
 use Prim.Native.Nat.{ℕ, zero, suc, _+_, _-_, _*_, _/_, _^_, _≤_, _<_}
 use mathlib.Core.Path.{_≡_}
+use mathlib.Core.Bool.{true, false}
 use mathlib.Core.List.{List, [], _∷_, _++_, map}
 use lib.ListN.{length, getD, take}
-use Rattle.counts.specs.Verdict.{none, done, refused}
+use Rattle.counts.specs.Verdict.{none, tree, done, refused}
 use Rattle.sequences.specs.Lists.{total}
 use Rattle.tree_index.specs.Tree.{index, roots}
 use Rattle.files.specs.Sizes.{longestChunk}
 use Rattle.files.specs.Messages.{HashFunction}
 use Rattle.files.specs.Images.{dataSize}
 use Rattle.files.specs.Stored.{storedSize}
-use Rattle.files.specs.Belongs.{Register, Within, Belongs}
+use Rattle.files.specs.Slots.{Slot, contents, heldIn, Within}
+use Rattle.files.specs.Belongs.{Register, Belongs}
 use Rattle.checks.specs.Checks.{judged, registerChecks}
 use Rattle.lookup.specs.Descent.{stopped, reached}
 use Rattle.lookup.specs.Lookup.{toChunk, toByte, refusal, found, placeOf, byteAt}
@@ -29,8 +31,8 @@ pub record HasByte (cs : List (List ℕ)) (b k : ℕ) : Type 0 where
   pub from : startIn cs k ≤ b
   pub to : b < startIn cs k + length (getD cs k [])
 
--- what is claimed of a register that passes the checks 2 to 6 and belongs to cs
-pub record Answers (F : List ℕ → List ℕ) (r : Register) (cs : List (List ℕ)) : Type 0 where
+-- what is claimed of a register that passes the checks 2 to 6 and belongs to the chunks ss, held or released, whose bytes are cs
+pub record Answers (F : List ℕ → List ℕ) (r : Register) (ss : List Slot) (cs : List (List ℕ)) : Type 0 where
   -- "A place lookup gives start and length of chunk i."
   pub place : (i : ℕ) → i < length cs → placeOf r i ≡ found (startIn cs i) (length (getD cs i []))
   pub noPlace : (i : ℕ) → length cs ≤ i → placeOf r i ≡ refusal 9 none
@@ -42,16 +44,18 @@ pub record Answers (F : List ℕ → List ℕ) (r : Register) (cs : List (List �
   -- "a byte lookup at the data size answers chunk number n and 0, also in an empty register. 9 remains for larger offsets."
   pub end : byteAt r (dataSize cs) ≡ found (length cs) 0
   pub noByte : (b : ℕ) → dataSize cs < b → byteAt r b ≡ refusal 9 none
-  -- "reading gives back the very chunks"
-  pub readDone : (i : ℕ) → i < length cs → readVerdict F r i ≡ done
-  pub read : (i : ℕ) → i < length cs → readPart F r i ≡ getD cs i []
+  -- "reading gives back the very chunks": "restoring the chunks speaks for held ones"
+  pub readDone : (i : ℕ) → heldIn ss i ≡ true → readVerdict F r i ≡ done
+  pub read : (i : ℕ) → heldIn ss i ≡ true → readPart F r i ≡ getD cs i []
+  -- "18, just after 9, a read .. that needs a chunk not held; the place is its leaf's tree index"
+  pub notHeld : (i : ℕ) → i < length cs → heldIn ss i ≡ false → readVerdict F r i ≡ refused 18 (tree (index 0 i))
   pub noRead : (i : ℕ) → length cs ≤ i → readVerdict F r i ≡ refused 9 none
 
 -- for every function F from byte strings to 32 bytes
 abbrev pub AnswersForAll : Type 0
 AnswersForAll =
-    (F : List ℕ → List ℕ) → HashFunction F → (cs : List (List ℕ)) → Within cs → (r : Register) → Belongs F r cs
-    → judged (registerChecks r) done ≡ done → Answers F r cs
+    (F : List ℕ → List ℕ) → HashFunction F → (ss : List Slot) → Within ss → (r : Register) → Belongs F r ss
+    → judged (registerChecks r) done ≡ done → Answers F r ss (contents ss)
 
 -- a node at which a lookup does not stop: a leaf of at most 65,536 bytes, a parent whose length is the sum of its children's
 abbrev pub Right : List ℕ → ℕ → ℕ → Type 0

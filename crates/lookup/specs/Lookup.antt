@@ -1,10 +1,11 @@
 -- The place lookup and the byte lookup.
 use Prim.Native.Nat.{ℕ, _-_}
-use mathlib.Core.Bool.{true, false}
+use mathlib.Core.Bool.{true, false, cond}
 use mathlib.Core.List.{List, [], _∷_, _++_}
 use lib.Dec.{leb, ltb, eqb}
 use Rattle.counts.specs.Verdict.{Spot, Verdict, tree, done, refused}
 use Rattle.tree_index.specs.Tree.{index}
+use Rattle.bitfield.specs.Release.{storedHeld}
 use Rattle.files.specs.Stored.{storedSize}
 use Rattle.files.specs.Belongs.{Register}
 use Rattle.checks.specs.Checks.{judged, registerChecks}
@@ -51,6 +52,13 @@ unfoldable pub placeVerdict : Register → ℕ → Verdict
 placeVerdict r c =
     judged (registerChecks r ++ (record { number = 9; right = ltb c (r .n) } ∷ [])) (stopRefused (toChunk r c))
 
+-- "It refuses with 18, just after 9, a read, the making of a packet, a release .. that needs a chunk not held; the place is its leaf's tree index":
+-- the place lookup's refusals, with 18 among them. A chunk is held where its stored data bit is 1
+unfoldable pub heldVerdict : Register → ℕ → Verdict
+heldVerdict r c =
+    judged (registerChecks r ++ (record { number = 9; right = ltb c (r .n) } ∷ []))
+    (cond (storedHeld (r .bitfield) c) (stopRefused (toChunk r c)) (refused 18 (tree (index 0 c))))
+
 -- of a byte offset "9 remains for larger offsets" than the data size
 unfoldable pub byteVerdict : Register → ℕ → Verdict
 byteVerdict r b =
@@ -63,3 +71,7 @@ placeOf r c = foundUnless (placeVerdict r c) (startOf (toChunk r c)) (storedSize
 -- "A byte lookup gives the chunk whose bytes contain offset b, and b less its start."; at the data size n and 0
 unfoldable pub byteAt : Register → ℕ → Found
 byteAt r b = foundUnless (byteVerdict r b) (chunkOf (toByte r b)) (b - startOf (toByte r b))
+
+-- the place of a chunk that is held
+unfoldable pub heldPlaceOf : Register → ℕ → Found
+heldPlaceOf r c = foundUnless (heldVerdict r c) (startOf (toChunk r c)) (storedSize (r .tree) (index 0 c))

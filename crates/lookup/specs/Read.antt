@@ -9,7 +9,7 @@ use Rattle.tree_index.specs.Tree.{index}
 use Rattle.files.specs.Messages.{leafMessage}
 use Rattle.files.specs.Stored.{storedHash, storedSize}
 use Rattle.files.specs.Belongs.{Register}
-use Rattle.lookup.specs.Lookup.{startOf, toChunk, placeVerdict}
+use Rattle.lookup.specs.Lookup.{startOf, toChunk, heldVerdict}
 
 -- the bytes of chunk c, by its place
 unfoldable pub chunkBytes : Register → ℕ → List ℕ
@@ -21,10 +21,10 @@ andThen done next = next
 andThen (refused m at) next = refused m at
 
 module _ (F : List ℕ → List ℕ) where
-  -- "10. .. a read finds another leaf hash"
+  -- the refusals of a place lookup, with 18 for a chunk that is not held; then "10. .. a read finds another leaf hash"
   unfoldable pub readVerdict : Register → ℕ → Verdict
   readVerdict r c =
-      andThen (placeVerdict r c)
+      andThen (heldVerdict r c)
       (cond (sameList (storedHash (r .tree) (index 0 c)) (F (leafMessage (chunkBytes r c)))) done (refused 10 (tree (index 0 c))))
 
   abbrev pub partUnless : Verdict → List ℕ → List ℕ

@@ -1,13 +1,15 @@
 -- The steps of a descent as the code takes them, and what its inner functions require.
 use Prim.Native.Nat.{ℕ, _+_, _-_, _*_, _^_, _≤_, _<_}
 use mathlib.Core.Path.{_≡_}
-use mathlib.Core.Bool.{Bool}
+use mathlib.Core.Bool.{Bool, cond}
 use mathlib.Core.List.{List, [], _∷_}
 use lib.ListN.{length}
 use lib.Dec.{leb, ltb}
+use Rattle.counts.specs.Verdict.{tree as atTree, refused}
 use Rattle.sequences.specs.Lists.{total}
 use Rattle.tree_index.specs.Tree.{index, depth, block}
-use Rattle.files.specs.Sizes.{mostChunks, usedTree}
+use Rattle.bitfield.specs.Release.{storedHeld}
+use Rattle.files.specs.Sizes.{mostChunks, usedTree, usedBitfield}
 use Rattle.files.specs.Stored.{storedSize, storedRootSizes}
 use Rattle.files.specs.Within.{RootsIn}
 use Rattle.checks.specs.Checks.{judged}
@@ -47,10 +49,22 @@ pub record SearchedFor (tree : List ℕ) (n size : ℕ) : Type 0 where
   pub searched : Searched tree n
   pub adds : total (storedRootSizes tree n) ≡ size
 
+-- the same where the data bits of n chunks lie within the bitfield file
+pub record SearchedHeld (tree bitfield : List ℕ) (n : ℕ) : Type 0 where
+  pub searched : Searched tree n
+  pub bits : usedBitfield n ≤ length bitfield
+
 -- what the lookups give in a register that passes the checks 2 to 6
 unfoldable pub placeIn : List ℕ → ℕ → ℕ → Found
 placeIn tree n c =
     foundUnless (judged (record { number = 9; right = ltb c n } ∷ []) (stopRefused (descent (chunkWithin c) tree n)))
+    (startOf (descent (chunkWithin c) tree n)) (storedSize tree (index 0 c))
+
+unfoldable pub heldPlaceIn : List ℕ → List ℕ → ℕ → ℕ → Found
+heldPlaceIn tree bitfield n c =
+    foundUnless
+    (judged (record { number = 9; right = ltb c n } ∷ [])
+    (cond (storedHeld bitfield c) (stopRefused (descent (chunkWithin c) tree n)) (refused 18 (atTree (index 0 c)))))
     (startOf (descent (chunkWithin c) tree n)) (storedSize tree (index 0 c))
 
 unfoldable pub byteIn : List ℕ → ℕ → ℕ → ℕ → Found

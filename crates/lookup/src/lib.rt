@@ -5,6 +5,7 @@ mod reading;
 
 pub use places::Located;
 pub use places::Placed;
+pub use places::held_place;
 pub use places::locate;
 pub use places::place;
 pub use reading::Name;

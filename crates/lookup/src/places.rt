@@ -1,4 +1,4 @@
-// The place lookup and the byte lookup.
+// The place lookup, of any chunk and of one that is held, and the byte lookup.
 use super::descent::Ending;
 use super::descent::Sought;
 use counts::Answer;
@@ -8,8 +8,8 @@ use counts::Place;
 use counts::Refusal;
 ghost use mathlib.Core.Path.{_≡_};
 ghost use Rattle.checks.specs.Given.{registerOf};
-ghost use Rattle.lookup.specs.Lookup.{placeOf, byteAt};
-ghost use Rattle.lookup.specs.Steps.{Searched, SearchedFor, placeIn, byteIn};
+ghost use Rattle.lookup.specs.Lookup.{placeOf, heldPlaceOf, byteAt};
+ghost use Rattle.lookup.specs.Steps.{Searched, SearchedFor, SearchedHeld, placeIn, heldPlaceIn, byteIn};
 ghost use Rattle.lookup.specs.Said.{placedOf, locatedOf};
 
 // What a place lookup answers: where the chunk's bytes begin, and how many they are.
@@ -70,6 +70,52 @@ pub fn place(
     match checks::judge(tree, signatures, bitfield, content, n, s, size) {
         Answer::Refused(refusal) => Placed::Refused(refusal),
         Answer::Done => place_in(tree, n, chunk),
+    }
+}
+
+// Inner: the place of a chunk that is held, in a register that passes the checks 2 to 6. Its data bit is looked at behind 9, so that it lies
+// within the bitfield file, and before anything is walked.
+fn held_place_in(tree: &[u8], bitfield: &[u8], n: u64, chunk: ChunkNumber) -> Placed
+    requires { ⌜ SearchedHeld (now tree) (now bitfield) n ⌝ }
+    ensures { λ r. ⌜ placedOf r ≡ heldPlaceIn (now (tree .entry)) (now (bitfield .entry)) n (chunk .0) ⌝ }
+{
+    if n <= chunk.0 {
+        return Placed::Refused(Refusal {
+            number: 9,
+            place: Place::Nowhere,
+        });
+    }
+    if !bitfield::is_held(bitfield, chunk) {
+        return Placed::Refused(Refusal {
+            number: 18,
+            place: Place::Tree(tree_index::leaf_index(chunk)),
+        });
+    }
+    place_in(tree, n, chunk)
+}
+
+// Start and length of a chunk that is held: what a read and a release decide by. The place lookup's refusals, with 18 just after 9.
+pub fn held_place(
+    tree: &[u8],
+    signatures: &[u8],
+    bitfield: &[u8],
+    content: &[u8],
+    n: u64,
+    s: u64,
+    size: u64,
+    chunk: ChunkNumber,
+) -> Placed
+    ensures { λ r.
+        ⌜
+        placedOf r ≡
+        heldPlaceOf
+        (registerOf (now (tree .entry)) (now (signatures .entry)) (now (bitfield .entry)) (now (content .entry)) n s size)
+        (chunk .0)
+        ⌝ }
+{
+    match checks::judge(tree, signatures, bitfield, content, n, s, size) {
+        Answer::Refused(refusal) => Placed::Refused(refusal),
+        Answer::Done => held_place_in(tree, bitfield, n, chunk),
     }
 }
 

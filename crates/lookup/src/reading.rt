@@ -24,7 +24,7 @@ pub enum Verified {
     Part(ByteOffset, ByteOffset),
 }
 
-// The checks of a read of one register: the place of the chunk, and then its leaf hash, of the bytes where they lie.
+// The checks of a read of one register: the place of the chunk, which must be held, and then its leaf hash, of the bytes where they lie.
 pub fn verify(
     tree: &[u8],
     signatures: &[u8],
@@ -43,7 +43,7 @@ pub fn verify(
         (chunk .0)
         ⌝ }
 {
-    match super::places::place(tree, signatures, bitfield, content, n, s, size, chunk) {
+    match super::places::held_place(tree, signatures, bitfield, content, n, s, size, chunk) {
         Placed::Refused(refusal) => Verified::Refused(refusal),
         Placed::At(start, length) => {
             let end = ByteOffset(start.0 + length);

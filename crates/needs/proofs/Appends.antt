@@ -16,7 +16,9 @@ use Rattle.files.specs.Messages.{HashFunction, leafMessage}
 use Rattle.files.specs.Nodes.{Entry, hole, leaf, parentOf, entryAt}
 use Rattle.files.specs.Images.{leaves}
 use Rattle.files.specs.Stored.{storedRootMessage}
-use Rattle.files.specs.Belongs.{Register, Within, Belongs}
+use Rattle.files.specs.Slots.{Slot, held, allHeld, contents, Within}
+use Rattle.files.proofs.Slots.{contents-length}
+use Rattle.files.specs.Belongs.{Register, Belongs}
 use Rattle.files.proofs.Spans.{span-le, span-all}
 use Rattle.files.proofs.Nodes.{entryAt-proper}
 use Rattle.checks.proofs.Passed.{passes}
@@ -96,20 +98,20 @@ module _ (F : List ℕ → List ℕ) where
 
   module _ (hf : HashFunction F) where
     -- one append
-    module _ (r : Register) (cs : List (List ℕ)) (x : Added) (xs : List Added) (w : Ready F r cs (x ∷ xs)) where
+    module _ (r : Register) (ss : List Slot) (x : Added) (xs : List Added) (w : Ready F r ss (x ∷ xs)) where
       made-long : (d : ℕ) → d < completed (r .n) → length (made F (r .tree) (r .n) (leaf F (x .chunk)) d .hash) ≡ 32
       made-long d h =
-          let a = fits F hf r cs x xs w in
-          let v = longer-within F hf cs (w .within) r (w .belongs) (x .chunk) (w .each .0 .bytes) a in
-          let same : run (made F (r .tree) (r .n) (leaf F (x .chunk))) 0 (suc (completed (r .n))) ≡ map (entryAt F (leaves F (cs ++ (x .chunk ∷ [])))) (filledBy (r .n)) =
-          sym (new-run (r .tree) (r .n) (x .chunk)) ∙ new-entries F hf cs (w .within) r (w .belongs) (x .chunk) (omega (arith, a .fewer))
+          let a = fits F hf r ss x xs w in
+          let v = longer-within F hf ss (w .within) r (w .belongs) (x .chunk) (w .each .0 .bytes) a in
+          let same : run (made F (r .tree) (r .n) (leaf F (x .chunk))) 0 (suc (completed (r .n))) ≡ map (entryAt F (leaves F (ss ++ (held (x .chunk) ∷ [])))) (filledBy (r .n)) =
+          sym (new-run (r .tree) (r .n) (x .chunk)) ∙ new-entries F hf ss (w .within) r (w .belongs) (x .chunk) (omega (arith, a .fewer))
           in
           let at : getD (run (made F (r .tree) (r .n) (leaf F (x .chunk))) 0 (suc (completed (r .n)))) d hole ≡ made F (r .tree) (r .n) (leaf F (x .chunk)) d =
           getD-run (made F (r .tree) (r .n) (leaf F (x .chunk))) 0 (suc (completed (r .n))) d hole (omega arith)
           ∙ ap (made F (r .tree) (r .n) (leaf F (x .chunk))) (zero-add d)
           in
           ap (λ (e : Entry). length (e .hash)) (sym at ∙ ap (λ (l : List Entry). getD l d hole) same)
-          ∙ each-long (entryAt F (leaves F (cs ++ (x .chunk ∷ [])))) (filledBy (r .n)) d (λ i. entryAt-proper F hf (cs ++ (x .chunk ∷ [])) v i .long)
+          ∙ each-long (entryAt F (leaves F (ss ++ (held (x .chunk) ∷ [])))) (filledBy (r .n)) d (λ i. entryAt-proper F hf (ss ++ (held (x .chunk) ∷ [])) v i .long)
 
       append-runs : total (map (runs []) (parentMessages F (r .tree) (r .n) (x .chunk))) ≡ completed (r .n) * parentRuns
       unfolding parentMessages storedEntry
@@ -117,24 +119,24 @@ module _ (F : List ℕ → List ℕ) where
           as-many (λ d. messageOver (storedEntry (r .tree) (sibling (r .n) d)) (made F (r .tree) (r .n) (leaf F (x .chunk)) d)) 0 (completed (r .n))
           (λ d i h.
           let l : d < completed (r .n) = omega arith in
-          parent-runs _ _ _ (stored-long (r .tree) (r .n) (sibling (r .n) d) (ready-passed F hf r cs (x ∷ xs) w .tree) (sibling-filled (r .n) d (fits F hf r cs x xs w .fewer) l)) (made-long d l)
+          parent-runs _ _ _ (stored-long (r .tree) (r .n) (sibling (r .n) d) (ready-passed F hf r ss (x ∷ xs) w .tree) (sibling-filled (r .n) d (fits F hf r ss x xs w .fewer) l)) (made-long d l)
           ∙ sym parentRuns-one)
 
-    parents-counted : (r : Register) (cs : List (List ℕ)) (xs : List Added) → Ready F r cs xs
+    parents-counted : (r : Register) (ss : List Slot) (xs : List Added) → Ready F r ss xs
         → total (run (λ i. completed i * parentRuns) (r .n) (length (lengthsOf xs))) ≡ total (map (runs []) (parentsHashed F r xs))
     unfolding run total parentsHashed
-    parents-counted r cs [] w = refl
-    parents-counted r cs (x ∷ xs) w =
-        ap₂ _+_ (sym (append-runs r cs x xs w))
+    parents-counted r ss [] w = refl
+    parents-counted r ss (x ∷ xs) w =
+        ap₂ _+_ (sym (append-runs r ss x xs w))
         (ap (λ (m : ℕ). total (run (λ i. completed i * parentRuns) m (length (lengthsOf xs)))) (sym (after-one r x))
-        ∙ parents-counted (withOne F r x) (cs ++ (x .chunk ∷ [])) xs (next F hf r cs x xs w))
+        ∙ parents-counted (withOne F r x) (ss ++ (held (x .chunk) ∷ [])) xs (next F hf r ss x xs w))
         ∙ sym (ap total (map-append (runs []) (parentMessages F (r .tree) (r .n) (x .chunk)) (parentsHashed F (withOne F r x) xs))
         ∙ total-append (map (runs []) (parentMessages F (r .tree) (r .n) (x .chunk))) (map (runs []) (parentsHashed F (withOne F r x) xs)))
 
     -- ---- the job
 
-    module _ (r : Register) (cs : List (List ℕ)) (xs : List Added) (j : Job F r cs xs) where
-      ready : Ready F r cs xs
+    module _ (r : Register) (ss : List Slot) (xs : List Added) (j : Job F r ss xs) where
+      ready : Ready F r ss xs
       unfolding needOf
       ready =
           let a = asked (r .n) (r .size) (lengthsOf xs) (j .taken) in
@@ -153,8 +155,8 @@ module _ (F : List ℕ → List ℕ) where
             content = j .room .content;
           }
 
-      end : Ready F (withAll F r xs) (cs ++ chunksOf xs) []
-      end = at-end F hf r cs xs ready
+      end : Ready F (withAll F r xs) (ss ++ allHeld (chunksOf xs)) []
+      end = at-end F hf r ss xs ready
 
       counted : Counted F r xs (withAll F r xs) (needOf (r .n) (r .size) (lengthsOf xs))
       unfolding needOf
@@ -166,28 +168,28 @@ module _ (F : List ℕ → List ℕ) where
             bitfield = ap usedBitfield e;
             content = sym (end-size F r xs);
             leaves = leaves-counted xs;
-            parents = parents-counted r cs xs ready;
-            root = ap rootRuns e ∙ rootRuns-of (withAll F r xs .tree) (withAll F r xs .n) (ready-passed F hf (withAll F r xs) (cs ++ chunksOf xs) [] end .tree);
+            parents = parents-counted r ss xs ready;
+            root = ap rootRuns e ∙ rootRuns-of (withAll F r xs .tree) (withAll F r xs .n) (ready-passed F hf (withAll F r xs) (ss ++ allHeld (chunksOf xs)) [] end .tree);
           }
 
       rooted : rootAnswer F (withAll F r xs) ≡ F (storedRootMessage (withAll F r xs .tree) (withAll F r xs .n))
       unfolding rootAnswer rootVerdict
       rooted =
           ap (λ (v : Verdict). rootUnlessRefused F v (withAll F r xs))
-          (passes (withAll F r xs) _ (ready-passed F hf (withAll F r xs) (cs ++ chunksOf xs) [] end))
+          (passes (withAll F r xs) _ (ready-passed F hf (withAll F r xs) (ss ++ allHeld (chunksOf xs)) [] end))
 
 -- 9 is for numbers that no register of chunks has
-held : (F : List ℕ → List ℕ) (r : Register) (cs : List (List ℕ)) → Within cs → Belongs F r cs → r .size ≤ longestChunk * r .n
-held F r cs w b = omega (arith, span-le cs longestChunk 0 (length cs) (w .short), span-all cs, b .count, b .total)
+size-fits : (F : List ℕ → List ℕ) (r : Register) (ss : List Slot) → Within ss → Belongs F r ss → r .size ≤ longestChunk * r .n
+size-fits F r ss w b = omega (arith, span-le (contents ss) longestChunk 0 (length (contents ss)) (w .short), span-all (contents ss), contents-length ss, b .count, b .total)
 
 pub needs-of-appends : NeedsOfAppendsForAll
 needs-of-appends F hf =
     record {
-      held = held F;
-      allDone = λ r cs xs j. all-done F hf r cs xs (ready F hf r cs xs j);
-      accepted = λ r cs xs j. ready-accepted F hf (withAll F r xs) (cs ++ chunksOf xs) [] (end F hf r cs xs j);
-      paid = λ r cs xs j. end F hf r cs xs j .paid;
-      belongs = λ r cs xs j. end F hf r cs xs j .belongs;
+      sizeFits = size-fits F;
+      allDone = λ r ss xs j. all-done F hf r ss xs (ready F hf r ss xs j);
+      accepted = λ r ss xs j. ready-accepted F hf (withAll F r xs) (ss ++ allHeld (chunksOf xs)) [] (end F hf r ss xs j);
+      paid = λ r ss xs j. end F hf r ss xs j .paid;
+      belongs = λ r ss xs j. end F hf r ss xs j .belongs;
       counted = counted F hf;
       hashed = hashed F;
       rooted = rooted F hf;

@@ -13,7 +13,8 @@ use Rattle.tree_index.specs.Tree.{entries}
 use Rattle.bitfield.specs.Image.{entryCount}
 use Rattle.files.specs.Sizes.{mostChunks, usedTree, usedSignatures, usedBitfield}
 use Rattle.files.specs.Messages.{HashFunction}
-use Rattle.files.specs.Belongs.{Register, Within, Belongs}
+use Rattle.files.specs.Slots.{Slot, held, allHeld, Within}
+use Rattle.files.specs.Belongs.{Register, Belongs}
 use Rattle.checks.proofs.Passed.{Passed}
 use Rattle.checks.proofs.Steps.{signed-same, signed-next}
 use Rattle.writing.specs.Append.{appendVerdict, appendedRegister}
@@ -31,10 +32,10 @@ use Rattle.checks.specs.Lengths.{allShort}
 use Rattle.needs.specs.Appends.{Added, EachRight, chunksOf, lengthsOf, withOne, withAll, AllDone}
 use Rattle.checks.proofs.Lengths.{short-head}
 
--- a register that belongs to cs and has room for the new chunks xs
-pub record Ready (F : List ℕ → List ℕ) (r : Register) (cs : List (List ℕ)) (xs : List Added) : Type 0 where
-  pub within : Within cs
-  pub belongs : Belongs F r cs
+-- a register that belongs to ss and has room for the new chunks xs
+pub record Ready (F : List ℕ → List ℕ) (r : Register) (ss : List Slot) (xs : List Added) : Type 0 where
+  pub within : Within ss
+  pub belongs : Belongs F r ss
   pub signed : Signed r
   pub paid : r .s ≡ r .n
   pub each : EachRight xs
@@ -46,18 +47,18 @@ pub record Ready (F : List ℕ → List ℕ) (r : Register) (cs : List (List ℕ
   pub content : r .size + total (lengthsOf xs) ≤ length (r .content)
 
 module _ (F : List ℕ → List ℕ) (hf : HashFunction F) where
-  belongs-passed : (r : Register) (cs : List (List ℕ)) → Within cs → Belongs F r cs → Signed r → Passed r
-  belongs-passed r cs w b s = accepted-audited F r (belongs-accepted F hf cs w r b s) .checked
+  belongs-passed : (r : Register) (ss : List Slot) → Within ss → Belongs F r ss → Signed r → Passed r
+  belongs-passed r ss w b s = accepted-audited F r (belongs-accepted F hf ss w r b s) .checked
 
-  pub ready-passed : (r : Register) (cs : List (List ℕ)) (xs : List Added) → Ready F r cs xs → Passed r
-  ready-passed r cs xs w = belongs-passed r cs (w .within) (w .belongs) (w .signed)
+  pub ready-passed : (r : Register) (ss : List Slot) (xs : List Added) → Ready F r ss xs → Passed r
+  ready-passed r ss xs w = belongs-passed r ss (w .within) (w .belongs) (w .signed)
 
-  pub ready-accepted : (r : Register) (cs : List (List ℕ)) (xs : List Added) → Ready F r cs xs → Accepted F r
-  ready-accepted r cs xs w = belongs-accepted F hf cs (w .within) r (w .belongs) (w .signed)
+  pub ready-accepted : (r : Register) (ss : List Slot) (xs : List Added) → Ready F r ss xs → Accepted F r
+  ready-accepted r ss xs w = belongs-accepted F hf ss (w .within) r (w .belongs) (w .signed)
 
   -- ---- one chunk
 
-  module _ (r : Register) (cs : List (List ℕ)) (x : Added) (xs : List Added) (w : Ready F r cs (x ∷ xs)) where
+  module _ (r : Register) (ss : List Slot) (x : Added) (xs : List Added) (w : Ready F r ss (x ∷ xs)) where
     abbrev chunk : List ℕ
     chunk = x .chunk
 
@@ -76,14 +77,14 @@ module _ (F : List ℕ → List ℕ) (hf : HashFunction F) where
           content = omega (arith, w .content);
         }
 
-    longer : Within (cs ++ (chunk ∷ []))
-    longer = longer-within F hf cs (w .within) r (w .belongs) chunk (w .each .0 .bytes) fits
+    longer : Within (ss ++ (held chunk ∷ []))
+    longer = longer-within F hf ss (w .within) r (w .belongs) chunk (w .each .0 .bytes) fits
 
-    appended-belongs : Belongs F (appendedRegister F r chunk) (cs ++ (chunk ∷ []))
-    appended-belongs = append-belongs F hf cs (w .within) r (w .belongs) chunk (w .each .0 .bytes) fits
+    appended-belongs : Belongs F (appendedRegister F r chunk) (ss ++ (held chunk ∷ []))
+    appended-belongs = append-belongs F hf ss (w .within) r (w .belongs) chunk (w .each .0 .bytes) fits
 
     append-done : appendVerdict r chunk ≡ done
-    append-done = passed-append r chunk (ready-passed r cs (x ∷ xs) w) fits
+    append-done = passed-append r chunk (ready-passed r ss (x ∷ xs) w) fits
 
     -- a signature is owed then
     owing : Signed (appendedRegister F r chunk)
@@ -106,7 +107,7 @@ module _ (F : List ℕ → List ℕ) (hf : HashFunction F) where
     sign-done : signVerdict (appendedRegister F r chunk) ≡ done
     unfolding appendedRegister
     sign-done =
-        passed-sign (appendedRegister F r chunk) (belongs-passed (appendedRegister F r chunk) (cs ++ (chunk ∷ [])) longer appended-belongs owing)
+        passed-sign (appendedRegister F r chunk) (belongs-passed (appendedRegister F r chunk) (ss ++ (held chunk ∷ [])) longer appended-belongs owing)
         (record { owed = ap (λ (m : ℕ). m + 1) (w .paid); room = room })
 
     pub both-done : (appendVerdict r chunk ≡ done) × (signVerdict (appendedRegister F r chunk) ≡ done)
@@ -124,7 +125,7 @@ module _ (F : List ℕ → List ℕ) (hf : HashFunction F) where
 
     next-tree : usedTree (r .n + 1 + k) ≤ length (appendedRegister F r chunk .tree)
     unfolding appendedRegister usedTree entries
-    next-tree = omega (arith, w .tree, appended-length F hf cs (w .within) r (w .belongs) chunk longer (fits .tree))
+    next-tree = omega (arith, w .tree, appended-length F hf ss (w .within) r (w .belongs) chunk longer (fits .tree))
 
     next-bitfield : usedBitfield (r .n + 1 + k) ≤ length (appendedRegister F r chunk .bitfield)
     unfolding appendedRegister usedBitfield entryCount
@@ -138,12 +139,12 @@ module _ (F : List ℕ → List ℕ) (hf : HashFunction F) where
     unfolding usedSignatures
     next-signatures = omega (arith, w .signatures, length-put (r .signatures) (usedSignatures (r .s)) (x .signature) behind)
 
-    pub next : Ready F (withOne F r x) (cs ++ (chunk ∷ [])) xs
+    pub next : Ready F (withOne F r x) (ss ++ (held chunk ∷ [])) xs
     unfolding withOne signedRegister appendedRegister
     next =
         record {
           within = longer;
-          belongs = sign-belongs F (appendedRegister F r chunk) (x .signature) (cs ++ (chunk ∷ [])) appended-belongs;
+          belongs = sign-belongs F (appendedRegister F r chunk) (x .signature) (ss ++ (held chunk ∷ [])) appended-belongs;
           signed = stored;
           paid = ap (λ (m : ℕ). m + 1) (w .paid);
           each = w .each .1;
@@ -157,16 +158,16 @@ module _ (F : List ℕ → List ℕ) (hf : HashFunction F) where
 
   -- ---- all of them
 
-  pub all-done : (r : Register) (cs : List (List ℕ)) (xs : List Added) → Ready F r cs xs → AllDone F r xs
+  pub all-done : (r : Register) (ss : List Slot) (xs : List Added) → Ready F r ss xs → AllDone F r xs
   unfolding AllDone
-  all-done r cs [] w = tt
-  all-done r cs (x ∷ xs) w =
-      let b = both-done r cs x xs w in
-      (b .0, b .1, all-done (withOne F r x) (cs ++ (x .chunk ∷ [])) xs (next r cs x xs w))
+  all-done r ss [] w = tt
+  all-done r ss (x ∷ xs) w =
+      let b = both-done r ss x xs w in
+      (b .0, b .1, all-done (withOne F r x) (ss ++ (held (x .chunk) ∷ [])) xs (next r ss x xs w))
 
-  pub at-end : (r : Register) (cs : List (List ℕ)) (xs : List Added) → Ready F r cs xs → Ready F (withAll F r xs) (cs ++ chunksOf xs) []
-  unfolding withAll
-  at-end r cs [] w = subst (λ (l : List (List ℕ)). Ready F r l []) (sym (append-nil cs)) w
-  at-end r cs (x ∷ xs) w =
-      subst (λ (l : List (List ℕ)). Ready F (withAll F (withOne F r x) xs) l []) (append-assoc cs (x .chunk ∷ []) (chunksOf xs))
-      (at-end (withOne F r x) (cs ++ (x .chunk ∷ [])) xs (next r cs x xs w))
+  pub at-end : (r : Register) (ss : List Slot) (xs : List Added) → Ready F r ss xs → Ready F (withAll F r xs) (ss ++ allHeld (chunksOf xs)) []
+  unfolding withAll allHeld chunksOf
+  at-end r ss [] w = subst (λ (l : List Slot). Ready F r l []) (sym (append-nil ss)) w
+  at-end r ss (x ∷ xs) w =
+      subst (λ (l : List Slot). Ready F (withAll F (withOne F r x) xs) l []) (append-assoc ss (held (x .chunk) ∷ []) (allHeld (chunksOf xs)))
+      (at-end (withOne F r x) (ss ++ (held (x .chunk) ∷ [])) xs (next r ss x xs w))

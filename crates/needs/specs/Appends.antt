@@ -1,6 +1,6 @@
 -- "Sizes and counts equal those that the definitions have when the chunks are appended singly and the root hash is made once at the end."
 --
--- The notions in it: `HashFunction` and `leafMessage` (files, Messages), `Register`, `Within` and `Belongs` (files, Belongs), the used sizes
+-- The notions in it: `HashFunction` and `leafMessage` (files, Messages), `Slot` and `Within` (files, Slots), `Register` and `Belongs` (files, Belongs), the used sizes
 -- (files, Sizes), `storedRootMessage` (files, Stored), `Accepted` (audit, Audit), what an append, a stored signature and the root hash answer and leave (writing, Append, Sign
 -- and RootHash), `made`, the entries that an append makes (writing, Inner), `runs` (blake2b, Runs), `needOf` and `needVerdict` (Needs).
 use Prim.Native.Nat.{ℕ, _+_, _*_, _≤_}
@@ -15,7 +15,8 @@ use Rattle.files.specs.Sizes.{longestChunk, usedTree, usedSignatures, usedBitfi
 use Rattle.files.specs.Messages.{HashFunction, leafMessage, parentMessage}
 use Rattle.files.specs.Nodes.{Entry, leaf}
 use Rattle.files.specs.Stored.{storedRootMessage}
-use Rattle.files.specs.Belongs.{Register, Within, Belongs}
+use Rattle.files.specs.Slots.{Slot, allHeld, Within}
+use Rattle.files.specs.Belongs.{Register, Belongs}
 use Rattle.audit.specs.Audit.{Accepted}
 use Rattle.writing.specs.Append.{appendVerdict, storedEntry, sibling, newEntries, appendedRegister}
 use Rattle.writing.specs.Sign.{signVerdict, signedRegister}
@@ -79,10 +80,10 @@ pub record RoomFor (r : Register) (need : Need) : Type 0 where
   pub bitfield : need .bitfield ≤ length (r .bitfield)
   pub content : need .content ≤ length (r .content)
 
--- a job: chunks to add to a register that belongs to the chunks cs
-pub record Job (F : List ℕ → List ℕ) (r : Register) (cs : List (List ℕ)) (xs : List Added) : Type 0 where
-  pub within : Within cs
-  pub belongs : Belongs F r cs
+-- a job: chunks to add to a register that belongs to the chunks ss, held or released
+pub record Job (F : List ℕ → List ℕ) (r : Register) (ss : List Slot) (xs : List Added) : Type 0 where
+  pub within : Within ss
+  pub belongs : Belongs F r ss
   -- the audit accepts the register, and it owes no signature: one that it owed is stored first
   pub accepted : Accepted F r
   pub paid : r .s ≡ r .n
@@ -106,22 +107,22 @@ pub record Counted (F : List ℕ → List ℕ) (r : Register) (xs : List Added) 
 
 pub record NeedsOfAppends (F : List ℕ → List ℕ) : Type 0 where
   -- 9 is for numbers that no register of chunks has
-  pub held : (r : Register) (cs : List (List ℕ)) → Within cs → Belongs F r cs → r .size ≤ longestChunk * r .n
+  pub sizeFits : (r : Register) (ss : List Slot) → Within ss → Belongs F r ss → r .size ≤ longestChunk * r .n
   -- no call is refused, and the last leaves an accepted register that owes no signature
-  pub allDone : (r : Register) (cs : List (List ℕ)) (xs : List Added) → Job F r cs xs → AllDone F r xs
-  pub accepted : (r : Register) (cs : List (List ℕ)) (xs : List Added) → Job F r cs xs → Accepted F (withAll F r xs)
-  pub paid : (r : Register) (cs : List (List ℕ)) (xs : List Added) → Job F r cs xs → withAll F r xs .s ≡ withAll F r xs .n
+  pub allDone : (r : Register) (ss : List Slot) (xs : List Added) → Job F r ss xs → AllDone F r xs
+  pub accepted : (r : Register) (ss : List Slot) (xs : List Added) → Job F r ss xs → Accepted F (withAll F r xs)
+  pub paid : (r : Register) (ss : List Slot) (xs : List Added) → Job F r ss xs → withAll F r xs .s ≡ withAll F r xs .n
   -- which belongs to the old chunks and the new ones
-  pub belongs : (r : Register) (cs : List (List ℕ)) (xs : List Added) → Job F r cs xs → Belongs F (withAll F r xs) (cs ++ chunksOf xs)
+  pub belongs : (r : Register) (ss : List Slot) (xs : List Added) → Job F r ss xs → Belongs F (withAll F r xs) (ss ++ allHeld (chunksOf xs))
   -- the needs are its sizes, and the runs of what was hashed
-  pub counted : (r : Register) (cs : List (List ℕ)) (xs : List Added) → Job F r cs xs
+  pub counted : (r : Register) (ss : List Slot) (xs : List Added) → Job F r ss xs
       → Counted F r xs (withAll F r xs) (needOf (r .n) (r .size) (lengthsOf xs))
   -- and this is what was hashed: an append makes an entry for its leaf message and one for each parent message, each with the message's
   -- hash, and no others
   pub hashed : (tree : List ℕ) (n : ℕ) (chunk : List ℕ)
       → map (λ (e : Entry). e .hash) (newEntries F tree n chunk) ≡ F (leafMessage chunk) ∷ map F (parentMessages F tree n chunk)
   -- and the root hash at the end is that of the root message
-  pub rooted : (r : Register) (cs : List (List ℕ)) (xs : List Added) → Job F r cs xs
+  pub rooted : (r : Register) (ss : List Slot) (xs : List Added) → Job F r ss xs
       → rootAnswer F (withAll F r xs) ≡ F (storedRootMessage (withAll F r xs .tree) (withAll F r xs .n))
 
 -- for every function F from byte strings to 32 bytes; of BLAKE2b itself it says what the calls do

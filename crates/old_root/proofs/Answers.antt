@@ -1,18 +1,23 @@
 -- The proof of `OldRootsForAll`. Assumes nothing.
-use Prim.Native.Nat.{ℕ, _≤_}
-use mathlib.Core.Path.{_≡_, refl, sym, ap, _∙_}
+use Prim.Native.Nat.{ℕ, _≤_, _<_}
+use mathlib.Core.Path.{_≡_, refl, sym, ap, _∙_, subst}
 use mathlib.Core.Bool.{Bool, true, false}
 use mathlib.Core.List.{List, [], _∷_}
 use native.Mathlib.Nat.{le-refl}
+use native.Mathlib.Omega.{arith}
 use lib.ListN.{take}
 use Rattle.counts.specs.Verdict.{Spot, Verdict, done, refused, unlessRefused}
 use Rattle.sequences.specs.Lists.{zeros, joined}
 use Rattle.tree_index.specs.Tree.{roots, rootsBelow, rootOf}
+use Rattle.bitfield.specs.Release.{storedHeld}
 use Rattle.blake2b.specs.Hash.{nodeHash}
 use Rattle.files.specs.Messages.{HashFunction, rootMessage}
 use Rattle.files.specs.Stored.{storedRootMessage}
 use Rattle.files.specs.Images.{rootHashFor}
-use Rattle.files.specs.Belongs.{Register, Lent, Within, Belongs}
+use Rattle.files.specs.Slots.{Slot, held, allHeld, contents, Within}
+use Rattle.files.specs.Belongs.{Register, Lent, Belongs}
+use Rattle.files.proofs.Slots.{all-of}
+use Rattle.files.proofs.Held.{stored-held}
 use Rattle.files.proofs.Hashed.{hash-function}
 use Rattle.checks.specs.Checks.{judged, registerChecks}
 use Rattle.audit.specs.Audit.{Accepted}
@@ -23,7 +28,11 @@ use Rattle.writing.specs.RootHash.{rootVerdict, rootAnswer}
 use Rattle.old_root.specs.OldRoot.{oldVerdict, oldRoot}
 use Rattle.old_root.specs.Answers.{OldRoots, OldRootsForAll}
 use Rattle.old_root.proofs.Calls.{own-right, in-turn, old-takes, old-above, old-passed}
-use Rattle.old_root.proofs.First.{first-root-message}
+use Rattle.old_root.proofs.First.{map-take, first-root-message}
+
+held-take : (m : ℕ) (cs : List (List ℕ)) → allHeld (take m cs) ≡ take m (allHeld cs)
+unfolding allHeld
+held-take m cs = map-take held m cs
 
 module _ (F : List ℕ → List ℕ) (r : Register) where
   old-answered : (m : ℕ) → oldVerdict r m ≡ done → oldRoot F r m ≡ F (storedRootMessage (r .tree) m)
@@ -53,17 +62,31 @@ module _ (F : List ℕ → List ℕ) (r : Register) where
   unfolding oldRoot rootAnswer
   all-root = beside-verdict (oldVerdict r (r .n)) ∙ ap (λ (v : Verdict). rootUnlessRefused F v r) all-verdict
 
-  old-hash : HashFunction F → (cs : List (List ℕ)) → Within cs → Belongs F r cs → (m : ℕ) → m ≤ r .n → F (storedRootMessage (r .tree) m) ≡ rootHashFor F (take m cs)
+  old-hash : HashFunction F → (ss : List Slot) → Within ss → Belongs F r ss → (m : ℕ) → m ≤ r .n → F (storedRootMessage (r .tree) m) ≡ rootHashFor F (take m ss)
   unfolding rootHashFor
-  old-hash hf cs w b m h = ap F (first-root-message F hf cs w r b m h)
+  old-hash hf ss w b m h = ap F (first-root-message F hf ss w r b m h)
 
   old-accepted : HashFunction F → Lent r → Accepted F r
-      → (cs : List (List ℕ)) × ((Within cs × Belongs F r cs) × ((m : ℕ) → m ≤ r .n → oldRoot F r m ≡ rootHashFor F (take m cs)))
+      → (ss : List Slot) × ((Within ss × Belongs F r ss) × ((m : ℕ) → m ≤ r .n → oldRoot F r m ≡ rootHashFor F (take m ss)))
   old-accepted hf l a =
       let i = audit-exact F hf .exactly r l .0 a in
       let w = i .2 .within in
       let b = i .2 .belongs in
       (i .0, ((w, b), λ m h. old-answered m (old-takes r m (accepted-audited F r a .checked) h) ∙ old-hash hf (i .0) w b m h))
+
+  old-held : HashFunction F → Lent r → Accepted F r → ((k : ℕ) → k < r .n → storedHeld (r .bitfield) k ≡ true)
+      → (cs : List (List ℕ)) × ((Within (allHeld cs) × Belongs F r (allHeld cs)) × ((m : ℕ) → m ≤ r .n → oldRoot F r m ≡ rootHashFor F (allHeld (take m cs))))
+  old-held hf l a each =
+      let x = old-accepted hf l a in
+      let b = x .1 .0 .1 in
+      let e : x .0 ≡ allHeld (contents (x .0)) =
+      all-of (x .0) (λ k p. let q : k < r .n = omega (arith, b .count) in sym (stored-held F (x .0) r b k q) ∙ each k q) in (
+        contents (x .0),
+        (
+          (subst Within e (x .1 .0 .0), subst (Belongs F r) e b),
+          λ m h. x .1 .1 m h ∙ ap (λ (ss : List Slot). rootHashFor F (take m ss)) e ∙ ap (rootHashFor F) (sym (held-take m (contents (x .0)))),
+        ),
+      )
 
 pub old-roots : OldRootsForAll
 old-roots F hf =
@@ -71,7 +94,8 @@ old-roots F hf =
       takes = λ r a m h. old-takes r m (accepted-audited F r a .checked) h;
       above = λ r a m h. old-above r m (accepted-audited F r a .checked) h;
       accepted = λ r l a. old-accepted F r hf l a;
-      answers = λ r cs w b m e. old-answered F r m e ∙ old-hash F r hf cs w b m (old-passed r m e .upTo);
+      answers = λ r ss w b m e. old-answered F r m e ∙ old-hash F r hf ss w b m (old-passed r m e .upTo);
+      held = λ r l a each. old-held F r hf l a each;
       empty = λ r e. old-answered F r 0 e ∙ ap F (no-roots F r);
       all = λ r. (all-verdict F r, all-root F r);
       zero = old-zero F;

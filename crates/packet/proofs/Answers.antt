@@ -1,4 +1,4 @@
--- The packet of a register that belongs to a chunk sequence passes the check, and gives the chunk back.
+-- The packet of a held chunk of a register that belongs to chunks, held or released, passes the check, and gives the chunk back.
 -- Assumes nothing.
 use Prim.Native.Nat.{ℕ, zero, suc, _+_, _-_, _*_, _/_, _%_, _^_, _≤_, _<_}
 use mathlib.Core.Path.{_≡_, refl, sym, ap, ap₂, _∙_, subst}
@@ -22,9 +22,11 @@ use Rattle.files.specs.Messages.{HashFunction, rootItem, rootMessage}
 use Rattle.files.specs.Nodes.{Entry, hole, entryBytes, leaf, parentOf, node, nodeAt, rootMessageOf}
 use Rattle.files.specs.Images.{leaves, dataSize, rootMessageFor, rootHashFor}
 use Rattle.files.specs.Stored.{storedSize, storedRootSizes}
-use Rattle.files.specs.Belongs.{Register, Within, Belongs}
+use Rattle.files.specs.Slots.{Slot, contents, heldIn, Within}
+use Rattle.files.specs.Belongs.{Register, Belongs}
 use Rattle.files.proofs.Spans.{span, span-le, span-all, map-ext}
-use Rattle.files.proofs.Nodes.{nodeAt-index, entryAt-filled, leaves-length, leaf-at, nodeAt-proper}
+use Rattle.files.proofs.Slots.{contents-length, leaves-length, leaf-held}
+use Rattle.files.proofs.Nodes.{nodeAt-index, entryAt-filled, nodeAt-proper}
 use Rattle.files.proofs.OfImage.{stored-entry, stored-node-size, stored-total}
 use Rattle.checks.specs.Checks.{judged, registerChecks, holds}
 use Rattle.checks.proofs.Judged.{right-both}
@@ -102,10 +104,13 @@ total-insert x (e ∷ es) (suc k) h = omega (arith, total-insert x es k (le-of-s
 
 -- ---- the theorem
 
-module _ (F : List ℕ → List ℕ) (hf : HashFunction F) (cs : List (List ℕ)) (w : Within cs) (r : Register) (b : Belongs F r cs)
-    (ok : judged (registerChecks r) done ≡ done) (c : ℕ) (h : c < length cs) where
+module _ (F : List ℕ → List ℕ) (hf : HashFunction F) (ss : List Slot) (w : Within ss) (r : Register) (b : Belongs F r ss)
+    (ok : judged (registerChecks r) done ≡ done) (c : ℕ) (h : heldIn ss c ≡ true) where
+  abbrev cs : List (List ℕ)
+  cs = contents ss
+
   abbrev es : List Entry
-  es = leaves F cs
+  es = leaves F ss
 
   abbrev p : List ℕ
   p = packetOf r c
@@ -116,8 +121,8 @@ module _ (F : List ℕ → List ℕ) (hf : HashFunction F) (cs : List (List ℕ)
   abbrev at : ℕ
   at = 4 + length (chunkBytes r c) + 1 + 40 * length (siblings (r .n) c) + 1
 
-  told : Answers F r cs
-  told = answers F hf cs w r b ok
+  told : Answers F r ss cs
+  told = answers F hf ss w r b ok
 
   is-read : done ≡ readVerdict F r c
   is-read = sym (told .readDone c h)
@@ -135,10 +140,10 @@ module _ (F : List ℕ → List ℕ) (hf : HashFunction F) (cs : List (List ℕ)
   -- the entry that stands at a place of the packet, where it is that of a filled index
   node-in : (i a : ℕ) → filled (r .n) i ≡ true → part p a 40 ≡ part (r .tree) (entryPlace i) 40 → entryIn p a ≡ nodeAt F es i
   node-in i a f e =
-      let g : filled (length cs) i ≡ true = subst (λ (m : ℕ). filled m i ≡ true) (b .count) f in
-      let k : filled (length es) i ≡ true = subst (λ (m : ℕ). filled m i ≡ true) (sym (leaves-length F cs)) g in
-      entry-in p a (nodeAt F es i) (nodeAt-proper F hf cs w i g)
-      (e ∙ stored-entry F hf cs w r b i (filled-below (r .n) i f) ∙ ap entryBytes (entryAt-filled F es i k))
+      let g : filled (length ss) i ≡ true = subst (λ (m : ℕ). filled m i ≡ true) (b .count) f in
+      let k : filled (length es) i ≡ true = subst (λ (m : ℕ). filled m i ≡ true) (sym (leaves-length F ss)) g in
+      entry-in p a (nodeAt F es i) (nodeAt-proper F hf ss w i g)
+      (e ∙ stored-entry F hf ss w r b i (filled-below (r .n) i f) ∙ ap entryBytes (entryAt-filled F es i k))
 
   sibling-node : (j : ℕ) → j < length (siblings (r .n) c) → entryIn p (4 + length bytes + 1 + 40 * j) ≡ nodeAt F es (getD (siblings (r .n) c) j 0)
   sibling-node j l =
@@ -166,13 +171,14 @@ module _ (F : List ℕ → List ℕ) (hf : HashFunction F) (cs : List (List ℕ)
       ∙ nodeAt-index F es j (beside (c / 2 ^ j)))
       ∙ ap (run (λ d. node F es d (beside (c / 2 ^ d))) 0) e
 
-  pub chunk-is : packetChunk p ≡ getD cs c []
+  pub chunk-is : packetChunk p ≡ getD (contents ss) c []
   chunk-is = subst (λ (q : List ℕ). packetChunk q ≡ bytes) packet-is (chunk-back (r .tree) (r .n) c (chunkBytes r c) read) ∙ the-chunk
 
   pub chunk-leaf : leaf F (packetChunk p) ≡ node F es 0 (c / 2 ^ 0)
   unfolding node
   chunk-leaf =
-      ap (leaf F) chunk-is ∙ sym (leaf-at F cs c h) ∙ ap (λ (k : ℕ). getD es k hole) (sym (div-one c))
+      ap (leaf F) chunk-is
+      ∙ sym (leaf-held F ss c (subst (λ (m : ℕ). c < m) (b .count) (read .chunk .below)) h) ∙ ap (λ (k : ℕ). getD es k hole) (sym (div-one c))
 
   size-back : chunkLength p ≡ length bytes
   size-back = subst (λ (q : List ℕ). chunkLength q ≡ length bytes) packet-is (length-back (r .tree) (r .n) c (chunkBytes r c) read)
@@ -248,14 +254,14 @@ module _ (F : List ℕ → List ℕ) (hf : HashFunction F) (cs : List (List ℕ)
   unfolding othersPlace siblingsPlace
   others-place = ap (λ (l : ℕ). 4 + l + 1 + 40 * length (siblings (r .n) c) + 1) size-back
 
-  pub the-message : packetRootMessage F p (r .n) c ≡ rootMessageFor F cs
+  pub the-message : packetRootMessage F p (r .n) c ≡ rootMessageFor F ss
   unfolding packetRootMessage otherEntries rootMessageFor rootMessageOf
   the-message =
       ap₂ (λ (x : Entry) (a : ℕ). rootMessage (items (roots (r .n)) (inTurn (rootAbove (roots (r .n)) c) x (roots (r .n)) (entriesIn p a (length (otherRoots (r .n) c))))))
       the-root others-place
       ∙ ap (λ (l : List Entry). rootMessage (items (roots (r .n)) l)) (whole p at (r .n) c top (read .chunk) ∙ all-roots)
       ∙ ap rootMessage (items-map (nodeAt F es) (roots (r .n)))
-      ∙ ap (λ (m : ℕ). rootMessage (map (λ i. rootItem (nodeAt F es i .hash) i (nodeAt F es i .size)) (roots m))) (b .count ∙ sym (leaves-length F cs))
+      ∙ ap (λ (m : ℕ). rootMessage (map (λ i. rootItem (nodeAt F es i .hash) i (nodeAt F es i .size)) (roots m))) (b .count ∙ sym (leaves-length F ss))
 
   -- ---- the sum
 
@@ -280,25 +286,25 @@ module _ (F : List ℕ → List ℕ) (hf : HashFunction F) (cs : List (List ℕ)
       ∙ ap (λ (l : List Entry). total (sizes l)) all-roots
       ∙ ap total (map-map (λ (e : Entry). e .size) (nodeAt F es) (roots (r .n))
       ∙ map-ext (λ i. nodeAt F es i .size) (storedSize (r .tree)) (roots (r .n))
-      (λ j l. sym (stored-node-size F hf cs w r b (getD (roots (r .n)) j 0) (root-filled (r .n) j l))))
-      ∙ stored-total F hf cs w r b
+      (λ j l. sym (stored-node-size F hf ss w r b (getD (roots (r .n)) j 0) (root-filled (r .n) j l))))
+      ∙ stored-total F hf ss w r b
 
   sum-fits : packetTotal p (r .n) c ≤ 68719476736
   unfolding packetTotal
   sum-fits =
       let s : dataSize cs ≤ length cs * 65536 = subst (λ (x : ℕ). x ≤ length cs * 65536) (span-all cs) (span-le cs 65536 0 (length cs) (w .short)) in
-      let m : length cs ≤ 1048576 = w .count in
+      let m : length cs ≤ 1048576 = subst (λ (x : ℕ). x ≤ 1048576) (sym (contents-length ss)) (w .count) in
       omega (arith, root-size, others-size, b .total)
 
-  pub passes : done ≡ packetVerdict F p (r .n) c (rootHashFor F cs)
+  pub passes : done ≡ packetVerdict F p (r .n) c (rootHashFor F ss)
   unfolding rootRight rootHashFor
   passes =
-      verdict-done F p (r .n) c (rootHashFor F cs) done (read .chunk .count) (read .chunk .below)
+      verdict-done F p (r .n) c (rootHashFor F ss) done (read .chunk .count) (read .chunk .below)
       (subst (λ (q : List ℕ). shapeRight q (r .n) c ≡ true) packet-is (shape-right (r .tree) (r .n) c (chunkBytes r c) read))
       (right-both _ _ (le-leb (packetTotal p (r .n) c) 68719476736 sum-fits)
-      (ap (λ (m : List ℕ). sameList (F m) (F (rootMessageFor F cs))) the-message ∙ same-refl (F (rootMessageFor F cs)))) refl
+      (ap (λ (m : List ℕ). sameList (F m) (F (rootMessageFor F ss))) the-message ∙ same-refl (F (rootMessageFor F ss)))) refl
 
-  pub answered : PacketAnswers F r cs c
+  pub answered : PacketAnswers F r ss c
   unfolding makeVerdict
   answered =
       record {
@@ -307,9 +313,8 @@ module _ (F : List ℕ → List ℕ) (hf : HashFunction F) (cs : List (List ℕ)
         long = sym (packet-long (r .tree) (r .n) c (chunkBytes r c) read (length (siblings (r .n) c)) (length (otherRoots (r .n) c)) refl refl ∙ ap length packet-is)
             ∙ ap (λ (x : List ℕ). 4 + length x + 1 + 40 * length (siblings (r .n) c) + 1 + 40 * length (otherRoots (r .n) c)) the-chunk;
         passes = sym passes;
-        gives = sym (checked-by F p (r .n) c (rootHashFor F cs) done passes)
-            ∙ chunk-is;
+        gives = sym (checked-by F p (r .n) c (rootHashFor F ss) done passes) ∙ chunk-is;
       }
 
 pub packet-answers : PacketAnswersForAll
-packet-answers F hf cs w r b ok i h = answered F hf cs w r b ok i h
+packet-answers F hf ss w r b ok i h = answered F hf ss w r b ok i h

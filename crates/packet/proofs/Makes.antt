@@ -20,10 +20,10 @@ use Rattle.files.specs.Belongs.{Register}
 use Rattle.checks.specs.Checks.{Check, judged, registerChecks, holds}
 use Rattle.checks.proofs.Judged.{judged-append}
 use Rattle.checks.proofs.Passed.{passed, all-must}
-use Rattle.lookup.specs.Lookup.{stopRefused, toChunk, placeVerdict}
+use Rattle.lookup.specs.Lookup.{stopRefused, toChunk, placeVerdict, heldVerdict}
 use Rattle.lookup.specs.Read.{andThen, chunkBytes, readVerdict, readPart, partUnless}
 use Rattle.lookup.proofs.Answers.{stays-inside}
-use Rattle.lookup.proofs.Calls.{done-reached, done-first}
+use Rattle.lookup.proofs.Calls.{done-reached, done-first, held-done}
 use Rattle.packet.specs.Packet.{packetOf, roomOr14, outUnless, lengthUnless, makeVerdict, madeLength, afterMake}
 use Rattle.packet.specs.Parts.{packetWith, Readable}
 use Rattle.packet.specs.Made.{roomFor, MadeAs, MadeOf}
@@ -35,7 +35,7 @@ use Rattle.packet.specs.declared.making.Made.the-variants.{Refused, Leng
 module _ (F : List ℕ → List ℕ) (r : Register) (c : ℕ) (e : done ≡ readVerdict F r c) where
   placed : placeVerdict r c ≡ done
   unfolding readVerdict
-  placed = done-first (placeVerdict r c) _ (sym e)
+  placed = held-done r c (done-first (heldVerdict r c) _ (sym e)) .1
 
   pub readable : (bytes : List ℕ) → bytes ≡ chunkBytes r c → Readable (r .tree) (r .n) c bytes
   unfolding placeVerdict

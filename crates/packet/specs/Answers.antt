@@ -1,11 +1,12 @@
--- Demand 2, of packets: "lookups and packets answer as 01 defines them". On a register that belongs to a chunk sequence the packet made of a chunk
--- passes the check under the sequence's root hash, and the check gives the very chunk back.
+-- Demand 2, of packets: "lookups and packets answer as 01 defines them". On a register that belongs to chunks, held or released, the packet made of a
+-- chunk that is held passes the check under their root hash, whatever else is released, and the check gives the very chunk back.
 --
--- The notions in it: `HashFunction` (files, Messages), `Register`, `Within` and `Belongs` (files, Belongs), `rootHashFor` (files, Images),
+-- The notions in it: `HashFunction` (files, Messages), `Slot` and `Within` (files, Slots), `Register` and `Belongs` (files, Belongs), `rootHashFor` (files, Images),
 -- `judged` and `registerChecks` (checks, Checks), `chunkBytes` and `readVerdict` (lookup, Read), `packetOf`, `packetExtra` and `makeVerdict`
 -- (Packet), `packetVerdict` and `checkedChunk` (Check).
 use Prim.Native.Nat.{ℕ, _+_, _*_, _≤_, _<_}
 use mathlib.Core.Path.{_≡_}
+use mathlib.Core.Bool.{true}
 use mathlib.Core.List.{List, []}
 use lib.ListN.{length, getD}
 use Rattle.counts.specs.Verdict.{done}
@@ -13,28 +14,29 @@ use Rattle.sequences.specs.Lists.{part}
 use Rattle.files.specs.Messages.{HashFunction}
 use Rattle.files.specs.Sizes.{mostChunks}
 use Rattle.files.specs.Images.{rootHashFor}
-use Rattle.files.specs.Belongs.{Register, Within, Belongs}
+use Rattle.files.specs.Slots.{Slot, contents, heldIn, Within}
+use Rattle.files.specs.Belongs.{Register, Belongs}
 use Rattle.checks.specs.Checks.{judged, registerChecks}
 use Rattle.lookup.specs.Read.{chunkBytes, readVerdict}
 use Rattle.packet.specs.Packet.{siblings, otherRoots, packetOf, packetExtra, makeVerdict}
 use Rattle.packet.specs.Check.{chunkLength, packetVerdict, checkedChunk}
 
--- what is claimed of a register that passes the checks 2 to 6 and belongs to cs, and of its chunk i
-pub record PacketAnswers (F : List ℕ → List ℕ) (r : Register) (cs : List (List ℕ)) (i : ℕ) : Type 0 where
+-- what is claimed of a register that passes the checks 2 to 6 and belongs to the chunks ss, and of its chunk i, which is held
+pub record PacketAnswers (F : List ℕ → List ℕ) (r : Register) (ss : List Slot) (i : ℕ) : Type 0 where
   -- the packet is made wherever the buffer has room for it
   pub made : (out : List ℕ) → length (packetOf r i) ≤ length out → makeVerdict F r i out ≡ done
   pub long : length (packetOf r i)
-      ≡ 4 + length (getD cs i []) + 1 + 40 * length (siblings (r .n) i) + 1 + 40 * length (otherRoots (r .n) i)
+      ≡ 4 + length (getD (contents ss) i []) + 1 + 40 * length (siblings (r .n) i) + 1 + 40 * length (otherRoots (r .n) i)
   -- it passes the check under the root hash
-  pub passes : packetVerdict F (packetOf r i) (r .n) i (rootHashFor F cs) ≡ done
+  pub passes : packetVerdict F (packetOf r i) (r .n) i (rootHashFor F ss) ≡ done
   -- and the check gives the chunk back
-  pub gives : checkedChunk F (packetOf r i) (r .n) i (rootHashFor F cs) ≡ getD cs i []
+  pub gives : checkedChunk F (packetOf r i) (r .n) i (rootHashFor F ss) ≡ getD (contents ss) i []
 
 -- for every function F from byte strings to 32 bytes
 abbrev pub PacketAnswersForAll : Type 0
 PacketAnswersForAll =
-    (F : List ℕ → List ℕ) → HashFunction F → (cs : List (List ℕ)) → Within cs → (r : Register) → Belongs F r cs
-    → judged (registerChecks r) done ≡ done → (i : ℕ) → i < length cs → PacketAnswers F r cs i
+    (F : List ℕ → List ℕ) → HashFunction F → (ss : List Slot) → Within ss → (r : Register) → Belongs F r ss
+    → judged (registerChecks r) done ≡ done → (i : ℕ) → heldIn ss i ≡ true → PacketAnswers F r ss i
 
 -- what is claimed of every packet that passes the check, whatever bytes it is made of
 pub record PartStaysInside (F : List ℕ → List ℕ) (p : List ℕ) (n i : ℕ) (root : List ℕ) : Type 0 where

@@ -15,7 +15,8 @@ use Rattle.tree_index.specs.Tree.{index, leftChild, rightChild, filled}
 use Rattle.files.specs.Messages.{HashFunction, leafMessage}
 use Rattle.files.specs.Nodes.{hole}
 use Rattle.files.specs.Images.{messageFor, rootMessageFor}
-use Rattle.files.specs.Belongs.{Register, Within, Belongs}
+use Rattle.files.specs.Slots.{Slot, heldIn, Within}
+use Rattle.files.specs.Belongs.{Register, Belongs}
 use Rattle.checks.specs.Checks.{judged, registerChecks}
 use Rattle.packet.specs.Packet.{siblings, packetOf}
 use Rattle.packet.specs.Parts.{ChunkOf}
@@ -74,11 +75,11 @@ pub record Stands (F : List ℕ → List ℕ) (p : List ℕ) (n c : ℕ) : Type 
   -- and the entry that it gives has the message's hash
   pub hash : (d : ℕ) → d < length (steps F p n c) → stepAt (steps F p n c) d .entry .hash ≡ F (stepAt (steps F p n c) d .message)
 
--- and of a packet that is made from a register of a chunk sequence: each message is that of the sequence at the tree index of its step
-pub record StandsMade (F : List ℕ → List ℕ) (r : Register) (cs : List (List ℕ)) (c : ℕ) : Type 0 where
+-- and of a packet that is made from a register of chunks, of which this one is held: each message is that of the chunks at the tree index of its step
+pub record StandsMade (F : List ℕ → List ℕ) (r : Register) (ss : List Slot) (c : ℕ) : Type 0 where
   pub message : (d : ℕ) → d < length (steps F (packetOf r c) (r .n) c)
-      → stepAt (steps F (packetOf r c) (r .n) c) d .message ≡ messageFor F cs (stepAt (steps F (packetOf r c) (r .n) c) d .at)
-  pub roots : packetRootMessage F (packetOf r c) (r .n) c ≡ rootMessageFor F cs
+      → stepAt (steps F (packetOf r c) (r .n) c) d .message ≡ messageFor F ss (stepAt (steps F (packetOf r c) (r .n) c) d .at)
+  pub roots : packetRootMessage F (packetOf r c) (r .n) c ≡ rootMessageFor F ss
 
 -- for every function F from byte strings to 32 bytes, and every two packets of bytes
 abbrev pub TellsForAll : Type 0
@@ -92,8 +93,8 @@ RefusesForAll = (F : List ℕ → List ℕ) (p q : List ℕ) (n c : ℕ) (root :
 abbrev pub StandsForAll : Type 0
 StandsForAll = (F : List ℕ → List ℕ) (p : List ℕ) (n c : ℕ) → Stands F p n c
 
--- for every register that belongs to a chunk sequence and passes the checks 2 to 6, and each of its chunks
+-- for every register that belongs to chunks, held or released, and passes the checks 2 to 6, and each chunk that is held
 abbrev pub StandsMadeForAll : Type 0
 StandsMadeForAll =
-    (F : List ℕ → List ℕ) → HashFunction F → (cs : List (List ℕ)) → Within cs → (r : Register) → Belongs F r cs → judged (registerChecks r) done ≡ done
-    → (c : ℕ) → c < length cs → StandsMade F r cs c
+    (F : List ℕ → List ℕ) → HashFunction F → (ss : List Slot) → Within ss → (r : Register) → Belongs F r ss → judged (registerChecks r) done ≡ done
+    → (c : ℕ) → heldIn ss c ≡ true → StandsMade F r ss c

@@ -1,3 +1,4 @@
 -- Laws of parts, places, runs and big-endian numbers.
 pub mod Lists
 pub mod Numbers
+pub mod Lowest

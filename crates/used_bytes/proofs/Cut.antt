@@ -1,6 +1,6 @@
 -- A register with each buffer cut to its used size: what is read of it within the used sizes, and the checks 2 to 6.
 -- Assumes nothing.
-use Prim.Native.Nat.{ℕ, _+_, _*_, _≤_, _<_}
+use Prim.Native.Nat.{ℕ, _+_, _-_, _*_, _/_, _%_, _≤_, _<_}
 use mathlib.Core.Path.{_≡_, refl, ap, _∙_}
 use mathlib.Core.Bool.{Bool, true, false}
 use mathlib.Core.List.{List, [], _∷_}
@@ -9,13 +9,17 @@ use native.Mathlib.Omega.{arith}
 use borrow.Author.Tests.{leb-true, leb-false, le-leb, lt-leb}
 use lib.Dec.{leb, eqb}
 use lib.ListN.{length, take, getD, length-take}
-use lib.Seq.{length-take-le, take-take}
+use lib.Seq.{length-take-le, take-take, getD-take}
 use Rattle.sequences.specs.Lists.{part, total, sameList}
 use Rattle.sequences.specs.Numbers.{number}
 use Rattle.sequences.proofs.Lists.{part-part, run-ext}
 use Rattle.tree_index.specs.Tree.{roots, entries}
 use Rattle.tree_index.proofs.Roots.{root-below}
 use Rattle.files.specs.Headers.{treeHeader, signaturesHeader, bitfieldHeader}
+use Rattle.bitfield.specs.Bits.{digit, bitAt}
+use Rattle.bitfield.specs.Image.{entryCount}
+use Rattle.bitfield.specs.Append.{bitsPlace}
+use Rattle.bitfield.specs.Release.{storedHeld}
 use Rattle.files.specs.Sizes.{entryPlace, usedTree, usedSignatures, usedBitfield}
 use Rattle.files.specs.Messages.{rootItem, rootMessage}
 use Rattle.files.specs.Stored.{storedHash, storedSize, storedRootSizes, storedRootMessage, storedStart}
@@ -143,3 +147,9 @@ later-cut r =
 pub checks-cut : (r : Register) → registerChecks (cut r) ≡ registerChecks r
 unfolding registerChecks
 checks-cut r = ap (λ (l : List Check). record { number = 2; right = countRight (r .n) } ∷ l) (later-cut r)
+
+-- the stored data bits of n chunks
+pub held-cut : (bits : List ℕ) (n k : ℕ) → k < n → storedHeld (take (usedBitfield n) bits) k ≡ storedHeld bits k
+unfolding storedHeld bitAt bitsPlace usedBitfield entryCount
+held-cut bits n k h =
+    ap (λ (x : ℕ). eqb (digit x (7 - k % 8192 % 8)) 1) (getD-take (usedBitfield n) bits (32 + 3328 * (k / 8192) + k % 8192 / 8) 0 (omega arith))

@@ -3,6 +3,7 @@ pub mod Cut
 pub mod Lookups
 pub mod Audits
 pub mod Packets
+pub mod Released
 pub mod Reading
 pub mod Verdicts
 pub mod Writing

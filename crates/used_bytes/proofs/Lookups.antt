@@ -14,20 +14,22 @@ use Rattle.sequences.specs.Lists.{part, sameList}
 use Rattle.tree_index.specs.Tree.{index, depth, block, filled, roots, entries}
 use Rattle.tree_index.proofs.Filled.{end-filled, filled-below}
 use Rattle.tree_index.proofs.Roots.{root-filled}
+use Rattle.bitfield.specs.Release.{storedHeld}
 use Rattle.files.specs.Sizes.{longestChunk, usedTree}
 use Rattle.files.specs.Messages.{leafMessage}
 use Rattle.files.specs.Stored.{storedHash, storedSize}
 use Rattle.files.specs.Belongs.{Register}
 use Rattle.checks.specs.Checks.{Check, judged, registerChecks}
-use Rattle.checks.proofs.Judged.{judged-append}
+use Rattle.checks.proofs.Judged.{judged-append, judged-same}
 use Rattle.checks.proofs.Passed.{Passed, all-must, passed, passes}
 use Rattle.lookup.specs.Descent.{Ending, stopped, reached, chunkWithin, byteWithin, descend, fromRoots, descent}
-use Rattle.lookup.specs.Lookup.{stopRefused, foundUnless, chunkOf, startOf, toChunk, byteEnding, toByte, placeVerdict, byteVerdict, placeOf, byteAt}
+use Rattle.lookup.specs.Lookup.{stopRefused, foundUnless, chunkOf, startOf, toChunk, byteEnding, toByte, placeVerdict, heldVerdict, byteVerdict, placeOf, byteAt}
+use Rattle.lookup.proofs.Calls.{held-done}
 use Rattle.lookup.specs.Read.{chunkBytes, andThen, readVerdict, partUnless, readPart}
 use Rattle.lookup.specs.Said.{readFound}
 use Rattle.lookup.proofs.Descents.{left-inside, right-end}
 use Rattle.lookup.proofs.Answers.{lookups-stay-inside}
-use Rattle.used_bytes.proofs.Cut.{cut, part-cut, hash-cut, size-cut, checks-cut}
+use Rattle.used_bytes.proofs.Cut.{cut, held-cut, part-cut, hash-cut, size-cut, checks-cut}
 
 -- ---- the descents
 
@@ -70,7 +72,7 @@ module _ (within : ℕ → ℕ → ℕ → ℕ → Bool) (t : List ℕ) (n : ℕ
   unfolding descent
   descent-cut = from-cut (roots n) 0 (root-filled n)
 
-chunk-cut : (r : Register) (c : ℕ) → toChunk (cut r) c ≡ toChunk r c
+pub chunk-cut : (r : Register) (c : ℕ) → toChunk (cut r) c ≡ toChunk r c
 unfolding toChunk
 chunk-cut r c = descent-cut (chunkWithin c) (r .tree) (r .n)
 
@@ -110,7 +112,7 @@ module _ (r : Register) (c : ℕ) where
   leaf-below : c < r .n → index 0 c < entries (r .n)
   leaf-below h = filled-below (r .n) (index 0 c) (end-filled (r .n) 0 c (omega (arith, mul-one (c + 1))))
 
-  leaf-size-cut : placeVerdict r c ≡ done → storedSize (cut r .tree) (index 0 c) ≡ storedSize (r .tree) (index 0 c)
+  pub leaf-size-cut : placeVerdict r c ≡ done → storedSize (cut r .tree) (index 0 c) ≡ storedSize (r .tree) (index 0 c)
   leaf-size-cut e = size-cut (r .tree) (r .n) (index 0 c) (leaf-below (place-found e .1))
 
   leaf-inside : placeVerdict r c ≡ done → startOf (toChunk r c) + storedSize (r .tree) (index 0 c) ≤ r .size
@@ -131,6 +133,25 @@ module _ (r : Register) (c : ℕ) where
       ∙ found-same (placeVerdict r c) (startOf (toChunk (cut r) c)) (startOf (toChunk r c)) (storedSize (cut r .tree) (index 0 c))
       (storedSize (r .tree) (index 0 c)) (ap startOf (chunk-cut r c)) leaf-size-cut
 
+  -- ---- a chunk that is held
+
+  abbrev nine : Check
+  nine = record { number = 9; right = ltb c (r .n) }
+
+  -- what stands behind 9 matters only where 9 is passed
+  pub held-verdict-cut : heldVerdict (cut r) c ≡ heldVerdict r c
+  unfolding heldVerdict
+  held-verdict-cut =
+      (λ i. judged (checks-cut r i ++ (nine ∷ [])) (behind (storedHeld (cut r .bitfield) c) (stopRefused (chunk-cut r c i))))
+      ∙ judged-append (registerChecks r) (nine ∷ []) (behind (storedHeld (cut r .bitfield) c) (stopRefused (toChunk r c)))
+      ∙ ap (judged (registerChecks r))
+      (judged-same (nine ∷ []) (behind (storedHeld (cut r .bitfield) c) (stopRefused (toChunk r c))) (behind (storedHeld (r .bitfield) c) (stopRefused (toChunk r c)))
+      (λ p. ap (λ (h : Bool). behind h (stopRefused (toChunk r c))) (held-cut (r .bitfield) (r .n) c (ltb-true c (r .n) (p .0)))))
+      ∙ sym (judged-append (registerChecks r) (nine ∷ []) (behind (storedHeld (r .bitfield) c) (stopRefused (toChunk r c))))
+    where
+      behind : Bool → Verdict → Verdict
+      behind h v = cond h v (refused 18 (tree (index 0 c)))
+
   -- ---- the read
 
   pub bytes-cut : placeVerdict r c ≡ done → chunkBytes (cut r) c ≡ chunkBytes r c
@@ -143,9 +164,9 @@ module _ (r : Register) (c : ℕ) where
     pub read-verdict-cut : readVerdict F (cut r) c ≡ readVerdict F r c
     unfolding readVerdict
     read-verdict-cut =
-        ap (λ (v : Verdict). andThen v (judge (cut r))) place-verdict-cut
-        ∙ then-same (placeVerdict r c) (judge (cut r)) (judge r)
-        (λ e i. verdict (hash-cut (r .tree) (r .n) (index 0 c) (leaf-below (place-found e .1)) i) (bytes-cut e i))
+        ap (λ (v : Verdict). andThen v (judge (cut r))) held-verdict-cut
+        ∙ then-same (heldVerdict r c) (judge (cut r)) (judge r)
+        (λ e i. verdict (hash-cut (r .tree) (r .n) (index 0 c) (leaf-below (place-found (held-done r c e .1) .1)) i) (bytes-cut (held-done r c e .1) i))
       where
         verdict : List ℕ → List ℕ → Verdict
         verdict hash bytes = cond (sameList hash (F (leafMessage bytes))) done (refused 10 (tree (index 0 c)))
@@ -158,7 +179,7 @@ module _ (r : Register) (c : ℕ) where
     read-cut = ap (λ (v : Verdict). partUnless F v (chunkBytes (cut r) c)) read-verdict-cut ∙ go (readVerdict F r c) refl
       where
         go : (v : Verdict) → readVerdict F r c ≡ v → partUnless F v (chunkBytes (cut r) c) ≡ partUnless F v (chunkBytes r c)
-        go done e = bytes-cut (then-first (placeVerdict r c) _ e)
+        go done e = bytes-cut (held-done r c (then-first (heldVerdict r c) _ e) .1)
         go (refused m at) e = refl
 
     pub read-found-cut : readFound F (cut r) c ≡ readFound F r c
@@ -168,7 +189,7 @@ module _ (r : Register) (c : ℕ) where
         ∙ found-same (readVerdict F r c) (startOf (toChunk (cut r) c)) (startOf (toChunk r c))
         (startOf (toChunk (cut r) c) + storedSize (cut r .tree) (index 0 c)) (startOf (toChunk r c) + storedSize (r .tree) (index 0 c))
         (ap startOf (chunk-cut r c))
-        (λ e i. startOf (chunk-cut r c i) + leaf-size-cut (then-first (placeVerdict r c) _ e) i)
+        (λ e i. startOf (chunk-cut r c i) + leaf-size-cut (held-done r c (then-first (heldVerdict r c) _ e) .1) i)
 
 -- ---- the byte lookup
 

@@ -12,7 +12,8 @@ use Rattle.files.specs.Sizes.{entryPlace, usedTree}
 use Rattle.files.specs.Belongs.{Register}
 use Rattle.files.proofs.Spans.{map-ext}
 use Rattle.checks.specs.Checks.{holds}
-use Rattle.lookup.specs.Lookup.{placeVerdict}
+use Rattle.lookup.specs.Lookup.{placeVerdict, heldVerdict}
+use Rattle.lookup.proofs.Calls.{held-done}
 use Rattle.lookup.specs.Read.{andThen, readVerdict}
 use Rattle.packet.specs.Packet.{siblings, otherRoots, section, packetOf, roomOr14, outUnless, lengthUnless, makeVerdict, afterMake, madeLength}
 use Rattle.packet.specs.Parts.{ChunkOf}
@@ -31,7 +32,7 @@ module _ (F : List ℕ → List ℕ) (r : Register) (c : ℕ) where
   packet-cut : readVerdict F r c ≡ done → packetOf (cut r) c ≡ packetOf r c
   unfolding packetOf readVerdict
   packet-cut e =
-      let p : placeVerdict r c ≡ done = then-first (placeVerdict r c) _ e in
+      let p : placeVerdict r c ≡ done = held-done r c (then-first (heldVerdict r c) _ e) .1 in
       let f = place-found r c p in
       let h : ChunkOf (r .n) c = record { count = f .0 .count; below = f .1 } in
       let b = bytes-cut r c p in

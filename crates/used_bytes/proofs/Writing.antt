@@ -48,6 +48,7 @@ use Rattle.list_append.proofs.Steps.{ChunksFit, list-chunks, first-fits, zeros-
 use Rattle.list_append.proofs.Passes.{bytes-long, next-bytes}
 use Rattle.used_bytes.specs.UsedBytes.{SameUsed, WritesUsed}
 use Rattle.used_bytes.proofs.Cut.{same-cut, hash-cut, size-cut, entry-cut, root-message-cut}
+use Rattle.used_bytes.proofs.Released.{release-same, released-same}
 use Rattle.used_bytes.proofs.Verdicts.{start-same, sign-same, append-same, list-same}
 
 -- ---- the root message
@@ -293,4 +294,6 @@ writes F hf =
       listRoots = λ a b ls bs h l p f. list-root-same F hf a b ls bs h (l .tree) p f;
       sign = λ a b h f. sign-same a b h f;
       signed = λ a b signature h g d e. signed-same a b h signature g (sign-passed a d .1) (sign-passed b e .1);
+      release = release-same;
+      released = released-same;
     }

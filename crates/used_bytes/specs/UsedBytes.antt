@@ -3,8 +3,8 @@
 -- lack it, and leaves the same used bytes in both.
 --
 -- The notions in it: `HashFunction` (files, Messages), `Register`, `Buffers` and `Lent` (files, Belongs), the used sizes (files, Sizes), the
--- calls' verdicts and answers (writing, Start, Append, Sign and RootHash; list_append, Append, with Chunks and Fits; old_root, OldRoot; audit, Audit; compare, Walk; lookup, Lookup, Read and Said; packet,
--- Packet) and what a call that writes asks for (writing, Fits).
+-- calls' verdicts and answers (writing, Start, Append, Sign and RootHash; list_append, Append, with Chunks and Fits; old_root, OldRoot; audit, Audit;
+-- compare, Walk; lookup, Lookup, Read and Said; release, Release; search, Search; packet, Packet) and what a call that writes asks for (writing, Fits).
 use Prim.Native.Nat.{ℕ}
 use mathlib.Core.Path.{_≡_}
 use mathlib.Core.Logic.{_↔_}
@@ -29,6 +29,8 @@ use Rattle.compare.specs.Walk.{compare}
 use Rattle.lookup.specs.Lookup.{placeOf, byteAt}
 use Rattle.lookup.specs.Read.{readVerdict, readPart}
 use Rattle.lookup.specs.Said.{readFound}
+use Rattle.release.specs.Release.{releaseVerdict, releasedRegister}
+use Rattle.search.specs.Search.{searchFor}
 use Rattle.packet.specs.Packet.{makeVerdict, madeLength, afterMake}
 
 -- the same n, s and data size, and the same used bytes. A buffer that is shorter than its used size is the same in both
@@ -54,6 +56,8 @@ pub record ReadAlike (F : List ℕ → List ℕ) (a b : Register) : Type 0 where
   pub read : (c : ℕ) → readPart F a c ≡ readPart F b c
   -- where the chunk's bytes begin and end
   pub readFinds : (c : ℕ) → readFound F a c ≡ readFound F b c
+  -- the first chunk from a given number on that is not held
+  pub search : (from : ℕ) → searchFor a from ≡ searchFor b from
   -- a packet made into the same buffer: the verdict, its length, and the buffer with it
   pub makeSays : (c : ℕ) (out : List ℕ) → makeVerdict F a c out ≡ makeVerdict F b c out
   pub makeLength : (c : ℕ) (out : List ℕ) → madeLength F a c out ≡ madeLength F b c out
@@ -87,6 +91,9 @@ pub record WritesUsed (F : List ℕ → List ℕ) : Type 0 where
   pub sign : (a b : Register) → SameUsed a b → SignFits a ↔ SignFits b → signVerdict a ≡ signVerdict b
   pub signed : (a b : Register) (signature : List ℕ) → SameUsed a b → length signature ≡ 64 → signVerdict a ≡ done → signVerdict b ≡ done
       → SameUsed (signedRegister a signature) (signedRegister b signature)
+  -- a release writes within the used bytes, and asks for no room
+  pub release : (a b : Register) (c : ℕ) → SameUsed a b → releaseVerdict a c ≡ releaseVerdict b c
+  pub released : (a b : Register) (c : ℕ) → SameUsed a b → releaseVerdict a c ≡ done → SameUsed (releasedRegister a c) (releasedRegister b c)
 
 -- "No byte behind the used size is looked at": reading, for every F, whatever it answers; writing, for every function F from byte strings to
 -- 32 bytes

@@ -15,6 +15,7 @@ use Rattle.files.specs.Messages.{leafMessage, parentMessage}
 use Rattle.files.specs.Nodes as Nodes
 use Rattle.files.specs.Nodes.{hole, entryBytes, leaf, parentOf, nodeAt, entryAt, treeEntries}
 use Rattle.files.specs.Images.{dataSize, dataImage, bitfieldImage, signaturesImage, leaves, treeImage}
+use Rattle.files.specs.Slots.{allHeld, heldIn}
 use Rattle.files.specs.Stored.{storedSize, storedRootSizes}
 use Rattle.checks.specs.Checks.{judged, addsUp, laterChecks, registerChecks}
 use Rattle.needs.specs.Needs.{leafRuns}
@@ -25,5 +26,5 @@ use Rattle.listing_lines.specs.Lines.{digits, chunksWord, bytesWord, rootsWord,
 use Rattle.worked_cases.specs.Table.{newlyFilled, indexOf, three, registerOf, inputFor, printedLines, table, Holds}
 
 pub holds : Holds
-unfolding table newlyFilled indexOf three registerOf inputFor printedLines index trailingOnes depth block leftChild rightChild parent filled rootOf rootsBelow roots entries completed filledBy trailingZeros part run joined total sameList be numberFrom number byteOf bytesOf tuple four tuples combine combined node indexByte indexBytes dataBytes treeBytes entry entryCount entriesOf front header treeHeader signaturesHeader bitfieldHeader entryPlace usedTree usedSignatures usedBitfield leafMessage parentMessage hole entryBytes leaf parentOf Nodes.node nodeAt entryAt treeEntries dataSize dataImage bitfieldImage signaturesImage leaves treeImage storedSize storedRootSizes judged addsUp laterChecks registerChecks byteWithin descend fromRoots descent stopRefused byteEnding toByte byteVerdict byteAt keyBlock input blocks inner runsOf runs leafRuns nextLength chunkStands chunksIn inputOf digits chunksWord bytesWord rootsWord leafWord parentWord holeWord firstLine firstUnder countUnder startOf lengthOf line kindWord entryLine linesOf linesFor listing
+unfolding table newlyFilled indexOf three registerOf inputFor printedLines index trailingOnes depth block leftChild rightChild parent filled rootOf rootsBelow roots entries completed filledBy trailingZeros part run joined total sameList be numberFrom number byteOf bytesOf tuple four tuples combine combined node indexByte indexBytes dataBytes treeBytes entry entryCount entriesOf front header treeHeader signaturesHeader bitfieldHeader entryPlace usedTree usedSignatures usedBitfield leafMessage parentMessage hole entryBytes leaf parentOf Nodes.node nodeAt entryAt treeEntries dataSize dataImage bitfieldImage signaturesImage leaves treeImage allHeld heldIn storedSize storedRootSizes judged addsUp laterChecks registerChecks byteWithin descend fromRoots descent stopRefused byteEnding toByte byteVerdict byteAt keyBlock input blocks inner runsOf runs leafRuns nextLength chunkStands chunksIn inputOf digits chunksWord bytesWord rootsWord leafWord parentWord holeWord firstLine firstUnder countUnder startOf lengthOf line kindWord entryLine linesOf linesFor listing
 holds = refl

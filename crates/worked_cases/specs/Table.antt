@@ -12,6 +12,7 @@ use Rattle.sequences.specs.Lists.{run, zeros, joined}
 use Rattle.sequences.specs.Numbers.{be}
 use Rattle.files.specs.Sizes.{usedBitfield}
 use Rattle.files.specs.Images.{treeImage, signaturesImage, bitfieldImage, dataImage, dataSize}
+use Rattle.files.specs.Slots.{allHeld, heldIn}
 use Rattle.files.specs.Belongs.{Register}
 use Rattle.needs.specs.Needs.{leafRuns}
 use Rattle.lookup.specs.Lookup.{Found, refusal, found, byteAt}
@@ -45,13 +46,13 @@ indexOf n is = let bytes : List ℕ = indexBytes (dataBytes (heldBelow n) 0) in 
 unfoldable pub three : List (List ℕ)
 three = (65 ∷ 66 ∷ []) ∷ [] ∷ (67 ∷ 68 ∷ 69 ∷ []) ∷ []
 
--- a register that belongs to chunks, with as many zero signatures. No case here reads a hash, so zeros stand for each
+-- a register that belongs to chunks, all of them held, with as many zero signatures. No case here reads a hash, so zeros stand for each
 unfoldable pub registerOf : List (List ℕ) → Register
 registerOf cs =
     record {
-      tree = treeImage (λ d. zeros 32) cs;
+      tree = treeImage (λ d. zeros 32) (allHeld cs);
       signatures = signaturesImage (run (λ i. zeros 64) 0 (length cs));
-      bitfield = bitfieldImage (length cs);
+      bitfield = bitfieldImage (heldIn (allHeld cs)) (length cs);
       content = dataImage cs;
       n = length cs;
       s = length cs;

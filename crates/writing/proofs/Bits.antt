@@ -12,7 +12,7 @@ use Rattle.sequences.proofs.Lists.{part-left, length-put, take-put}
 use Rattle.tree_index.specs.Tree.{filledBy, entries}
 use Rattle.tree_index.proofs.Filled.{filled-below}
 use Rattle.tree_index.proofs.Appended.{filledBy-filled}
-use Rattle.bitfield.specs.Bits.{setBit}
+use Rattle.bitfield.specs.Bits.{withDigit, changeBit, setBit}
 use Rattle.bitfield.specs.Index.{indexBytes}
 use Rattle.bitfield.specs.Append.{bitsPlace, zeroedIfNew, setDataBit, setTreeBit, setTreeBits, regenerated, withBits, appended}
 use Rattle.bitfield.proofs.Image.{bit-local, put-local}
@@ -36,9 +36,9 @@ put-stays xs p zs l h =
     record { long = length-put xs p zs h; front = take-put 32 xs p zs l (omega arith); rest = λ ys. put-local zs .within xs ys p h }
 
 bit-stays : (xs : List ℕ) (p b : ℕ) → 32 ≤ p → p + b / 8 < length xs → Stays (λ l. setBit l p b) xs
-unfolding setBit
+unfolding changeBit
 bit-stays xs p b l h =
-    record { long = simp length-set; front = take-set-le 32 xs (p + b / 8) _ (omega arith); rest = λ ys. bit-local b .within xs ys p (omega arith) }
+    record { long = simp length-set; front = take-set-le 32 xs (p + b / 8) _ (omega arith); rest = λ ys. bit-local withDigit b .within xs ys p (omega arith) }
 
 like : (f g : List ℕ → List ℕ) (xs : List ℕ) → ((l : List ℕ) → f l ≡ g l) → Stays g xs → Stays f xs
 like f g xs e s = record { long = ap length (e xs) ∙ s .long; front = ap (take 32) (e xs) ∙ s .front; rest = λ ys. e (xs ++ ys) ∙ s .rest ys ∙ ap (λ (l : List ℕ). l ++ ys) (sym (e xs)) }

@@ -18,8 +18,10 @@ use Rattle.tree_index.proofs.Appended.{completed-end, newly-filled}
 use Rattle.files.specs.Messages.{HashFunction}
 use Rattle.files.specs.Nodes.{Entry, hole, leaf, parentOf, node, nodeAt, entryAt}
 use Rattle.files.specs.Images.{leaves}
-use Rattle.files.specs.Belongs.{Register, Within, Belongs}
-use Rattle.files.proofs.Nodes.{leaves-length, nodeAt-index, entryAt-filled}
+use Rattle.files.specs.Slots.{Slot, held, slotEntry, Within}
+use Rattle.files.specs.Belongs.{Register, Belongs}
+use Rattle.files.proofs.Slots.{leaves-length}
+use Rattle.files.proofs.Nodes.{nodeAt-index, entryAt-filled}
 use Rattle.files.proofs.OfImage.{stored-node-hash, stored-node-size}
 use Rattle.writing.specs.Append.{storedEntry, sibling, climb, newEntries}
 use Rattle.writing.proofs.Written.{length-snoc}
@@ -33,9 +35,9 @@ halves n d l h =
 module _ (F : List ℕ → List ℕ) where
   -- ---- a leaf more
 
-  pub leaves-snoc : (cs : List (List ℕ)) (c : List ℕ) → leaves F (cs ++ (c ∷ [])) ≡ leaves F cs ++ (leaf F c ∷ [])
+  pub leaves-snoc : (ss : List Slot) (c : List ℕ) → leaves F (ss ++ (held c ∷ [])) ≡ leaves F ss ++ (leaf F c ∷ [])
   unfolding leaves
-  leaves-snoc cs c = map-append (leaf F) cs (c ∷ [])
+  leaves-snoc ss c = map-append (slotEntry F) ss (held c ∷ [])
 
   -- a node does not change where its block was there
   pub node-snoc : (es : List Entry) (e : Entry) (d k : ℕ) → (k + 1) * 2 ^ d ≤ length es → node F (es ++ (e ∷ [])) d k ≡ node F es d k
@@ -46,26 +48,26 @@ module _ (F : List ℕ → List ℕ) where
       ap₂ (parentOf F) (node-snoc es e d (2 * k) (filled-end (length es) d (2 * k) (filled-left (length es) d k f)))
       (node-snoc es e d (2 * k + 1) (filled-end (length es) d (2 * k + 1) (filled-right (length es) d k f)))
 
-  pub nodeAt-snoc : (cs : List (List ℕ)) (c : List ℕ) (i : ℕ) → filled (length cs) i ≡ true
-      → nodeAt F (leaves F (cs ++ (c ∷ []))) i ≡ nodeAt F (leaves F cs) i
-  nodeAt-snoc cs c =
-      by-coordinates (λ i. filled (length cs) i ≡ true → nodeAt F (leaves F (cs ++ (c ∷ []))) i ≡ nodeAt F (leaves F cs) i)
-      (λ d k h. nodeAt-index F (leaves F (cs ++ (c ∷ []))) d k ∙ ap (λ (es : List Entry). node F es d k) (leaves-snoc cs c)
-      ∙ node-snoc (leaves F cs) (leaf F c) d k (subst (λ (m : ℕ). (k + 1) * 2 ^ d ≤ m) (sym (leaves-length F cs)) (filled-end (length cs) d k h))
-      ∙ sym (nodeAt-index F (leaves F cs) d k))
+  pub nodeAt-snoc : (ss : List Slot) (c : List ℕ) (i : ℕ) → filled (length ss) i ≡ true
+      → nodeAt F (leaves F (ss ++ (held c ∷ []))) i ≡ nodeAt F (leaves F ss) i
+  nodeAt-snoc ss c =
+      by-coordinates (λ i. filled (length ss) i ≡ true → nodeAt F (leaves F (ss ++ (held c ∷ []))) i ≡ nodeAt F (leaves F ss) i)
+      (λ d k h. nodeAt-index F (leaves F (ss ++ (held c ∷ []))) d k ∙ ap (λ (es : List Entry). node F es d k) (leaves-snoc ss c)
+      ∙ node-snoc (leaves F ss) (leaf F c) d k (subst (λ (m : ℕ). (k + 1) * 2 ^ d ≤ m) (sym (leaves-length F ss)) (filled-end (length ss) d k h))
+      ∙ sym (nodeAt-index F (leaves F ss) d k))
 
   -- the new leaf
-  pub node-last : (cs : List (List ℕ)) (c : List ℕ) → node F (leaves F (cs ++ (c ∷ []))) zero (length cs) ≡ leaf F c
+  pub node-last : (ss : List Slot) (c : List ℕ) → node F (leaves F (ss ++ (held c ∷ []))) zero (length ss) ≡ leaf F c
   unfolding node
-  node-last cs c =
-      ap (λ (es : List Entry). getD es (length cs) hole) (leaves-snoc cs c)
-      ∙ ap (λ (k : ℕ). getD (leaves F cs ++ (leaf F c ∷ [])) k hole) (sym (add-zero (length cs)))
-      ∙ getD-behind (leaves F cs) (leaf F c ∷ []) (length cs) 0 hole (leaves-length F cs)
+  node-last ss c =
+      ap (λ (es : List Entry). getD es (length ss) hole) (leaves-snoc ss c)
+      ∙ ap (λ (k : ℕ). getD (leaves F ss ++ (leaf F c ∷ [])) k hole) (sym (add-zero (length ss)))
+      ∙ getD-behind (leaves F ss) (leaf F c ∷ []) (length ss) 0 hole (leaves-length F ss)
 
-  module _ (hf : HashFunction F) (cs : List (List ℕ)) (w : Within cs) (r : Register) (b : Belongs F r cs) (c : List ℕ) (small : r .n + 1 < 2 ^ 64) where
+  module _ (hf : HashFunction F) (ss : List Slot) (w : Within ss) (r : Register) (b : Belongs F r ss) (c : List ℕ) (small : r .n + 1 < 2 ^ 64) where
     -- the sequence with the chunk at its end, and where its new nodes stand
-    longer : List (List ℕ)
-    longer = cs ++ (c ∷ [])
+    longer : List Slot
+    longer = ss ++ (held c ∷ [])
 
     place : ℕ → ℕ
     place d = index d ((r .n + 1) / 2 ^ d - 1)
@@ -75,10 +77,10 @@ module _ (F : List ℕ → List ℕ) where
     unfolding storedEntry longer
     stored-known d k h =
         let f : filled (r .n) (index d k) ≡ true = end-filled (r .n) d k h in
-        let e : nodeAt F (leaves F cs) (index d k) ≡ node F (leaves F (cs ++ (c ∷ []))) d k =
-        sym (nodeAt-snoc cs c (index d k) (ap (λ (m : ℕ). filled m (index d k)) (sym (b .count)) ∙ f)) ∙ nodeAt-index F (leaves F (cs ++ (c ∷ []))) d k
+        let e : nodeAt F (leaves F ss) (index d k) ≡ node F (leaves F (ss ++ (held c ∷ []))) d k =
+        sym (nodeAt-snoc ss c (index d k) (ap (λ (m : ℕ). filled m (index d k)) (sym (b .count)) ∙ f)) ∙ nodeAt-index F (leaves F (ss ++ (held c ∷ []))) d k
         in
-        ap₂ (λ (x : List ℕ) (z : ℕ). record { hash = x; size = z }) (stored-node-hash F hf cs w r b (index d k) f) (stored-node-size F hf cs w r b (index d k) f) ∙ e
+        ap₂ (λ (x : List ℕ) (z : ℕ). record { hash = x; size = z }) (stored-node-hash F hf ss w r b (index d k) f) (stored-node-size F hf ss w r b (index d k) f) ∙ e
 
     -- the new node above
     above : (d : ℕ) → suc d ≤ completed (r .n)
@@ -100,9 +102,9 @@ module _ (F : List ℕ → List ℕ) where
     unfolding longer place
     placed d h =
         let i : ℕ = index d ((r .n + 1) / 2 ^ d - 1) in
-        sym (nodeAt-index F (leaves F (cs ++ (c ∷ []))) d ((r .n + 1) / 2 ^ d - 1))
-        ∙ sym (entryAt-filled F (leaves F (cs ++ (c ∷ []))) i
-        (ap (λ (m : ℕ). filled m i) (leaves-length F (cs ++ (c ∷ [])) ∙ length-snoc cs c ∙ ap (λ (m : ℕ). m + 1) (sym (b .count)))
+        sym (nodeAt-index F (leaves F (ss ++ (held c ∷ []))) d ((r .n + 1) / 2 ^ d - 1))
+        ∙ sym (entryAt-filled F (leaves F (ss ++ (held c ∷ []))) i
+        (ap (λ (m : ℕ). filled m i) (leaves-length F (ss ++ (held c ∷ [])) ∙ length-snoc ss (held c) ∙ ap (λ (m : ℕ). m + 1) (sym (b .count)))
         ∙ newly-filled (r .n) d small h))
 
     climb-nodes : (k d : ℕ) (e : Entry) → d + k ≤ completed (r .n) → e ≡ node F (leaves F longer) d ((r .n + 1) / 2 ^ d - 1)
@@ -115,11 +117,11 @@ module _ (F : List ℕ → List ℕ) where
         ∙ climb-nodes k (suc d) (parentOf F (storedEntry (r .tree) (sibling (r .n) d)) e) (omega arith)
         (ap (parentOf F (storedEntry (r .tree) (sibling (r .n) d))) q ∙ above d (omega arith)))
 
-    pub new-entries : newEntries F (r .tree) (r .n) c ≡ map (entryAt F (leaves F (cs ++ (c ∷ [])))) (filledBy (r .n))
+    pub new-entries : newEntries F (r .tree) (r .n) c ≡ map (entryAt F (leaves F (ss ++ (held c ∷ [])))) (filledBy (r .n))
     unfolding newEntries filledBy longer place
     new-entries =
         let one : (r .n + 1) / 2 ^ 0 ≡ r .n + 1 = div-one (r .n + 1) in
-        let last : (r .n + 1) / 2 ^ 0 - 1 ≡ length cs = omega (arith, b .count) in
+        let last : (r .n + 1) / 2 ^ 0 - 1 ≡ length ss = omega (arith, b .count) in
         climb-nodes (completed (r .n)) 0 (leaf F c) (omega arith)
-        (sym (ap (node F (leaves F (cs ++ (c ∷ []))) zero) last ∙ node-last cs c))
-        ∙ ap (λ (m : ℕ). map (entryAt F (leaves F (cs ++ (c ∷ [])))) (run (λ d. index d ((r .n + 1) / 2 ^ d - 1)) 0 m)) (sym (add-one (completed (r .n))))
+        (sym (ap (node F (leaves F (ss ++ (held c ∷ []))) zero) last ∙ node-last ss c))
+        ∙ ap (λ (m : ℕ). map (entryAt F (leaves F (ss ++ (held c ∷ [])))) (run (λ d. index d ((r .n + 1) / 2 ^ d - 1)) 0 m)) (sym (add-one (completed (r .n))))

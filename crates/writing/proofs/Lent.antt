@@ -7,20 +7,22 @@ use Rattle.sequences.specs.Lists.{put, Bytes, zeros}
 use Rattle.sequences.proofs.Lists.{bytes-put, bytes-zeros}
 use Rattle.tree_index.specs.Tree.{filledBy}
 use Rattle.bitfield.specs.Image.{entriesOf}
+use Rattle.bitfield.proofs.Bits.{with-one}
 use Rattle.bitfield.proofs.Image.{bytes-entries}
 use Rattle.files.specs.Headers.{treeHeader, signaturesHeader, bitfieldHeader}
 use Rattle.files.specs.Sizes.{entryPlace, usedSignatures}
 use Rattle.files.specs.Messages.{HashFunction}
 use Rattle.files.specs.Nodes.{Entry, entryBytes, entryAt}
 use Rattle.files.specs.Images.{leaves}
-use Rattle.files.specs.Belongs.{Buffers, Register, Lent, Within, Belongs}
+use Rattle.files.specs.Slots.{Slot, held, heldIn, Within}
+use Rattle.files.specs.Belongs.{Buffers, Register, Lent, Belongs}
 use Rattle.files.proofs.ImageBytes.{treeHeader-bytes, signaturesHeader-bytes, bitfieldHeader-bytes, entry-bytes}
 use Rattle.writing.specs.Start.{started, startedRegister}
 use Rattle.writing.specs.Append.{withHole, withEntries, appendedRegister}
 use Rattle.writing.specs.Sign.{signedRegister}
 use Rattle.writing.specs.Fits.{AppendFits}
 use Rattle.writing.proofs.Tree.{by-hole, appended-entries}
-use Rattle.writing.proofs.Appended.{bits-put, longer-within}
+use Rattle.writing.proofs.Appended.{bits-put, none-from, longer-within}
 
 -- ---- the tree's entries
 
@@ -54,19 +56,19 @@ sign-lent r signature l p =
       content = l .content;
     }
 
-module _ (F : List ℕ → List ℕ) (hf : HashFunction F) (cs : List (List ℕ)) (w : Within cs) (r : Register) (b : Belongs F r cs) (c : List ℕ) (p : Bytes c)
+module _ (F : List ℕ → List ℕ) (hf : HashFunction F) (ss : List Slot) (w : Within ss) (r : Register) (b : Belongs F r ss) (c : List ℕ) (p : Bytes c)
     (a : AppendFits r c) where
-  new-bytes : (i : ℕ) → Bytes (entryBytes (entryAt F (leaves F (cs ++ (c ∷ []))) i))
-  new-bytes = entry-bytes F hf (cs ++ (c ∷ [])) (longer-within F hf cs w r b c p a)
+  new-bytes : (i : ℕ) → Bytes (entryBytes (entryAt F (leaves F (ss ++ (held c ∷ []))) i))
+  new-bytes = entry-bytes F hf (ss ++ (held c ∷ [])) (longer-within F hf ss w r b c p a)
 
   pub append-lent : Lent r → Lent (appendedRegister F r c)
   unfolding appendedRegister
   append-lent l =
       record {
-        tree = subst Bytes (sym (appended-entries F hf cs w r b c (longer-within F hf cs w r b c p a) (a .tree)))
-            (with-bytes (entryAt F (leaves F (cs ++ (c ∷ [])))) new-bytes (withHole (r .tree) (r .n)) (filledBy (r .n)) (hole-bytes (r .tree) (r .n) (l .tree)));
+        tree = subst Bytes (sym (appended-entries F hf ss w r b c (longer-within F hf ss w r b c p a) (a .tree)))
+            (with-bytes (entryAt F (leaves F (ss ++ (held c ∷ [])))) new-bytes (withHole (r .tree) (r .n)) (filledBy (r .n)) (hole-bytes (r .tree) (r .n) (l .tree)));
         signatures = l .signatures;
-        bitfield = subst Bytes (sym (bits-put (r .bitfield) (r .n) (a .fewer) (a .bitfield) (b .bitfield)))
-            (bytes-put (r .bitfield) 32 (entriesOf (r .n + 1)) (l .bitfield) (bytes-entries (r .n + 1)));
+        bitfield = subst Bytes (sym (bits-put (r .bitfield) (heldIn ss) (r .n) (none-from F ss r b) (a .fewer) (a .bitfield) (b .bitfield)))
+            (bytes-put (r .bitfield) 32 (entriesOf (with-one (heldIn ss) (r .n)) (r .n + 1)) (l .bitfield) (bytes-entries (with-one (heldIn ss) (r .n)) (r .n + 1)));
         content = bytes-put (r .content) (r .size) c (l .content) p;
       }

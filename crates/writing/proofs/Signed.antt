@@ -10,6 +10,7 @@ use Rattle.sequences.proofs.Lists.{drop-put}
 use Rattle.files.specs.Headers.{signaturesHeader}
 use Rattle.files.specs.Sizes.{usedSignatures}
 use Rattle.files.specs.Images.{signaturesImage}
+use Rattle.files.specs.Slots.{Slot}
 use Rattle.files.specs.Belongs.{Register, Belongs}
 use Rattle.writing.specs.Sign.{signedRegister}
 use Rattle.writing.proofs.Written.{take-put-end, joined-snoc}
@@ -32,7 +33,7 @@ module _ (r : Register) (signature : List ℕ) (long : length signature ≡ 64) 
   unfolding signedRegister
   sign-rest = drop-put (usedSignatures (r .s + 1)) (r .signatures) (usedSignatures (r .s)) signature (omega (arith, next)) (omega (arith, next))
 
-pub sign-belongs : (F : List ℕ → List ℕ) (r : Register) (signature : List ℕ) (cs : List (List ℕ)) → Belongs F r cs → Belongs F (signedRegister r signature) cs
+pub sign-belongs : (F : List ℕ → List ℕ) (r : Register) (signature : List ℕ) (ss : List Slot) → Belongs F r ss → Belongs F (signedRegister r signature) ss
 unfolding signedRegister
-sign-belongs F r signature cs b =
+sign-belongs F r signature ss b =
     record { count = b .count; total = b .total; tree = b .tree; bitfield = b .bitfield; content = b .content }

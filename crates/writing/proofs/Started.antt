@@ -15,6 +15,7 @@ use Rattle.files.specs.Headers.{treeHeader, signaturesHeader, bitfieldHeader}
 use Rattle.files.specs.Sizes.{usedTree, usedSignatures, usedBitfield}
 use Rattle.files.specs.Nodes.{treeEntries}
 use Rattle.files.specs.Images.{dataSize, dataImage, bitfieldImage, signaturesImage, treeImage, leaves}
+use Rattle.files.specs.Slots.{contents, heldIn}
 use Rattle.files.specs.Belongs.{Buffers, Belongs}
 use Rattle.files.proofs.OfImage.{treeHeader-length, signaturesHeader-length, bitfieldHeader-length}
 use Rattle.checks.specs.Checks.{judged}
@@ -53,7 +54,7 @@ none-tree : (F : List ℕ → List ℕ) → treeImage F [] ≡ treeHeader
 unfolding treeImage treeEntries leaves entries run joined
 none-tree F = append-nil treeHeader
 
-none-bitfield : bitfieldImage 0 ≡ bitfieldHeader
+none-bitfield : bitfieldImage (heldIn []) 0 ≡ bitfieldHeader
 unfolding bitfieldImage entriesOf entryCount run joined
 none-bitfield = append-nil bitfieldHeader
 
@@ -74,7 +75,7 @@ unfolding usedBitfield entryCount
 usedBitfield-none = refl
 
 pub started-belongs : (F : List ℕ → List ℕ) (b : Buffers) → Belongs F (startedRegister b) []
-unfolding startedRegister started dataSize dataImage total joined
+unfolding startedRegister started contents dataSize dataImage total joined
 started-belongs F b =
     record {
       count = refl;

@@ -17,8 +17,10 @@ use Rattle.files.specs.Sizes.{mostChunks, entryPlace, usedTree}
 use Rattle.files.specs.Messages.{HashFunction}
 use Rattle.files.specs.Nodes.{Entry, entryBytes, entryAt, treeEntries}
 use Rattle.files.specs.Images.{treeImage, leaves}
-use Rattle.files.specs.Belongs.{Register, Within, Belongs}
-use Rattle.files.proofs.Nodes.{leaves-length, entryAt-filled, entryAt-hole, entry-length}
+use Rattle.files.specs.Slots.{Slot, held, Within}
+use Rattle.files.specs.Belongs.{Register, Belongs}
+use Rattle.files.proofs.Slots.{leaves-length}
+use Rattle.files.proofs.Nodes.{entryAt-filled, entryAt-hole, entry-length}
 use Rattle.files.proofs.OfImage.{treeHeader-length, entry-inside, stored-entry}
 use Rattle.files.proofs.Written.{entry-header, other-entry, same-entry, entry-length as put-length}
 use Rattle.files.proofs.ToImage.{header-cut, hole-zeros, tree-of-entries}
@@ -144,23 +146,23 @@ module _ (F : List ℕ → List ℕ) (t : List ℕ) (n : ℕ) (c : List ℕ) (f 
 
 -- ---- on a register that belongs to a chunk sequence
 
-module _ (F : List ℕ → List ℕ) (hf : HashFunction F) (cs : List (List ℕ)) (w : Within cs) (r : Register) (b : Belongs F r cs) (c : List ℕ)
-    (v : Within (cs ++ (c ∷ []))) (room : usedTree (r .n + 1) ≤ length (r .tree)) where
-  count : r .n + 1 ≡ length (cs ++ (c ∷ []))
-  count = ap (λ (m : ℕ). m + 1) (b .count) ∙ sym (length-snoc cs c)
+module _ (F : List ℕ → List ℕ) (hf : HashFunction F) (ss : List Slot) (w : Within ss) (r : Register) (b : Belongs F r ss) (c : List ℕ)
+    (v : Within (ss ++ (held c ∷ []))) (room : usedTree (r .n + 1) ≤ length (r .tree)) where
+  count : r .n + 1 ≡ length (ss ++ (held c ∷ []))
+  count = ap (λ (m : ℕ). m + 1) (b .count) ∙ sym (length-snoc ss (held c))
 
   few : r .n < mostChunks
   few = omega (arith, count, v .count)
 
   -- the entries that the image has at the new indexes
   abbrev entry : ℕ → Entry
-  entry = entryAt F (leaves F (cs ++ (c ∷ [])))
+  entry = entryAt F (leaves F (ss ++ (held c ∷ [])))
 
   long : (i : ℕ) → length (entryBytes (entry i)) ≡ 40
-  long = entry-length F hf (cs ++ (c ∷ [])) v
+  long = entry-length F hf (ss ++ (held c ∷ [])) v
 
   new : newEntries F (r .tree) (r .n) c ≡ map entry (filledBy (r .n))
-  new = new-entries F hf cs w r b c (omega (arith, few))
+  new = new-entries F hf ss w r b c (omega (arith, few))
 
   pub appended-entries : appendedTree F (r .tree) (r .n) c ≡ withEntries (withHole (r .tree) (r .n)) (filledBy (r .n)) (map entry (filledBy (r .n)))
   appended-entries = tree-entries F (r .tree) (r .n) c entry long new few room
@@ -172,28 +174,28 @@ module _ (F : List ℕ → List ℕ) (hf : HashFunction F) (cs : List (List ℕ)
   unfolding treeImage usedTree
   appended-front =
       tree-front F (r .tree) (r .n) c entry long new few room
-      ∙ header-cut (r .tree) treeHeader (treeEntries F (leaves F cs)) 32 (40 * entries (r .n)) treeHeader-length (omega arith) (b .tree) .0
+      ∙ header-cut (r .tree) treeHeader (treeEntries F (leaves F ss)) 32 (40 * entries (r .n)) treeHeader-length (omega arith) (b .tree) .0
 
   -- which indexes are filled, over each of the two sequences
-  filled-old : (i : ℕ) (t : Bool) → filled (r .n) i ≡ t → filled (length (leaves F cs)) i ≡ t
-  filled-old i t e = ap (λ (m : ℕ). filled m i) (leaves-length F cs ∙ sym (b .count)) ∙ e
+  filled-old : (i : ℕ) (t : Bool) → filled (r .n) i ≡ t → filled (length (leaves F ss)) i ≡ t
+  filled-old i t e = ap (λ (m : ℕ). filled m i) (leaves-length F ss ∙ sym (b .count)) ∙ e
 
-  filled-new : (i : ℕ) (t : Bool) → filled (r .n + 1) i ≡ t → filled (length (leaves F (cs ++ (c ∷ [])))) i ≡ t
-  filled-new i t e = ap (λ (m : ℕ). filled m i) (leaves-length F (cs ++ (c ∷ [])) ∙ sym count) ∙ e
+  filled-new : (i : ℕ) (t : Bool) → filled (r .n + 1) i ≡ t → filled (length (leaves F (ss ++ (held c ∷ [])))) i ≡ t
+  filled-new i t e = ap (λ (m : ℕ). filled m i) (leaves-length F (ss ++ (held c ∷ [])) ∙ sym count) ∙ e
 
   still : (i : ℕ) → among i (filledBy (r .n)) ≡ false → filled (r .n + 1) i ≡ filled (r .n) i
   still = unchanged F (r .tree) (r .n) c entry long new few room
 
-  old-entry : (i : ℕ) → among i (filledBy (r .n)) ≡ false → entryAt F (leaves F cs) i ≡ entry i
+  old-entry : (i : ℕ) → among i (filledBy (r .n)) ≡ false → entryAt F (leaves F ss) i ≡ entry i
   old-entry i e = split (filled (r .n) i) refl
     where
-      split : (t : Bool) → filled (r .n) i ≡ t → entryAt F (leaves F cs) i ≡ entry i
+      split : (t : Bool) → filled (r .n) i ≡ t → entryAt F (leaves F ss) i ≡ entry i
       split true q =
-          entryAt-filled F (leaves F cs) i (filled-old i true q)
-          ∙ sym (nodeAt-snoc F cs c i (ap (λ (m : ℕ). filled m i) (sym (b .count)) ∙ q))
-          ∙ sym (entryAt-filled F (leaves F (cs ++ (c ∷ []))) i (filled-new i true (still i e ∙ q)))
+          entryAt-filled F (leaves F ss) i (filled-old i true q)
+          ∙ sym (nodeAt-snoc F ss c i (ap (λ (m : ℕ). filled m i) (sym (b .count)) ∙ q))
+          ∙ sym (entryAt-filled F (leaves F (ss ++ (held c ∷ []))) i (filled-new i true (still i e ∙ q)))
       split false q =
-          entryAt-hole F (leaves F cs) i (filled-old i false q) ∙ sym (entryAt-hole F (leaves F (cs ++ (c ∷ []))) i (filled-new i false (still i e ∙ q)))
+          entryAt-hole F (leaves F ss) i (filled-old i false q) ∙ sym (entryAt-hole F (leaves F (ss ++ (held c ∷ []))) i (filled-new i false (still i e ∙ q)))
 
   -- an entry that is not filled anew
   kept-entry : (i : ℕ) → i < entries (r .n + 1) → among i (filledBy (r .n)) ≡ false
@@ -203,11 +205,11 @@ module _ (F : List ℕ → List ℕ) (hf : HashFunction F) (cs : List (List ℕ)
       split : (t : Bool) → ltb i (entries (r .n)) ≡ t → part (appendedTree F (r .tree) (r .n) c) (entryPlace i) 40 ≡ entryBytes (entry i)
       split true q =
           let l : i < entries (r .n) = ltb-true i (entries (r .n)) q in
-          tree-old F (r .tree) (r .n) c entry long new few room i e l ∙ stored-entry F hf cs w r b i l ∙ ap entryBytes (old-entry i e)
+          tree-old F (r .tree) (r .n) c entry long new few room i e l ∙ stored-entry F hf ss w r b i l ∙ ap entryBytes (old-entry i e)
       split false q =
           let l : entries (r .n) ≤ i = ltb-false i (entries (r .n)) q in
           tree-hole F (r .tree) (r .n) c entry long new few room i e l h
-          ∙ sym (ap entryBytes (entryAt-hole F (leaves F (cs ++ (c ∷ []))) i (filled-new i false (still i e ∙ hole-past (r .n) i l))) ∙ hole-zeros)
+          ∙ sym (ap entryBytes (entryAt-hole F (leaves F (ss ++ (held c ∷ []))) i (filled-new i false (still i e ∙ hole-past (r .n) i l))) ∙ hole-zeros)
 
   appended-entry : (i : ℕ) → i < entries (r .n + 1) → part (appendedTree F (r .tree) (r .n) c) (entryPlace i) 40 ≡ entryBytes (entry i)
   appended-entry i h = split (among i (filledBy (r .n))) refl
@@ -216,5 +218,5 @@ module _ (F : List ℕ → List ℕ) (hf : HashFunction F) (cs : List (List ℕ)
       split true e = tree-new F (r .tree) (r .n) c entry long new few room i e
       split false e = kept-entry i h e
 
-  pub appended-tree : take (usedTree (r .n + 1)) (appendedTree F (r .tree) (r .n) c) ≡ treeImage F (cs ++ (c ∷ []))
-  appended-tree = tree-of-entries F (cs ++ (c ∷ [])) (appendedTree F (r .tree) (r .n) c) (r .n + 1) count appended-front appended-entry
+  pub appended-tree : take (usedTree (r .n + 1)) (appendedTree F (r .tree) (r .n) c) ≡ treeImage F (ss ++ (held c ∷ []))
+  appended-tree = tree-of-entries F (ss ++ (held c ∷ [])) (appendedTree F (r .tree) (r .n) c) (r .n + 1) count appended-front appended-entry

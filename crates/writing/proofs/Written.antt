@@ -1,7 +1,7 @@
 -- Bytes written behind the used bytes of a buffer, and chunks behind a chunk sequence.
 -- Assumes nothing.
 use Prim.Native.Nat.{ℕ, zero, suc, _+_, _≤_, _<_}
-use mathlib.Core.Path.{_≡_, ap, _∙_}
+use mathlib.Core.Path.{_≡_, sym, ap, _∙_, subst}
 use mathlib.Core.List.{List, [], _∷_, _++_, append-nil, map, map-append}
 use native.Mathlib.Nat.{add-zero}
 use native.Mathlib.Omega.{arith}
@@ -11,8 +11,9 @@ use Rattle.sequences.specs.Lists.{put, joined, total, Bytes}
 use Rattle.sequences.proofs.Lists.{take-behind, joined-append, drop-put}
 use Rattle.files.specs.Sizes.{mostChunks, longestChunk}
 use Rattle.files.specs.Images.{dataSize, dataImage}
-use Rattle.files.specs.Belongs.{Within}
+use Rattle.files.specs.Slots.{Slot, held, contents, Handed, Within}
 use Rattle.files.proofs.Spans.{total-append}
+use Rattle.files.proofs.Slots.{contents-snoc}
 
 -- ---- bytes
 
@@ -38,8 +39,8 @@ joined-snoc xss xs = joined-append xss (xs ∷ []) ∙ ap (λ (r : List ℕ). jo
 
 -- ---- chunks
 
-pub length-snoc : (cs : List (List ℕ)) (c : List ℕ) → length (cs ++ (c ∷ [])) ≡ length cs + 1
-length-snoc cs c = length-append cs (c ∷ [])
+pub length-snoc : {A : Type 0} (xs : List A) (x : A) → length (xs ++ (x ∷ [])) ≡ length xs + 1
+length-snoc xs x = length-append xs (x ∷ [])
 
 pub dataSize-snoc : (cs : List (List ℕ)) (c : List ℕ) → dataSize (cs ++ (c ∷ [])) ≡ dataSize cs + length c
 unfolding dataSize total
@@ -66,13 +67,23 @@ each-below-snoc P [] c h p (suc k) l = absurd (omega arith)
 each-below-snoc P (x ∷ cs) c h p zero l = h 0 (omega arith)
 each-below-snoc P (x ∷ cs) c h p (suc k) l = each-below-snoc P cs c (λ j g. h (suc j) (omega arith)) p k (omega arith)
 
-pub within-snoc : (cs : List (List ℕ)) (c : List ℕ) → Within cs → length cs < mostChunks → length c ≤ longestChunk → Bytes c → Within (cs ++ (c ∷ []))
-within-snoc cs c w h l p =
+-- what holds of each of a list and of one more
+handed-snoc : (ss : List Slot) (c : List ℕ) → ((k : ℕ) → Handed (getD ss k (held []))) → (k : ℕ) → Handed (getD (ss ++ (held c ∷ [])) k (held []))
+handed-snoc [] c h zero = tt
+handed-snoc [] c h (suc k) = tt
+handed-snoc (s ∷ ss) c h zero = h 0
+handed-snoc (s ∷ ss) c h (suc k) = handed-snoc ss c (λ j. h (suc j)) k
+
+pub within-snoc : (ss : List Slot) (c : List ℕ) → Within ss → length ss < mostChunks → length c ≤ longestChunk → Bytes c → Within (ss ++ (held c ∷ []))
+within-snoc ss c w h l p =
     record {
-      count = omega (arith, length-snoc cs c);
-      short = each-snoc (λ (x : List ℕ). length x ≤ longestChunk) cs c (w .short) l;
-      bytes = each-snoc Bytes cs c (w .bytes) p;
+      count = omega (arith, length-snoc ss (held c));
+      short = λ k. subst (λ (cs : List (List ℕ)). length (getD cs k []) ≤ longestChunk) (sym (contents-snoc ss c))
+          (each-snoc (λ (x : List ℕ). length x ≤ longestChunk) (contents ss) c (w .short) l k);
+      bytes = λ k. subst (λ (cs : List (List ℕ)). Bytes (getD cs k [])) (sym (contents-snoc ss c)) (each-snoc Bytes (contents ss) c (w .bytes) p k);
+      handed = handed-snoc ss c (w .handed);
     }
 
 pub within-nil : Within []
-within-nil = record { count = omega arith; short = λ k. omega arith; bytes = λ k i. omega arith }
+unfolding contents
+within-nil = record { count = omega arith; short = λ k. omega arith; bytes = λ k i. omega arith; handed = λ k. tt }

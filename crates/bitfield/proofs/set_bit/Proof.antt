@@ -1,22 +1,19 @@
--- The byte of the bit, with the bit's mask.
+-- The byte of the bit, with the bit's value.
 use borrow.Author.Needs.{needs}
-use native.Mathlib.Omega.{arith}
 use mathlib.Core.Path.{ap}
-use Prim.Native.Nat.{ℕ, _+_, _/_, _%_}
+use Prim.Native.Nat.{ℕ, _+_, _/_}
 use lib.ListN.{getD, set}
 use lib.Bits.{bitOr}
-use Rattle.bitfield.specs.Bits.{setBit}
-use Rattle.bitfield.proofs.Bits.{mask}
+use Rattle.bitfield.specs.Bits.{changeBit}
 use Rattle.bitfield.proofs.set_bit.Statement.{statement}
 use Rattle.bitfield.proofs.set_bit.Tie as tie
 
 returns : tie.Need-returns
-unfolding setBit
+unfolding changeBit
 returns c =
-    let a = c .before .args in
-    ap (λ (m : ℕ). set (a .xs .now) (a .p + a .b / 8) (bitOr (getD (a .xs .now) (a .p + a .b / 8) 0) m)) (mask (a .b % 8) (omega arith))
+    let a = c .before .before .before .args in
+    ap (λ (m : ℕ). set (a .xs .now) (a .p + a .b / 8) (bitOr (getD (a .xs .now) (a .p + a .b / 8) 0) m)) (c .bit-value .ensures .0)
 
 pub set-bit-spec : {M : Type 1} → statement M
 set-bit-spec =
-    tie.close (tie.spec (λ c. search needs) (λ c. search needs) (λ c. search needs) (λ c. search needs) (λ c. search needs)
-    (λ c. search needs) returns)
+    tie.close (tie.spec (λ c. search needs) (λ c. search needs) (λ c κs. search needs) (λ c. search needs) (λ c. search needs) returns)

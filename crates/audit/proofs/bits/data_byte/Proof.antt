@@ -3,7 +3,7 @@ use native.Mathlib.Nat.{add-zero}
 use mathlib.Core.Path.{_∙_, ap}
 use borrow.Author.Needs.{needs}
 use Rattle.bitfield.specs.Bits.{byteOf}
-use Rattle.bitfield.specs.Image.{heldBelow}
+use Rattle.audit.specs.Audit.{heldBits}
 use Rattle.audit.specs.Bytes.{eight}
 use Rattle.audit.proofs.bits.data_byte.Statement.{statement}
 use Rattle.audit.proofs.bits.data_byte.Tie as tie
@@ -12,9 +12,9 @@ returns : tie.Need-returns
 unfolding byteOf
 returns c =
     let f = c .before .before .before .before .before .before .before .before in
-    let a = f .before .args in
+    let a = f .before .before .args in
     c .byte-of .ensures
-    ∙ (λ j. eight ((f .held-behind .ensures ∙ ap (heldBelow (a .n)) (add-zero (a .c .0))) j) (c .before .before .before .before .before .before .before .held-behind2 .ensures j) (c .before .before .before .before .before .before .held-behind3 .ensures j) (c .before .before .before .before .before .held-behind4 .ensures j) (c .before .before .before .before .held-behind5 .ensures j) (c .before .before .before .held-behind6 .ensures j) (c .before .before .held-behind7 .ensures j) (c .before .held-behind8 .ensures j))
+    ∙ (λ j. eight ((f .held-behind .ensures ∙ ap (heldBits (a .xs .now) (a .n)) (add-zero (a .c .0))) j) (c .before .before .before .before .before .before .before .held-behind2 .ensures j) (c .before .before .before .before .before .before .held-behind3 .ensures j) (c .before .before .before .before .before .held-behind4 .ensures j) (c .before .before .before .before .held-behind5 .ensures j) (c .before .before .before .held-behind6 .ensures j) (c .before .before .held-behind7 .ensures j) (c .before .held-behind8 .ensures j))
 
 pub data-byte-spec : {M : Type 1} → statement M
 data-byte-spec =

@@ -63,7 +63,7 @@ shared-slice-read-if1 c =
 expected-byte-requires : tie.Need-expected-byte-requires Inv-loop μ-loop
 expected-byte-requires c κs =
     let a = c .before .before .before .before .before .before .before .before .before .args in
-    (entry-room (a .xs .now) (a .n) (a .e) (c .before .before .before .before .before .before .before .before .before .pre) .0, omega (arith, c .before .before .before .loop-test .taken))
+    (entry-room (a .xs .now) (a .n) (a .e) (c .before .before .before .before .before .before .before .before .before .pre) .0, omega (arith, c .before .before .before .loop-test .taken), c .before .before .before .before .before .before .before .before .before .pre .file)
 
 add-t21 : tie.Need-add-t21 Inv-loop μ-loop
 add-t21 c =

@@ -17,8 +17,8 @@ use borrow.Author.Needs.{needs}
 use Rattle.lookup.proofs.reading.verify.Statement.{statement}
 use Rattle.lookup.proofs.reading.verify.Tie as tie
 
-place-requires : tie.Need-place-requires
-place-requires c κs = search needs
+held-place-requires : tie.Need-held-place-requires
+held-place-requires c κs = search needs
 
 enum-known-refusal : tie.Need-enum-known-refusal
 enum-known-refusal c = search needs
@@ -31,7 +31,7 @@ add-t20 c =
     let a = c .before .before .before .before .before .before .before .before .before .args in
     let r = registerOf (a .tree .now) (a .signatures .now) (a .bitfield .now) (a .content .now) (a .n) (a .s) (a .size) in
     let k = c .before .before .start .given .0 in
-    let p = placing r (a .chunk .0) (k .0 .0) (k .1 .0) (sym (ap placedOf (c .before .before .start .given .1)) ∙ c .before .before .before .before .place .ensures) in
+    let p = placing r (a .chunk .0) (k .0 .0) (k .1 .0) (sym (ap placedOf (c .before .before .start .given .1)) ∙ c .before .before .before .before .held-place .ensures) in
     let h : k .0 .0 + k .1 .0 ≤ length (a .content .now) = p .inside in
     record { fits = omega arith }
 
@@ -40,7 +40,7 @@ leaf-index-requires c κs =
     let a = c .before .before .before .before .before .before .before .before .before .args in
     let r = registerOf (a .tree .now) (a .signatures .now) (a .bitfield .now) (a .content .now) (a .n) (a .s) (a .size) in
     let k = c .before .before .start .given .0 in
-    let p = placing r (a .chunk .0) (k .0 .0) (k .1 .0) (sym (ap placedOf (c .before .before .start .given .1)) ∙ c .before .before .before .before .place .ensures) in
+    let p = placing r (a .chunk .0) (k .0 .0) (k .1 .0) (sym (ap placedOf (c .before .before .start .given .1)) ∙ c .before .before .before .before .held-place .ensures) in
     p .small
 
 stored-hash-requires : tie.Need-stored-hash-requires
@@ -48,7 +48,7 @@ stored-hash-requires c κs =
     let a = c .before .before .before .before .before .before .before .before .before .before .args in
     let r = registerOf (a .tree .now) (a .signatures .now) (a .bitfield .now) (a .content .now) (a .n) (a .s) (a .size) in
     let k = c .before .before .before .start .given .0 in
-    let p = placing r (a .chunk .0) (k .0 .0) (k .1 .0) (sym (ap placedOf (c .before .before .before .start .given .1)) ∙ c .before .before .before .before .before .place .ensures) in
+    let p = placing r (a .chunk .0) (k .0 .0) (k .1 .0) (sym (ap placedOf (c .before .before .before .start .given .1)) ∙ c .before .before .before .before .before .held-place .ensures) in
     subst (EntryIn (a .tree .now)) (sym (c .leaf-index .ensures)) (p .entry)
 
 sub-leaf-hash : tie.Need-sub-leaf-hash
@@ -62,7 +62,7 @@ part-leaf-hash-end c =
     let a = c .before .before .before .before .before .before .before .before .before .before .before .args in
     let r = registerOf (a .tree .now) (a .signatures .now) (a .bitfield .now) (a .content .now) (a .n) (a .s) (a .size) in
     let k = c .before .before .before .before .start .given .0 in
-    let p = placing r (a .chunk .0) (k .0 .0) (k .1 .0) (sym (ap placedOf (c .before .before .before .before .start .given .1)) ∙ c .before .before .before .before .before .before .place .ensures) in
+    let p = placing r (a .chunk .0) (k .0 .0) (k .1 .0) (sym (ap placedOf (c .before .before .before .before .start .given .1)) ∙ c .before .before .before .before .before .before .held-place .ensures) in
     p .inside
 
 leaf-hash-requires : tie.Need-leaf-hash-requires
@@ -82,14 +82,14 @@ returns c =
     let a = c .before .before .before .before .before .before .before .before .args in
     let r = registerOf (a .tree .now) (a .signatures .now) (a .bitfield .now) (a .content .now) (a .n) (a .s) (a .size) in
     let q = c .before .refusal .given in
-    verified-refused nodeHash r (a .chunk .0) (q .0 .0 .number) (spotOf (q .0 .0 .place)) (sym (ap placedOf (q .1)) ∙ c .before .before .before .place .ensures)
+    verified-refused nodeHash r (a .chunk .0) (q .0 .0 .number) (spotOf (q .0 .0 .place)) (sym (ap placedOf (q .1)) ∙ c .before .before .before .held-place .ensures)
 
 returns-2 : tie.Need-returns-2
 returns-2 c =
     let a = c .before .before .before .before .before .before .before .before .before .before .before .before .before .before .before .before .before .args in
     let r = registerOf (a .tree .now) (a .signatures .now) (a .bitfield .now) (a .content .now) (a .n) (a .s) (a .size) in
     let k = c .before .before .before .before .before .before .before .before .before .before .start .given .0 in
-    let p = placing r (a .chunk .0) (k .0 .0) (k .1 .0) (sym (ap placedOf (c .before .before .before .before .before .before .before .before .before .before .start .given .1)) ∙ c .before .before .before .before .before .before .before .before .before .before .before .before .place .ensures) in
+    let p = placing r (a .chunk .0) (k .0 .0) (k .1 .0) (sym (ap placedOf (c .before .before .before .before .before .before .before .before .before .before .start .given .1)) ∙ c .before .before .before .before .before .before .before .before .before .before .before .before .held-place .ensures) in
     verified-part nodeHash r (a .chunk .0) (k .0 .0) (k .1 .0) p (take (k .0 .0 + k .1 .0 - k .0 .0) (drop (k .0 .0) (a .content .now))) (as-part (a .content .now) (k .0 .0) (k .1 .0))
     (sym (c .if1 .taken) ∙ c .before .same .ensures ∙ ap₂ sameList (c .before .before .before .before .before .before .stored-hash .ensures ∙ ap (storedHash (a .tree .now)) (c .before .before .before .before .before .before .before .leaf-index .ensures)) (c .before .before .before .before .leaf-hash .ensures))
 
@@ -98,7 +98,7 @@ returns-3 c =
     let a = c .before .before .before .before .before .before .before .before .before .before .before .before .before .before .before .before .before .args in
     let r = registerOf (a .tree .now) (a .signatures .now) (a .bitfield .now) (a .content .now) (a .n) (a .s) (a .size) in
     let k = c .before .before .before .before .before .before .before .before .before .before .start .given .0 in
-    let p = placing r (a .chunk .0) (k .0 .0) (k .1 .0) (sym (ap placedOf (c .before .before .before .before .before .before .before .before .before .before .start .given .1)) ∙ c .before .before .before .before .before .before .before .before .before .before .before .before .place .ensures) in
+    let p = placing r (a .chunk .0) (k .0 .0) (k .1 .0) (sym (ap placedOf (c .before .before .before .before .before .before .before .before .before .before .start .given .1)) ∙ c .before .before .before .before .before .before .before .before .before .before .before .before .held-place .ensures) in
     ap (λ (i : ℕ). refusal 10 (tree i)) (c .before .before .before .before .before .before .before .leaf-index .ensures)
     ∙ verified-other nodeHash r (a .chunk .0) (k .0 .0) (k .1 .0) p (take (k .0 .0 + k .1 .0 - k .0 .0) (drop (k .0 .0) (a .content .now))) (as-part (a .content .now) (k .0 .0) (k .1 .0))
     (sym (c .if1 .left) ∙ c .before .same .ensures ∙ ap₂ sameList (c .before .before .before .before .before .before .stored-hash .ensures ∙ ap (storedHash (a .tree .now)) (c .before .before .before .before .before .before .before .leaf-index .ensures)) (c .before .before .before .before .leaf-hash .ensures))
@@ -107,7 +107,7 @@ pub verify-spec : {M : Type 1} → statement M
 verify-spec =
     tie.close
     (tie.spec
-    place-requires
+    held-place-requires
     enum-known-refusal
     enum-known-start
     add-t20

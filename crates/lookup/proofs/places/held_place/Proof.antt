@@ -1,0 +1,44 @@
+-- `lookup::places::held_place` meets its contract: the checks 2 to 6, and what comes behind them. Assumes nothing.
+use Prim.Native.Nat.{_^_, _<_}
+use mathlib.Core.Path.{sym, ap, _∙_}
+use native.Mathlib.Omega.{arith}
+use Rattle.counts.specs.Said.{said, spotOf}
+use Rattle.checks.specs.Given.{registerOf}
+use Rattle.lookup.proofs.Calls.{searched-held, held-refused, held-passed}
+use borrow.Author.Needs.{needs}
+use Rattle.lookup.proofs.places.held_place.Statement.{statement}
+use Rattle.lookup.proofs.places.held_place.Tie as tie
+
+judge-requires : tie.Need-judge-requires
+judge-requires c κs = search needs
+
+enum-known-refusal : tie.Need-enum-known-refusal
+enum-known-refusal c = search needs
+
+enum-told : tie.Need-enum-told
+enum-told c = search needs
+
+held-place-in-requires : tie.Need-held-place-in-requires
+held-place-in-requires c κs =
+    let a = c .before .before .before .before .before .before .before .args in
+    let r = registerOf (a .tree .now) (a .signatures .now) (a .bitfield .now) (a .content .now) (a .n) (a .s) (a .size) in
+    let h : a .size < 2 ^ 64 = omega arith in
+    searched-held r (sym (ap said (c .enum-told .given .1)) ∙ c .before .before .judge .ensures) h
+
+returns : tie.Need-returns
+returns c =
+    let a = c .before .before .before .before .before .before .before .before .args in
+    let r = registerOf (a .tree .now) (a .signatures .now) (a .bitfield .now) (a .content .now) (a .n) (a .s) (a .size) in
+    let q = c .before .refusal .given in
+    held-refused r (a .chunk .0) (q .0 .0 .number) (spotOf (q .0 .0 .place)) (sym (ap said (q .1)) ∙ c .before .before .before .judge .ensures)
+
+returns-2 : tie.Need-returns-2
+returns-2 c =
+    let a = c .before .before .before .before .before .before .before .before .args in
+    let r = registerOf (a .tree .now) (a .signatures .now) (a .bitfield .now) (a .content .now) (a .n) (a .s) (a .size) in
+    c .held-place-in .ensures ∙ held-passed r (a .chunk .0) (sym (ap said (c .before .enum-told .given .1)) ∙ c .before .before .before .judge .ensures)
+
+pub held-place-spec : {M : Type 1} → statement M
+held-place-spec =
+    tie.close
+    (tie.spec judge-requires enum-known-refusal enum-told held-place-in-requires returns returns-2)

@@ -1,0 +1,5 @@
+-- Laws of a release.
+pub mod Bits
+pub mod Replaced
+pub mod Calls
+pub mod Answers

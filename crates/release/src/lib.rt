@@ -1,0 +1,58 @@
+// Releasing a chunk: "clears its data bit, regenerates that entry's Index and writes zeros over the chunk's bytes; its tree entries stay".
+// Everything is judged before a byte is written.
+use counts::Answer;
+use counts::ByteOffset;
+use counts::ChunkNumber;
+use lookup::Placed;
+ghost use Rattle.counts.specs.Said.{said};
+ghost use Rattle.checks.specs.Given.{registerOf};
+ghost use Rattle.release.specs.Post.{lent, Clears, Cleared, ReleasePost};
+
+// Inner: what a release writes, of a chunk whose place was found.
+fn clear_chunk(
+    bitfield: &mut [u8],
+    content: &mut [u8],
+    chunk: ChunkNumber,
+    start: ByteOffset,
+    size: u64,
+)
+    requires { ⌜ Clears (now bitfield) (now content) (chunk .0) (start .0) size ⌝ }
+    ensures { λ _.
+        ⌜
+        Cleared (now (bitfield .entry)) (now (content .entry)) (chunk .0) (start .0) size (now (bitfield .exit)) (now (content .exit))
+        ⌝ }
+{
+    let at = start.0 as usize;
+    let count = size as usize;
+    bitfield::release_bits(bitfield, chunk);
+    sequences::clear(content, at, count);
+}
+
+// A chunk that is held makes room: it is held no longer, and its bytes are zeros.
+pub fn release(
+    tree: &[u8],
+    signatures: &[u8],
+    bitfield: &mut [u8],
+    content: &mut [u8],
+    n: u64,
+    s: u64,
+    size: u64,
+    chunk: ChunkNumber,
+) -> Answer
+    ensures { λ r.
+        ⌜
+        ReleasePost
+        (registerOf (now (tree .entry)) (now (signatures .entry)) (now (bitfield .entry)) (now (content .entry)) n s size)
+        (chunk .0) (said r)
+        (lent (now (tree .exit)) (now (signatures .exit)) (now (bitfield .exit)) (now (content .exit)))
+        ⌝ }
+{
+    let found = lookup::held_place(tree, signatures, bitfield, content, n, s, size, chunk);
+    match found {
+        Placed::Refused(refusal) => Answer::Refused(refusal),
+        Placed::At(start, length) => {
+            clear_chunk(bitfield, content, chunk, start, length);
+            Answer::Done
+        }
+    }
+}

@@ -1,0 +1,99 @@
+-- What the code of a search needs of the definitions, and what a search of a register answers that belongs to chunks, held or released.
+-- Assumes nothing.
+use Prim.Native.Nat.{ℕ, _+_, _-_, _*_, _≤_, _<_}
+use mathlib.Core.Path.{_≡_, refl, sym, ap, ap₂, _∙_, subst}
+use mathlib.Core.List.{List, _++_}
+use native.Mathlib.Nat.{zero-add}
+use native.Mathlib.Omega.{arith}
+use lib.ListN.{length}
+use lib.Seq.{take-all}
+use Rattle.counts.specs.Verdict.{Spot, Verdict, done, refused}
+use Rattle.sequences.specs.Lists.{part, run, joined}
+use Rattle.sequences.specs.Lowest.{Lowest, lowest}
+use Rattle.sequences.proofs.Lists.{part-part, part-front, part-behind, part-joined}
+use Rattle.sequences.proofs.Lowest.{lowest-agree}
+use Rattle.tree_index.specs.Tree.{filled}
+use Rattle.bitfield.specs.Index.{indexBytes}
+use Rattle.bitfield.specs.Image.{dataBytes, treeBytes, entry, entryCount, entriesOf}
+use Rattle.bitfield.specs.Append.{bitsPlace}
+use Rattle.bitfield.specs.Release.{storedHeld}
+use Rattle.bitfield.proofs.Image.{length-data, length-tree, length-entry}
+use Rattle.bitfield.proofs.Levels.{length-index}
+use Rattle.files.specs.Sizes.{mostChunks}
+use Rattle.files.specs.Slots.{Slot, heldIn}
+use Rattle.files.specs.Belongs.{Register, Belongs}
+use Rattle.files.proofs.Held.{bits-cut, stored-held}
+use Rattle.checks.specs.Checks.{judged, registerChecks}
+use Rattle.checks.proofs.Passed.{passed}
+use Rattle.search.specs.Search.{firstMissing, Sought, refusal, answer, soughtUnless, searchFor}
+use Rattle.search.specs.Inner.{DataIn}
+use Rattle.search.specs.Answers.{IndexFollows, SearchAnswersForAll}
+use Rattle.search.proofs.Steps.{data-in}
+use Rattle.search.proofs.Follows.{search-follows}
+
+-- ---- the call
+
+module _ (r : Register) (from : ℕ) where
+  by : (v : Verdict) → v ≡ judged (registerChecks r) done → soughtUnless v (firstMissing (r .bitfield) (r .n) from) ≡ searchFor r from
+  unfolding searchFor
+  by v e = ap (λ (x : Verdict). soughtUnless x (firstMissing (r .bitfield) (r .n) from)) e
+
+  pub search-refused : (m : ℕ) (at : Spot) → refused m at ≡ judged (registerChecks r) done → refusal m at ≡ searchFor r from
+  search-refused m at e = by (refused m at) e
+
+  pub search-passed : done ≡ judged (registerChecks r) done → (l : Lowest) → l ≡ firstMissing (r .bitfield) (r .n) from → answer l ≡ searchFor r from
+  search-passed e l f = ap answer f ∙ by done e
+
+  pub search-room : done ≡ judged (registerChecks r) done → (r .n ≤ mostChunks) × DataIn (r .bitfield) (r .n)
+  search-room e = let p = passed r done (sym e) .0 in (p .count, data-in (r .bitfield) (r .n) (p .bitfield))
+
+-- ---- a register that belongs to chunks, held or released
+
+module _ (F : List ℕ → List ℕ) (ss : List Slot) (r : Register) (b : Belongs F r ss) where
+  abbrev n : ℕ
+  n = r .n
+
+  -- an entry of the file, and what it is
+  abbrev the-entry : ℕ → List ℕ
+  the-entry e = entry (heldIn ss) (filled (r .n)) e
+
+  stored-part : (e a k : ℕ) → e < entryCount (r .n) → a + k ≤ 3328 → part (r .bitfield) (bitsPlace e + a) k ≡ part (the-entry e) a k
+  unfolding bitsPlace entriesOf
+  stored-part e a k h l =
+      let p : 32 + 3328 * e + a ≡ 32 + (e * 3328 + a) = omega arith in
+      ap (λ (x : ℕ). part (r .bitfield) x k) p
+      ∙ sym (part-part (r .bitfield) 32 (3328 * entryCount (r .n)) (e * 3328 + a) k (omega arith))
+      ∙ ap (λ (x : List ℕ). part x (e * 3328 + a) k) (bits-cut F ss r b .1)
+      ∙ sym (part-part (joined (run the-entry 0 (entryCount (r .n)))) (e * 3328) 3328 a k l)
+      ∙ ap (λ (x : List ℕ). part x a k)
+      (part-joined the-entry 3328 (length-entry (heldIn ss) (filled (r .n))) 0 (entryCount (r .n)) e h ∙ ap the-entry (zero-add e))
+
+  data-is : (e : ℕ) → e < entryCount (r .n) → part (r .bitfield) (bitsPlace e) 1024 ≡ dataBytes (heldIn ss) e
+  unfolding entry
+  data-is e h =
+      let p : bitsPlace e ≡ bitsPlace e + 0 = omega arith in
+      ap (λ (x : ℕ). part (r .bitfield) x 1024) p ∙ stored-part e 0 1024 h (omega arith)
+      ∙ part-front (dataBytes (heldIn ss) e) (treeBytes (filled (r .n)) e ++ indexBytes (dataBytes (heldIn ss) e)) 1024 (length-data (heldIn ss) e)
+
+  index-is : (e : ℕ) → e < entryCount (r .n) → part (r .bitfield) (bitsPlace e + 3072) 256 ≡ indexBytes (dataBytes (heldIn ss) e)
+  unfolding entry part
+  index-is e h =
+      let d : List ℕ = dataBytes (heldIn ss) e in
+      let t : List ℕ = treeBytes (filled (r .n)) e in
+      stored-part e 3072 256 h (omega arith)
+      ∙ part-behind d (t ++ indexBytes d) 1024 2048 256 (length-data (heldIn ss) e)
+      ∙ part-behind t (indexBytes d) 2048 0 256 (length-tree (filled (r .n)) e)
+      ∙ take-all 256 (indexBytes d) (omega (arith, length-index d))
+
+  pub index-follows : IndexFollows (r .bitfield) (r .n)
+  unfolding IndexFollows
+  index-follows e h = index-is e h ∙ ap indexBytes (sym (data-is e h))
+
+  pub search-held : (from : ℕ) → firstMissing (r .bitfield) (r .n) from ≡ lowest (heldIn ss) from (length ss - from)
+  search-held from =
+      search-follows (r .bitfield) (r .n) index-follows from
+      ∙ lowest-agree (storedHeld (r .bitfield)) (heldIn ss) from (r .n - from) (λ j p q before. stored-held F ss r b j (omega arith))
+      ∙ ap (λ (m : ℕ). lowest (heldIn ss) from (m - from)) (b .count)
+
+pub search-answers : SearchAnswersForAll
+search-answers F ss r b e from = sym (search-passed r from (sym e) (lowest (heldIn ss) from (length ss - from)) (sym (search-held F ss r b from)))

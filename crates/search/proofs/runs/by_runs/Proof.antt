@@ -1,0 +1,65 @@
+-- `search::runs::by_runs` meets its contract. The invariant: what is left from k on decides. Assumes nothing.
+use Prim.Native.Nat.{_-_}
+use mathlib.Core.Path.{_≡_, refl, sym, _∙_}
+use native.Mathlib.Omega.{arith}
+use Rattle.sequences.specs.Lowest.{lowest}
+use Rattle.sequences.proofs.Lowest.{lowest-end}
+use Rattle.search.specs.Search.{notMissing}
+use Rattle.search.proofs.Steps.{run-in, found-here, none-here}
+use borrow.Author.Needs.{needs}
+use Rattle.search.proofs.runs.by_runs.Statement.{statement}
+use Rattle.search.proofs.runs.by_runs.Tie as tie
+
+abbrev Inv-loop : tie.InvT-loop
+Inv-loop xs from n k₀ k = lowest (notMissing xs) from (n - from) ≡ lowest (notMissing xs) k (n - k)
+
+abbrev μ-loop : tie.MeasureT-loop
+μ-loop xs from n k₀ k = n - k
+
+loop-holds : tie.Need-loop-holds Inv-loop μ-loop
+loop-holds c = refl
+
+add-smaller-of : tie.Need-add-smaller-of Inv-loop μ-loop
+add-smaller-of c = let h = c .before .before .before .pre .0 in search needs
+
+mul-smaller-of : tie.Need-mul-smaller-of Inv-loop μ-loop
+mul-smaller-of c = let h = c .before .before .before .pre .0 in search needs
+
+in-run-requires : tie.Need-in-run-requires Inv-loop μ-loop
+in-run-requires c κs =
+    let a = c .before .before .before .before .args in
+    let s = c .smaller-of .ensures in
+    let k = c .before .before .loop .k in
+    (s .above k (omega arith) (c .before .loop-test .taken), run-in (a .xs .now) (a .n) k (c .smaller-of .result) (c .before .before .before .before .pre .0) (c .before .before .before .before .pre .1) (s .left) (s .right))
+
+returns : tie.Need-returns Inv-loop μ-loop
+returns c =
+    let a = c .before .before .before .before .before .before .before .args in
+    let s = c .before .before .before .smaller-of .ensures in
+    let k = c .before .before .before .before .before .loop .k in
+    found-here (notMissing (a .xs .now)) (c .before .before .in-run .result) (a .from) k (c .before .before .before .smaller-of .result) (a .n) (s .above k (omega arith) (c .before .before .before .before .loop-test .taken)) (s .right)
+    (c .before .before .in-run .ensures) (c .before .before .before .before .before .loop .inv) (c .enum-told2 .given .0 .0) (c .enum-told2 .given .1)
+
+loop-less : tie.Need-loop-less Inv-loop μ-loop
+loop-less c =
+    let s = c .before .before .before .smaller-of .ensures in
+    let k = c .before .before .before .before .before .loop .k in
+    omega (arith, s .above k (omega arith) (c .before .before .before .before .loop-test .taken), s .right)
+
+loop-again : tie.Need-loop-again Inv-loop μ-loop
+loop-again c =
+    let a = c .before .before .before .before .before .before .before .args in
+    let s = c .before .before .before .smaller-of .ensures in
+    let k = c .before .before .before .before .before .loop .k in
+    none-here (notMissing (a .xs .now)) (c .before .before .in-run .result) (a .from) k (c .before .before .before .smaller-of .result) (a .n) (s .above k (omega arith) (c .before .before .before .before .loop-test .taken)) (s .right)
+    (c .before .before .in-run .ensures) (c .before .before .before .before .before .loop .inv) (c .enum-told .given .1)
+
+returns-2 : tie.Need-returns-2 Inv-loop μ-loop
+returns-2 c =
+    let a = c .before .before .before .args in
+    sym (c .before .loop .inv ∙ lowest-end (notMissing (a .xs .now)) (c .before .loop .k) (a .n) (c .loop-test .left))
+
+pub by-runs-spec : {M : Type 1} → statement M
+by-runs-spec =
+    tie.close
+    (tie.spec Inv-loop μ-loop loop-holds add-smaller-of mul-smaller-of (λ c κs. search needs) in-run-requires (λ c. search needs) (λ c. search needs) returns loop-less loop-again returns-2)

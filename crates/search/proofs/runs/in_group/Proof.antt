@@ -1,0 +1,24 @@
+-- `search::runs::in_group` meets its contract. Assumes nothing.
+use Prim.Native.Nat.{ℕ, _-_}
+use mathlib.Core.Path.{ap, _∙_}
+use Rattle.sequences.specs.Lowest.{lowest}
+use Rattle.bitfield.specs.Release.{storedHeld}
+use Rattle.search.proofs.Steps.{group-over, group-read}
+use borrow.Author.Needs.{needs}
+use Rattle.search.proofs.runs.in_group.Statement.{statement}
+use Rattle.search.proofs.runs.in_group.Tie as tie
+
+returns : tie.Need-returns
+returns c = let a = c .before .before .args in group-over (a .xs .now) (a .tuple) (a .from) (a .end) (c .before .before .pre) (c .if1 .taken)
+
+first-missing-requires : tie.Need-first-missing-requires
+first-missing-requires c κs = c .before .before .before .pre .room
+
+returns-2 : tie.Need-returns-2
+returns-2 c =
+    let a = c .before .before .before .before .args in
+    c .first-missing .ensures ∙ ap (λ (k : ℕ). lowest (storedHeld (a .xs .now)) k (a .end - k)) (c .before .chunk-behind .ensures)
+    ∙ group-read (a .xs .now) (a .tuple) (a .from) (a .end) (c .before .before .before .before .pre) (c .before .before .if1 .left)
+
+pub in-group-spec : {M : Type 1} → statement M
+in-group-spec = tie.close (tie.spec returns (λ c κs. search needs) first-missing-requires returns-2)

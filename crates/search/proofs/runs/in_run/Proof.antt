@@ -1,0 +1,39 @@
+-- `search::runs::in_run` meets its contract. Assumes nothing.
+use Prim.Native.Nat.{ℕ, _+_, _/_, _≤_}
+use mathlib.Core.Path.{sym, ap, _∙_, subst}
+use lib.ListN.{length}
+use Rattle.bitfield.specs.Append.{bitsPlace}
+use Rattle.search.specs.Search.{storedTuples}
+use Rattle.search.proofs.Steps.{data-at, run-over}
+use borrow.Author.Needs.{needs}
+use Rattle.search.proofs.runs.in_run.Statement.{statement}
+use Rattle.search.proofs.runs.in_run.Tie as tie
+
+run-tuples-requires : tie.Need-run-tuples-requires
+run-tuples-requires c κs =
+    let a = c .before .before .args in
+    subst (λ (j : ℕ). bitsPlace (j / 8192 + 1) ≤ length (a .xs .now)) (sym (c .chunk-behind .ensures))
+    (data-at (a .xs .now) (a .end) (a .from) (c .before .before .pre .1 .room) (c .before .before .pre .0))
+
+returns : tie.Need-returns
+returns c =
+    let a = c .before .before .before .before .args in
+    run-over (a .xs .now) (storedTuples (a .xs .now) (a .from / 64)) (a .from) (a .end) (c .before .before .before .before .pre .1)
+    (sym (c .before .run-tuples .ensures ∙ ap (λ (j : ℕ). storedTuples (a .xs .now) (j / 64)) (c .before .before .chunk-behind .ensures)) ∙ c .if1 .taken)
+
+by-groups-requires : tie.Need-by-groups-requires
+by-groups-requires c κs =
+    let a = c .before .before .before .before .args in
+    let p = c .before .before .before .before .pre .1 in
+    record {
+      room = p .room;
+      few = p .few;
+      same = p .same;
+      is = c .before .run-tuples .ensures ∙ ap (λ (j : ℕ). storedTuples (a .xs .now) (j / 64)) (c .before .before .chunk-behind .ensures);
+    }
+
+returns-2 : tie.Need-returns-2
+returns-2 c = c .by-groups .ensures
+
+pub in-run-spec : {M : Type 1} → statement M
+in-run-spec = tie.close (tie.spec (λ c κs. search needs) run-tuples-requires returns by-groups-requires returns-2)

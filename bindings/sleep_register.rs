@@ -169,6 +169,15 @@ extern "C" {
     fn sleep_search(t: In, tl: usize, g: In, gl: usize, b: In, bl: usize, d: In, dl: usize, n: u64, s: u64, size: u64,
         from: u64, out: *mut u64) -> Answer;
     #[rustfmt::skip]
+    fn sleep_short_place(t: In, tl: usize, g: In, gl: usize, b: In, bl: usize, d: In, dl: usize, n: u64, s: u64, size: u64,
+        chunk: u64, out: *mut u64) -> Answer;
+    #[rustfmt::skip]
+    fn sleep_short_byte(t: In, tl: usize, g: In, gl: usize, b: In, bl: usize, d: In, dl: usize, n: u64, s: u64, size: u64,
+        offset: u64, out: *mut u64) -> Answer;
+    #[rustfmt::skip]
+    fn sleep_short_search(t: In, tl: usize, g: In, gl: usize, b: In, bl: usize, d: In, dl: usize, n: u64, s: u64, size: u64,
+        from: u64, out: *mut u64) -> Answer;
+    #[rustfmt::skip]
     fn sleep_release(t: In, tl: usize, g: In, gl: usize, b: Out, bl: usize, d: Out, dl: usize, n: u64, s: u64, size: u64,
         chunk: u64) -> Answer;
     #[rustfmt::skip]
@@ -346,6 +355,28 @@ impl<'a> Register<'a> {
     pub fn search(&self, from: u64) -> Result<Option<u64>, Refusal> {
         let mut out = [0; 2];
         let answer = reading!(sleep_search, self, from, out.as_mut_ptr());
+        answer.result(())?;
+        Ok((out[0] == 1).then_some(out[1]))
+    }
+
+    /// Start and length of a chunk by the leaf lengths alone, added up from chunk 0 on. Of a register that no audit accepted they may run past the data.
+    pub fn short_place(&self, chunk: u64) -> Result<Pair, Refusal> {
+        let mut out = [0; 2];
+        let answer = reading!(sleep_short_place, self, chunk, out.as_mut_ptr());
+        answer.result((out[0], out[1]))
+    }
+
+    /// The chunk that has the byte at an offset, and the offset less its start, by the leaf lengths alone; at the data size n and 0.
+    pub fn short_byte(&self, offset: u64) -> Result<Pair, Refusal> {
+        let mut out = [0; 2];
+        let answer = reading!(sleep_short_byte, self, offset, out.as_mut_ptr());
+        answer.result((out[0], out[1]))
+    }
+
+    /// The first chunk from a number on, below n, whose data bit is 0.
+    pub fn short_search(&self, from: u64) -> Result<Option<u64>, Refusal> {
+        let mut out = [0; 2];
+        let answer = reading!(sleep_short_search, self, from, out.as_mut_ptr());
         answer.result(())?;
         Ok((out[0] == 1).then_some(out[1]))
     }

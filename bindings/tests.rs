@@ -278,6 +278,41 @@ fn a_released_chunk_keeps_its_place() {
 }
 
 #[test]
+fn both_ways_agree_on_an_accepted_register() {
+    let mut store = filled(&[b"", b"AB", b"", b"CDE", b"F", b""]);
+    for gone in [None, Some(3), Some(0), Some(5)] {
+        if let Some(chunk) = gone {
+            store.release(chunk).unwrap();
+        }
+        let register = store.register();
+        assert_eq!(register.audit(), Ok(()));
+        for number in (0..9).chain([u64::MAX]) {
+            assert_eq!(register.short_place(number), register.place(number));
+            assert_eq!(register.short_byte(number), register.byte(number));
+            assert_eq!(register.short_search(number), register.search(number));
+        }
+    }
+}
+
+#[test]
+fn the_short_way_has_its_own_answers_elsewhere() {
+    let mut store = filled(&[b"AB", b"", b"CDE", b"F"]);
+    store.tree[32 + 40 * 2 + 39] = 1; // the empty chunk's leaf says 1
+    assert_eq!(store.register().place(0), refused(10, Place::TreeIndex(1)));
+    assert_eq!((store.register().short_place(0), store.register().short_place(3)), (Ok((0, 2)), Ok((6, 1))));
+    assert_eq!((store.register().short_byte(2), store.register().short_byte(6)), (Ok((1, 0)), Ok((4, 0))));
+    store.tree[32 + 40 * 6 + 39] = 0; // and so does the last one's, 0
+    store.tree[32 + 40 * 4 + 39] = 2;
+    assert_eq!(store.register().short_byte(5), refused(10, Place::TreeIndex(6)));
+    store.tree[32 + 40 * 2 + 32] = 128;
+    assert_eq!(store.register().short_place(0), Ok((0, 2)));
+    assert_eq!((store.register().short_place(1), store.register().short_byte(3)), (refused(10, Place::TreeIndex(2)), refused(10, Place::TreeIndex(2))));
+    store.bitfield[32] = 0x70; // chunk 0 is not held, says the bit; all are, says the Index
+    store.bitfield[32 + 3072] = 0xc0;
+    assert_eq!((store.register().search(0), store.register().short_search(0)), (Ok(None), Ok(Some(0))));
+}
+
+#[test]
 fn stations_take_turns() {
     let (names, pieces) = (filled(&[b"names", b"more"]), filled(&[b"AB", b"", b"CDE"]));
     let (m, c) = (names.register(), pieces.register());

@@ -51,7 +51,7 @@
  *     160         the station last served, modulo 16
  *
  * WHAT FIRMWARE HAS TO PROVIDE
- *   Code: at most 48,000 bytes with its read-only constants (some 45,000 today). The archive has no variables: no static data, zeroed or
+ *   Code: at most 48,000 bytes with its read-only constants (some 46,000 today). The archive has no variables: no static data, zeroed or
  *   not, and nothing to set up. From outside it needs memcpy and memset, and nothing else; it allocates nothing. The stack that each call
  *   takes at most, counted from the caller's frame, with arguments, return address and what memcpy or memset takes, is SLEEP_STACK_.. below.
  *   tests/run holds the archive to all of this, the stack by calls on a painted one.
@@ -127,6 +127,9 @@ extern "C" {
 #define SLEEP_STACK_UNGROUP 512u
 #define SLEEP_STACK_STORE_SIGNATURE 2048u
 #define SLEEP_STACK_SEARCH 2048u
+#define SLEEP_STACK_SHORT_PLACE 2048u
+#define SLEEP_STACK_SHORT_BYTE 2048u
+#define SLEEP_STACK_SHORT_SEARCH 2048u
 #define SLEEP_STACK_HASH 3072u
 #define SLEEP_STACK_HASH_PARTS 3072u
 #define SLEEP_STACK_LABEL 3072u
@@ -284,6 +287,21 @@ sleep_answer sleep_release(const uint8_t *tree, size_t tree_length, const uint8_
  * It passes over each group of 16 chunks whose Index tuple says that all are held, and believes it. Refusals: 2 to 6. */
 sleep_answer sleep_search(SLEEP_REGISTER_READ, uint64_t from, uint64_t out[2]) SLEEP_NOT_NULL;
 
+/* The short way: what the simplest program does with the files, slower where the register is longer. On every register that sleep_audit accepts the three
+ * calls give what sleep_place, sleep_byte and sleep_search give, refusals included (proved: ShortWayForAll, crates/short_way/specs/Answers.antt).
+ *
+ * Where a chunk lies, by the leaf lengths alone, added up from chunk 0 on. Refusals: 2 to 6, 9, 10 at the first leaf above 65,536 among those of the
+ * chunks 0 to chunk. On a register that no audit accepted out may run past data, and may be another than sleep_place's. */
+sleep_answer sleep_short_place(SLEEP_REGISTER_READ, uint64_t chunk, uint64_t out[2]) SLEEP_NOT_NULL;
+
+/* The chunk that has the byte at an offset of data, and which byte of it, by the leaf lengths alone; never an empty chunk, and n and 0 at the offset size.
+ * Refusals: 2 to 6, 9 for an offset above size, 10 at the first leaf above 65,536 that it comes to, or at the last leaf where none has the byte. */
+sleep_answer sleep_short_byte(SLEEP_REGISTER_READ, uint64_t offset, uint64_t out[2]) SLEEP_NOT_NULL;
+
+/* The first chunk from number from on, below n, whose data bit is 0, as sleep_search gives it; the bits are read one after the other, and the Index is not
+ * looked at. Wherever the Index follows from the data bits out is sleep_search's. Refusals: 2 to 6. */
+sleep_answer sleep_short_search(SLEEP_REGISTER_READ, uint64_t from, uint64_t out[2]) SLEEP_NOT_NULL;
+
 /* The packet of a chunk: its bytes with the entries that show it to stand under the register's root hash. It reads the chunk as sleep_read
  * does, writes the packet at the front of out, leaves the rest of out as it was, and gives the packet's length. out needs room for the
  * chunk's length and at most SLEEP_PACKET_EXTRA bytes more. Refusals: 2 to 6, 9, 18, 10, 14. */
@@ -418,6 +436,18 @@ static inline sleep_answer sleep_search_front(SLEEP_REGISTER_READ, uint64_t from
     return sleep_search(SLEEP_REGISTER_LENT, from, out);
 }
 
+static inline sleep_answer sleep_short_place_front(SLEEP_REGISTER_READ, uint64_t chunk, uint64_t out[2]) {
+    return sleep_short_place(SLEEP_REGISTER_LENT, chunk, out);
+}
+
+static inline sleep_answer sleep_short_byte_front(SLEEP_REGISTER_READ, uint64_t offset, uint64_t out[2]) {
+    return sleep_short_byte(SLEEP_REGISTER_LENT, offset, out);
+}
+
+static inline sleep_answer sleep_short_search_front(SLEEP_REGISTER_READ, uint64_t from, uint64_t out[2]) {
+    return sleep_short_search(SLEEP_REGISTER_LENT, from, out);
+}
+
 static inline sleep_answer sleep_make_packet_front(SLEEP_REGISTER_READ, uint64_t chunk, uint8_t *out, size_t out_length,
                                                    uint64_t *length) {
     return sleep_make_packet(SLEEP_REGISTER_LENT, chunk, SLEEP_LENT(out), length);
@@ -484,6 +514,9 @@ static inline sleep_serving sleep_serve_front(uint64_t table[161], SLEEP_ARCHIVE
 #define sleep_read sleep_read_front
 #define sleep_release sleep_release_front
 #define sleep_search sleep_search_front
+#define sleep_short_place sleep_short_place_front
+#define sleep_short_byte sleep_short_byte_front
+#define sleep_short_search sleep_short_search_front
 #define sleep_make_packet sleep_make_packet_front
 #define sleep_check_packet sleep_check_packet_front
 #define sleep_compare_packets sleep_compare_packets_front

@@ -8,7 +8,8 @@ walked along, root hashes of the first chunks are asked for, and registers compa
 that is made, damaged or not, a preview is compared with the append on a copy. Lists are appended, and where one is done its chunks are
 appended singly on a copy, with stored zero signatures between them: every buffer is the same. Bytes of any length about the limits are grouped and
 ungrouped, with and without room, and the needs of jobs are asked about all of their limits. Chunks are released, some registers are left with few chunks or
-none, and chunks that are not held are searched for, by an Index that is right or changed. Reads of sixteen stations are entered in tables,
+none, and chunks that are not held are searched for, by an Index that is right or changed and by the bits alone. Lookups go by the tree, and by
+the leaves alone. Reads of sixteen stations are entered in tables,
 grown from a fresh one or holding anything, and served from two registers, as direct reads made then. One in fifty calls
 is on registers of 16,383 to 16,386 chunks, where the third bitfield entry begins and the tree gets its deepest hole. No pair of chunk
 sequences that collide under BLAKE2b is known, so those two answers of the comparing walk and of the walk along two packets stand in no call here.
@@ -168,6 +169,16 @@ class Calls:
         place = lambda found: numbers(*model.place_of(r, chunk))
         name = self.random.choice(('metadata', 'content'))
         self.call('read', [r], [chunk, self.result(16, place)], lambda: model.read(r, r, name, chunk))
+
+    def short_place(self, r, chunk):
+        self.call('short_place', [r], [chunk, self.result(16, numbers)], lambda: model.short_place(r, chunk))
+
+    def short_byte(self, r, offset):
+        self.call('short_byte', [r], [offset, self.result(16, numbers)], lambda: model.short_byte(r, offset))
+
+    def short_search(self, r, number):
+        found = lambda chunk: numbers(0, 0) if chunk is None else numbers(1, chunk)
+        self.call('short_search', [r], [number, self.result(16, found)], lambda: model.short_search(r, number))
 
     def hash(self, length, key, message):
         digest = self.result(64, lambda digest: digest)
@@ -434,10 +445,16 @@ class Run(Calls):
             self.old_root(r, self.number(r.n))
         elif pick < 18:
             self.search(r, self.number(r.n))
-        elif pick < 35:
+        elif pick < 20:
+            self.short_search(r, self.number(r.n))
+        elif pick < 30:
             self.place(r, self.number(r.n))
-        elif pick < 52:
+        elif pick < 35:
+            self.short_place(r, self.number(r.n))
+        elif pick < 46:
             self.byte(r, self.number(r.size))
+        elif pick < 52:
+            self.short_byte(r, self.number(r.size))
         elif pick < 70:
             self.read(r, self.number(r.n))
         elif pick < 80:
@@ -600,6 +617,7 @@ class Run(Calls):
             for chunk in (8191, 8192, r.n - 1, self.number(r.n)):
                 self.release(gone, chunk)
                 self.search(gone, self.number(r.n))
+                self.short_search(gone, self.number(r.n))
             for lent in [gone, self.damage(gone)]:
                 self.audit(lent)
                 self.looking(lent)

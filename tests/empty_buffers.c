@@ -55,6 +55,9 @@ static uint64_t byte(lent r) { uint64_t out[2]; return sleep_byte(REGISTER(r), 0
 static uint64_t verified(lent r) { uint64_t out[2]; return sleep_read(REGISTER(r), 2, out).number; }
 static uint64_t release(lent r) { return sleep_release(REGISTER(r), 2).number; }
 static uint64_t search(lent r) { uint64_t out[2]; return sleep_search(REGISTER(r), 0, out).number; }
+static uint64_t short_place(lent r) { uint64_t out[2]; return sleep_short_place(REGISTER(r), 2, out).number; }
+static uint64_t short_byte(lent r) { uint64_t out[2]; return sleep_short_byte(REGISTER(r), 0, out).number; }
+static uint64_t short_search(lent r) { uint64_t out[2]; return sleep_short_search(REGISTER(r), 0, out).number; }
 static uint64_t make(lent r) { return sleep_make_packet(REGISTER(r), 2, packet, sizeof packet, &packet_length).number; }
 static uint64_t make_in_nothing(lent r) { uint64_t length; return sleep_make_packet(REGISTER(r), 2, NULL, 0, &length).number; }
 static uint64_t serve(lent r, int name) {
@@ -127,6 +130,9 @@ int main(void) {
     each_buffer("read", verified, 4, 0);
     each_buffer("release", release, 4, 0);
     each_buffer("search", search, 4, 0);
+    each_buffer("short_place", short_place, 4, 0);
+    each_buffer("short_byte", short_byte, 4, 0);
+    each_buffer("short_search", short_search, 4, 0);
     each_buffer("serve, metadata", serve_metadata, 4, 0);
     each_buffer("serve, content", serve_content, 4, 0);
     each_buffer("make_packet", make, 4, 0);

@@ -265,6 +265,44 @@ def find_byte(register, p):
     return i // 2, rest                             # step 7
 
 
+# --- the short way
+
+def leaf_lengths(register, numbers):
+    """The number, start and length of these chunks' leaves, one after the other; step 2 of both."""
+    start = 0
+    for j in numbers:
+        length = register.length(2 * j)
+        refuse_unless(length <= MAX_CHUNK, 10, "tree", 2 * j)
+        yield j, start, length
+        start += length
+
+def short_find(register, k):
+    first_checks(register)
+    refuse_unless(k < register.n, 9)
+    *_, (_, start, length) = leaf_lengths(register, range(k + 1))
+    return start, length
+
+def short_find_byte(register, p):
+    first_checks(register)
+    refuse_unless(p <= register.size, 9)
+    if p == register.size:
+        return register.n, 0
+    for j, start, length in leaf_lengths(register, range(register.n)):
+        if p < start + length:
+            return j, p - start
+    refuse_unless(False, 10, "tree", 2 * register.n - 2)    # step 3
+
+def tuple_over(register, k):
+    """The two bits of the Index for the 16 chunks about k."""
+    at = HEADER + 3328 * (k // 8192) + 3072 + 2 * (k % 8192 // 64)
+    return register.files["bitfield"][at] >> 6 - 2 * (k // 16 % 4) & 3
+
+def first_gone(register, k, short):
+    first_checks(register)
+    passed = lambda j: register.held(j) or not short and tuple_over(register, j) == 3
+    return next((j for j in range(k, register.n) if not passed(j)), "none"),
+
+
 # --- packets
 
 def siblings_of(n, k):
@@ -652,13 +690,45 @@ def released_differ(text):
     expected = ["done", answer(root_hash, register), answer(find, register, 2), "refused 18 tree 0", "refused 10 tree 0"]
     return given != expected and f"a cleared data bit: {given}"
 
+def short_way_differs(text):
+    """Both ways agree on each register of the page, with all chunks and with some released; and the example where they don't."""
+    for register, _, _ in registers_in(text):
+        for gone in (None, *range(min(register.n, 4))):
+            r = register if gone is None else released(register, gone)
+            if answer(audit, r) != "done":
+                return f"chunk {gone} of {r.n}, released"
+            for k in range(max(r.n, r.size) + 2):
+                both = [[answer(find, r, k), answer(find_byte, r, k), answer(first_gone, r, k, False)],
+                        [answer(short_find, r, k), answer(short_find_byte, r, k), answer(first_gone, r, k, True)]]
+                if both[0] != both[1]:
+                    return f"the short way at {k} of {r.n}: {both}"
+    register = changed(next(register for register, _, _ in registers_in(text) if register.n == 3), "tree", 151, 1)
+    given = [answer(call, register, number) for call, number in (
+        (find, 0), (find, 2), (find_byte, 4), (find_byte, 5), (short_find, 0), (short_find, 2), (short_find_byte, 4), (short_find_byte, 5))]
+    expected = ["refused 10 tree 1", "done 2 3", "done 2 2", "done 3 0", "done 0 2", "done 3 3", "done 2 1", "done 3 0"]
+    return (answer(audit, register), given) != ("refused 10 tree 1", expected) and f"the short way: {given}"
+
+def released(register, k):
+    """The register without chunk k."""
+    start, length = find(register, k)
+    at = HEADER + 3328 * (k // 8192)
+    register = changed(register, "bitfield", at + k % 8192 // 8, register.files["bitfield"][at + k % 8192 // 8] & ~(0x80 >> k % 8))
+    for offset in range(start, start + length):
+        register = changed(register, "data", offset, 0)
+    index = index_part(bytes(register.files["bitfield"][at:at + 1024]))
+    for j, byte in enumerate(index):
+        if register.files["bitfield"][at + 3072 + j] != byte:
+            register = changed(register, "bitfield", at + 3072 + j, byte)
+    return register
+
 def main(path):
     with open(path, encoding="utf-8") as file:
         text = file.read()
     return (tables_differ(text) or drawing_differs(text) or hashes_differ(text) or registers_differ(text) or outside_differs(text)
-            or packets_differ(text) or all_packets_differ() or answers_differ(text) or released_differ(text))
+            or packets_differ(text) or all_packets_differ() or answers_differ(text) or released_differ(text)
+            or short_way_differs(text))
 
 if __name__ == "__main__":
     wrong = main(sys.argv[1])
-    print(wrong or "tables, drawing, 7 hashes, 6 registers, the hash from outside, 2 packets, 28 answers and a cleared data bit agree")
+    print(wrong or "tables, drawing, 7 hashes, 6 registers, the hash from outside, 2 packets, 28 answers, a cleared data bit and the short way agree")
     sys.exit(1 if wrong else 0)

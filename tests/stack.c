@@ -35,6 +35,9 @@ static void byte(void) { number = sleep_byte(REGISTER, sought, out).number; }
 static void verified_read(void) { number = sleep_read(REGISTER, sought, out).number; }
 static void release(void) { number = sleep_release(REGISTER, sought).number; }
 static void search(void) { number = sleep_search(REGISTER, sought, out).number; }
+static void short_place(void) { number = sleep_short_place(REGISTER, sought, out).number; }
+static void short_byte(void) { number = sleep_short_byte(REGISTER, sought, out).number; }
+static void short_search(void) { number = sleep_short_search(REGISTER, sought, out).number; }
 static void make_packet(void) { number = sleep_make_packet(REGISTER, sought, packet, sizeof packet, &packet_length).number; }
 static void check_packet(void) { number = sleep_check_packet(packet, packet_length, n, sought, root, out).number; }
 static void group(void) { number = sleep_group(chunk, sizeof chunk, packet, sizeof packet).number; }
@@ -46,7 +49,7 @@ static void enter(void) { number = sleep_enter(table, sought % 17, SLEEP_CONTENT
 static void serve(void) { number = sleep_serve(table, REGISTER, REGISTER, out).answer.number; }
 static void compare(void) { outcome = sleep_compare(REGISTER, REGISTER).outcome; }
 
-enum { START, HASH, HASH_PARTS, LABEL, APPEND, APPEND_LIST, PREVIEW, STORE_SIGNATURE, ROOT_HASH, OLD_ROOT, AUDIT, PLACE, BYTE, READ, RELEASE, SEARCH, MAKE_PACKET, CHECK_PACKET, COMPARE_PACKETS, COMPARE, GROUP, UNGROUP, NEEDS, FRESH, ENTER, SERVE, CALLS };
+enum { START, HASH, HASH_PARTS, LABEL, APPEND, APPEND_LIST, PREVIEW, STORE_SIGNATURE, ROOT_HASH, OLD_ROOT, AUDIT, PLACE, BYTE, READ, RELEASE, SEARCH, SHORT_PLACE, SHORT_BYTE, SHORT_SEARCH, MAKE_PACKET, CHECK_PACKET, COMPARE_PACKETS, COMPARE, GROUP, UNGROUP, NEEDS, FRESH, ENTER, SERVE, CALLS };
 
 static struct {
     const char *name;
@@ -69,6 +72,9 @@ static struct {
     {"sleep_read", verified_read, SLEEP_STACK_READ, 0},
     {"sleep_release", release, SLEEP_STACK_RELEASE, 0},
     {"sleep_search", search, SLEEP_STACK_SEARCH, 0},
+    {"sleep_short_place", short_place, SLEEP_STACK_SHORT_PLACE, 0},
+    {"sleep_short_byte", short_byte, SLEEP_STACK_SHORT_BYTE, 0},
+    {"sleep_short_search", short_search, SLEEP_STACK_SHORT_SEARCH, 0},
     {"sleep_make_packet", make_packet, SLEEP_STACK_MAKE_PACKET, 0},
     {"sleep_check_packet", check_packet, SLEEP_STACK_CHECK_PACKET, 0},
     {"sleep_compare_packets", compare_packets, SLEEP_STACK_COMPARE_PACKETS, 0},
@@ -132,9 +138,11 @@ static void measure_reads(void) {
         sought = some[k];
         measure(OLD_ROOT, 0);
         measure(SEARCH, 0);
+        measure(SHORT_SEARCH, 0);
         if (sought < n) measure_release();
         else measure(RELEASE, 9);
         measure(PLACE, sought < n ? 0 : 9);
+        measure(SHORT_PLACE, sought < n ? 0 : 9);
         measure(READ, sought < n ? 0 : 9);
         measure(FRESH, 0);
         measure(SERVE, 0);
@@ -145,8 +153,10 @@ static void measure_reads(void) {
         measure(COMPARE_PACKETS, sought < n ? 0 : 9);
         sought = k < 3 && size > 0 ? some[k] * (size - 1) / n : size;
         measure(BYTE, 0);
+        measure(SHORT_BYTE, 0);
         sought = size + 1;
         measure(BYTE, 9);
+        measure(SHORT_BYTE, 9);
     }
 }
 
@@ -213,9 +223,13 @@ static void measure_depth(void) {
     sleep_hash_parts(NULL, 0, one, sizeof one, data, 1, tree + 32);
     for (uint64_t block = 1; block <= MOST; block *= 2) tree[32 + 40 * (block - 1) + 39] = 1;
     measure(ROOT_HASH, 0);
-    for (sought = 0; sought < n; sought += n - 1) measure(PLACE, 0);
+    for (sought = 0; sought < n; sought += n - 1) {
+        measure(PLACE, 0);
+        measure(SHORT_PLACE, 0);
+    }
     sought = 0;
     measure(BYTE, 0);
+    measure(SHORT_BYTE, 0);
     measure(READ, 0);
     measure_release();
     measure(FRESH, 0);

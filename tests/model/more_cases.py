@@ -361,6 +361,56 @@ def searches():
                 yield 'search of %d from %d' % (n, number), first_not_held(r, number), ('done', plain)
 
 
+def both_ways(r):
+    """Of every chunk number, offset and number to search from: the quick answers and the short ones."""
+    far = 2 ** 64 - 1
+    chunks, offsets = (*range(r.n + 2), far), (*range(r.size + 2), far)
+    quick = [place_lookup(r, k) for k in chunks], [byte_lookup(r, p) for p in offsets], [first_not_held(r, k) for k in chunks]
+    short = [short_place(r, k) for k in chunks], [short_byte(r, p) for p in offsets], [short_search(r, k) for k in chunks]
+    return quick, short
+
+
+def short_ways():
+    """They agree on accepted registers, also on those with pieces gone; the searches wherever the Index follows."""
+    any_hash = b'\7' * HASH
+    for F in (node_hash, weak):
+        for n in (0, 1, 2, 3, 6, 13, 21):
+            r = register_of(chunk_list(n), F)
+            yield 'both ways at %d' % n, *both_ways(r)
+            for chunk in range(n % 2, n, 3):
+                release(r, chunk)
+            yield 'audit', audit(r, F), ('done',)
+            yield 'both ways without pieces', *both_ways(r)
+        r = register_of([b'', (any_hash, 3), b'AB', (any_hash, 0), b'', b'C', (any_hash, 2), b''], F)
+        yield 'audit', audit(r, F), ('done',)
+        yield 'both ways with entries handed in', *both_ways(r)
+    for step in range(40):
+        r = register_of([b''] * 40)
+        r.bitfield[HEADER:HEADER + 6] = keyed_hash(6, be(4, step), b'') if step % 2 else bytes([255] * (step % 7) + [0] * (6 - step % 7))
+        put_index(r, 0)
+        numbers = range(42)
+        yield 'searches', [first_not_held(r, k) for k in numbers], [short_search(r, k) for k in numbers]
+
+
+def short_refusals():
+    """Of leaves that say anything, under a root that says the data size: the first leaf above 65,536 refuses all behind it,
+    and an offset that no leaf before contains."""
+    for lengths in ([0, 3, 1, 2], [1, 1, 1, 1], [0, 0, 0, 0], [0, 65536, 0, 9], [2, 65537, 1, 1], [3, 1, 65537, 99999], [1, 2, 3, 2 ** 64 - 1]):
+        r = register_of([b''] * 4)
+        r.data, r.size = bytearray(8), 8
+        for index, length in zip((0, 2, 4, 6, 3), lengths + [8]):
+            r.put(index, entry_bytes((bytes(HASH), length)))
+        long = next((k for k in range(4) if lengths[k] > LONGEST_CHUNK), 4)
+        for k in range(4):
+            expected = ('done', sum(lengths[:k]), lengths[k]) if k < long else refused(10, ('tree', 2 * long))
+            yield 'short place of %d' % k, short_place(r, k), expected
+        order = [(k, p) for k in range(long) for p in range(lengths[k])]
+        for offset in range(8):
+            none = refused(10, ('tree', 2 * min(long, 3)))
+            yield 'short byte of %d' % offset, short_byte(r, offset), ('done', *order[offset]) if offset < len(order) else none
+        yield 'short ends', (short_byte(r, 8), short_byte(r, 9), short_place(r, 4)), (('done', 4, 0), refused(9), refused(9))
+
+
 def spoilt_size(none):
     r = told(none, size=1)
     r.data.append(0)
@@ -392,5 +442,6 @@ def walks():
 
 
 if __name__ == '__main__':
-    groups = (agreement, borders, refusals, jobs, lists, tables, fairness, pieces, searches, walks, old_roots, packet_walks, weak_rows)
+    groups = (agreement, borders, refusals, jobs, lists, tables, fairness, pieces, searches, short_ways, short_refusals, walks, old_roots,
+              packet_walks, weak_rows)
     print('model: %d more cases agree' % sum(check(*case) for cases in groups for case in cases()))

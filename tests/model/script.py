@@ -3,6 +3,7 @@
 Each line has a word, of which the first two letters count, and decimal numbers. The registers of a script are parts of four buffers that hold a5 at
 first: `lend` names the parts of the first register, from and to where in each buffer, `told` what is told of it, and `swap` makes the second register
 the first. The other words are a call each, on the first register, or on both where they are compared; a call that is not refused changes what is told.
+`splace`, `sbyte` and `ssearch` ask both ways, the quick one and the short one, for a number and those that follow it.
 
 A sum is the first 8 bytes of the hash of a lent part, whole. A call that may write has them behind its answer: tree, signatures, bitfield, data.
 """
@@ -11,9 +12,10 @@ import sys
 
 sys.dont_write_bytecode = True  # nothing generated lies beside the sources
 import released
+import short_way
 from samples import bytes_of, grow, said, sampled
 from sleep_model import (Register, append, append_list, audit, be, byte_lookup, check_packet, compare, first_not_held, images_of, make_packet,
-                         node_hash, place_lookup, read, release, root_hash, start, store_signature)
+                         node_hash, place_lookup, read, release, root_hash, short_byte, short_place, short_search, start, store_signature)
 
 ROOM = 1320000, 1054000, 18000, 140000  # of the four buffers
 MOST_BYTES = 131072  # of a script
@@ -143,9 +145,13 @@ def root_beside(answer):
     return answer[1] if answer[0] == 'done' else bytes(32)
 
 
-def searched(r, number):
-    answer = first_not_held(r, number)
+def sought(answer):
     return said(answer) if answer[0] == 'refused' else 'none' if answer[1] is None else str(answer[1])
+
+
+def both_ways(quick, short, shown):
+    """The answers of both ways to some numbers, from a first one on."""
+    return lambda r, first, count: ''.join('%s|%s;' % (shown(quick(r, k)), shown(short(r, k))) for k in range(first, first + count))
 
 
 def got(r, chunk):
@@ -166,8 +172,10 @@ def packed(r, chunk, room):
 
 
 CALLS = {'start': started, 'grow': grown, 'append': appended, 'list': listed, 'sign': signed, 'release': released_one, 'flip': flipped, 'put': put,
-         'audit': lambda r: said(audit(r)), 'root': root, 'search': searched, 'place': lambda r, chunk: pair(place_lookup(r, chunk)),
-         'byte': lambda r, offset: pair(byte_lookup(r, offset)), 'get': got, 'packet': packed}
+         'audit': lambda r: said(audit(r)), 'root': root, 'search': lambda r, number: sought(first_not_held(r, number)),
+         'place': lambda r, chunk: pair(place_lookup(r, chunk)), 'byte': lambda r, offset: pair(byte_lookup(r, offset)), 'get': got,
+         'packet': packed, 'splace': both_ways(place_lookup, short_place, pair), 'sbyte': both_ways(byte_lookup, short_byte, pair),
+         'ssearch': both_ways(first_not_held, short_search, sought)}
 
 
 def compared(first, second):
@@ -182,6 +190,7 @@ def compared(first, second):
 if __name__ == '__main__':
     script = Script()
     released.cases(script)
+    short_way.cases(script)
     letters = {line.split(' ')[0]: line[:2] for line in script.lines}
     assert len(set(letters.values())) == len(letters)
     assert len('\n'.join(script.lines)) < MOST_BYTES

@@ -434,7 +434,7 @@ def old_root(r, m, F=node_hash):
     refuse_if(m > r.n, 9)
     return (F(r.root_message(m)),)
 
-# ---- Lookups and reads ----
+# ---- Lookups ----
 def place_of(r, chunk, to_be_held=False):
     """Start and length of a chunk."""
     check_register(r)
@@ -475,6 +475,44 @@ def descend(r, index, start_of_node, goes_right):
         return descend(r, right, start_of_right, goes_right)
     return descend(r, left, start_of_node, goes_right)
 
+# ---- The short way ----
+def leaf_length(r, chunk):
+    """Of a leaf that a short lookup comes to."""
+    length = r.node(2 * chunk)[1]
+    refuse_if(length > LONGEST_CHUNK, 10, ('tree', 2 * chunk))
+    return length
+
+@call
+def short_place(r, chunk):
+    """Start and length of a chunk, by adding up leaf lengths from chunk 0."""
+    check_register(r)
+    refuse_if(chunk >= r.n, 9)
+    lengths = [leaf_length(r, k) for k in range(chunk + 1)]
+    return sum(lengths[:-1]), lengths[-1]
+
+@call
+def short_byte(r, offset):
+    """The chunk whose bytes contain the offset, and the offset less its start, by the leaf lengths in order; n and 0 at the
+    data size, where no leaf is read."""
+    check_register(r)
+    refuse_if(offset > r.size, 9)
+    if offset == r.size:
+        return r.n, 0
+    start_of_leaf = 0
+    for chunk in range(r.n):
+        length = leaf_length(r, chunk)
+        if offset < start_of_leaf + length:
+            return chunk, offset - start_of_leaf
+        start_of_leaf += length
+    raise Refused(10, ('tree', 2 * r.n - 2))  # no leaf's bytes contain it
+
+@call
+def short_search(r, number):
+    """The first chunk from the given number on, below n, that isn't held, or None, by the data bits in order."""
+    check_register(r)
+    return (next((chunk for chunk in range(number, r.n) if not held(r, chunk)), None),)
+
+# ---- Reads ----
 @call
 def read(metadata, content, name, chunk, F=node_hash):
     """The bytes of a chunk of the register named 'metadata' or 'content'; the other register is not checked."""

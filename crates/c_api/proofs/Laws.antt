@@ -1,6 +1,6 @@
 -- What a call answers to C, from the case that its answer is.
 use Prim.Native.Nat.{ℕ}
-use mathlib.Core.Path.{_≡_, sym, ap, ap₂, _∙_}
+use mathlib.Core.Path.{_≡_, sym, ap, ap₂, _∙_, subst}
 use mathlib.Core.List.{List, [], _∷_}
 use Rattle.counts.specs.Verdict.{Spot, Verdict, done, refused, unlessRefused}
 use Rattle.counts.specs.Said.{said, refusalOf, spotOf}
@@ -76,6 +76,10 @@ pub gives-found : (r : SleepAnswer) (a b : ℕ) (f : Found) (before : List ℕ) 
     → Gives f before r (a ∷ b ∷ [])
 gives-found r a b f before e p =
     record { answers = e ∙ ap (λ (g : Found). encoded (verdictOf g)) p; numbers = ap (λ (g : Found). numbersUnless g before) p }
+
+-- what is found is what the call's definition says
+pub gives-same : (r : SleepAnswer) (f g : Found) (before after : List ℕ) → f ≡ g → Gives f before r after → Gives g before r after
+gives-same r f g before after e p = subst (λ (x : Found). Gives x before r after) e p
 
 -- a packet, from the case that its check's answer is
 module _ (p : List ℕ) (n c : ℕ) (root : List ℕ) where

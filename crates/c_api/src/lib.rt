@@ -8,4 +8,5 @@ pub mod jobs;
 pub mod lookups;
 pub mod packets;
 pub mod registers;
+pub mod short;
 pub mod waiting;

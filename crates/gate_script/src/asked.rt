@@ -19,20 +19,21 @@ pub fn by(tree: &[u8], signatures: &[u8], bitfield: &[u8], data: &[u8], line: Li
     if word == super::reading::word(b'r', b'o') {
         root(tree, signatures, bitfield, data, told);
     }
-    if word == super::reading::word(b's', b'e') {
-        searched(tree, signatures, bitfield, data, line, told);
-    }
     found(tree, signatures, bitfield, data, line, told);
     brought(tree, signatures, bitfield, data, line, told);
 }
 
 fn found(tree: &[u8], signatures: &[u8], bitfield: &[u8], data: &[u8], line: Line, told: Told) {
     let word = line.word;
+    let x = line.numbers;
     if word == super::reading::word(b'p', b'l') {
-        place(tree, signatures, bitfield, data, line, told);
+        place(tree, signatures, bitfield, data, told, x[1]);
     }
     if word == super::reading::word(b'b', b'y') {
-        byte(tree, signatures, bitfield, data, line, told);
+        byte(tree, signatures, bitfield, data, told, x[1]);
+    }
+    if word == super::reading::word(b's', b'e') {
+        searched(tree, signatures, bitfield, data, told, x[1]);
     }
 }
 
@@ -67,9 +68,15 @@ fn root(tree: &[u8], signatures: &[u8], bitfield: &[u8], data: &[u8], told: Told
     gate_printing::hex(&hash);
 }
 
-fn searched(tree: &[u8], signatures: &[u8], bitfield: &[u8], data: &[u8], line: Line, told: Told) {
-    let x = line.numbers;
-    match search::search(
+pub fn searched(
+    tree: &[u8],
+    signatures: &[u8],
+    bitfield: &[u8],
+    data: &[u8],
+    told: Told,
+    number: u64,
+) {
+    say_search(search::search(
         tree,
         signatures,
         bitfield,
@@ -77,17 +84,20 @@ fn searched(tree: &[u8], signatures: &[u8], bitfield: &[u8], data: &[u8], line: 
         told.n,
         told.s,
         told.size,
-        ChunkNumber(x[1]),
-    ) {
+        ChunkNumber(number),
+    ));
+}
+
+pub fn say_search(answer: Searched) {
+    match answer {
         Searched::Refused(refusal) => gate_printing::refusal(refusal),
         Searched::At(chunk) => gate_printing::number(chunk.0),
         Searched::Nothing => gate_printing::text(b"none"),
     }
 }
 
-fn place(tree: &[u8], signatures: &[u8], bitfield: &[u8], data: &[u8], line: Line, told: Told) {
-    let x = line.numbers;
-    match lookup::place(
+pub fn place(tree: &[u8], signatures: &[u8], bitfield: &[u8], data: &[u8], told: Told, chunk: u64) {
+    say_place(lookup::place(
         tree,
         signatures,
         bitfield,
@@ -95,16 +105,19 @@ fn place(tree: &[u8], signatures: &[u8], bitfield: &[u8], data: &[u8], line: Lin
         told.n,
         told.s,
         told.size,
-        ChunkNumber(x[1]),
-    ) {
+        ChunkNumber(chunk),
+    ));
+}
+
+pub fn say_place(answer: Placed) {
+    match answer {
         Placed::Refused(refusal) => gate_printing::refusal(refusal),
         Placed::At(start, length) => pair(start.0, length),
     }
 }
 
-fn byte(tree: &[u8], signatures: &[u8], bitfield: &[u8], data: &[u8], line: Line, told: Told) {
-    let x = line.numbers;
-    match lookup::locate(
+pub fn byte(tree: &[u8], signatures: &[u8], bitfield: &[u8], data: &[u8], told: Told, offset: u64) {
+    say_byte(lookup::locate(
         tree,
         signatures,
         bitfield,
@@ -112,8 +125,12 @@ fn byte(tree: &[u8], signatures: &[u8], bitfield: &[u8], data: &[u8], line: Line
         told.n,
         told.s,
         told.size,
-        ByteOffset(x[1]),
-    ) {
+        ByteOffset(offset),
+    ));
+}
+
+pub fn say_byte(answer: Located) {
+    match answer {
         Located::Refused(refusal) => gate_printing::refusal(refusal),
         Located::In(chunk, less) => pair(chunk.0, less),
     }

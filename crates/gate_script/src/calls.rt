@@ -43,6 +43,7 @@ fn called(
     gate_printing::text(b": ");
     let after = super::written::by(tree, signatures, bitfield, data, line, told);
     super::asked::by(tree, signatures, bitfield, data, line, told);
+    super::ways::by(tree, signatures, bitfield, data, line, told);
     gate_printing::text(b"\n");
     after
 }

@@ -5,6 +5,7 @@ mod calls;
 mod pairs;
 mod parts;
 mod reading;
+mod ways;
 mod written;
 
 fn main() {

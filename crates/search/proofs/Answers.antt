@@ -2,6 +2,7 @@
 -- Assumes nothing.
 use Prim.Native.Nat.{ℕ, _+_, _-_, _*_, _≤_, _<_}
 use mathlib.Core.Path.{_≡_, refl, sym, ap, ap₂, _∙_, subst}
+use mathlib.Core.Bool.{Bool}
 use mathlib.Core.List.{List, _++_}
 use native.Mathlib.Nat.{zero-add}
 use native.Mathlib.Omega.{arith}
@@ -47,51 +48,51 @@ module _ (r : Register) (from : ℕ) where
   pub search-room : done ≡ judged (registerChecks r) done → (r .n ≤ mostChunks) × DataIn (r .bitfield) (r .n)
   search-room e = let p = passed r done (sym e) .0 in (p .count, data-in (r .bitfield) (r .n) (p .bitfield))
 
--- ---- a register that belongs to chunks, held or released
+-- ---- a bitfield file whose entries are those of a test
 
-module _ (F : List ℕ → List ℕ) (ss : List Slot) (r : Register) (b : Belongs F r ss) where
-  abbrev n : ℕ
-  n = r .n
-
+module _ (xs : List ℕ) (n : ℕ) (held : ℕ → Bool) (cut : part xs 32 (3328 * entryCount n) ≡ entriesOf held n) where
   -- an entry of the file, and what it is
   abbrev the-entry : ℕ → List ℕ
-  the-entry e = entry (heldIn ss) (filled (r .n)) e
+  the-entry e = entry held (filled n) e
 
-  stored-part : (e a k : ℕ) → e < entryCount (r .n) → a + k ≤ 3328 → part (r .bitfield) (bitsPlace e + a) k ≡ part (the-entry e) a k
+  stored-part : (e a k : ℕ) → e < entryCount n → a + k ≤ 3328 → part xs (bitsPlace e + a) k ≡ part (the-entry e) a k
   unfolding bitsPlace entriesOf
   stored-part e a k h l =
       let p : 32 + 3328 * e + a ≡ 32 + (e * 3328 + a) = omega arith in
-      ap (λ (x : ℕ). part (r .bitfield) x k) p
-      ∙ sym (part-part (r .bitfield) 32 (3328 * entryCount (r .n)) (e * 3328 + a) k (omega arith))
-      ∙ ap (λ (x : List ℕ). part x (e * 3328 + a) k) (bits-cut F ss r b .1)
-      ∙ sym (part-part (joined (run the-entry 0 (entryCount (r .n)))) (e * 3328) 3328 a k l)
+      ap (λ (x : ℕ). part xs x k) p
+      ∙ sym (part-part xs 32 (3328 * entryCount n) (e * 3328 + a) k (omega arith))
+      ∙ ap (λ (x : List ℕ). part x (e * 3328 + a) k) cut
+      ∙ sym (part-part (joined (run the-entry 0 (entryCount n))) (e * 3328) 3328 a k l)
       ∙ ap (λ (x : List ℕ). part x a k)
-      (part-joined the-entry 3328 (length-entry (heldIn ss) (filled (r .n))) 0 (entryCount (r .n)) e h ∙ ap the-entry (zero-add e))
+      (part-joined the-entry 3328 (length-entry held (filled n)) 0 (entryCount n) e h ∙ ap the-entry (zero-add e))
 
-  data-is : (e : ℕ) → e < entryCount (r .n) → part (r .bitfield) (bitsPlace e) 1024 ≡ dataBytes (heldIn ss) e
+  data-is : (e : ℕ) → e < entryCount n → part xs (bitsPlace e) 1024 ≡ dataBytes held e
   unfolding entry
   data-is e h =
       let p : bitsPlace e ≡ bitsPlace e + 0 = omega arith in
-      ap (λ (x : ℕ). part (r .bitfield) x 1024) p ∙ stored-part e 0 1024 h (omega arith)
-      ∙ part-front (dataBytes (heldIn ss) e) (treeBytes (filled (r .n)) e ++ indexBytes (dataBytes (heldIn ss) e)) 1024 (length-data (heldIn ss) e)
+      ap (λ (x : ℕ). part xs x 1024) p ∙ stored-part e 0 1024 h (omega arith)
+      ∙ part-front (dataBytes held e) (treeBytes (filled n) e ++ indexBytes (dataBytes held e)) 1024 (length-data held e)
 
-  index-is : (e : ℕ) → e < entryCount (r .n) → part (r .bitfield) (bitsPlace e + 3072) 256 ≡ indexBytes (dataBytes (heldIn ss) e)
+  index-is : (e : ℕ) → e < entryCount n → part xs (bitsPlace e + 3072) 256 ≡ indexBytes (dataBytes held e)
   unfolding entry part
   index-is e h =
-      let d : List ℕ = dataBytes (heldIn ss) e in
-      let t : List ℕ = treeBytes (filled (r .n)) e in
+      let d : List ℕ = dataBytes held e in
+      let t : List ℕ = treeBytes (filled n) e in
       stored-part e 3072 256 h (omega arith)
-      ∙ part-behind d (t ++ indexBytes d) 1024 2048 256 (length-data (heldIn ss) e)
-      ∙ part-behind t (indexBytes d) 2048 0 256 (length-tree (filled (r .n)) e)
+      ∙ part-behind d (t ++ indexBytes d) 1024 2048 256 (length-data held e)
+      ∙ part-behind t (indexBytes d) 2048 0 256 (length-tree (filled n) e)
       ∙ take-all 256 (indexBytes d) (omega (arith, length-index d))
 
-  pub index-follows : IndexFollows (r .bitfield) (r .n)
+  pub index-follows : IndexFollows xs n
   unfolding IndexFollows
   index-follows e h = index-is e h ∙ ap indexBytes (sym (data-is e h))
 
+-- ---- a register that belongs to chunks, held or released
+
+module _ (F : List ℕ → List ℕ) (ss : List Slot) (r : Register) (b : Belongs F r ss) where
   pub search-held : (from : ℕ) → firstMissing (r .bitfield) (r .n) from ≡ lowest (heldIn ss) from (length ss - from)
   search-held from =
-      search-follows (r .bitfield) (r .n) index-follows from
+      search-follows (r .bitfield) (r .n) (index-follows (r .bitfield) (r .n) (heldIn ss) (bits-cut F ss r b .1)) from
       ∙ lowest-agree (storedHeld (r .bitfield)) (heldIn ss) from (r .n - from) (λ j p q before. stored-held F ss r b j (omega arith))
       ∙ ap (λ (m : ℕ). lowest (heldIn ss) from (m - from)) (b .count)
 

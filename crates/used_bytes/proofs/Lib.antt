@@ -4,6 +4,7 @@ pub mod Lookups
 pub mod Audits
 pub mod Packets
 pub mod Released
+pub mod ShortWay
 pub mod Reading
 pub mod Verdicts
 pub mod Writing

@@ -18,6 +18,7 @@ use Rattle.lookup.specs.Lookup.{placeOf, byteAt}
 use Rattle.lookup.specs.Read.{readVerdict, readPart}
 use Rattle.lookup.specs.Said.{readFound}
 use Rattle.search.specs.Search.{searchFor}
+use Rattle.short_way.specs.ShortWay.{shortPlaceOf, shortByteAt, shortSearchFor}
 use Rattle.packet.specs.Packet.{makeVerdict, madeLength, afterMake}
 use Rattle.used_bytes.specs.UsedBytes.{SameUsed, ReadsUsed}
 use Rattle.used_bytes.proofs.Cut.{cut, same-cut, old-message-cut, root-message-cut, checks-cut}
@@ -25,6 +26,7 @@ use Rattle.used_bytes.proofs.Lookups.{place-cut, byte-at-cut, read-verd
 use Rattle.used_bytes.proofs.Audits.{audit-cut, compare-cut}
 use Rattle.used_bytes.proofs.Packets.{make-verdict-cut, made-length-cut, after-make-cut}
 use Rattle.used_bytes.proofs.Released.{search-cut}
+use Rattle.used_bytes.proofs.ShortWay.{short-place-cut, short-byte-cut, short-search-cut}
 
 -- ---- the root hash
 
@@ -78,6 +80,9 @@ reads F =
             read = λ c. by-cut (λ r. readPart F r c) (λ r. read-cut r c F) a b h;
             readFinds = λ c. by-cut (λ r. readFound F r c) (λ r. read-found-cut r c F) a b h;
             search = λ from. by-cut (λ r. searchFor r from) (λ r. search-cut r from) a b h;
+            shortPlace = λ c. by-cut (λ r. shortPlaceOf r c) (λ r. short-place-cut r c) a b h;
+            shortByte = λ x. by-cut (λ r. shortByteAt r x) (λ r. short-byte-cut r x) a b h;
+            shortSearch = λ from. by-cut (λ r. shortSearchFor r from) (λ r. short-search-cut r from) a b h;
             makeSays = λ c out. by-cut (λ r. makeVerdict F r c out) (λ r. make-verdict-cut F r c out) a b h;
             makeLength = λ c out. by-cut (λ r. madeLength F r c out) (λ r. made-length-cut F r c out) a b h;
             packet = λ c out. by-cut (λ r. afterMake F r c out) (λ r. after-make-cut F r c out) a b h;

@@ -4,7 +4,7 @@
 --
 -- The notions in it: `HashFunction` (files, Messages), `Register`, `Buffers` and `Lent` (files, Belongs), the used sizes (files, Sizes), the
 -- calls' verdicts and answers (writing, Start, Append, Sign and RootHash; list_append, Append, with Chunks and Fits; old_root, OldRoot; audit, Audit;
--- compare, Walk; lookup, Lookup, Read and Said; release, Release; search, Search; packet, Packet) and what a call that writes asks for (writing, Fits).
+-- compare, Walk; lookup, Lookup, Read and Said; release, Release; search, Search; short_way, ShortWay; packet, Packet) and what a call that writes asks for (writing, Fits).
 use Prim.Native.Nat.{ℕ}
 use mathlib.Core.Path.{_≡_}
 use mathlib.Core.Logic.{_↔_}
@@ -31,6 +31,7 @@ use Rattle.lookup.specs.Read.{readVerdict, readPart}
 use Rattle.lookup.specs.Said.{readFound}
 use Rattle.release.specs.Release.{releaseVerdict, releasedRegister}
 use Rattle.search.specs.Search.{searchFor}
+use Rattle.short_way.specs.ShortWay.{shortPlaceOf, shortByteAt, shortSearchFor}
 use Rattle.packet.specs.Packet.{makeVerdict, madeLength, afterMake}
 
 -- the same n, s and data size, and the same used bytes. A buffer that is shorter than its used size is the same in both
@@ -58,6 +59,10 @@ pub record ReadAlike (F : List ℕ → List ℕ) (a b : Register) : Type 0 where
   pub readFinds : (c : ℕ) → readFound F a c ≡ readFound F b c
   -- the first chunk from a given number on that is not held
   pub search : (from : ℕ) → searchFor a from ≡ searchFor b from
+  -- the short way
+  pub shortPlace : (c : ℕ) → shortPlaceOf a c ≡ shortPlaceOf b c
+  pub shortByte : (x : ℕ) → shortByteAt a x ≡ shortByteAt b x
+  pub shortSearch : (from : ℕ) → shortSearchFor a from ≡ shortSearchFor b from
   -- a packet made into the same buffer: the verdict, its length, and the buffer with it
   pub makeSays : (c : ℕ) (out : List ℕ) → makeVerdict F a c out ≡ makeVerdict F b c out
   pub makeLength : (c : ℕ) (out : List ℕ) → madeLength F a c out ≡ madeLength F b c out

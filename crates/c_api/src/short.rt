@@ -1,0 +1,107 @@
+// The short way: the lookups that add up leaf lengths from chunk 0, and the search that reads data bits in order. Each gives two numbers, in `out`, which
+// is as it was after a refusal.
+use super::answers::SleepAnswer;
+use counts::ByteOffset;
+use counts::ChunkNumber;
+ghost use Rattle.checks.specs.Given.{registerOf};
+ghost use Rattle.short_way.specs.ShortWay.{shortPlaceOf, shortByteAt, shortSearchFor};
+ghost use Rattle.c_api.specs.Encoding.{Gives, asFound};
+
+// Where the bytes of a chunk begin in `content`, and how many they are.
+#[no_mangle]
+pub extern "C" fn sleep_short_place(
+    tree: &[u8],
+    signatures: &[u8],
+    bitfield: &[u8],
+    content: &[u8],
+    n: u64,
+    s: u64,
+    size: u64,
+    chunk: u64,
+    out: &mut [u64; 2],
+) -> SleepAnswer
+    ensures { λ r.
+        ⌜
+        Gives
+        (shortPlaceOf (registerOf (now (tree .entry)) (now (signatures .entry)) (now (bitfield .entry)) (now (content .entry)) n s size) chunk)
+        (now (out .entry)) r (now (out .exit))
+        ⌝ }
+{
+    let found = short_way::place(
+        tree,
+        signatures,
+        bitfield,
+        content,
+        n,
+        s,
+        size,
+        ChunkNumber(chunk),
+    );
+    super::lookups::give_place(found, out)
+}
+
+// The chunk whose bytes contain an offset, and the offset less its start; never an empty chunk. At the data size n and 0.
+#[no_mangle]
+pub extern "C" fn sleep_short_byte(
+    tree: &[u8],
+    signatures: &[u8],
+    bitfield: &[u8],
+    content: &[u8],
+    n: u64,
+    s: u64,
+    size: u64,
+    offset: u64,
+    out: &mut [u64; 2],
+) -> SleepAnswer
+    ensures { λ r.
+        ⌜
+        Gives
+        (shortByteAt (registerOf (now (tree .entry)) (now (signatures .entry)) (now (bitfield .entry)) (now (content .entry)) n s size) offset)
+        (now (out .entry)) r (now (out .exit))
+        ⌝ }
+{
+    let found = short_way::locate(
+        tree,
+        signatures,
+        bitfield,
+        content,
+        n,
+        s,
+        size,
+        ByteOffset(offset),
+    );
+    super::lookups::give_byte(found, out)
+}
+
+// The first chunk from a given number on, below n, whose data bit is 0: 1 and its number, or 0 and 0 where there is none.
+#[no_mangle]
+pub extern "C" fn sleep_short_search(
+    tree: &[u8],
+    signatures: &[u8],
+    bitfield: &[u8],
+    content: &[u8],
+    n: u64,
+    s: u64,
+    size: u64,
+    from: u64,
+    out: &mut [u64; 2],
+) -> SleepAnswer
+    ensures { λ r.
+        ⌜
+        Gives
+        (asFound (shortSearchFor (registerOf (now (tree .entry)) (now (signatures .entry)) (now (bitfield .entry)) (now (content .entry)) n s size) from))
+        (now (out .entry)) r (now (out .exit))
+        ⌝ }
+{
+    let found = short_way::search(
+        tree,
+        signatures,
+        bitfield,
+        content,
+        n,
+        s,
+        size,
+        ChunkNumber(from),
+    );
+    super::lookups::give_search(found, out)
+}

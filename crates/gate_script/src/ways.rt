@@ -1,0 +1,94 @@
+// The quick way, a stroke, and the short way, of each of some numbers.
+use super::reading::Line;
+use counts::ByteOffset;
+use counts::ChunkNumber;
+use gate_samples::Told;
+
+pub fn by(tree: &[u8], signatures: &[u8], bitfield: &[u8], data: &[u8], line: Line, told: Told) {
+    let word = line.word;
+    if word == super::reading::word(b's', b'p')
+        || word == super::reading::word(b's', b'b')
+        || word == super::reading::word(b's', b's')
+    {
+        all(tree, signatures, bitfield, data, line, told);
+    }
+}
+
+// A number, and how many from there on.
+fn all(tree: &[u8], signatures: &[u8], bitfield: &[u8], data: &[u8], line: Line, told: Told) {
+    let x = line.numbers;
+    let first = x[1];
+    let count = super::written::most(x[2], 64);
+    let mut j = 0;
+    while j < count {
+        let number = std::num::wrapping_add_u64(first, j);
+        one(tree, signatures, bitfield, data, line.word, told, number);
+        j += 1;
+    }
+}
+
+fn one(
+    tree: &[u8],
+    signatures: &[u8],
+    bitfield: &[u8],
+    data: &[u8],
+    word: u64,
+    told: Told,
+    number: u64,
+) {
+    if word == super::reading::word(b's', b'p') {
+        place(tree, signatures, bitfield, data, told, number);
+    } else if word == super::reading::word(b's', b'b') {
+        byte(tree, signatures, bitfield, data, told, number);
+    } else {
+        searched(tree, signatures, bitfield, data, told, number);
+    }
+}
+
+fn place(tree: &[u8], signatures: &[u8], bitfield: &[u8], data: &[u8], told: Told, chunk: u64) {
+    super::asked::place(tree, signatures, bitfield, data, told, chunk);
+    gate_printing::text(b"|");
+    super::asked::say_place(short_way::place(
+        tree,
+        signatures,
+        bitfield,
+        data,
+        told.n,
+        told.s,
+        told.size,
+        ChunkNumber(chunk),
+    ));
+    gate_printing::text(b";");
+}
+
+fn byte(tree: &[u8], signatures: &[u8], bitfield: &[u8], data: &[u8], told: Told, offset: u64) {
+    super::asked::byte(tree, signatures, bitfield, data, told, offset);
+    gate_printing::text(b"|");
+    super::asked::say_byte(short_way::locate(
+        tree,
+        signatures,
+        bitfield,
+        data,
+        told.n,
+        told.s,
+        told.size,
+        ByteOffset(offset),
+    ));
+    gate_printing::text(b";");
+}
+
+fn searched(tree: &[u8], signatures: &[u8], bitfield: &[u8], data: &[u8], told: Told, number: u64) {
+    super::asked::searched(tree, signatures, bitfield, data, told, number);
+    gate_printing::text(b"|");
+    super::asked::say_search(short_way::search(
+        tree,
+        signatures,
+        bitfield,
+        data,
+        told.n,
+        told.s,
+        told.size,
+        ChunkNumber(number),
+    ));
+    gate_printing::text(b";");
+}

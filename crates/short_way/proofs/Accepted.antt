@@ -1,0 +1,62 @@
+-- In a register that the audit accepts every filled entry is right, and the Index follows from the data bits: the proof of `ShortWayForAll`.
+-- Assumes nothing.
+use Prim.Native.Nat.{ℕ, zero, suc, _+_, _*_, _≤_, _<_}
+use mathlib.Core.Path.{_≡_, sym, _∙_, subst}
+use mathlib.Core.Bool.{Bool}
+use mathlib.Core.List.{List}
+use native.Mathlib.Omega.{arith}
+use lib.ListN.{length, getD, length-append}
+use lib.Seq.{ext-getD}
+use Rattle.sequences.specs.Lists.{part}
+use Rattle.sequences.proofs.Lists.{length-part, getD-part, getD-behind}
+use Rattle.tree_index.specs.Tree.{index}
+use Rattle.tree_index.proofs.Index.{index-leaf}
+use Rattle.tree_index.proofs.Filled.{filled-below}
+use Rattle.bitfield.specs.Image.{entryCount, entriesOf}
+use Rattle.files.specs.Headers.{bitfieldHeader}
+use Rattle.files.specs.Sizes.{longestChunk, usedBitfield}
+use Rattle.files.specs.Images.{bitfieldImage}
+use Rattle.files.specs.Stored.{storedSize}
+use Rattle.files.specs.Belongs.{Register}
+use Rattle.files.proofs.OfImage.{bitfieldHeader-length, bitfieldImage-length}
+use Rattle.audit.specs.Audit.{heldBits}
+use Rattle.audit.proofs.Audited.{Audited, accepted-audited, leaf-says, parent-says}
+use Rattle.search.specs.Answers.{IndexFollows}
+use Rattle.search.proofs.Answers.{index-follows}
+use Rattle.short_way.specs.Answers.{LengthsRight, ShortWayForAll}
+use Rattle.short_way.proofs.Agree.{lookups-agree, search-agrees}
+
+-- a bitfield file whose bytes behind the header are an image's has its entries
+bits-cut : (xs : List ℕ) (n : ℕ) (held : ℕ → Bool) → usedBitfield n ≤ length xs
+    → ((b : ℕ) → 32 ≤ b → b < usedBitfield n → getD xs b 0 ≡ getD (bitfieldImage held n) b 0)
+    → part xs 32 (3328 * entryCount n) ≡ entriesOf held n
+unfolding usedBitfield bitfieldImage
+bits-cut xs n held room same =
+    let m : ℕ = 3328 * entryCount n in
+    let long : length (part xs 32 m) ≡ m = length-part xs 32 m room in
+    let whole : length (entriesOf held n) ≡ m =
+    omega (arith, length-append bitfieldHeader (entriesOf held n), bitfieldImage-length held n, bitfieldHeader-length)
+    in
+    ext-getD 0 (part xs 32 m) (entriesOf held n) (long ∙ sym whole)
+    (λ j h. getD-part xs 32 m j 0 (omega (arith, long))
+    ∙ same (32 + j) (omega arith) (omega (arith, long))
+    ∙ getD-behind bitfieldHeader (entriesOf held n) 32 j 0 bitfieldHeader-length)
+
+module _ (F : List ℕ → List ℕ) (r : Register) (a : Audited F r) where
+  lengths-right : LengthsRight (r .tree) (r .n)
+  unfolding LengthsRight
+  lengths-right zero k h =
+      subst (λ (i : ℕ). storedSize (r .tree) i ≤ longestChunk) (sym (index-leaf k))
+      (leaf-says F (r .tree) (r .content) (r .bitfield) (r .n) (r .size) k h (a .entry (index zero k) (filled-below (r .n) (index zero k) h)) .short)
+  lengths-right (suc d) k h =
+      parent-says F (r .tree) (r .content) (r .bitfield) (r .n) (r .size) d k h (a .entry (index (suc d) k) (filled-below (r .n) (index (suc d) k) h)) .sum
+
+  follows : IndexFollows (r .bitfield) (r .n)
+  follows =
+      index-follows (r .bitfield) (r .n) (heldBits (r .bitfield) (r .n))
+      (bits-cut (r .bitfield) (r .n) (heldBits (r .bitfield) (r .n)) (a .checked .bitfield) (a .byte))
+
+pub short-way : ShortWayForAll
+short-way F r e =
+    let a = accepted-audited F r e in
+    record { lookups = lookups-agree r (lengths-right F r a); search = search-agrees r (follows F r a) }

@@ -1,0 +1,6 @@
+-- Laws of the short way.
+pub mod Walks
+pub mod Calls
+pub mod Answers
+pub mod Agree
+pub mod Accepted

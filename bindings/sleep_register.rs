@@ -77,6 +77,41 @@ pub struct Table {
     pub numbers: [u64; 161],
 }
 
+/// The room that any Node's record has enough of, and the bytes of a Header's.
+pub const NODE_ROOM: usize = 2070;
+pub const HEADER_BYTES: usize = 46;
+
+/// What a Node says of a piece. `mode` must be there, and with `uid` and `gid` below 2^32.
+#[derive(Clone, Copy, Debug, Default, PartialEq, Eq)]
+pub struct Stat {
+    pub mode: Option<u64>,
+    pub uid: Option<u64>,
+    pub gid: Option<u64>,
+    pub size: Option<u64>,
+    pub blocks: Option<u64>,
+    pub offset: Option<u64>,
+    pub byte_offset: Option<u64>,
+    pub mtime: Option<u64>,
+    pub ctime: Option<u64>,
+}
+
+/// A key of 32 bytes, and a permission of at most 16 if there is one.
+#[derive(Clone, Copy, Debug, Default, PartialEq, Eq)]
+pub struct Writer<'a> {
+    pub key: &'a [u8],
+    pub permission: Option<&'a [u8]>,
+}
+
+/// The record of a piece. The path has 1 to 255 bytes and starts with a slash, the trie at most 1,024; there are at most 8 writers.
+#[derive(Clone, Debug, Default, PartialEq, Eq)]
+pub struct Node<'a> {
+    pub path: &'a [u8],
+    pub stat: Option<Stat>,
+    pub trie: Option<&'a [u8]>,
+    pub writers: Vec<Writer<'a>>,
+    pub sequence: Option<u64>,
+}
+
 /// Two numbers that a lookup gives: start and length, or chunk number and offset within the chunk.
 pub type Pair = (u64, u64);
 
@@ -122,6 +157,59 @@ struct Serving {
     served: u64,
     station: u64,
     name: u64,
+    chunk: u64,
+    answer: Answer,
+}
+
+#[repr(C)]
+#[derive(Clone, Copy, Default)]
+struct FlatNumber {
+    given: u64,
+    value: u64,
+}
+
+#[repr(C)]
+#[derive(Clone, Copy, Default)]
+struct FlatPart {
+    offset: u64,
+    length: u64,
+}
+
+#[repr(C)]
+#[derive(Clone, Copy, Default)]
+struct FlatBytes {
+    given: u64,
+    part: FlatPart,
+}
+
+#[repr(C)]
+#[derive(Clone, Copy, Default)]
+struct FlatWriter {
+    key: FlatPart,
+    permission: FlatBytes,
+}
+
+#[repr(C)]
+#[derive(Clone, Copy, Default)]
+struct FlatNode {
+    path: FlatPart,
+    stat_given: u64,
+    stat: [FlatNumber; 9],
+    trie: FlatBytes,
+    count: u64,
+    writers: [FlatWriter; 8],
+    sequence: FlatNumber,
+}
+
+#[repr(C)]
+struct NodeRead {
+    answer: Answer,
+    node: FlatNode,
+}
+
+#[repr(C)]
+struct Sought {
+    found: u64,
     chunk: u64,
     answer: Answer,
 }
@@ -190,6 +278,20 @@ extern "C" {
     fn sleep_serve(table: *mut u64, t: In, tl: usize, g: In, gl: usize, b: In, bl: usize, d: In, dl: usize, n: u64, s: u64, size: u64,
         t2: In, tl2: usize, g2: In, gl2: usize, b2: In, bl2: usize, d2: In, dl2: usize, n2: u64, s2: u64, size2: u64,
         out: *mut u64) -> Serving;
+    fn sleep_write_header(content: In, content_length: usize, out: Out, out_length: usize, length: *mut u64) -> Answer;
+    #[rustfmt::skip]
+    fn sleep_write_node(bytes: In, bytes_length: usize, node: FlatNode, out: Out, out_length: usize, length: *mut u64) -> Answer;
+    fn sleep_read_header(bytes: In, bytes_length: usize, out: *mut u64) -> Answer;
+    fn sleep_read_node(bytes: In, bytes_length: usize) -> NodeRead;
+    #[rustfmt::skip]
+    fn sleep_header_of(t: In, tl: usize, g: In, gl: usize, b: In, bl: usize, d: In, dl: usize, n: u64, s: u64, size: u64,
+        chunk: u64, out: *mut u64) -> Answer;
+    #[rustfmt::skip]
+    fn sleep_node_of(t: In, tl: usize, g: In, gl: usize, b: In, bl: usize, d: In, dl: usize, n: u64, s: u64, size: u64,
+        chunk: u64) -> NodeRead;
+    #[rustfmt::skip]
+    fn sleep_find(t: In, tl: usize, g: In, gl: usize, b: In, bl: usize, d: In, dl: usize, n: u64, s: u64, size: u64,
+        path: In, path_length: usize) -> Sought;
     fn sleep_group(bytes: In, bytes_length: usize, out: Out, out_length: usize) -> Answer;
     fn sleep_ungroup(bytes: In, bytes_length: usize, out: Out, out_length: usize) -> Answer;
     fn sleep_check_packet(packet: In, packet_length: usize, n: u64, chunk: u64, root: In, out: *mut u64) -> Answer;
@@ -283,6 +385,114 @@ pub fn compare_packets(first: &[u8], second: &[u8], n: u64, chunk: u64, root: &[
         3 => Walked::CollisionAtIndex(said.answer.place),
         4 => Walked::FirstRefused(said.answer.refusal()),
         _ => Walked::SecondRefused(said.answer.refusal()),
+    }
+}
+
+/// The Header with these content bytes, 32 of them, at the front of `out`; its length.
+pub fn write_header(content: &[u8], out: &mut [u8]) -> Result<usize, Refusal> {
+    let mut length = 0;
+    let answer = unsafe { sleep_write_header(content.as_ptr(), content.len(), out.as_mut_ptr(), out.len(), &mut length) };
+    answer.result(())?;
+    Ok(length as usize)
+}
+
+/// The content bytes of the Header that `bytes` are.
+pub fn read_header(bytes: &[u8]) -> Result<&[u8], Refusal> {
+    let mut out = [0; 2];
+    let answer = unsafe { sleep_read_header(bytes.as_ptr(), bytes.len(), out.as_mut_ptr()) };
+    answer.result(())?;
+    Ok(part(bytes, out))
+}
+
+/// The record of a Node at the front of `out`; its length.
+pub fn write_node(node: &Node, out: &mut [u8]) -> Result<usize, Refusal> {
+    let (flat, bytes) = node.flat();
+    let mut length = 0;
+    let answer = unsafe { sleep_write_node(bytes.as_ptr(), bytes.len(), flat, out.as_mut_ptr(), out.len(), &mut length) };
+    answer.result(())?;
+    Ok(length as usize)
+}
+
+/// The Node that `bytes` are, with parts of them.
+pub fn read_node(bytes: &[u8]) -> Result<Node<'_>, Refusal> {
+    let read = unsafe { sleep_read_node(bytes.as_ptr(), bytes.len()) };
+    read.answer.result(())?;
+    Ok(Node::of(bytes, &read.node))
+}
+
+impl FlatNumber {
+    fn of(value: Option<u64>) -> FlatNumber {
+        FlatNumber { given: value.is_some() as u64, value: value.unwrap_or(0) }
+    }
+
+    fn value(self) -> Option<u64> {
+        (self.given != 0).then_some(self.value)
+    }
+}
+
+impl FlatPart {
+    /// More bytes behind those that are there.
+    fn placed(data: &[u8], bytes: &mut Vec<u8>) -> FlatPart {
+        let offset = bytes.len() as u64;
+        bytes.extend_from_slice(data);
+        FlatPart { offset, length: data.len() as u64 }
+    }
+
+    fn of(self, whole: &[u8]) -> &[u8] {
+        part(whole, [self.offset, self.length])
+    }
+}
+
+impl FlatBytes {
+    fn placed(data: Option<&[u8]>, bytes: &mut Vec<u8>) -> FlatBytes {
+        let part = data.map_or(FlatPart::default(), |data| FlatPart::placed(data, bytes));
+        FlatBytes { given: data.is_some() as u64, part }
+    }
+
+    fn of(self, whole: &[u8]) -> Option<&[u8]> {
+        (self.given != 0).then(|| self.part.of(whole))
+    }
+}
+
+impl Stat {
+    fn fields(self) -> [Option<u64>; 9] {
+        [self.mode, self.uid, self.gid, self.size, self.blocks, self.offset, self.byte_offset, self.mtime, self.ctime]
+    }
+
+    fn of(fields: [Option<u64>; 9]) -> Stat {
+        let [mode, uid, gid, size, blocks, offset, byte_offset, mtime, ctime] = fields;
+        Stat { mode, uid, gid, size, blocks, offset, byte_offset, mtime, ctime }
+    }
+}
+
+impl<'a> Node<'a> {
+    /// The fields as numbers, and the bytes that the parts lie in. Of more than 8 writers the first 8 are listed, and all are counted.
+    fn flat(&self) -> (FlatNode, Vec<u8>) {
+        let mut bytes = Vec::new();
+        let mut flat = FlatNode { path: FlatPart::placed(self.path, &mut bytes), ..FlatNode::default() };
+        if let Some(stat) = self.stat {
+            flat.stat_given = 1;
+            flat.stat = stat.fields().map(FlatNumber::of);
+        }
+        flat.trie = FlatBytes::placed(self.trie, &mut bytes);
+        flat.count = self.writers.len() as u64;
+        for (place, writer) in flat.writers.iter_mut().zip(&self.writers) {
+            place.key = FlatPart::placed(writer.key, &mut bytes);
+            place.permission = FlatBytes::placed(writer.permission, &mut bytes);
+        }
+        flat.sequence = FlatNumber::of(self.sequence);
+        (flat, bytes)
+    }
+
+    fn of(bytes: &'a [u8], flat: &FlatNode) -> Node<'a> {
+        let writers = flat.writers[..flat.count as usize].iter();
+        Node {
+            path: flat.path.of(bytes),
+            stat: (flat.stat_given != 0).then(|| Stat::of(flat.stat.map(FlatNumber::value))),
+            trie: flat.trie.of(bytes),
+            writers: writers.map(|writer| Writer { key: writer.key.of(bytes), permission: writer.permission.of(bytes) }).collect(),
+            sequence: flat.sequence.value(),
+        }
     }
 }
 
@@ -387,6 +597,32 @@ impl<'a> Register<'a> {
         let answer = reading!(sleep_make_packet, self, chunk, out.as_mut_ptr(), out.len(), &mut length);
         answer.result(())?;
         Ok(length as usize)
+    }
+
+    /// The bytes of a chunk that was read.
+    fn chunk(&self, chunk: u64) -> Result<&'a [u8], Refusal> {
+        self.place(chunk).map(|(start, length)| part(self.data, [start, length]))
+    }
+
+    /// The content bytes of the Header that a chunk is, as a rule chunk 0.
+    pub fn header_of(&self, chunk: u64) -> Result<&'a [u8], Refusal> {
+        let mut out = [0; 2];
+        reading!(sleep_header_of, self, chunk, out.as_mut_ptr()).result(())?;
+        Ok(part(self.chunk(chunk)?, out))
+    }
+
+    /// The Node that a chunk is, with parts of the data.
+    pub fn node_of(&self, chunk: u64) -> Result<Node<'a>, Refusal> {
+        let read = reading!(sleep_node_of, self, chunk);
+        read.answer.result(())?;
+        Ok(Node::of(self.chunk(chunk)?, &read.node))
+    }
+
+    /// The highest chunk number from 1 up whose record has this path.
+    pub fn find(&self, path: &[u8]) -> Result<Option<u64>, Refusal> {
+        let sought = reading!(sleep_find, self, path.as_ptr(), path.len());
+        sought.answer.result(())?;
+        Ok((sought.found != 0).then_some(sought.chunk))
     }
 
     /// The checks of both registers, which have to hold all their chunks, and then the comparing walk.

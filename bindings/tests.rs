@@ -1,7 +1,9 @@
 //! The wrapper over the proved library, called as a program would. `tests/run` builds and runs it.
 mod sleep_register;
 
-use sleep_register::{check_packet, compare_packets, group, hash, hash_parts, label, needs, ungroup, Comparison, Name, Needs, Place, Refusal, Store, Table, Walked, PACKET_EXTRA};
+use sleep_register::{
+    check_packet, compare_packets, group, hash, hash_parts, label, needs, read_header, read_node, ungroup, write_header, write_node, Comparison, HEADER_BYTES, NODE_ROOM, Name, Needs, Node, PACKET_EXTRA, Place, Refusal, Stat, Store, Table, Walked, Writer,
+};
 
 fn refused<T>(number: u64, place: Place) -> Result<T, Refusal> {
     Err(Refusal { number, place })
@@ -346,4 +348,90 @@ fn stations_take_turns() {
     let mut spoilt = Table { numbers: [u64::MAX; 161] };
     assert_eq!((0..64).filter(|_| spoilt.serve(&m, &c).is_some()).count(), 64);
     assert_eq!(spoilt.serve(&m, &c), None);
+}
+
+fn full<'a>() -> Node<'a> {
+    let stat = Stat { mode: Some(33188), size: Some(300), mtime: Some(1500000000), ctime: Some(0), ..Stat::default() };
+    let writers = vec![Writer { key: &[7; 32], permission: Some(b"rw") }, Writer { key: &[8; 32], permission: None }];
+    Node { path: b"/coat/sleeve", stat: Some(stat), trie: Some(b""), writers, sequence: Some(128) }
+}
+
+fn record<'a>(node: &Node, out: &'a mut [u8]) -> &'a [u8] {
+    let length = write_node(node, out).unwrap();
+    &out[..length]
+}
+
+/// Absent fields are told from those that are there and empty or 0, and what was read is written as it was.
+#[test]
+fn records_written_and_read() {
+    let mut out = [9; NODE_ROOM];
+    for node in [full(), Node { path: b"/", ..Node::default() }, Node { trie: None, sequence: Some(0), ..full() }] {
+        let bytes = record(&node, &mut out).to_vec();
+        assert_eq!(read_node(&bytes), Ok(node));
+        assert!(out[bytes.len()..].iter().all(|&byte| byte == 9));
+        assert_eq!(write_node(&read_node(&bytes).unwrap(), &mut vec![0; bytes.len()]), Ok(bytes.len()));
+        assert_eq!(write_node(&read_node(&bytes).unwrap(), &mut vec![0; bytes.len() - 1]), refused(14, Place::None));
+        assert_eq!(read_node(&bytes[1..]), refused(15, Place::None));
+        out = [9; NODE_ROOM];
+    }
+    assert_eq!(write_header(&[3; 32], &mut out), Ok(HEADER_BYTES));
+    assert_eq!(read_header(&out[..HEADER_BYTES]), Ok(&[3; 32][..]));
+    assert_eq!(read_header(&out[..47]), refused(15, Place::None));
+    assert_eq!(write_header(&[3; 31], &mut []), refused(15, Place::None));
+    assert_eq!(write_header(&[3; 32], &mut []), refused(14, Place::None));
+}
+
+#[test]
+fn fields_out_of_bounds() {
+    let long = [b'/'; 256];
+    let wide = |mode| Some(Stat { mode, ..Stat::default() });
+    let (eight, nine) = (vec![Writer { key: &[1; 32], permission: Some(&[2; 16]) }; 8], vec![Writer { key: &[1; 32], permission: None }; 9]);
+    let mut out = [0; NODE_ROOM];
+    for node in [
+        Node { path: &long[..255], ..full() },
+        Node { stat: wide(Some(u32::MAX as u64)), ..full() },
+        Node { trie: Some(&[0; 1024]), writers: eight, sequence: Some(u64::MAX), ..full() },
+    ] {
+        assert_eq!(read_node(record(&node, &mut out)), Ok(node));
+    }
+    for node in [
+        Node { path: &long, ..full() },
+        Node { path: b"", ..full() },
+        Node { path: b"coat", ..full() },
+        Node { stat: wide(None), ..full() },
+        Node { stat: wide(Some(1 << 32)), ..full() },
+        Node { trie: Some(&[0; 1025]), ..full() },
+        Node { writers: nine, ..full() },
+        Node { writers: vec![Writer { key: &[1; 31], permission: None }], ..full() },
+        Node { writers: vec![Writer { key: &[1; 32], permission: Some(&[2; 17]) }], ..full() },
+    ] {
+        assert_eq!(write_node(&node, &mut []), refused(15, Place::None));
+    }
+}
+
+#[test]
+fn pieces_found_by_name() {
+    let mut out = [0; NODE_ROOM];
+    write_header(&[3; 32], &mut out).unwrap();
+    let header = out[..HEADER_BYTES].to_vec();
+    let nodes = [full(), Node { path: b"/coat", ..Node::default() }, Node { sequence: None, ..full() }];
+    let records: Vec<Vec<u8>> = nodes.iter().map(|node| record(node, &mut out).to_vec()).collect();
+    let named = filled(&[&header, &records[0], &records[1], &records[2]]);
+    let r = named.register();
+    assert_eq!(r.header_of(0), Ok(&[3; 32][..]));
+    for (k, node) in nodes.iter().enumerate() {
+        assert_eq!(r.node_of(k as u64 + 1).as_ref(), Ok(node));
+    }
+    assert_eq!(r.find(b"/coat/sleeve"), Ok(Some(3)));
+    assert_eq!(r.find(b"/coat"), Ok(Some(2)));
+    assert_eq!(r.find(b"/coa"), Ok(None));
+    assert_eq!(r.find(b""), Ok(None));
+    assert_eq!(r.node_of(0), refused(15, Place::TreeIndex(0)));
+    assert_eq!(r.header_of(2), refused(15, Place::TreeIndex(4)));
+    assert_eq!(r.node_of(4), refused(9, Place::None));
+    assert_eq!(filled(&[]).register().find(b"/coat"), Ok(None));
+    let broken = filled(&[&header, b"x", &records[0]]);
+    assert_eq!(broken.register().find(b"/coat/sleeve"), Ok(Some(2)));
+    assert_eq!(broken.register().find(b"/coat"), refused(15, Place::TreeIndex(2)));
+    assert_eq!(filled(&[b"x", &records[0]]).register().find(b"/coat/sleeve"), refused(15, Place::TreeIndex(0)));
 }

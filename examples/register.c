@@ -1,6 +1,6 @@
 /* A register in fixed buffers: three pieces, each previewed, signed, appended and stored with its signature, an audit, a verified read, a packet
- * made and checked, a label, two registers compared, a coat of 40 pieces stored wholly or left out, stations whose reads take turns, and a piece
- * released to make room. Build and run: make -C examples */
+ * made and checked, a label, two registers compared, a coat of 40 pieces stored wholly or left out, stations whose reads take turns, three pieces
+ * stored by name in a pair of registers, one of them found and read, and a piece released to make room. Build and run: make -C examples */
 #include <inttypes.h>
 #include <stdio.h>
 #include <stdlib.h>
@@ -35,17 +35,20 @@ static void sign(const uint8_t root[32], uint8_t signature[64]) {
 }
 
 /* The signature is ready before the piece is stored: preview, sign, append, store. */
-static void add(store *r, const char *piece, uint8_t root[32]) {
+static void add_bytes(store *r, const uint8_t *piece, size_t length, uint8_t root[32]) {
     uint8_t signature[64], seen[32];
-    size_t length = strlen(piece);
-    expect("preview", sleep_preview(LENT(r), COUNTS(r), (const uint8_t *)piece, length, seen).number, 0);
+    expect("preview", sleep_preview(LENT(r), COUNTS(r), piece, length, seen).number, 0);
     sign(seen, signature);
-    expect("append", sleep_append(LENT(r), COUNTS(r), (const uint8_t *)piece, length, root).number, 0);
+    expect("append", sleep_append(LENT(r), COUNTS(r), piece, length, root).number, 0);
     expect("the root hash that was previewed", (uint64_t)memcmp(root, seen, 32), 0);
     r->n += 1;
     r->size += length;
     expect("signature", sleep_store_signature(LENT(r), COUNTS(r), signature).number, 0);
     r->s += 1;
+}
+
+static void add(store *r, const char *piece, uint8_t root[32]) {
+    add_bytes(r, (const uint8_t *)piece, strlen(piece), root);
 }
 
 static void read_back(const store *r, uint64_t chunk) {
@@ -132,6 +135,45 @@ static void take_turns(const store *r) {
     expect("nobody waits", sleep_serve(table, LENT(r), COUNTS(r), LENT(r), COUNTS(r), part).served, 0);
 }
 
+/* The path of a piece, and where it lies in the content register: its chunk and its first byte. */
+static void name_piece(store *names, const char *path, uint64_t length, uint64_t chunk, uint64_t first) {
+    const sleep_number none = {0, 0};
+    sleep_node node = {0};
+    uint8_t record[SLEEP_NODE_ROOM], root[32];
+    uint64_t written;
+    node.path.length = strlen(path);
+    node.value = (sleep_stat){1, {1, 0100644}, none, none, {1, length}, {1, 1}, {1, chunk}, {1, first}, none, none};
+    expect("a Node", sleep_write_node((const uint8_t *)path, strlen(path), node, record, sizeof record, &written).number, 0);
+    add_bytes(names, record, written, root);
+}
+
+/* Three pieces in the content register, and beside them a metadata register with their names; "/coat/sleeve" is written twice. */
+static void find_by_name(void) {
+    static store names, pieces;
+    static const char *const coat[3][2] = {{"/coat/sleeve", "twill 2/2"}, {"/coat/collar", "satin 5/3"}, {"/coat/sleeve", "twill 3/1"}};
+    static const uint8_t key[SLEEP_CONTENT_BYTES] = "the content register's key";
+    uint8_t header[SLEEP_HEADER_BYTES], root[32];
+    uint64_t written, part[2];
+    expect("start", sleep_start(LENT(&names)).number | sleep_start(LENT(&pieces)).number, 0);
+    expect("a Header", sleep_write_header(key, sizeof key, header, sizeof header, &written).number, 0);
+    add_bytes(&names, header, written, root);
+    for (int k = 0; k < 3; k++) {
+        name_piece(&names, coat[k][0], strlen(coat[k][1]), pieces.n, pieces.size);
+        add(&pieces, coat[k][1], root);
+    }
+    sleep_found found = sleep_find(LENT(&names), COUNTS(&names), (const uint8_t *)"/coat/sleeve", 12);
+    expect("find", found.answer.number, 0);
+    expect("the latest sleeve", found.chunk, 3);
+    sleep_node_read record = sleep_node_of(LENT(&names), COUNTS(&names), found.chunk);
+    expect("its record", record.answer.number, 0);
+    expect("the piece", sleep_read(LENT(&pieces), COUNTS(&pieces), record.node.value.offset.value, part).number, 0);
+    expect("its length", part[1], record.node.value.size.value);
+    expect("where it begins", part[0], record.node.value.byte_offset.value);
+    printf("/coat/sleeve: chunk %" PRIu64 ", piece %" PRIu64 ": %.*s\n", found.chunk, record.node.value.offset.value, (int)part[1], pieces.data + part[0]);
+    expect("a name that isn't there", sleep_find(LENT(&names), COUNTS(&names), (const uint8_t *)"/coat", 5).found, 0);
+    expect("a Node read as a Header", sleep_header_of(LENT(&names), COUNTS(&names), 1, part).number, 15);
+}
+
 /* The machine makes room: a piece that the office keeps is dropped. Its place stays, and every other piece is read as before. */
 static void make_room(store *r, uint64_t chunk) {
     uint64_t part[2];
@@ -152,6 +194,7 @@ int main(void) {
     sleep_comparison c;
 
     add_list();
+    find_by_name();
 
     expect("start", sleep_start(LENT(&first)).number, 0);
     add(&first, "twill 2/2", root);

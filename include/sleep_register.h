@@ -39,7 +39,16 @@
  *   from the start of that buffer, and its length in bytes. It is buffer[out[0]] up to, and without, buffer[out[0] + out[1]], which always
  *   lies within the buffer. A part of length 0 is an empty chunk, which is no refusal. Of sleep_place and sleep_read the buffer is data, so
  *   the offset is the count of bytes of all chunks before it; of sleep_check_packet it is the packet; of sleep_serve it is the data of the
- *   register that the answer names.
+ *   register that the answer names; of sleep_read_header the bytes lent, and of sleep_header_of the bytes of the chunk, whose place in data
+ *   sleep_place gives. The parts of a Node are of the bytes lent or of the chunk likewise.
+ *
+ * RECORDS
+ *   The chunks of a metadata register are records (FORMAT.md, "Records"): chunk 0 a Header, every later chunk a Node, which gives a piece its
+ *   path. A Node is handed over and given as a sleep_node: numbers alone. A field that may be absent says by `given` whether it is there, 0 or
+ *   1 (any other number is taken as 1), so that an absent one is told from one that is there and empty or 0; where it is absent its other
+ *   numbers are given as 0, and not looked at when they are handed over. Parts lie in the bytes lent beside the Node, and may overlap. What was
+ *   read can be handed to the writer as it is, beside the same bytes: it writes those bytes again. Of the writers, `count` are there, at most
+ *   8. A Header has SLEEP_HEADER_BYTES bytes, and SLEEP_NODE_ROOM bytes are room for any Node.
  *
  * WAITING READS
  *   Reads of 16 stations, 0 to 15, wait in a table, at most 4 of each, first come first. The table is SLEEP_TABLE_NUMBERS numbers, which the
@@ -51,7 +60,7 @@
  *     160         the station last served, modulo 16
  *
  * WHAT FIRMWARE HAS TO PROVIDE
- *   Code: at most 48,000 bytes with its read-only constants (some 46,000 today). The archive has no variables: no static data, zeroed or
+ *   Code: at most 64,000 bytes with its read-only constants (some 59,000 today). The archive has no variables: no static data, zeroed or
  *   not, and nothing to set up. From outside it needs memcpy and memset, and nothing else; it allocates nothing. The stack that each call
  *   takes at most, counted from the caller's frame, with arguments, return address and what memcpy or memset takes, is SLEEP_STACK_.. below.
  *   tests/run holds the archive to all of this, the stack by calls on a painted one.
@@ -86,14 +95,17 @@
  *     12      a packet's counts aren't those of n and the chunk number, its chunk is
  *             over 65,536 bytes, or bytes lack or remain                                   none
  *     13      a packet's lengths add up to over 68,719,476,736, or its root hash differs   none
+ *     15      fields to be written are out of their bounds, or bytes are no record as
+ *             sleep_write_.. writes it                                                     none, or the tree index of a chunk's leaf
  *     14      a buffer to be written is shorter than the result needs; a preview judges
  *             the buffers that the append would write                                      none
  *     21      the station is above 15                                                      none
  *     22      four reads of the station wait already                                       none
  *
- *   1, 17, 2 to 4, 16, 7 to 9, 14, 21 and 22 point at the call: a number or a buffer that doesn't fit. 5 and 6 mean that the images are not those of a
- *   register with these numbers: other files, other numbers, or damage. 18 means that the chunk was released here; the office may have it. 10 and 11 mean damage where the place says. 12 and 13 mean that a
- *   packet shows nothing of this chunk under this root hash.
+ *   1, 17, 2 to 4, 16, 7 to 9, 14, 21, 22 and 15 without a place point at the call: a number, a field or a buffer that doesn't fit. 5 and 6 mean that
+ *   the images are not those of a register with these numbers: other files, other numbers, or damage. 18 means that the chunk was released here; the
+ *   office may have it. 10 and 11 mean damage where the place says. 12 and 13 mean that a packet shows nothing of this chunk under this root hash. 15
+ *   with a place means that a chunk, though undamaged, is no record.
  */
 #ifndef SLEEP_REGISTER_H
 #define SLEEP_REGISTER_H
@@ -112,19 +124,31 @@ extern "C" {
 #define SLEEP_MOST_WAITING 4u
 #define SLEEP_TABLE_NUMBERS 161u
 
+#define SLEEP_HEADER_BYTES 46u
+#define SLEEP_CONTENT_BYTES 32u
+#define SLEEP_NODE_ROOM 2070u
+#define SLEEP_LONGEST_PATH 255u
+#define SLEEP_LONGEST_TRIE 1024u
+#define SLEEP_MOST_WRITERS 8u
+#define SLEEP_KEY_BYTES 32u
+#define SLEEP_LONGEST_PERMISSION 16u
+
 /* What a packet has beside its chunk's bytes, at most: a buffer of the chunk's length and this many bytes never lacks room for it
  * (proved: PacketStaysShort, crates/packet/specs/Answers.antt). */
 #define SLEEP_PACKET_EXTRA 1526u
 
 /* The most stack that a call takes, in bytes. A lookup goes down the tree by recursion, some 100 bytes for each level and at most 20 levels.
  * Calls that give or judge a root hash have the roots and the root message in arrays with room for 20 roots, some 1 KiB each, which are
- * passed by value; the comparing walk has two root messages at once. */
+ * passed by value; the comparing walk has two root messages at once. A Node is a struct of some 500 bytes, passed by value, and is written into an
+ * array of SLEEP_NODE_ROOM bytes before it is known to have room. */
 #define SLEEP_STACK_START 512u
 #define SLEEP_STACK_NEEDS 512u
 #define SLEEP_STACK_ENTER 512u
 #define SLEEP_STACK_FRESH 512u
 #define SLEEP_STACK_GROUP 512u
 #define SLEEP_STACK_UNGROUP 512u
+#define SLEEP_STACK_WRITE_HEADER 512u
+#define SLEEP_STACK_READ_HEADER 512u
 #define SLEEP_STACK_STORE_SIGNATURE 2048u
 #define SLEEP_STACK_SEARCH 2048u
 #define SLEEP_STACK_SHORT_PLACE 2048u
@@ -139,6 +163,8 @@ extern "C" {
 #define SLEEP_STACK_READ 4096u
 #define SLEEP_STACK_RELEASE 4096u
 #define SLEEP_STACK_SERVE 4096u
+#define SLEEP_STACK_HEADER_OF 4096u
+#define SLEEP_STACK_FIND 5120u
 #define SLEEP_STACK_MAKE_PACKET 5120u
 #define SLEEP_STACK_ROOT_HASH 6144u
 #define SLEEP_STACK_OLD_ROOT 6144u
@@ -146,6 +172,9 @@ extern "C" {
 #define SLEEP_STACK_APPEND 6144u
 #define SLEEP_STACK_APPEND_LIST 6144u
 #define SLEEP_STACK_PREVIEW 6144u
+#define SLEEP_STACK_READ_NODE 6144u
+#define SLEEP_STACK_NODE_OF 6144u
+#define SLEEP_STACK_WRITE_NODE 6144u
 #define SLEEP_STACK_COMPARE_PACKETS 7168u
 #define SLEEP_STACK_COMPARE 8192u
 
@@ -181,6 +210,57 @@ typedef struct {
     uint64_t chunk;      /* the chunk number of the read */
     sleep_answer answer; /* what sleep_read answers to it */
 } sleep_serving;
+
+/* A number's field of a record. */
+typedef struct {
+    uint64_t given; /* 0: it is absent */
+    uint64_t value;
+} sleep_number;
+
+/* A part of bytes: the offset of its first byte, and its length. */
+typedef struct {
+    uint64_t offset;
+    uint64_t length;
+} sleep_part;
+
+/* A part's field. */
+typedef struct {
+    uint64_t given; /* 0: it is absent */
+    sleep_part part;
+} sleep_bytes;
+
+typedef struct {
+    sleep_part key;         /* SLEEP_KEY_BYTES bytes */
+    sleep_bytes permission; /* absent, or at most SLEEP_LONGEST_PERMISSION bytes */
+} sleep_writer;
+
+/* mode is there wherever there is a Stat; it, uid and gid are below 2^32. */
+typedef struct {
+    uint64_t given; /* 0: there is no Stat */
+    sleep_number mode, uid, gid, size, blocks, offset, byte_offset, mtime, ctime;
+} sleep_stat;
+
+typedef struct {
+    sleep_part path;                          /* 1 to SLEEP_LONGEST_PATH bytes, the first of them a slash */
+    sleep_stat value;
+    sleep_bytes trie;                         /* absent, or at most SLEEP_LONGEST_TRIE bytes */
+    uint64_t count;                           /* of writers */
+    sleep_writer writers[SLEEP_MOST_WRITERS];
+    sleep_number sequence;
+} sleep_node;
+
+/* What reading a Node answers, and the Node; after a refusal all its numbers are 0. */
+typedef struct {
+    sleep_answer answer;
+    sleep_node node;
+} sleep_node_read;
+
+/* What a search for a path answers. */
+typedef struct {
+    uint64_t found;      /* 1: a record has the path; 0: none has, or the search is refused */
+    uint64_t chunk;      /* the highest number of such a chunk; else 0 */
+    sleep_answer answer;
+} sleep_found;
 
 /* What a job will need: the places of the eight numbers. */
 enum {
@@ -351,6 +431,33 @@ sleep_answer sleep_enter(uint64_t table[161], uint64_t station, uint64_t name, u
  * 9, 18, 10, of the named register alone) out is as it was. The read leaves the table either way. Where no read waits, table and out stay as they are. */
 sleep_serving sleep_serve(uint64_t table[161], SLEEP_ARCHIVE_READ, uint64_t out[2]) SLEEP_NOT_NULL;
 
+/* Writes the Header with these content bytes, SLEEP_CONTENT_BYTES of them, at the front of out, leaves the rest of out as it was, and gives its
+ * length, SLEEP_HEADER_BYTES. Refusals: 15, 14. */
+sleep_answer sleep_write_header(const uint8_t *content, size_t content_length, uint8_t *out, size_t out_length, uint64_t *length) SLEEP_NOT_NULL;
+
+/* Writes a Node, whose parts lie in bytes, at the front of out, leaves the rest of out as it was, and gives its length. Refusals: 15 for fields
+ * out of their bounds and for parts that don't lie in bytes, then 14. */
+sleep_answer sleep_write_node(const uint8_t *bytes, size_t bytes_length, sleep_node node, uint8_t *out, size_t out_length,
+                              uint64_t *length) SLEEP_NOT_NULL;
+
+/* Reads the Header that bytes are: out is the part of them that are its content bytes. Refusal: 15. */
+sleep_answer sleep_read_header(const uint8_t *bytes, size_t bytes_length, uint64_t out[2]) SLEEP_NOT_NULL;
+
+/* Reads the Node that bytes are, with parts of them. Refusal: 15. */
+sleep_node_read sleep_read_node(const uint8_t *bytes, size_t bytes_length) SLEEP_NOT_NULL;
+
+/* Reads the Header that a chunk is, as a rule chunk 0, after the chunk was read as sleep_read does: out is a part of the chunk. Refusals: 2 to 6,
+ * 9, 18, 10, and then 15 at the chunk's leaf. */
+sleep_answer sleep_header_of(SLEEP_REGISTER_READ, uint64_t chunk, uint64_t out[2]) SLEEP_NOT_NULL;
+
+/* Reads the Node that a chunk is, likewise, with parts of the chunk. Refusals: 2 to 6, 9, 18, 10, and then 15 at the chunk's leaf. */
+sleep_node_read sleep_node_of(SLEEP_REGISTER_READ, uint64_t chunk) SLEEP_NOT_NULL;
+
+/* Seeks a path: the highest chunk number from 1 up whose Node has a path of the same bytes, or none. Chunk 0 as a Header, and then the records from
+ * the latest down to the one found, are each read as sleep_read does and judged, and the first failure is the answer; what lies below the one found
+ * isn't looked at. An empty register has none. Any path may be sought. Refusals: 2 to 6, and then of each chunk 18, 10 and 15. */
+sleep_found sleep_find(SLEEP_REGISTER_READ, const uint8_t *path, size_t path_length) SLEEP_NOT_NULL;
+
 /* EMPTY BUFFERS
  *   The archive's own calls take no NULL, even where a length is 0. So from here on, in C and C++, the name of each call stands for an inline
  *   front, sleep_.._front, which looks at the lengths: for an empty buffer it hands on a pointer that is not NULL, and everything else as it
@@ -496,6 +603,36 @@ static inline sleep_serving sleep_serve_front(uint64_t table[161], SLEEP_ARCHIVE
                        SLEEP_LENT(ctree), SLEEP_LENT(csignatures), SLEEP_LENT(cbitfield), SLEEP_LENT(cdata), cn, cs, csize, out);
 }
 
+static inline sleep_answer sleep_write_header_front(const uint8_t *content, size_t content_length, uint8_t *out, size_t out_length,
+                                                    uint64_t *length) {
+    return sleep_write_header(SLEEP_LENT(content), SLEEP_LENT(out), length);
+}
+
+static inline sleep_answer sleep_write_node_front(const uint8_t *bytes, size_t bytes_length, sleep_node node, uint8_t *out, size_t out_length,
+                                                  uint64_t *length) {
+    return sleep_write_node(SLEEP_LENT(bytes), node, SLEEP_LENT(out), length);
+}
+
+static inline sleep_answer sleep_read_header_front(const uint8_t *bytes, size_t bytes_length, uint64_t out[2]) {
+    return sleep_read_header(SLEEP_LENT(bytes), out);
+}
+
+static inline sleep_node_read sleep_read_node_front(const uint8_t *bytes, size_t bytes_length) {
+    return sleep_read_node(SLEEP_LENT(bytes));
+}
+
+static inline sleep_answer sleep_header_of_front(SLEEP_REGISTER_READ, uint64_t chunk, uint64_t out[2]) {
+    return sleep_header_of(SLEEP_REGISTER_LENT, chunk, out);
+}
+
+static inline sleep_node_read sleep_node_of_front(SLEEP_REGISTER_READ, uint64_t chunk) {
+    return sleep_node_of(SLEEP_REGISTER_LENT, chunk);
+}
+
+static inline sleep_found sleep_find_front(SLEEP_REGISTER_READ, const uint8_t *path, size_t path_length) {
+    return sleep_find(SLEEP_REGISTER_LENT, SLEEP_LENT(path));
+}
+
 #undef SLEEP_REGISTER_LENT
 #undef SLEEP_LENT
 #define sleep_hash sleep_hash_front
@@ -527,6 +664,13 @@ static inline sleep_serving sleep_serve_front(uint64_t table[161], SLEEP_ARCHIVE
 #define sleep_fresh sleep_fresh_front
 #define sleep_enter sleep_enter_front
 #define sleep_serve sleep_serve_front
+#define sleep_write_header sleep_write_header_front
+#define sleep_write_node sleep_write_node_front
+#define sleep_read_header sleep_read_header_front
+#define sleep_read_node sleep_read_node_front
+#define sleep_header_of sleep_header_of_front
+#define sleep_node_of sleep_node_of_front
+#define sleep_find sleep_find_front
 
 #ifdef __cplusplus
 }

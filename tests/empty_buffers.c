@@ -70,6 +70,10 @@ static uint64_t serve(lent r, int name) {
 }
 static uint64_t serve_metadata(lent r) { return serve(r, SLEEP_METADATA); }
 static uint64_t serve_content(lent r) { return serve(r, SLEEP_CONTENT); }
+static uint64_t header_of(lent r) { uint64_t out[2]; return sleep_header_of(REGISTER(r), 0, out).number; }
+static uint64_t node_of(lent r) { return sleep_node_of(REGISTER(r), 2).answer.number; }
+static uint64_t find(lent r) { return sleep_find(REGISTER(r), (const uint8_t *)"/a", 2).answer.number; }
+static uint64_t find_nothing(lent r) { return sleep_find(REGISTER(r), NULL, 0).answer.number; }
 static uint64_t compare_first(lent r) { lent b = empty_chunks(3); return sleep_compare(REGISTER(r), REGISTER(b)).outcome; }
 static uint64_t compare_second(lent r) { lent a = empty_chunks(3); return sleep_compare(REGISTER(a), REGISTER(r)).outcome; }
 
@@ -99,6 +103,7 @@ static void each_buffer(const char *name, uint64_t (*call)(lent), uint64_t witho
 int main(void) {
     uint8_t digest[64], again[32];
     uint64_t out[2], needed[SLEEP_NEEDS_NUMBERS];
+    sleep_node node = {0};
     lent r, nothing = {{NULL, NULL, NULL, NULL}, {0, 0, 0, 0}, 0, 0, 0};
     static const uint8_t of_nothing[4] = {0x0e, 0x57, 0x51, 0xc0}; /* BLAKE2b-256 of the empty message begins so */
 
@@ -137,6 +142,10 @@ int main(void) {
     each_buffer("serve, content", serve_content, 4, 0);
     each_buffer("make_packet", make, 4, 0);
     each_buffer("make_packet in no room", make_in_nothing, 4, 14);
+    each_buffer("header_of", header_of, 4, 15);
+    each_buffer("node_of", node_of, 4, 15);
+    each_buffer("find", find, 4, 15);
+    each_buffer("find of no path", find_nothing, 4, 15);
     each_buffer("compare, the first", compare_first, SLEEP_FIRST_REFUSED, SLEEP_EQUAL);
     each_buffer("compare, the second", compare_second, SLEEP_SECOND_REFUSED, SLEEP_EQUAL);
     expect("all four", 0, start(nothing) + audit(nothing) + append(nothing), 14 + 4 + 4);
@@ -157,6 +166,16 @@ int main(void) {
     expect("needs", 0, needed[SLEEP_NEEDS_TREE], 32 + 40 * 5);
     expect("needs", 0, needed[SLEEP_NEEDS_RUNS], 1);
     expect("needs beyond the size", 0, sleep_needs(0, 1, NULL, 0, needed).number, 9);
+    expect("write_header", 0, sleep_write_header(NULL, 0, packet, sizeof packet, out).number, 15);
+    expect("write_header in no room", 0, sleep_write_header(root, sizeof root, NULL, 0, out).number, 14);
+    expect("read_header", 0, sleep_read_header(NULL, 0, out).number, 15);
+    expect("read_node", 0, sleep_read_node(NULL, 0).answer.number, 15);
+    expect("write_node", 0, sleep_write_node(NULL, 0, node, packet, sizeof packet, out).number, 15);
+    node.path.length = 1;
+    node.trie.given = 1;
+    expect("write_node with an empty trie", 0, sleep_write_node((const uint8_t *)"/", 1, node, packet, sizeof packet, out).number, 0);
+    expect("write_node with an empty trie", 0, (uint64_t)memcmp(packet, "\n\1/\x1a", 5), 0);
+    expect("write_node in no room", 0, sleep_write_node((const uint8_t *)"/", 1, node, NULL, 0, out).number, 14);
     printf("empty buffers: %" PRIu64 " answers as expected\n", tried);
     return 0;
 }

@@ -20,6 +20,22 @@ class Serving(ctypes.Structure):
     _fields_ = [('served', NUMBER), ('station', NUMBER), ('name', NUMBER), ('chunk', NUMBER), ('answer', Answer)]
 
 
+class Fields(ctypes.Structure):
+    """A sleep_node, as its 67 numbers."""
+    _fields_ = [('numbers', NUMBER * 67)]
+
+    def words(self):
+        return (self,)
+
+
+class NodeRead(ctypes.Structure):
+    _fields_ = [('answer', Answer), ('node', Fields)]
+
+
+class Found(ctypes.Structure):
+    _fields_ = [('found', NUMBER), ('chunk', NUMBER), ('answer', Answer)]
+
+
 def numbers(*values):
     """Numbers as a C caller finds them in memory."""
     return b''.join(value.to_bytes(8, sys.byteorder) for value in values)
@@ -79,9 +95,9 @@ class Library:
         self.c = ctypes.CDLL(path)
 
     def call(self, name, given, gives=Answer):
-        """The bytes of what the call answers by value. `given` are buffers and numbers."""
+        """The bytes of what the call answers by value. `given` are buffers, numbers and fields."""
         function = getattr(self.c, 'sleep_' + name)
         function.restype = gives
-        words = [word for one in given for word in (one.words() if isinstance(one, Buffer) else (NUMBER(one),))]
+        words = [word for one in given for word in (one.words() if isinstance(one, (Buffer, Fields)) else (NUMBER(one),))]
         said = function(*words)
         return numbers(said) if gives is NUMBER else bytes(said) if gives else b''

@@ -18,6 +18,8 @@ static uint64_t n, s, size;
 
 static uint8_t chunk[SLEEP_LONGEST_CHUNK], packet[SLEEP_LONGEST_CHUNK + SLEEP_PACKET_EXTRA], root[32], digest[64];
 static uint64_t chunk_length, sought, packet_length, out[2], number, outcome, lengths[SLEEP_MOST_LISTED], listed, needed[SLEEP_NEEDS_NUMBERS], table[SLEEP_TABLE_NUMBERS];
+static sleep_node node;
+static sleep_node_read read_back;
 
 static void start(void) { number = sleep_start(tree, sizeof tree, signatures, sizeof signatures, bitfield, sizeof bitfield, data, DATA).number; }
 static void hash(void) { number = sleep_hash(64, chunk, 64, chunk, sizeof chunk, digest); }
@@ -47,9 +49,16 @@ static void compare_packets(void) { number = sleep_compare_packets(packet, packe
 static void fresh(void) { number = sleep_fresh(table).number; }
 static void enter(void) { number = sleep_enter(table, sought % 17, SLEEP_CONTENT, sought).number; }
 static void serve(void) { number = sleep_serve(table, REGISTER, REGISTER, out).answer.number; }
+static void write_header(void) { number = sleep_write_header(chunk, SLEEP_CONTENT_BYTES, packet, sizeof packet, &packet_length).number; }
+static void write_node(void) { number = sleep_write_node(chunk, sizeof chunk, node, packet, sizeof packet, &packet_length).number; }
+static void read_header(void) { number = sleep_read_header(packet, packet_length, out).number; }
+static void read_node(void) { number = (read_back = sleep_read_node(packet, packet_length)).answer.number; }
+static void header_of(void) { number = sleep_header_of(REGISTER, sought, out).number; }
+static void node_of(void) { number = (read_back = sleep_node_of(REGISTER, sought)).answer.number; }
+static void find(void) { number = sleep_find(REGISTER, chunk, 3).answer.number; }
 static void compare(void) { outcome = sleep_compare(REGISTER, REGISTER).outcome; }
 
-enum { START, HASH, HASH_PARTS, LABEL, APPEND, APPEND_LIST, PREVIEW, STORE_SIGNATURE, ROOT_HASH, OLD_ROOT, AUDIT, PLACE, BYTE, READ, RELEASE, SEARCH, SHORT_PLACE, SHORT_BYTE, SHORT_SEARCH, MAKE_PACKET, CHECK_PACKET, COMPARE_PACKETS, COMPARE, GROUP, UNGROUP, NEEDS, FRESH, ENTER, SERVE, CALLS };
+enum { START, HASH, HASH_PARTS, LABEL, APPEND, APPEND_LIST, PREVIEW, STORE_SIGNATURE, ROOT_HASH, OLD_ROOT, AUDIT, PLACE, BYTE, READ, RELEASE, SEARCH, SHORT_PLACE, SHORT_BYTE, SHORT_SEARCH, MAKE_PACKET, CHECK_PACKET, COMPARE_PACKETS, COMPARE, GROUP, UNGROUP, NEEDS, FRESH, ENTER, SERVE, WRITE_HEADER, WRITE_NODE, READ_HEADER, READ_NODE, HEADER_OF, NODE_OF, FIND, CALLS };
 
 static struct {
     const char *name;
@@ -85,6 +94,13 @@ static struct {
     {"sleep_fresh", fresh, SLEEP_STACK_FRESH, 0},
     {"sleep_enter", enter, SLEEP_STACK_ENTER, 0},
     {"sleep_serve", serve, SLEEP_STACK_SERVE, 0},
+    {"sleep_write_header", write_header, SLEEP_STACK_WRITE_HEADER, 0},
+    {"sleep_write_node", write_node, SLEEP_STACK_WRITE_NODE, 0},
+    {"sleep_read_header", read_header, SLEEP_STACK_READ_HEADER, 0},
+    {"sleep_read_node", read_node, SLEEP_STACK_READ_NODE, 0},
+    {"sleep_header_of", header_of, SLEEP_STACK_HEADER_OF, 0},
+    {"sleep_node_of", node_of, SLEEP_STACK_NODE_OF, 0},
+    {"sleep_find", find, SLEEP_STACK_FIND, 0},
 };
 
 /* One call on the painted stack. The frame that makes the call counts too, so the figure is never too low. */
@@ -235,6 +251,9 @@ static void measure_depth(void) {
     measure(FRESH, 0);
     measure(ENTER, 0);
     measure(SERVE, 0);
+    measure(HEADER_OF, 15);
+    measure(NODE_OF, 15);
+    measure(FIND, 15);
     measure(MAKE_PACKET, 0);
     measure(CHECK_PACKET, 13);
     measure(APPEND, 2);
@@ -256,8 +275,39 @@ static void measure_depth(void) {
     measure(APPEND, 0);
 }
 
+/* The largest number that a field may have. */
+static sleep_number most(uint64_t value) { return (sleep_number){1, value}; }
+
+/* The longest Node, whose parts begin with the chunk's first byte, a slash, and one past a bound; then a register of a Header and such Nodes. */
+static void measure_records(void) {
+    const sleep_number word = most(UINT32_MAX), longest = most(UINT64_MAX);
+    chunk[0] = '/';
+    node = (sleep_node){{0, 255}, {1, word, word, word, longest, longest, longest, longest, longest, longest}, {1, {0, 1024}}, 8, {{{0}, {0}}}, longest};
+    for (int k = 0; k < 8; k++) node.writers[k] = (sleep_writer){{0, 32}, {1, {0, 16}}};
+    measure(START, 0);
+    for (n = s = size = 0; n < 4;) {
+        measure(n == 0 ? WRITE_HEADER : WRITE_NODE, 0);
+        measure(READ_HEADER, n == 0 ? 0 : 15);
+        measure(READ_NODE, n == 0 ? 15 : 0);
+        sleep_append(REGISTER, packet, packet_length, root);
+        n += 1;
+        size += packet_length;
+        sleep_store_signature(REGISTER, digest);
+        s += 1;
+        for (sought = 0; sought < n; sought++) {
+            measure(HEADER_OF, sought == 0 ? 0 : 15);
+            measure(NODE_OF, sought == 0 ? 15 : 0);
+        }
+        measure(FIND, 0);
+    }
+    node.writers[7].key.length = 33;
+    measure(WRITE_NODE, 15);
+    n = s = size = 0;
+}
+
 int main(void) {
     int failed = 0;
+    measure_records();
     measure(HASH, 0);
     measure(HASH_PARTS, 0);
     measure(LABEL, 0);

@@ -6,6 +6,7 @@ import sys
 
 sys.dont_write_bytecode = True  # nothing generated lies beside the sources
 from needs import completed, needs
+from record_model import *
 from rfc7693 import blocks_of
 from samples import grow, sampled
 from sleep_model import *
@@ -441,7 +442,117 @@ def walks():
     yield 'second refused', compare(register_of([]), bad), refused(10, ('tree', 0)) + ('second',)
 
 
+def loose_varint(data, at):
+    """A number of at most 10 bytes modulo 2^64, in any form, and where it ends."""
+    number = 0
+    for k in range(10):
+        number += data[at + k] % 128 << 7 * k
+        if data[at + k] < 128:
+            return number % 2 ** 64, at + k + 1
+    raise IndexError
+
+
+def loose_fields(data):
+    """Protocol buffers without the bounds: field numbers and values, those of an unknown wire type left out."""
+    at = 0
+    while at < len(data):
+        tag, at = loose_varint(data, at)
+        value, end = loose_varint(data, at) if tag % 8 in (NUMBER, PART) else (None, at + {1: 8, 5: 4}.get(tag % 8, 0))
+        if tag % 8 == PART:
+            end, value = end + value, data[end:end + value]
+        if end > len(data):
+            raise IndexError
+        yield tag // 8, value
+        at = end
+
+
+def loose_node(data):
+    """The node that a reader makes of the bytes who takes fields in any order and form, the last of each, or None."""
+    try:
+        found = list(loose_fields(data))
+        last = dict(found)
+        stat = None if 2 not in last else Stat(*map(dict(loose_fields(last[2])).get, range(1, 10)))
+        writers = [Writer(one.get(1), one.get(2)) for one in (dict(loose_fields(value)) for number, value in found if number == 4)]
+        node = Node(last.get(1), stat, last.get(3), writers, last.get(5))
+        return node if node_fits(node) else None
+    except (IndexError, TypeError):
+        return None
+
+
+def some_nodes():
+    """Every field absent, present and empty or 0, and present with something in it."""
+    key, other = bytes(range(32)), bytes(range(100, 132))
+    for path in (b'/', b'/a', b'/' * 255):
+        for stat in (None, Stat(0), Stat(1, 2, 3, 4, 5, 6, 7, 8, 9)):
+            for trie in (None, b'', b'\1\0'):
+                for writers in ([], [Writer(key)], [Writer(key, b''), Writer(other, b'r' * 16)], [Writer(other), Writer(key)]):
+                    for sequence in (None, 0, 127, 2 ** 64 - 1):
+                        yield Node(path, stat, trie, writers, sequence)
+    for mask in range(256):
+        yield Node(b'/a', Stat(2 ** 32 - 1, *((300 >> 9 * (k < 2)) * (k + 1) if mask >> k & 1 else None for k in range(8))))
+
+
+def records():
+    """What was written is read again, and no two nodes have the same bytes."""
+    seen = {}
+    for node in some_nodes():
+        out = bytearray(b'\xa5' * 700)
+        count = write_node(node, out)[1]
+        yield 'write', (bytes(out[:count]), out[count:]), (node_bytes(node), b'\xa5' * (700 - count))
+        yield 'read what was written', read_node(out[:count]), ('done', node)
+        yield 'no room', write_node(node, bytearray(count - 1)), refused(14)
+        yield 'one node to these bytes', seen.setdefault(bytes(out[:count]), node), node
+    for content in (bytes(32), bytes(range(32))):
+        yield 'header', read_header(header_bytes(content)), ('done', content)
+
+
+def spoilt_bytes(data):
+    for at in range(len(data)):
+        before, byte, behind = data[:at], data[at], data[at + 1:]
+        yield from (before + bytes([byte ^ 1 << k]) + behind for k in range(8))
+        yield from (before, before + behind, before + bytes([byte, byte]) + behind, before + b'\0' + data[at:], before + b'\x80' + data[at:])
+
+
+def pieced_together():
+    """Up to three fields in every order, good ones and others."""
+    key = written(1, bytes(32))
+    parts = [written(1, b'/a'), written(1, b'b'), written(2, b'\x08\1'), written(2, b'\x08\1\x48\0'), written(2, b'\x10\1'), written(3, b''),
+             written(4, key), written(4, key + written(2, b'')), written(4, b''), written(5, 0), b'\x28\x80\0', written(6, 1), b'\x0d/aaa', b'\0']
+    for first in parts:
+        for second in parts:
+            yield from (first, first + second)
+            yield from (first + second + third for third in parts)
+
+
+def accepted_records():
+    """Bytes are read exactly where a loose reader's node is within the bounds and is written with these very bytes."""
+    key = bytes(range(32))
+    nodes = Node(b'/ab'), Node(b'/a', Stat(5, uid=300, ctime=2 ** 64 - 1), b'xy', [Writer(key, b'r'), Writer(key)], 128)
+    spoilt = [data for node in nodes for data in spoilt_bytes(node_bytes(node))]
+    for data in [*map(node_bytes, nodes), *spoilt, *pieced_together()]:
+        node = loose_node(data)
+        expected = ('done', node) if node is not None and node_bytes(node) == data else refused(15)
+        yield 'read ' + data.hex(), read_node(data), expected
+    whole = header_bytes(key)
+    for data in [whole, *spoilt_bytes(whole)]:
+        yield 'read header', read_header(data), ('done', data[14:]) if len(data) == 46 and data[:14] == whole[:14] else refused(15)
+
+
+def paths():
+    """On accepted registers of such records the highest number with the path is found."""
+    names = b'/a', b'/a/b', b'/b'
+    for F in (node_hash, weak):
+        for k in range(60):
+            chosen = [names[k // 3 ** j % 3] for j in range(k % 6)]
+            r = register_of([header_bytes(bytes(32))] + [node_bytes(Node(name, sequence=j)) for j, name in enumerate(chosen)], F)
+            yield 'audit', audit(r, F), ('done',)
+            for name in (*names, b'/c', b''):
+                highest = max((j + 1 for j, one in enumerate(chosen) if one == name), default=None)
+                yield 'find', find(r, name, F), ('done', highest)
+    yield 'find in nothing', find(register_of([]), b'/a'), ('done', None)
+
+
 if __name__ == '__main__':
-    groups = (agreement, borders, refusals, jobs, lists, tables, fairness, pieces, searches, short_ways, short_refusals, walks, old_roots,
-              packet_walks, weak_rows)
+    groups = (agreement, borders, refusals, jobs, lists, tables, fairness, pieces, searches, short_ways, short_refusals, records, accepted_records, paths,
+              walks, old_roots, packet_walks, weak_rows)
     print('model: %d more cases agree' % sum(check(*case) for cases in groups for case in cases()))

@@ -1,3 +1,4 @@
 -- Laws on the two ways that a call's answer goes.
 pub mod Laws
 pub mod Turns
+pub mod Told

@@ -2,3 +2,4 @@
 pub mod Number
 pub mod Encoding
 pub mod Waiting
+pub mod Metadata

@@ -6,6 +6,7 @@ pub mod grouping;
 pub mod hashing;
 pub mod jobs;
 pub mod lookups;
+pub mod metadata;
 pub mod packets;
 pub mod registers;
 pub mod short;

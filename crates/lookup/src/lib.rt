@@ -12,4 +12,5 @@ pub use reading::Name;
 pub use reading::Verified;
 pub use reading::read;
 pub use reading::read_answer;
+pub use reading::read_one;
 pub use reading::verify;

@@ -9,3 +9,4 @@ pub mod Reading
 pub mod Verdicts
 pub mod Writing
 pub mod UsedBytes
+pub mod Records

@@ -1,2 +1,3 @@
 -- What no call looks at, as a statement.
 pub mod UsedBytes
+pub mod Records

@@ -1,0 +1,5 @@
+-- Varints and fields, byte by byte.
+pub mod Varints
+pub mod Reading
+pub mod Fields
+pub mod Inner

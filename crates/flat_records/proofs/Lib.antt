@@ -1,0 +1,2 @@
+-- The fields of a Node as numbers, and back.
+pub mod Flat

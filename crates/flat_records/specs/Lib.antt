@@ -1,0 +1,2 @@
+-- The fields of a Node as numbers alone.
+pub mod Flat

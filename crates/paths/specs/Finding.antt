@@ -1,0 +1,57 @@
+-- "Finding a path gives the highest chunk number from 1 up whose path has the same bytes, or none."
+use Prim.Native.Nat.{ℕ, zero, suc}
+use mathlib.Core.Path.{_≡_}
+use mathlib.Core.List.{List}
+use Rattle.counts.specs.Verdict.{Spot, Verdict, done, refused}
+use Rattle.counts.specs.Said.{refusalOf, spotOf}
+use Rattle.files.specs.Belongs.{Register}
+use Rattle.checks.specs.Checks.{judged, registerChecks}
+use Rattle.records.specs.declared.headers.HeaderRead.{HeaderRead}
+use Rattle.records.specs.declared.headers.HeaderRead.the-variants.{Refused as NoHeader, Content}
+use Rattle.paths.specs.Chunks.{HeaderAs, PathAs}
+use Rattle.paths.specs.declared.chunks.Compared.{Compared}
+use Rattle.paths.specs.declared.chunks.Compared.the-variants.{Refused as NotCompared, Same, Other}
+use Rattle.paths.specs.declared.finding.Found.{Found}
+use Rattle.paths.specs.declared.finding.Found.the-variants.{Refused as NotFound, At, Nowhere}
+
+-- what a search ends in: a failure, a chunk, or none
+pub data Outcome : Type 0 where
+  failed : ℕ → Spot → Outcome
+  at : ℕ → Outcome
+  nowhere : Outcome
+
+abbrev pub foundOf : Found → Outcome
+foundOf (NotFound x) = failed (x .number) (spotOf (x .place))
+foundOf (At c) = at (c .0)
+foundOf Nowhere = nowhere
+
+-- "the records from the latest down to the one found, are each read and judged in turn, and the first failure is the answer": what is said of
+-- chunk c decides whether those below it are looked at, whose outcome `below` tells
+abbrev pub Goes : ℕ → Compared → Type 0 → Outcome → Type 0
+Goes c (NotCompared x) below o = o ≡ failed (x .number) (spotOf (x .place))
+Goes c Same below o = o ≡ at c
+Goes c Other below o = below
+
+module _ (F : List ℕ → List ℕ) (r : Register) (path : List ℕ) where
+  -- among the chunks 1 to k
+  unfoldable pub Finds : ℕ → Outcome → Type 0
+  Finds zero o = o ≡ nowhere
+  Finds (suc k) o = (x : Compared) × (PathAs F r (suc k) path x × Goes (suc k) x (Finds k o) o)
+
+  -- chunk 0 comes first
+  abbrev pub AfterHeader : HeaderRead → Type 0 → Outcome → Type 0
+  AfterHeader (NoHeader x) below o = o ≡ failed (x .number) (spotOf (x .place))
+  AfterHeader (Content p) below o = below
+
+  -- "An empty register gives none."
+  abbrev pub FindsIn : ℕ → Outcome → Type 0
+  FindsIn zero o = o ≡ nowhere
+  FindsIn (suc k) o = (h : HeaderRead) × (HeaderAs F r 0 h × AfterHeader h (Finds k o) o)
+
+  -- numbers 2 to 6 come first
+  abbrev pub Checked : Verdict → Outcome → Type 0
+  Checked (refused m spot) o = o ≡ failed m spot
+  Checked done o = FindsIn (r .n) o
+
+  abbrev pub FindAs : Outcome → Type 0
+  FindAs o = Checked (judged (registerChecks r) done) o

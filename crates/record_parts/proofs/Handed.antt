@@ -1,0 +1,185 @@
+-- A part that is handed back is that of the one record which the bytes are. Assumes nothing.
+use Prim.Native.Nat.{ℕ, _+_, _-_, _<_, _≤_}
+use mathlib.Core.Path.{_≡_, refl, sym, ap, _∙_, subst}
+use mathlib.Core.Bool.{Bool, true, false, cond}
+use mathlib.Core.Logic.{⊎-elim}
+use mathlib.Core.List.{List, [], _++_}
+use mathlib.Core.Option.{some}
+use native.Mathlib.Omega.{arith}
+use native.Mathlib.Nat.{zero-add}
+use lib.Dec.{ltb}
+use lib.ListN.{length, getD, take, drop, List·getD-eq-default}
+use borrow.Author.Tests.{lt-ltb, le-ltb}
+use Rattle.counts.specs.declared.Answer.{Answer}
+use Rattle.counts.specs.declared.Answer.the-variants.{Done, Refused}
+use Rattle.counts.specs.declared.Refusal.{Refusal}
+use Rattle.sequences.specs.Lists.{part, run}
+use Rattle.sequences.proofs.Lists.{getD-run, length-run}
+use Rattle.fields.specs.Varints.{digits}
+use Rattle.fields.specs.Fields.{partField}
+use Rattle.fields.specs.Inner.{bytesOf, partOf, BytesInside}
+use Rattle.fields.proofs.Digits.{two}
+use Rattle.fields.specs.declared.rows.Part.{Part}
+use Rattle.fields.specs.declared.rows.Bytes.{Bytes}
+use Rattle.fields.specs.declared.rows.Bytes.the-variants.{Absent, Given}
+use Rattle.records.specs.Records.{Header, HeaderWithin, headerBytes, Writer, Node, nodeBytes}
+use Rattle.records.specs.Theorems.{Accepted, Rejected}
+use Rattle.records.specs.Calls.{HeaderReadAs, headerOf}
+use Rattle.records.specs.declared.headers.HeaderRead.{HeaderRead}
+use Rattle.records.specs.declared.headers.HeaderRead.the-variants.{Refused as NoHeader, Content}
+use Rattle.records.proofs.Unique.{header-unique, node-unique}
+use Rattle.nodes.specs.Calls.{writerOf, writersOf, writerAt, noWriter, noWriters, nodeOf, noNode, WriterInside, WritersInside, NodeInside, NodeReadAs}
+use Rattle.nodes.specs.declared.writers.Writer.{Writer as CodeWriter}
+use Rattle.nodes.specs.declared.writers.Writers.{Writers}
+use Rattle.nodes.specs.declared.reading.Node.{Node as CodeNode}
+use Rattle.record_parts.specs.Parts.{orNothing, nobody, fieldOf, contentOf, HeaderHanded, NodeHanded, NothingIsNone}
+use Rattle.record_parts.specs.Chosen.{writerIn, chosenOf}
+use Rattle.record_parts.specs.declared.Field.{Field}
+use Rattle.record_parts.specs.declared.Field.the-variants.{Path, Trie, Key, Permission}
+
+-- ---- a part of the bytes lent
+
+pub part-inside : (d : List ℕ) (o : Bytes) (p : Part) → o ≡ Given p → BytesInside d o → p .at + p .len ≤ length d
+part-inside d o p e h = subst (BytesInside d) e h
+
+pub part-absent : (d : List ℕ) (o : Bytes) → o ≡ Absent → [] ≡ orNothing (bytesOf d o)
+part-absent d o e = sym (ap (λ (x : Bytes). orNothing (bytesOf d x)) e)
+
+pub part-given : (d : List ℕ) (o : Bytes) (p : Part) → o ≡ Given p → take (p .at + p .len - p .at) (drop (p .at) d) ≡ orNothing (bytesOf d o)
+unfolding part
+part-given d o p e =
+    let k : p .at + p .len - p .at ≡ p .len = omega arith in
+    ap (λ (m : ℕ). take m (drop (p .at) d)) k ∙ sym (ap (λ (x : Bytes). orNothing (bytesOf d x)) e)
+
+-- ---- the Writer at a place
+
+pub writer-there : (ws : Writers) (j : ℕ) → j < ws .count → j < 8 → writerAt ws j ≡ writerIn ws j
+unfolding writerIn
+writer-there ws j h k = simp (lt-ltb j (ws .count) h, lt-ltb j 8 k)
+
+pub writer-none : (ws : Writers) (j : ℕ) → ws .count ≤ j → noWriter ≡ writerIn ws j
+unfolding writerIn
+writer-none ws j h = simp (le-ltb j (ws .count) h)
+
+pub writer-beyond : (ws : Writers) (j : ℕ) → j < ws .count → 8 ≤ j → noWriter ≡ writerIn ws j
+unfolding writerIn
+writer-beyond ws j h k = simp (lt-ltb j (ws .count) h, le-ltb j 8 k)
+
+-- ---- where a part of a Node lies, from the case that it is
+
+pub chosen-as : (n : CodeNode) (f g : Field) → f ≡ g → chosenOf n g ≡ chosenOf n f
+chosen-as n f g e = ap (chosenOf n) (sym e)
+
+pub chosen-key : (n : CodeNode) (f : Field) (j : ℕ) (w : CodeWriter) → f ≡ Key j → w ≡ writerIn (n .writers) j → Given (w .key) ≡ chosenOf n f
+chosen-key n f j w e q = ap (λ (x : CodeWriter). Given (x .key)) q ∙ chosen-as n f (Key j) e
+
+pub chosen-permission : (n : CodeNode) (f : Field) (j : ℕ) (w : CodeWriter) → f ≡ Permission j → w ≡ writerIn (n .writers) j → w .permission ≡ chosenOf n f
+chosen-permission n f j w e q = ap (λ (x : CodeWriter). x .permission) q ∙ chosen-as n f (Permission j) e
+
+-- ---- of the bytes d
+
+module _ (d : List ℕ) where
+  nobody-of : writerOf d noWriter ≡ nobody
+  unfolding part
+  nobody-of = refl
+
+  abbrev each : Writers → ℕ → Writer
+  each ws i = writerOf d (writerAt ws i)
+
+  writer-in : (ws : Writers) → ws .count ≤ 8 → (j : ℕ) → writerOf d (writerIn ws j) ≡ getD (writersOf d ws) j nobody
+  writer-in ws few j = ⊎-elim there behind (two j (ws .count))
+    where
+      there : j < ws .count → writerOf d (writerIn ws j) ≡ getD (writersOf d ws) j nobody
+      there h =
+          ap (writerOf d) (sym (writer-there ws j h (omega arith)))
+          ∙ sym (getD-run (each ws) 0 (ws .count) j nobody h ∙ ap (each ws) (zero-add j))
+
+      behind : ws .count ≤ j → writerOf d (writerIn ws j) ≡ getD (writersOf d ws) j nobody
+      behind h =
+          ap (writerOf d) (sym (writer-none ws j h)) ∙ nobody-of
+          ∙ sym (List·getD-eq-default (run (each ws) 0 (ws .count)) nobody (omega (arith, length-run (each ws) 0 (ws .count))))
+
+  writer-inside : (ws : Writers) → WritersInside d ws → (j : ℕ) → WriterInside d (writerIn ws j)
+  writer-inside ws i j =
+      ⊎-elim (λ (h : j < ws .count). subst (WriterInside d) (writer-there ws j h (omega (arith, i .count))) (i .each j h))
+      (λ (h : ws .count ≤ j). subst (WriterInside d) (writer-none ws j h) (record { key = omega arith; permission = tt })) (two j (ws .count))
+
+  -- ---- the part of a Node
+
+  field-inside : (n : CodeNode) → NodeInside d n → (f : Field) → BytesInside d (chosenOf n f)
+  field-inside n i Path = i .path
+  field-inside n i Trie = i .trie
+  field-inside n i (Key j) = writer-inside (n .writers) (i .writers) j .key
+  field-inside n i (Permission j) = writer-inside (n .writers) (i .writers) j .permission
+
+  field-bytes : (n : CodeNode) → NodeInside d n → (f : Field) → orNothing (bytesOf d (chosenOf n f)) ≡ fieldOf f (nodeOf d n)
+  field-bytes n i Path = refl
+  field-bytes n i Trie = refl
+  field-bytes n i (Key j) = ap (λ (w : Writer). w .key) (writer-in (n .writers) (i .writers .count) j)
+  field-bytes n i (Permission j) = ap (λ (w : Writer). orNothing (w .permission)) (writer-in (n .writers) (i .writers .count) j)
+
+  no-inside : NodeInside d noNode
+  no-inside =
+      record { path = omega arith; trie = tt; writers = record { count = omega arith; each = λ j h. absurd (omega arith) } }
+
+  no-bytes : (f : Field) → orNothing (bytesOf d (chosenOf noNode f)) ≡ []
+  unfolding part run
+  no-bytes f = field-bytes noNode no-inside f ∙ by f
+    where
+      by : (g : Field) → fieldOf g (nodeOf d noNode) ≡ []
+      by Path = refl
+      by Trie = refl
+      by (Key j) = refl
+      by (Permission j) = refl
+
+  read-inside : (a : Answer) (n : CodeNode) → NodeReadAs d a n → NodeInside d n
+  read-inside Done n h = h .inside
+  read-inside (Refused x) n h = subst (NodeInside d) (sym (h .0 .1)) no-inside
+
+  pub chosen-inside : (a : Answer) (n : CodeNode) → NodeReadAs d a n → (f : Field) (o : Bytes) → o ≡ chosenOf n f → BytesInside d o
+  chosen-inside a n h f o e = subst (BytesInside d) (sym e) (field-inside n (read-inside a n h) f)
+
+  handed : (a : Answer) (n : CodeNode) → NodeReadAs d a n → (f : Field) → NodeHanded f d (orNothing (bytesOf d (chosenOf n f)))
+  handed Done n h f =
+      record {
+        given = λ m q.
+            field-bytes n (h .inside) f
+            ∙ ap (fieldOf f) (node-unique (nodeOf d n) m (h .accepted .within) (q .within) (h .accepted .bytes ∙ sym (q .bytes)));
+        nothing = λ q. absurd (q (nodeOf d n) (h .accepted .within) (h .accepted .bytes));
+      }
+  handed (Refused x) n h f =
+      record {
+        given = λ m q. absurd (h .1 m (q .within) (q .bytes));
+        nothing = λ q. ap (λ (k : CodeNode). orNothing (bytesOf d (chosenOf k f))) (h .0 .1) ∙ no-bytes f;
+      }
+
+  pub node-handed : (a : Answer) (n : CodeNode) → NodeReadAs d a n → (f : Field) (o : Bytes) → o ≡ chosenOf n f → (r : List ℕ) → r ≡ orNothing (bytesOf d o) → NodeHanded f d r
+  node-handed a n h f o e r q = subst (NodeHanded f d) (sym (q ∙ ap (λ (x : Bytes). orNothing (bytesOf d x)) e)) (handed a n h f)
+
+  -- ---- the content of a Header
+
+  pub header-none : (x : HeaderRead) (y : Refusal) → x ≡ NoHeader y → HeaderReadAs d x → (r : List ℕ) → r ≡ [] → HeaderHanded d r
+  header-none x y e h r q =
+      let g = subst (HeaderReadAs d) e h in
+      record { given = λ m a. absurd (g .1 m (a .within) (a .bytes)); nothing = λ a. q }
+
+  pub header-inside : (x : HeaderRead) (p : Part) → x ≡ Content p → HeaderReadAs d x → p .at + p .len ≤ length d
+  header-inside x p e h = subst (HeaderReadAs d) e h .inside
+
+  pub header-handed : (x : HeaderRead) (p : Part) → x ≡ Content p → HeaderReadAs d x → (r : List ℕ) → r ≡ partOf d p → HeaderHanded d r
+  header-handed x p e h r q =
+      let g = subst (HeaderReadAs d) e h .accepted in
+      record {
+        given = λ m a. q ∙ ap contentOf (header-unique (headerOf (partOf d p)) m (g .within) (a .within) (g .bytes ∙ sym (a .bytes)));
+        nothing = λ a. absurd (a (headerOf (partOf d p)) (g .within) (g .bytes));
+      }
+
+-- ---- no bytes are no record
+
+begins : (bs t : List ℕ) → partField 1 (some bs) ++ t ≡ [] → ⊥
+unfolding partField digits
+begins bs t e = let z : _≡_ {A = ℕ} 0 1 = cc in omega arith
+
+pub nothing-is-none : NothingIsNone
+unfolding headerBytes nodeBytes
+nothing-is-none = record { header = λ h w e. begins (h .type) _ e; node = λ n w e. begins (n .path) _ e }

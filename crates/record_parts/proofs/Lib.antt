@@ -1,0 +1,2 @@
+-- The laws of the parts that are handed back.
+pub mod Handed

@@ -1,0 +1,21 @@
+-- The part that was chosen, of the Node that was read.
+use Rattle.record_parts.proofs.Handed.{chosen-inside, node-handed}
+use borrow.Author.Needs.{needs}
+use Rattle.record_parts.proofs.node_part.Statement.{statement}
+use Rattle.record_parts.proofs.node_part.Tie as tie
+
+taken-requires : tie.Need-taken-requires
+taken-requires c κs =
+    let read = c .before .before .read-node in
+    let a = c .before .before .before .before .args in
+    chosen-inside (a .bytes .now) (read .result .answer) (read .result .node) (read .ensures) (a .field) (c .chosen .result) (c .chosen .ensures)
+
+returns : tie.Need-returns
+returns c =
+    let read = c .before .before .before .read-node in
+    let a = c .before .before .before .before .before .args in
+    node-handed (a .bytes .now) (read .result .answer) (read .result .node) (read .ensures) (a .field) (c .before .chosen .result) (c .before .chosen .ensures) _
+    (c .taken .ensures)
+
+pub node-part-spec : {M : Type 1} → statement M
+node-part-spec = tie.close (tie.spec (λ c κs. search needs) (λ c κs. search needs) taken-requires returns)

@@ -1,0 +1,147 @@
+// The parts of a record as parts of the bytes lent: of bytes, or of a chunk of a register. Nothing after a refusal, whose number the readers
+// tell (`records::read_header`, `nodes::read_node`, `paths::header_of`, `paths::node_of`), and nothing of a field that is absent, which they
+// tell too.
+use counts::ChunkNumber;
+use fields::Bytes;
+use fields::Part;
+use nodes::Node;
+use nodes::Writer;
+use nodes::Writers;
+use records::HeaderRead;
+ghost use mathlib.Core.Path.{_≡_};
+ghost use Rattle.blake2b.specs.Hash.{nodeHash};
+ghost use Rattle.checks.specs.Given.{registerOf};
+ghost use Rattle.lookup.specs.Read.{readPart};
+ghost use Rattle.fields.specs.Inner.{bytesOf, BytesInside};
+ghost use Rattle.record_parts.specs.Parts.{orNothing, HeaderHanded, NodeHanded};
+ghost use Rattle.record_parts.specs.Chosen.{writerIn, chosenOf};
+
+// A part of a Node; of a Writer's, by its place among them, from 0.
+pub enum Field {
+    Path,
+    Trie,
+    Key(usize),
+    Permission(usize),
+}
+
+// The Writer at a place; nobody behind the last.
+fn writer_in(writers: Writers, place: usize) -> Writer
+    ensures { λ r. ⌜ r ≡ writerIn writers place ⌝ }
+{
+    let count = writers.count;
+    let list = writers.list;
+    if place < count {
+        if place < 8 {
+            return list[place];
+        }
+    }
+    Writer {
+        key: Part { at: 0, len: 0 },
+        permission: Bytes::Absent,
+    }
+}
+
+// Where a part of a Node lies.
+fn chosen(node: Node, field: Field) -> Bytes
+    ensures { λ r. ⌜ r ≡ chosenOf node field ⌝ }
+{
+    let path = node.path;
+    let trie = node.trie;
+    let writers = node.writers;
+    match field {
+        Field::Path => Bytes::Given(path),
+        Field::Trie => trie,
+        Field::Key(place) => {
+            let writer = writer_in(writers, place);
+            let key = writer.key;
+            Bytes::Given(key)
+        }
+        Field::Permission(place) => {
+            let writer = writer_in(writers, place);
+            writer.permission
+        }
+    }
+}
+
+// Inner: the bytes that a part stands for.
+fn taken<'a>(bytes: &'a [u8], part: Bytes) -> &'a [u8]
+    requires { ⌜ BytesInside (now bytes) part ⌝ }
+    ensures { λ r. ⌜ now r ≡ orNothing (bytesOf (now (bytes .entry)) part) ⌝ }
+{
+    match part {
+        Bytes::Absent => &bytes[0..0],
+        Bytes::Given(p) => {
+            let from = p.at;
+            let to = from + p.len;
+            &bytes[from..to]
+        }
+    }
+}
+
+// A part of the Node that bytes are.
+pub fn node_part<'a>(bytes: &'a [u8], field: Field) -> &'a [u8]
+    ensures { λ r. ⌜ NodeHanded field (now (bytes .entry)) (now r) ⌝ }
+{
+    let read = nodes::read_node(bytes);
+    let node = read.node;
+    taken(bytes, chosen(node, field))
+}
+
+// The content bytes of the Header that bytes are.
+pub fn header_content<'a>(bytes: &'a [u8]) -> &'a [u8]
+    ensures { λ r. ⌜ HeaderHanded (now (bytes .entry)) (now r) ⌝ }
+{
+    match records::read_header(bytes) {
+        HeaderRead::Refused(_) => taken(bytes, Bytes::Absent),
+        HeaderRead::Content(part) => taken(bytes, Bytes::Given(part)),
+    }
+}
+
+// A part of the Node that a chunk of a register is.
+pub fn node_part_of<'a>(
+    tree: &[u8],
+    signatures: &[u8],
+    bitfield: &[u8],
+    content: &'a [u8],
+    n: u64,
+    s: u64,
+    size: u64,
+    chunk: ChunkNumber,
+    field: Field,
+) -> &'a [u8]
+    ensures { λ r.
+        ⌜
+        NodeHanded field
+        (readPart nodeHash
+        (registerOf (now (tree .entry)) (now (signatures .entry)) (now (bitfield .entry)) (now (content .entry)) n s size)
+        (chunk .0))
+        (now r)
+        ⌝ }
+{
+    let bytes = lookup::read_one(tree, signatures, bitfield, content, n, s, size, chunk);
+    node_part(bytes, field)
+}
+
+// The content bytes of the Header that a chunk of a register is, as a rule chunk 0.
+pub fn header_content_of<'a>(
+    tree: &[u8],
+    signatures: &[u8],
+    bitfield: &[u8],
+    content: &'a [u8],
+    n: u64,
+    s: u64,
+    size: u64,
+    chunk: ChunkNumber,
+) -> &'a [u8]
+    ensures { λ r.
+        ⌜
+        HeaderHanded
+        (readPart nodeHash
+        (registerOf (now (tree .entry)) (now (signatures .entry)) (now (bitfield .entry)) (now (content .entry)) n s size)
+        (chunk .0))
+        (now r)
+        ⌝ }
+{
+    let bytes = lookup::read_one(tree, signatures, bitfield, content, n, s, size, chunk);
+    header_content(bytes)
+}

@@ -1,0 +1,5 @@
+-- The laws of records, and what they say of the code.
+pub mod Unique
+pub mod Whole
+pub mod Nine
+pub mod Writing

@@ -127,13 +127,13 @@ pub struct Register<'a> {
     pub size: u64,
 }
 
-/// A register's images in buffers of its own. The numbers follow the calls that are done.
+/// A register's images in buffers that can be written: vectors, or what else has bytes of its own. The numbers follow the calls that are done.
 #[derive(Clone, Debug, PartialEq, Eq)]
-pub struct Store {
-    pub tree: Vec<u8>,
-    pub signatures: Vec<u8>,
-    pub bitfield: Vec<u8>,
-    pub data: Vec<u8>,
+pub struct Store<B = Vec<u8>> {
+    pub tree: B,
+    pub signatures: B,
+    pub bitfield: B,
+    pub data: B,
     pub n: u64,
     pub s: u64,
     pub size: u64,
@@ -690,13 +690,15 @@ impl Store {
             size: 0,
         }
     }
+}
 
+impl<B: AsRef<[u8]> + AsMut<[u8]>> Store<B> {
     pub fn register(&self) -> Register<'_> {
         Register {
-            tree: &self.tree,
-            signatures: &self.signatures,
-            bitfield: &self.bitfield,
-            data: &self.data,
+            tree: self.tree.as_ref(),
+            signatures: self.signatures.as_ref(),
+            bitfield: self.bitfield.as_ref(),
+            data: self.data.as_ref(),
             n: self.n,
             s: self.s,
             size: self.size,
@@ -704,7 +706,7 @@ impl Store {
     }
 
     pub fn start(&mut self) -> Result<(), Refusal> {
-        let (t, g, b, d) = (&mut self.tree, &mut self.signatures, &mut self.bitfield, &self.data);
+        let (t, g, b, d) = (self.tree.as_mut(), self.signatures.as_mut(), self.bitfield.as_mut(), self.data.as_ref());
         let (tl, gl, bl) = (t.len(), g.len(), b.len());
         unsafe { sleep_start(t.as_mut_ptr(), tl, g.as_mut_ptr(), gl, b.as_mut_ptr(), bl, d.as_ptr(), d.len()) }.result(())?;
         (self.n, self.s, self.size) = (0, 0, 0);
@@ -714,7 +716,7 @@ impl Store {
     /// One more chunk; the new root hash.
     pub fn append(&mut self, chunk: &[u8]) -> Result<[u8; 32], Refusal> {
         let mut root = [0; 32];
-        let (t, g, b, d) = (&mut self.tree, &self.signatures, &mut self.bitfield, &mut self.data);
+        let (t, g, b, d) = (self.tree.as_mut(), self.signatures.as_ref(), self.bitfield.as_mut(), self.data.as_mut());
         let (tl, bl, dl) = (t.len(), b.len(), d.len());
         #[rustfmt::skip]
         let answer = unsafe {
@@ -731,7 +733,7 @@ impl Store {
     /// those before it are 64 zero bytes each.
     pub fn append_list(&mut self, lengths: &[u64], bytes: &[u8]) -> Result<[u8; 32], Refusal> {
         let mut root = [0; 32];
-        let (t, g, b, d) = (&mut self.tree, &mut self.signatures, &mut self.bitfield, &mut self.data);
+        let (t, g, b, d) = (self.tree.as_mut(), self.signatures.as_mut(), self.bitfield.as_mut(), self.data.as_mut());
         let (tl, gl, bl, dl) = (t.len(), g.len(), b.len(), d.len());
         #[rustfmt::skip]
         let answer = unsafe {
@@ -746,7 +748,7 @@ impl Store {
     }
 
     pub fn store_signature(&mut self, signature: &[u8; 64]) -> Result<(), Refusal> {
-        let (t, g, b, d) = (&self.tree, &mut self.signatures, &self.bitfield, &self.data);
+        let (t, g, b, d) = (self.tree.as_ref(), self.signatures.as_mut(), self.bitfield.as_ref(), self.data.as_ref());
         let gl = g.len();
         #[rustfmt::skip]
         let answer = unsafe {
@@ -760,7 +762,7 @@ impl Store {
 
     /// Makes room: the chunk is no longer held, and its bytes are zeros.
     pub fn release(&mut self, chunk: u64) -> Result<(), Refusal> {
-        let (t, g, b, d) = (&self.tree, &self.signatures, &mut self.bitfield, &mut self.data);
+        let (t, g, b, d) = (self.tree.as_ref(), self.signatures.as_ref(), self.bitfield.as_mut(), self.data.as_mut());
         let (bl, dl) = (b.len(), d.len());
         #[rustfmt::skip]
         let answer = unsafe {

@@ -1,0 +1,418 @@
+"""What the program says about an archive is what its images give: every command on random archives, damaged ones among them, beside the model.
+
+usage: python3 tests/tool/answers.py [ROUNDS [SEED]]
+
+In each round an archive grows by commands, and each of its files is compared with the model's images after each of them. Then copies of it are
+damaged: bytes changed, files cut short, made longer, exchanged or taken away; and every command is tried on them, those that write too. The
+numbers n, s and the data size are taken from the files' lengths here as FORMAT.md says it, and all else from the model.
+"""
+
+import copy
+import os
+import random
+import shutil
+import sys
+
+from program import FILES, KINDS, TARGET, expect, fresh, lay, run, under
+import needs as needs_model
+import record_model as records
+import sleep_model as model
+
+ROOM = os.path.join(TARGET, 'tests', 'tool', 'answers')
+NAMES = ('metadata', 'content')
+
+
+class Unreadable(Exception):
+    """The files are those of no archive, or a name is given to two pieces: status 2."""
+
+
+def counted(images):
+    """A register of four files, whose lengths give n, s and the data size."""
+    tree, signatures, bitfield, data = images
+    for image, entry in ((tree, 40), (signatures, 64), (bitfield, 3328)):
+        if len(image) < 32 or (len(image) - 32) % entry:
+            raise Unreadable
+    entries, s = (len(tree) - 32) // 40, (len(signatures) - 32) // 64
+    if entries and entries % 2 == 0:
+        raise Unreadable
+    n = (entries + 1) // 2
+    if (len(bitfield) - 32) // 3328 > model.bitfield_entries(n):
+        raise Unreadable
+    return model.Register(*map(bytearray, images), n, s, len(data))
+
+
+def registers_in(folder):
+    """Both registers of a folder."""
+    found = under(folder)
+    if found is None or any(found.get(name) is None for name in FILES):
+        raise Unreadable
+    return [counted([found[name + '.' + kind] for kind in KINDS]) for name in NAMES]
+
+
+def with_room(r, count, length, signatures=0):
+    """A copy with room for so many chunks and bytes more, and for signatures."""
+    r = copy.deepcopy(r)
+    sizes = model.used_sizes(r.n + count, r.s + signatures + max(0, count - 1), r.size + length)
+    for kind, size in zip(KINDS, sizes):
+        getattr(r, kind).extend(bytes(max(0, size - len(getattr(r, kind)))))
+    return r
+
+
+def as_files(registers):
+    """The files of an archive: each image as long as its used size."""
+    return {name + '.' + kind: bytes(getattr(r, kind)[:size])
+            for name, r in zip(NAMES, registers) for kind, size in zip(KINDS, model.used_sizes(r.n, r.s, r.size))}
+
+
+class Refused(Exception):
+    """args: the number and the place of a refusal of the model."""
+
+
+def given(answer):
+    """What a done call of the model gives."""
+    if answer[0] == 'refused':
+        raise Refused(answer[1], answer[2])
+    return answer[1] if len(answer) == 2 else answer[1:]
+
+
+class Tried:
+    """Commands on one archive, each beside what the model makes of its files."""
+    counts = {}
+
+    def __init__(self, rng, folder, inputs):
+        self.rng, self.folder, self.inputs = rng, folder, inputs
+
+    def command(self, words, expected, writes=False, stdin=b''):
+        """`expected` gives what is printed (None where it isn't compared) and the registers afterwards where the command writes; or raises."""
+        before = under(self.folder)
+        ran = run(*words, stdin=stdin)
+        now = under(self.folder)
+        try:
+            registers = registers_in(self.folder if not writes else self.laid(before))
+            printed, after = expected(*registers) if writes else (expected(*registers), None)
+            status, refusals = 0, []
+        except Unreadable:
+            status, printed, after, refusals = 2, None, None, []
+        except Refused as refusal:
+            status, printed, after, refusals = 1, None, None, [refusal.args]
+        except Several as several:
+            status, printed, after, refusals = 1, None, None, several.args[0]
+        shown = (words, ran, 'expected', status, refusals, printed)
+        expect(ran.status == status, 'another status', *shown)
+        if refusals and refusals != [None]:
+            expect(ran.refusals() == refusals, 'another refusal', *shown, ran.refusals())
+        expect(printed is None or ran.out == printed, 'another answer', *shown)
+        if after is None:
+            expect(now == before, 'changed something', *shown)
+        else:
+            expect({name: now[name] for name in FILES} == as_files(after), 'other files', *shown)
+            expect(set(now) == set(before), 'files came or went', *shown)
+        name = (words[0], status)
+        Tried.counts[name] = Tried.counts.get(name, 0) + 1
+        return ran
+
+    def laid(self, found):
+        lay(self.folder + '.was', found)
+        return self.folder + '.was'
+
+    # ---- reading ----
+    def status(self):
+        def expected(*registers):
+            lines = b''
+            for name, r in zip(NAMES, registers):
+                given(model.root_hash(r))
+                lines += b'%s: %s\n' % (name.encode(), shown_counts(r))
+            return lines
+        self.command(['status', self.folder], expected)
+
+    def audit(self):
+        def expected(*registers):
+            answers = [model.audit(r) for r in registers]
+            refusals = [answer[1:] for answer in answers if answer[0] == 'refused']
+            if refusals:
+                raise Several(refusals)
+            return b''.join(b'%s: accepted, %s\n' % (name.encode(), shown_counts(r)) for name, r in zip(NAMES, registers))
+        self.command(['audit', self.folder], expected)
+
+    def root(self):
+        first = self.rng.choice([None, self.rng.randrange(12)])
+        def expected(*registers):
+            roots = [given(model.root_hash(r) if first is None else model.old_root(r, first)) for r in registers]
+            return b''.join(b'%s %s\n' % (name.encode(), root.hex().encode()) for name, root in zip(NAMES, roots))
+        self.command(['root', self.folder] + ([] if first is None else ['--first', str(first)]), expected)
+
+    def label(self):
+        key = self.rng.randbytes(self.rng.choice([0, 1, 32, 64, 65]))
+        file = self.inputs.file(key)
+        name = self.rng.choice(NAMES)
+        def expected(*registers):
+            root = given(model.root_hash(registers[NAMES.index(name)]))
+            return b'%s %s\n' % (name.encode(), given(model.label(root, key)).hex().encode())
+        self.command(['label', self.folder, name, '--key', file], expected)
+
+    def chunk_number(self):
+        return self.rng.choice([self.rng.randrange(40), self.rng.randrange(8), 1048576])
+
+    def get(self):
+        chunk, name = self.chunk_number(), self.rng.choice(NAMES)
+        expected = lambda metadata, content: given(model.read(metadata, content, name, chunk))
+        self.command(['get', self.folder, str(chunk)] + (['--metadata'] if name == 'metadata' else []), expected)
+
+    def get_named(self):
+        path = self.inputs.path()
+        def expected(metadata, content):
+            return given(model.read(metadata, content, 'content', chunk_named(metadata, content, path)))
+        self.command(['get', self.folder, path], expected)
+
+    def list(self):
+        every = self.rng.random() < 0.5
+        def expected(metadata, content):
+            missing = set(not_held(content, 0))
+            if metadata.n:
+                given(records.read_record(metadata, 0))
+            nodes = [given(records.read_record(metadata, chunk)) for chunk in reversed(range(1, metadata.n))]
+            seen, lines = set(), []
+            for node in nodes:
+                if every or node.path not in seen:
+                    lines.append(list_line(node, content.n, missing))
+                seen.add(node.path)
+            return b''.join(reversed(lines))
+        self.command(['list', self.folder] + (['--all'] if every else []), expected)
+
+    def missing(self):
+        start, name = self.rng.choice([0, self.rng.randrange(40)]), self.rng.choice(NAMES)
+        def expected(*registers):
+            return b''.join(b'%d\n' % chunk for chunk in not_held(registers[NAMES.index(name)], start))
+        self.command(['missing', self.folder, '--from', str(start)] + (['--metadata'] if name == 'metadata' else []), expected)
+
+    def packet(self):
+        chunk, name = self.chunk_number(), self.rng.choice(NAMES)
+        def expected(*registers):
+            buffer = bytearray(70000)
+            length = given(model.make_packet(registers[NAMES.index(name)], chunk, buffer))
+            return bytes(buffer[:length])
+        ran = self.command(['packet', 'make', self.folder, str(chunk)] + (['--metadata'] if name == 'metadata' else []), expected)
+        if ran.status == 0:
+            self.check_packet(ran.out, chunk, registers_in(self.folder)[NAMES.index(name)])
+
+    def check_packet(self, packet, chunk, r):
+        if self.rng.random() < 0.5:
+            at = self.rng.randrange(len(packet))
+            packet = packet[:at] + bytes([packet[at] ^ 1 << self.rng.randrange(8)]) + packet[at + 1:]
+        n, root = r.n + self.rng.choice([0, 0, 0, 1]), model.root_hash(r)[1]
+        file = self.inputs.file(packet)
+        def expected(*registers):
+            return b'%s: chunk %d of %d, %d bytes\n' % (file.encode(), chunk, n, len(given(model.check_packet(packet, n, chunk, root))))
+        self.command(['packet', 'check', file, '--chunks', str(n), '--number', str(chunk), '--root', root.hex()], expected)
+
+    def compare(self, other):
+        def expected(*registers):
+            lines, refusals, differ = b'', [], False
+            for name, one, two in zip(NAMES, registers, registers_in(other)):
+                answer = model.compare(one, two)
+                refusals += [answer[1:3]] if answer[0] == 'refused' else []
+                differ |= answer[0] != 'equal'
+                lines += b'%s: %s\n' % (name.encode(), {'equal': b'the same chunks in the same order', 'roots differ': b'the root hashes differ, and so do the chunks'}.get(answer[0], b''))
+            if refusals or differ:
+                raise Several(refusals or [None])
+            return lines
+        self.command(['compare', self.folder, other], expected)
+
+    def needs(self):
+        lengths = [self.rng.choice([0, 1, 119, 120, 65536, 65537]) if self.rng.random() < 0.1 else self.rng.randrange(3000) for _ in range(self.rng.randrange(1, 5))]
+        def expected(metadata, content):
+            given(model.root_hash(content))
+            numbers = given(needs_model.needs(content.n, content.size, lengths))
+            lines = b''.join(b'content.%s %d bytes\n' % (kind.encode(), size) for kind, size in zip(KINDS, numbers[:4]))
+            return lines + b'content: %d compression runs: %d for leaves, %d for parents, %d for the root hash\n' % (numbers[7], *numbers[4:7])
+        self.command(['needs', self.folder, '--lengths', ','.join(map(str, lengths))], expected)
+
+    def owed(self):
+        def expected(*registers):
+            roots = [(name, given(model.root_hash(r))) for name, r in zip(NAMES, registers) ]
+            return b''.join(b'%s %s\n' % (name.encode(), root.hex().encode()) for (name, root), r in zip(roots, registers) if r.s < r.n)
+        self.command(['sign', self.folder], expected)
+
+    # ---- writing ----
+    def add(self):
+        pieces = self.inputs.pieces()
+        words = [word for path, file, _ in pieces for word in ('--as', path, file)]
+        def expected(metadata, content):
+            if len({path for path, *_ in pieces}) < len(pieces):
+                raise Unreadable
+            chunks, set_of_records, start = [chunk for *_, chunk in pieces], [], content.size
+            if metadata.n == 0:
+                set_of_records.append(records.header_bytes(bytes(32)))
+            for k, (path, file, chunk) in enumerate(pieces):
+                stat = records.Stat(mode=os.stat(file).st_mode, size=len(chunk), blocks=1, offset=content.n + k, byte_offset=start)
+                buffer = bytearray(4096)
+                length = given(records.write_node(records.Node(os.fsencode(path), stat), buffer))
+                set_of_records.append(bytes(buffer[:length]))
+                start += len(chunk)
+            content, content_root = appended(content, chunks)
+            metadata, metadata_root = appended(metadata, set_of_records)
+            return b'metadata %s\ncontent %s\n' % (metadata_root.hex().encode(), content_root.hex().encode()), (metadata, content)
+        self.command(['add', self.folder, *words], expected, writes=True)
+
+    def sign(self):
+        which = self.rng.choice([NAMES, NAMES, NAMES, NAMES[:1], NAMES[1:]])
+        signatures = {name: self.rng.randbytes(64) for name in which}
+        words = [word for name in which for word in ('--' + name, self.inputs.file(signatures[name]))]
+        def expected(*registers):
+            for r in registers:
+                given(model.root_hash(r))
+            after = []
+            for name, r in zip(NAMES, registers):
+                if name in signatures:
+                    r = with_room(r, 0, 0, 1)
+                    given(model.store_signature(r, signatures[name]))
+                after.append(r)
+            return b'', after
+        self.command(['sign', self.folder, *words], expected, writes=True)
+
+    def release(self):
+        chunks = [self.chunk_number() for _ in range(self.rng.choice([1, 1, 2, 5]))]
+        def expected(metadata, content):
+            content = copy.deepcopy(content)
+            for chunk in chunks:
+                given(model.release(content, chunk))
+            return b'', (metadata, content)
+        self.command(['release', self.folder, *map(str, chunks)], expected, writes=True)
+
+
+class Several(Exception):
+    """args: a list of refusals, or of None where the status alone is known."""
+
+
+def shown_counts(r):
+    return b'%d chunks, %d bytes, %d signatures%s' % (r.n, r.size, r.s, b', one is owed' if r.s < r.n else b'')
+
+
+def not_held(r, start):
+    found = []
+    while True:
+        chunk = given(model.first_not_held(r, start))
+        if chunk is None:
+            return found
+        found.append(chunk)
+        start = chunk + 1
+
+
+def list_line(node, n, missing):
+    stat = node.stat or records.Stat()
+    held = '-' if stat.offset is None or stat.offset >= n else 'no' if stat.offset in missing else 'held'
+    shown = ['-' if number is None else str(number) for number in (stat.offset, stat.size)]
+    return b'%7s %7s %-4s ' % (shown[0].encode(), shown[1].encode(), held.encode()) + node.path + b'\n'
+
+
+def chunk_named(metadata, content, path):
+    found = given(records.find(metadata, os.fsencode(path)))
+    if found is None:
+        raise Several([None])
+    stat = given(records.read_record(metadata, found)).stat or records.Stat()
+    if stat.offset is None:
+        raise Several([None])
+    place = given(model.place_lookup(content, stat.offset))
+    if (stat.byte_offset, stat.size) != place:
+        raise Several([None])
+    return stat.offset
+
+
+def appended(r, chunks):
+    r = with_room(r, len(chunks), sum(map(len, chunks)))
+    return r, given(model.append_list(r, list(map(len, chunks)), b''.join(chunks)))
+
+
+class Inputs:
+    """Files to hand to commands."""
+
+    def __init__(self, rng, folder):
+        self.rng, self.folder, self.count = rng, fresh(folder), 0
+
+    def file(self, content):
+        self.count += 1
+        path = os.path.join(self.folder, str(self.count % 400))
+        with open(path, 'wb') as file:
+            file.write(content)
+        return path
+
+    def path(self):
+        return self.rng.choice(['/coat/sleeve', '/coat/collar', '/x', '/' + 'y' * 254, '/caf\u00e9', '/other/%d' % self.rng.randrange(9)])
+
+    def pieces(self):
+        """Names, files and their chunks, now and then out of bounds."""
+        pieces, twice = [], self.rng.random() < 0.05
+        for _ in range(self.rng.choice([1, 2, 3, 9])):
+            size = self.rng.choice([0, 1, self.rng.randrange(200), self.rng.randrange(9000), 65536] + [65537] * (self.rng.random() < 0.05))
+            chunk = self.rng.randbytes(size) if self.rng.random() < 0.9 else bytes(size)
+            path = self.path() if self.rng.random() < 0.97 else self.rng.choice(['coat', '/' * 256, 'x/y'])
+            while not twice and path in [other for other, *_ in pieces]:
+                path = self.path()
+            pieces.append((path, self.file(chunk), chunk))
+        return pieces
+
+
+READING = ['status', 'audit', 'root', 'label', 'get', 'get_named', 'list', 'missing', 'packet', 'needs', 'owed']
+WRITING = ['add', 'sign', 'release']
+
+
+def damage(rng, folder, other):
+    """One file made another, as it may go."""
+    path = os.path.join(folder, rng.choice(sorted(os.listdir(folder))))
+    with open(path, 'rb') as file:
+        content = bytearray(file.read())
+    kind = rng.choice(['byte', 'byte', 'byte', 'header', 'cut', 'cut', 'longer', 'exchanged', 'gone', 'empty'])
+    if kind == 'byte' and content:
+        content[rng.randrange(len(content))] ^= 1 << rng.randrange(8)
+    elif kind == 'header' and content:
+        content[rng.randrange(min(32, len(content)))] ^= 1 << rng.randrange(8)
+    elif kind == 'cut':
+        content = content[:max(0, len(content) - rng.choice([1, 40, 64, 80, 3328, rng.randrange(200)]))]
+    elif kind == 'longer':
+        content += bytes(rng.choice([1, 40, 64, 80, 3328, rng.randrange(200)]))
+    elif kind == 'exchanged':
+        path = os.path.join(folder, rng.choice(FILES))
+        shutil.copy(os.path.join(other, rng.choice(FILES)), path)
+        return
+    elif kind == 'gone':
+        os.remove(path)
+        return
+    elif kind == 'empty':
+        content = b''
+    with open(path, 'wb') as file:
+        file.write(content)
+
+
+def main(rounds, seed):
+    rng = random.Random(seed)
+    fresh(ROOM)
+    inputs = Inputs(rng, os.path.join(ROOM, 'inputs'))
+    archive, spoilt, before = (os.path.join(ROOM, name) for name in ('archive', 'spoilt', 'before'))
+    for _ in range(rounds):
+        shutil.rmtree(archive, ignore_errors=True)
+        expect(run('new', archive).status == 0, 'no new archive')
+        expect(under(archive) == as_files([model.register_of([])] * 2), 'a new archive is another')
+        grown = Tried(rng, archive, inputs)
+        for _ in range(rng.randrange(1, 8)):
+            lay(before, under(archive))
+            for name in ('add', 'sign') + ('release',) * (rng.random() < 0.4):
+                getattr(grown, name)()
+            getattr(grown, rng.choice(READING))()
+        for name in READING:
+            getattr(grown, name)()
+        grown.compare(rng.choice([archive, before]))
+        for _ in range(4):
+            lay(spoilt, under(archive))
+            for _ in range(rng.choice([1, 1, 2])):
+                damage(rng, spoilt, before)
+            tried = Tried(rng, spoilt, inputs)
+            for name in rng.sample(READING, 5) + WRITING:
+                getattr(tried, name)()
+            tried.compare(archive)
+    total = sum(Tried.counts.values())
+    by_status = [sum(count for (_, status), count in Tried.counts.items() if status == wanted) for wanted in (0, 1, 2)]
+    print('answers: %d commands on random and damaged archives as the model says: %d done, %d refused or different, %d on no archive' % (total, *by_status))
+
+
+if __name__ == '__main__':
+    main(*[int(word) for word in sys.argv[1:3]] + [25, 1][len(sys.argv[1:3]):])

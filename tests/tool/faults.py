@@ -1,0 +1,400 @@
+"""Nothing lost: the program is killed at every write and every sync of each command that changes an archive, and the writes since the last sync are
+dropped, and the disk is full from there on. The next opening gives the archive before or after, both registers together, and its audit is done.
+
+usage: python3 tests/tool/faults.py [RANDOM [SEED]]
+
+Every step of every command is met once by each fault; RANDOM times (100 unless told otherwise) one command, one step and one fault are drawn, and often
+the run that recovers is killed too, again and again. A step is what changes or syncs something: making a file or a folder, a write, a new length,
+reserved room, a hole, a sync, another name, a removal (tests/faults.c counts them).
+
+Dropped writes are played from a log of the steps: of each file what it had at its last sync is sure, and of each folder its entries then; what came
+later is dropped whole, or in a random choice that keeps some of it: of a write some blocks, or its length alone.
+"""
+
+import copy
+import os
+import random
+import struct
+import sys
+
+from program import FILES, JOURNAL, TARGET, UNSYNCED, done, expect, fresh, lay, run, under
+
+ROOM = os.path.join(TARGET, 'tests', 'tool', 'faults')
+FOLDER = os.path.join(ROOM, 'archives')  # all steps under it count
+ARCHIVE = os.path.join(FOLDER, 'coats')
+INPUTS = os.path.join(ROOM, 'inputs')
+LOG = os.path.join(ROOM, 'log')
+
+
+class Disk:
+    """Files and folders as a disk may have them after power was lost."""
+
+    def __init__(self, found):
+        self.entries = {'': None}  # sure: path to file number, None for a folder
+        self.current, self.content, self.later = dict(self.entries), [], {}
+        self.entry_steps = []  # not yet sure: (folder, [(path, file number or None or 'gone')])
+        for path in sorted(found):
+            number = None if found[path] is None else self.file(found[path])
+            self.entries[path] = self.current[path] = number
+
+    def file(self, content):
+        self.content.append(content)
+        self.later[len(self.content) - 1] = []
+        return len(self.content) - 1
+
+    def enter(self, *entries):
+        for path, what in entries:
+            put(self.current, path, what)
+        self.entry_steps.append((os.path.dirname(path), entries))
+
+    def step(self, letter, path, offset, length, data):
+        if letter == 'c':
+            self.enter((path, self.file(b'')))
+        elif letter == 'm':
+            self.enter((path, None))
+        elif letter in 'ud':
+            self.enter((path, 'gone'))
+        elif letter == 'n':
+            self.enter((path, 'gone'), (relative(data.decode()), self.current[path]))
+        elif letter in 'wlp':
+            self.later[self.current[path]].append((letter, offset, length, data))
+        elif letter == 's':
+            self.sync(path)
+
+    def sync(self, path):
+        number = self.current[path]
+        if number is not None:
+            self.content[number] = changed(self.content[number], self.later[number])
+            self.later[number] = []
+            return
+        for folder, entries in self.entry_steps:
+            if folder == path:
+                for entry, what in entries:
+                    put(self.entries, entry, what)
+        self.entry_steps = [step for step in self.entry_steps if step[0] != path]
+
+    def lost(self, kept):
+        """What is there after a loss of power; `kept` gives what is there of a step that isn't sure, as a list of steps."""
+        entries = dict(self.entries)
+        for _, changed_entries in self.entry_steps:
+            if kept(None):
+                for path, what in changed_entries:
+                    put(entries, path, what)
+        found = {}
+        for path, number in sorted(entries.items()):
+            if path == '' or os.path.dirname(path) not in entries:
+                continue
+            if number is None:
+                found[path] = None
+            else:
+                steps = [part for step in self.later[number] for part in kept(step)]
+                found[path] = changed(self.content[number], steps)
+        return found
+
+
+def relative(path):
+    """A path under FOLDER, from there."""
+    return os.path.relpath(path, FOLDER) if path != FOLDER else ''
+
+
+def put(entries, path, what):
+    if what == 'gone':
+        entries.pop(path, None)
+    else:
+        entries[path] = what
+
+
+def changed(content, steps):
+    """A file's bytes after writes, new lengths, at least such a length, and holes."""
+    content = bytearray(content)
+    for letter, offset, length, data in steps:
+        if letter == 'l':
+            content = content[:length].ljust(length, b'\0')
+        elif letter == 'e':
+            content = content.ljust(length, b'\0')
+        elif letter == 'w':
+            content = content.ljust(offset, b'\0')
+            content[offset:offset + len(data)] = data
+        else:
+            end = min(len(content), offset + length)
+            content[offset:end] = bytes(max(0, end - offset))
+    return bytes(content)
+
+
+def nothing(step):
+    return []
+
+
+def some_of(rng):
+    """Of each step all, nothing or, of a write, some of its blocks; then its length may be there without them."""
+    def kept(step):
+        if step is None or step[0] != 'w':
+            return [step] * rng.randrange(2)
+        _, offset, _, data = step
+        block, share = rng.choice([16, 64, 512, 4096]), rng.choice([0, 0.5, 0.9, 1])
+        blocks = [('w', offset + at, 0, data[at:at + block]) for at in range(0, len(data), block) if rng.random() < share]
+        if rng.random() < 0.5:
+            blocks.insert(0, ('e', 0, offset + len(data), b''))
+        return blocks
+    return kept
+
+
+def logged():
+    """The steps of the log: letter, path under FOLDER, offset, length, data."""
+    with open(LOG, 'rb') as file:
+        log = file.read()
+    steps, at = [], 0
+    while at < len(log):
+        long, offset, length, count = struct.unpack_from('=IQQI', log, at + 1)
+        path = log[at + 25:at + 25 + long].decode()
+        steps.append((chr(log[at]), relative(path), offset, length, log[at + 25 + long:at + 25 + long + count]))
+        at += 25 + long + count
+    return steps
+
+
+class Command:
+    """A command on a state of the archives' folder, with its steps and what it leaves."""
+
+    def __init__(self, name, words, before):
+        self.name, self.words, self.before = name, words, before
+        lay(FOLDER, before)
+        if os.path.exists(LOG):
+            os.remove(LOG)
+        done(*words, faults={'UNDER': FOLDER, 'KIND': 'log', 'LOG': LOG})
+        self.steps, self.after = logged(), under(FOLDER)
+        expect(self.after != before, '%s changes nothing' % name)
+        self.check_ranges()
+
+    def journal(self):
+        """The bytes of the command's journal."""
+        return next(data for letter, path, _, _, data in self.steps if letter == 'w' and path.endswith(UNSYNCED))
+
+    def check_ranges(self):
+        """Before the journal and its entry in the folder are synced no byte and no length of a file changes, and afterwards only what the journal names."""
+        journal = self.journal()
+        written = [k for k, (letter, path, *_) in enumerate(self.steps) if letter in 'wlp' and not path.endswith(UNSYNCED)]
+        begun = [(letter, path) for letter, path, *_ in self.steps[:written[0] if written else None]
+                 if letter != 'r' and path in ('coats', 'coats/' + UNSYNCED, 'coats/' + JOURNAL)]
+        begun = begun[begun.index(('c', 'coats/' + UNSYNCED)):][:5]
+        expected = [(letter, 'coats/' + UNSYNCED) for letter in 'cwsn'] + [('s', 'coats')]
+        expect(begun == expected, '%s: changed before the journal is synced' % self.name, begun)
+        named, lengths = ranges_of(journal)
+        for file in FILES + ['metadata.key', 'content.key']:
+            path = 'coats/' + file
+            old, new = self.before.get(path, b'') or b'', self.after.get(path, b'') or b''
+            expect(len(new) == lengths.get(file, len(old)), '%s: another length than the journal has' % self.name, file)
+            differ = [k for k in range(len(new)) if k >= len(old) or old[k] != new[k]]
+            inside = set()
+            for offset, length in named.get(file, []):
+                inside.update(range(offset, offset + length))
+            expect(inside.issuperset(differ), '%s: changed outside the journal: %s' % (self.name, file))
+
+    def killed(self, at, kind):
+        lay(FOLDER, self.before)
+        ran = run(*self.words, faults={'UNDER': FOLDER, 'KIND': kind, 'AT': at})
+        expect(ran.status == (-9 if at <= len(self.steps) else 0), '%s: %s at step %d' % (self.name, kind, at), ran)
+
+    def power_lost(self, at, kept):
+        disk = Disk(self.before)
+        for step in self.steps[:at - 1]:
+            disk.step(*step)
+        lay(FOLDER, disk.lost(kept))
+
+    def lost_while_recovering(self, at, rng):
+        """Killed at a step, with nothing lost yet; then power is lost at each step of the run that recovers."""
+        killed = Disk(self.before)
+        for step in self.steps[:at - 1]:
+            killed.step(*step)
+        lay(FOLDER, killed.lost(lambda step: [step]))
+        if os.path.exists(LOG):
+            os.remove(LOG)
+        run('audit', ARCHIVE, faults={'UNDER': FOLDER, 'KIND': 'log', 'LOG': LOG})
+        steps = logged() if os.path.exists(LOG) else []
+        for end in range(len(steps) + 1):
+            for kept in (nothing, some_of(rng)):
+                disk = copy.deepcopy(killed)
+                for step in steps[:end]:
+                    disk.step(*step)
+                lay(FOLDER, disk.lost(kept))
+                self.check('killed at step %d, and power lost at step %d of the recovery' % (at, end + 1))
+        return len(steps) + 1
+
+    def torn_journals(self, rng):
+        """Of a journal that lost a block, an end or a bit nothing was applied where it has not got its name yet: the next opening drops it, and gives the
+        archive before. One that has its name may be half applied: it is told, and nothing is changed or read."""
+        journal = self.journal()
+        for number in range(12):
+            at, torn = rng.randrange(len(journal)), bytearray(journal)
+            if number % 3 == 0:
+                torn[at:at + 512] = bytes(len(torn[at:at + 512]))
+            elif number % 3 == 1:
+                del torn[at:]
+            else:
+                torn[at] ^= 1 << rng.randrange(8)
+            lay(FOLDER, dict(self.before, **{'coats': None, 'coats/' + UNSYNCED: bytes(torn)}))
+            self.check('a torn journal', 'before')
+            if torn != journal:
+                left = dict(self.before, **{'coats': None, 'coats/' + JOURNAL: bytes(torn)})
+                lay(FOLDER, left)
+                for words in (['audit', ARCHIVE], self.words):
+                    ran = run(*words)
+                    expect(ran.status == 2 and b'damaged, or of another version; left as it is' in ran.err, '%s: a damaged journal' % self.name, ran)
+                expect(under(FOLDER) == left, '%s: changed beside a damaged journal' % self.name, ran)
+
+    def recoveries(self):
+        """Steps to be killed at: with the journal written and not synced, synced, named, its entry synced, and half applied."""
+        written = next(k for k, (letter, path, *_) in enumerate(self.steps, 1) if letter == 'w' and path.endswith(UNSYNCED))
+        return [written + 1, written + 2, written + 3, written + 4, (written + 4 + len(self.steps)) // 2]
+
+    def check(self, what, only=None):
+        """The next opening gives the archive before or after, and the audit is done."""
+        ran = run('audit', ARCHIVE)
+        now = under(FOLDER)
+        state = 'before' if self.is_before(now) else 'after' if now == self.after else 'neither'
+        expect(state in ((only,) if only else ('before', 'after')), '%s, %s: %s' % (self.name, what, state), ran, sorted(now))
+        if 'coats/metadata.tree' in now:
+            expect(ran.status == 0 and ran.out.count(b'accepted') == 2, '%s, %s: no audit' % (self.name, what), ran)
+        else:
+            expect(ran.status == 2, '%s, %s: an archive of nothing' % (self.name, what), ran)
+            done(*self.words)
+            expect(under(FOLDER) == self.after, '%s, %s: made again, it is another' % (self.name, what))
+        return state
+
+    def is_before(self, now):
+        """Where there was no archive, an empty folder is none either."""
+        return now == self.before or ('coats' not in self.before and now == dict(self.before, coats=None))
+
+    def full(self, at):
+        lay(FOLDER, self.before)
+        ran = run(*self.words, faults={'UNDER': FOLDER, 'KIND': 'full', 'AT': at})
+        expect(ran.status in (0, 2), '%s: full at step %d' % (self.name, at), ran)
+        if b'nothing is changed\n' in ran.err:
+            self.check_room('%s: full at step %d' % (self.name, at))
+        still = run('audit', ARCHIVE, faults={'UNDER': FOLDER, 'KIND': 'full', 'AT': 1})
+        expect(still.status in (0, 2), '%s: opened while full at step %d' % (self.name, at), still)
+        only = 'after' if ran.status == 0 or b'finishes it' in ran.err or b'the change is made' in ran.err else 'before' if b'nothing is changed' in ran.err else None
+        return self.check('full at step %d' % at, only)
+
+    def check_room(self, what):
+        """No file has room on the disk behind its end."""
+        for file in FILES:
+            path = os.path.join(ARCHIVE, file)
+            if os.path.exists(path):
+                about = os.stat(path)
+                expect(about.st_blocks * 512 < about.st_size + 4096, what + ': reserved room is kept', file, about)
+
+
+def ranges_of(journal):
+    """The ranges and the new lengths that a journal names, by file."""
+    names = FILES + ['metadata.key', 'content.key']
+    at, ranges, lengths = 25, {}, {}
+    for _ in range(journal[24]):
+        number, length, count = struct.unpack_from('>BQI', journal, at)
+        lengths[names[number]], at = length, at + 13
+        for _ in range(count):
+            zeros, offset, long = struct.unpack_from('>BQQ', journal, at)
+            ranges.setdefault(names[number], []).append((offset, long))
+            at += 17 + (0 if zeros else long)
+    expect(at == len(journal) - 32, 'the journal has another form')
+    return ranges, lengths
+
+
+def made_again(command):
+    """`new` is killed when the folder is made and its entry not synced; then it is done, and power is lost: the archive is there."""
+    command.killed(2, 'kill')
+    disk = Disk(command.before)
+    disk.step(*command.steps[0])
+    expect(disk.lost(nothing) != disk.lost(lambda step: [step]), 'the entry is synced at once')
+    if os.path.exists(LOG):
+        os.remove(LOG)
+    done(*command.words, faults={'UNDER': FOLDER, 'KIND': 'log', 'LOG': LOG})
+    for step in logged():
+        disk.step(*step)
+    lay(FOLDER, disk.lost(nothing))
+    command.check('made again', 'after')
+
+
+def write_inputs(rng):
+    """Pieces of many sizes, the last of zeros alone, a signature and a key."""
+    fresh(INPUTS)
+    pieces = []
+    for k, size in enumerate([0, 1, 64, 300, 4095, 4096, 4097, 20000, 65536]):
+        pieces.append(os.path.join(INPUTS, 'piece%d' % k))
+        with open(pieces[-1], 'wb') as file:
+            file.write(rng.randbytes(size))
+    pieces.append(os.path.join(INPUTS, 'zeros'))
+    with open(pieces[-1], 'wb') as file:
+        file.write(bytes(8192))
+    for name, size in (('signature', 64), ('key', 32)):
+        with open(os.path.join(INPUTS, name), 'wb') as file:
+            file.write(rng.randbytes(size))
+    return pieces
+
+
+def commands(rng):
+    """Each command on an archive at the state that it needs."""
+    pieces, made = write_inputs(rng), []
+    signature, key = os.path.join(INPUTS, 'signature'), os.path.join(INPUTS, 'key')
+    signing = ['sign', ARCHIVE, '--metadata', signature, '--content', signature]
+    adding = lambda some: ['add', ARCHIVE] + [word for k, piece in enumerate(some) for word in ('--as', '/coat/%d' % k, piece)]
+    def command(name, words, before):
+        made.append(Command(name, words, before))
+        return made[-1].after
+    command('new', ['new', ARCHIVE], {})
+    state = command('new with keys', ['new', ARCHIVE, '--metadata-key', key, '--content-key', key], {})
+    command('new in a folder', ['new', ARCHIVE], {'coats': None})
+    state = command('first add', adding(pieces[:3]), state)
+    state = command('sign', signing, state)
+    command('add of zeros', adding(pieces[-1:]), state)
+    state = command('add', adding(pieces), state)
+    state = command('sign again', signing, state)
+    command('release', ['release', ARCHIVE, '7'], state)
+    state = command('release of several', ['release', ARCHIVE, '11', '3', '5', '10'], state)
+    state = command('add behind released', adding(pieces[::-1]), state)
+    command('sign behind released', signing, state)
+    return made
+
+
+def main(count, seed):
+    rng = random.Random(seed)
+    fresh(ROOM)
+    made, recovering, states = commands(rng), 0, {'before': 0, 'after': 0}
+    for command in made[:2]:
+        made_again(command)
+    for command in made:
+        for at in range(1, len(command.steps) + 2):
+            for kind in ('kill', 'torn'):
+                command.killed(at, kind)
+                states[command.check('%s at step %d' % (kind, at))] += 1
+            for kept in (nothing, some_of(rng)):
+                command.power_lost(at, kept)
+                states[command.check('power lost at step %d' % at)] += 1
+            states[command.full(at)] += 1
+        command.torn_journals(rng)
+        recovering += sum(command.lost_while_recovering(at, rng) for at in command.recoveries())
+    steps = sum(len(command.steps) for command in made)
+    print('faults: %d commands, %d steps, each met by a kill, a torn write, dropped writes (all, some) and a full disk: %d times the archive before, %d after'
+          % (len(made), steps, states['before'], states['after']))
+    print('faults: power lost at %d steps of recoveries as well' % recovering)
+    again = randomly(made, rng, count)
+    print('faults: %d drawn at random, %d recoveries killed among them: before or after, and accepted, every time' % (count, again))
+
+
+def randomly(made, rng, count):
+    again = 0
+    for _ in range(count):
+        command = rng.choice(made)
+        at, kind = rng.randrange(1, len(command.steps) + 2), rng.choice(['kill', 'torn', 'all', 'some', 'some'])
+        if kind in ('kill', 'torn'):
+            command.killed(at, kind)
+        else:
+            command.power_lost(at, nothing if kind == 'all' else some_of(rng))
+        while rng.random() < 0.4:
+            run('audit', ARCHIVE, faults={'UNDER': FOLDER, 'KIND': rng.choice(['kill', 'torn', 'full']), 'AT': rng.randrange(1, 40)})
+            again += 1
+        command.check('%s at step %d' % (kind, at))
+    return again
+
+
+if __name__ == '__main__':
+    main(*[int(word) for word in sys.argv[1:3]] + [100, 1][len(sys.argv[1:3]):])

@@ -1,0 +1,405 @@
+"""Wrong input, one by one: a clear message, the exit status, and nothing changed; then what a person types first, and one writer at a time.
+
+usage: python3 tests/tool/usage.py
+"""
+
+import fcntl
+import os
+import random
+import resource
+import shutil
+import signal
+import subprocess
+import time
+
+from program import JOURNAL, PROGRAM, TARGET, UNSYNCED, Ran, done, environment, expect, fresh, run, under
+import sleep_model as model
+
+ROOM = os.path.join(TARGET, 'tests', 'tool', 'usage')
+
+
+def write(name, content):
+    with open(os.path.join(ROOM, name), 'wb') as file:
+        file.write(content)
+
+
+def wrong(status, says, *words, **named):
+    """The command ends with this status and these words, and changes nothing."""
+    before = under(ROOM)
+    ran = run(*words, cwd=ROOM, **named)
+    expect(ran.status == status and says.encode() in ran.err, 'expected status %d and "%s": %r' % (status, says, words), ran)
+    expect(ran.err.count(b'\n') == 1 and not ran.out, 'more than one line: %r' % (words,), ran)
+    expect(under(ROOM) == before, 'something changed: %r' % (words,), ran)
+
+
+def wrong_words():
+    wrong(2, 'a command is needed')
+    wrong(2, 'no command mend', 'mend', 'coats')
+    wrong(2, 'no option --first', 'audit', 'coats', '--first', '1')
+    wrong(2, 'needs a word', 'root', 'coats', '--first')
+    wrong(2, 'needs a number, not -1', 'root', 'coats', '--first=-1')
+    wrong(2, 'just an archive is needed', 'status')
+    wrong(2, 'just a folder is needed', 'new', 'a', 'b')
+    wrong(2, 'two archives are needed', 'compare', 'coats')
+    wrong(2, 'an archive and files are needed', 'add', 'coats')
+    wrong(2, '--as needs a file', 'add', 'coats', 'sleeve', '--as', '/x')
+    wrong(2, '--as needs a file', 'add', 'coats', '--as', '/x', '--as', '/y', 'sleeve')
+    wrong(2, '/sleeve: the name of two files', 'add', 'coats', 'sleeve', '--as', '/x', 'collar', './sleeve')
+    wrong(2, '/a/sleeve: the name of two files', 'needs', 'coats', '--in', '/a', 'sleeve', '--as', '/a/sleeve', 'collar')
+    wrong(2, 'standard input can be given once', 'add', 'coats', '--as', '/x', '-', '--as', '/y', '-', stdin=b'1')
+    wrong(2, 'metadata or content', 'root', 'coats', 'contents')
+    wrong(2, 'sleeve: a chunk is meant by its number or by its name, which begins with a slash', 'get', 'coats', 'sleeve')
+    wrong(2, '--help: no such file', 'add', 'coats', '--', '--help')
+    wrong(2, '64 hexadecimal digits', 'packet', 'check', 'sleeve', '--chunks', '1', '--number', '0', '--root', 'abc')
+    wrong(2, '--chunks, --number and --root are needed', 'packet', 'check', 'sleeve')
+    wrong(2, '--key is needed', 'label', 'coats')
+    wrong(2, 'standard input', 'group', 'sleeve')
+
+
+def wrong_files():
+    wrong(2, 'nowhere: no such file or directory', 'audit', 'nowhere')
+    wrong(2, 'sleeve: a file, and no folder', 'audit', 'sleeve')
+    wrong(2, 'drawings: no archive: metadata.tree is missing', 'audit', 'drawings')
+    wrong(2, 'there is an archive already', 'new', 'coats')
+    wrong(2, 'no such file or directory', 'new', 'no/such/folder')
+    wrong(2, 'nofile: no such file or directory', 'add', 'coats', 'nofile')
+    wrong(2, 'drawings: a folder, and no file', 'add', 'coats', '--as', '/drawings', 'drawings')
+    wrong(2, 'give it a name by --as', 'add', 'coats', '../usage/sleeve')
+    wrong(2, 'give it a name by --as', 'add', 'coats', '--in', '/coat', '..')
+    wrong(2, 'standard input needs a name', 'add', 'coats', '-')
+    wrong(2, '64 bytes are needed, and it has more', 'sign', 'coats', '--content', 'sleeve')
+    wrong(2, '32 bytes are needed, and it has 3', 'new', 'dresses', '--content-key', 'short')
+    wrong(2, 'ended with exit status: 3', 'sign', 'owing', '--with', 'exit 3')
+    wrong(2, '64 bytes are needed, and it gave more', 'sign', 'owing', '--with', 'yes')
+    wrong(2, '64 bytes are needed, and it gave 2', 'sign', 'owing', '--with', 'echo 1')
+
+
+def refused():
+    wrong(1, 'long: refused with 7: a piece is longer than 65,536 bytes', 'add', 'coats', 'long')
+    wrong(1, ': long: refused with 7', 'add', 'coats', 'sleeve', 'long', 'collar')
+    wrong(1, 'refused with 15', 'add', 'coats', '--as', 'coat/sleeve', 'sleeve')
+    wrong(1, 'refused with 15', 'add', 'coats', '--as', '/' + 255 * 'x', 'sleeve')
+    wrong(1, 'refused with 15', 'add', 'coats', '--as', '', 'sleeve')
+    wrong(1, 'refused with 16: a set has 1 to 256 chunks', 'add', 'coats', *[word for k in range(257) for word in ('--as', '/%d' % k, 'sleeve')])
+    wrong(1, 'refused with 8', 'add', 'owing', 'sleeve')
+    wrong(1, 'refused with 8', 'sign', 'coats', '--content', 'signature')
+    wrong(1, 'refused with 9', 'get', 'coats', '3')
+    wrong(1, 'no such name', 'get', 'coats', '/coat/pocket')
+    wrong(1, 'refused with 9', 'root', 'coats', 'content', '--first', '4')
+    wrong(1, 'refused with 17', 'label', 'coats', '--key', 'sleeve')
+    wrong(1, 'refused with 7', 'group', stdin=bytes(65537))
+    wrong(1, 'refused with 12', 'packet', 'check', 'sleeve', '--chunks', '3', '--number', '0', '--root', 64 * '0')
+    wrong(1, 'refused with 18: a piece that is needed is not held here; at tree index 2, the leaf of chunk 1', 'get', 'gone', '1')
+    wrong(1, 'refused with 18', 'release', 'gone', '0', '1')
+
+
+def helps():
+    """The help names every command, on lines that a terminal has; a command's own help is its part of it."""
+    page = done('--help').out.decode()
+    expect(max(map(len, page.splitlines())) <= 78, 'a long line in the help')
+    for name in ('new', 'add', 'sign', 'list', 'get', 'status', 'audit', 'compare', 'root', 'label', 'needs', 'release', 'missing', 'packet', 'group', 'ungroup'):
+        own = done(name, '--help').out.decode()
+        heads = [line for line in own.splitlines() if line.startswith('  sleep-archive ')]
+        expect(heads and own in page + '\n' and done(name, '-h').out.decode() == own, 'no help on ' + name, own)
+        expect(all(line.split()[1] == name for line in heads) or 'group' in name, 'other help on ' + name, own)
+
+
+def smaller():
+    """--in takes a file from anywhere; nothing owed is said; a file that is no plain one is not waited for; standard input is measured too."""
+    done('new', 'small', cwd=ROOM)
+    done('add', 'small', '--in', '/coat', '../%s/sleeve' % os.path.basename(ROOM), cwd=ROOM)
+    expect(done('list', 'small', cwd=ROOM).out.endswith(b' /coat/sleeve\n'), 'another name')
+    expect(b'no signature is owed' in done('sign', 'coats', '--with', 'false', cwd=ROOM).err, 'nothing said')
+    measured = done('needs', 'coats', '--as', '/x', '-', cwd=ROOM, stdin=bytes(5000)).out
+    expect(measured == done('needs', 'coats', '--as', '/x', 'sleeve', cwd=ROOM).out, 'another need', measured)
+    os.remove(os.path.join(ROOM, 'small', 'content.data'))
+    os.mkfifo(os.path.join(ROOM, 'small', 'content.data'))
+    ran = run('audit', 'small', cwd=ROOM)
+    expect(ran.status == 2 and b'content.data: no plain file' in ran.err, 'no plain file', ran)
+    shutil.rmtree(os.path.join(ROOM, 'small'))
+
+
+def unheard():
+    """What is done and can't be told is said to be done; and where nothing can be said, the status is what it is."""
+    done('new', 'unheard', cwd=ROOM)
+    with open('/dev/full', 'wb') as full:
+        ran = subprocess.run([PROGRAM, 'add', 'unheard', 'sleeve'], cwd=ROOM, env=environment(), stdout=full, stderr=subprocess.PIPE)
+        expect(ran.returncode == 2 and b'unheard: added; the root hashes could not be printed, `sign` prints them' in ran.stderr, 'not said', ran)
+        expect(done('sign', 'unheard', cwd=ROOM).out.count(b'\n') == 2, 'not added')
+        for status, words in ((1, ['add', 'unheard', 'collar']), (2, ['audit', 'nowhere']), (0, ['sign', 'coats'])):
+            ran = subprocess.run([PROGRAM, *words], cwd=ROOM, env=environment(), stdout=subprocess.PIPE, stderr=full)
+            expect(ran.returncode == status, 'another status where nothing can be said: %r' % words, ran)
+
+
+def odd_names():
+    """Any bytes are a name: listed on one line, and found again."""
+    names = [b'/a\nb', b'/\xff\xfe', b'/\xc2\x9b1m', b'/caf\xc3\xa9', b'/back\\slash', b'/with space', b'/' + 254 * b'x']
+    words = [word for name in names for word in (b'--as', name, b'sleeve')]
+    done('new', 'odd', cwd=ROOM)
+    done('add', 'odd', *words, cwd=ROOM)
+    listed = done('list', 'odd', cwd=ROOM).out.splitlines()
+    shown = [b'/a\\x0ab', b'/\xff\xfe', b'/\\xc2\\x9b1m', b'/caf\xc3\xa9', b'/back\\x5cslash', b'/with space', b'/' + 254 * b'x']
+    expect([line.split(None, 3)[3] for line in listed] == shown, 'listed otherwise', listed)
+    for name in names:
+        expect(done('get', 'odd', name, cwd=ROOM).out == sleeve, 'another piece', name)
+
+
+def filters():
+    rng = random.Random(3)
+    for length in (0, 1, 3, 4, 11, 65536):
+        coordinates = rng.randbytes(length)
+        grouped = done('group', stdin=coordinates).out
+        expect(done('ungroup', stdin=grouped).out == coordinates, 'not undone', length)
+    done('add', 'coats', '--as', '/grouped', '-', cwd=ROOM, stdin=grouped)
+    expect(done('get', 'coats', '/grouped', cwd=ROOM).out == grouped, 'standard input is another piece')
+
+
+def waiting_for(process):
+    """Waits until the system lists the process among those that wait for a lock, or it has ended."""
+    while process.poll() is None:
+        with open('/proc/locks') as file:
+            if any('->' in line and str(process.pid) in line.split() for line in file):
+                return True
+        time.sleep(0.01)
+    return False
+
+
+def stopped(process):
+    while True:
+        with open('/proc/%d/stat' % process.pid) as file:
+            state = file.read().rsplit(')', 1)[1].split()[0]
+        if state == 'T':
+            return
+        expect(state not in 'ZX', 'ended before it stopped')
+        time.sleep(0.01)
+
+
+def begun(*words, faults=None):
+    return subprocess.Popen([PROGRAM, *words], cwd=ROOM, env=environment(faults), stdout=subprocess.PIPE, stderr=subprocess.PIPE)
+
+
+def locks():
+    """A writer that is stopped at a step: readers and writers wait for it, and see what it leaves."""
+    done('new', 'busy', cwd=ROOM)
+    for count, at in enumerate((1, 9, 12, 14, 20, 30), 1):
+        writer = begun('add', 'busy', 'sleeve', faults={'UNDER': os.path.join(ROOM, 'busy'), 'KIND': 'stop', 'AT': at})
+        stopped(writer)
+        others = [begun('status', 'busy'), begun('audit', 'busy'), begun('sign', 'busy', '--with', 'head -c 64 /dev/zero')]
+        expect(all(map(waiting_for, others)), 'somebody does not wait at step %d' % at)
+        os.kill(writer.pid, signal.SIGCONT)
+        outputs = [process.communicate() + (process.returncode,) for process in [writer] + others]
+        expect([status for *_, status in outputs] == [0] * 4, 'not done at step %d' % at, outputs)
+        expect(outputs[1][0].count(b': %d chunks' % count) == 1, 'not what the writer left', outputs)
+    expect(done('audit', 'busy', cwd=ROOM).out.count(b'accepted') == 2, 'not accepted')
+
+
+def results():
+    """-o never cuts a file: no file of an archive is written, and another keeps what it had until all is there."""
+    place = lambda name: os.path.join(ROOM, name)
+    os.symlink('coats/content.data', place('link'))
+    done('packet', 'make', 'coats', '0', '-o', 'packet', cwd=ROOM)
+    root = done('root', 'coats', 'content', cwd=ROOM).out.split()[1]
+    checking = ['packet', 'check', 'packet', '--chunks', '3', '--number', '0', '--root', root]
+    for name in ('coats/content.data', 'coats/../coats/metadata.tree', 'link', 'gone/content.tree', 'coats/content.key', 'coats/sleep-archive.journal'):
+        for words in (['get', 'coats', '1'], ['packet', 'make', 'coats', '1'], checking):
+            wrong(2, name + ': a file of an archive; nothing is written', *words, '-o', name)
+    write('result', b'good')
+    write('result.tmp', b'')
+    wrong(2, 'result.tmp: file exists', 'get', 'coats', '1', '-o', 'result')
+    os.remove(place('result.tmp'))
+    os.chmod(place('result'), 0o600)
+    kept = os.open(place('result'), os.O_RDONLY)
+    done('get', 'coats', '0', '-o', 'result', cwd=ROOM)
+    with open(place('result'), 'rb') as file:
+        expect(file.read() == sleeve and os.stat(place('result')).st_mode & 0o777 == 0o600, 'another piece, or another mode')
+    expect(os.read(kept, 9) == b'good', 'the file was cut')
+    os.close(kept)
+    done('get', 'coats', '0', '-o', '/dev/null', cwd=ROOM)
+    expect(done('get', 'coats', '0', '-o', '-', cwd=ROOM).out == sleeve, 'not on standard output')
+    wrong(2, 'drawings: is a directory', 'get', 'coats', '0', '-o', 'drawings')
+    wrong(2, 'no such file or directory', 'get', 'coats', '0', '-o', 'no/such')
+
+
+def moved_folders():
+    """While a program waits for the lock its folder gets another name, and another folder takes its own: the change is made in that one. A folder that is
+    moved while it is changed is changed wherever it is."""
+    place = lambda name: os.path.join(ROOM, name)
+    for name in ('here', 'there'):
+        done('new', name, cwd=ROOM)
+    handle = os.open(place('here'), os.O_RDONLY)
+    fcntl.flock(handle, fcntl.LOCK_EX)
+    waiting = begun('add', 'here', 'sleeve')
+    expect(waiting_for(waiting), 'does not wait')
+    os.rename(place('here'), place('moved'))
+    os.rename(place('there'), place('here'))
+    os.close(handle)
+    waiting.communicate()
+    counts = [done('status', name, cwd=ROOM).out.count(b'content: 1 chunks') for name in ('here', 'moved')]
+    expect((waiting.returncode, counts) == (0, [1, 0]), 'added to another folder', counts)
+    untouched = under(place('here'))
+    for at in (2, 12, 20):
+        writer = begun('add', 'moved', 'sleeve', faults={'UNDER': ROOM, 'KIND': 'stop', 'AT': at})
+        stopped(writer)
+        os.rename(place('moved'), place('again'))
+        os.rename(place('here'), place('moved'))
+        os.kill(writer.pid, signal.SIGCONT)
+        expect(writer.wait() == 0, 'not done', writer.communicate())
+        expect(under(place('moved')) == untouched, 'another folder is changed, from step %d on' % at)
+        os.rename(place('moved'), place('here'))
+        os.rename(place('again'), place('moved'))
+        done('sign', 'moved', '--with', 'head -c 64 /dev/zero', cwd=ROOM)
+        expect(done('audit', 'moved', cwd=ROOM).out.count(b'accepted') == 2, 'not accepted')
+
+
+def large():
+    """An archive of 64 GiB, whose files are holes but for a few entries, opens at once: a command takes the memory of what it looks at and changes."""
+    archive, peak = os.path.join(ROOM, 'large'), os.path.join(ROOM, 'peak')
+    done('new', archive)
+    n, chunk = 1048575, 700000
+    for name, length in (('tree', 32 + 40 * (2 * n - 1)), ('signatures', 32 + 64 * n), ('bitfield', 32 + 3328 * 128), ('data', 65536 * n)):
+        os.truncate(os.path.join(archive, 'content.' + name), length)
+    with open(os.path.join(archive, 'content.tree'), 'r+b') as file:
+        for index in set(model.roots(n)).union(*model.packet_indexes(n, chunk), way_up(n, chunk)):
+            file.seek(32 + 40 * index + 32)
+            file.write((65536 * 2 ** model.depth(index)).to_bytes(8, 'big'))
+    with open(os.path.join(archive, 'content.bitfield'), 'r+b') as file:
+        at, bit = model.bit_at(chunk, 8192, 0)
+        file.seek(at)
+        file.write(bytes([bit]))
+    write('piece', bytes(range(256)) * 256)
+    for status, words in ((0, ['status']), (0, ['root', 'content', '--first', '1048575']), (1, ['get', str(chunk)]), (0, ['release', str(chunk)]), (1, ['release', str(chunk)]),
+                          (0, ['add', '--as', '/last', os.path.join(ROOM, 'piece')]), (0, ['sign', '--with', 'head -c 64 /dev/zero']), (0, ['get', '/last'])):
+        ran = run(words[0], archive, *words[1:], faults={'PEAK': peak})
+        expect(ran.status == status, 'on a large archive: %r' % words, ran)
+        with open(peak) as file:
+            expect(int(file.read()) < 32 * 1024, 'more than 32 MiB for %r' % words)
+    expect(ran.out == bytes(range(256)) * 256, 'another piece')
+    expect(os.path.getsize(os.path.join(archive, 'content.data')) == 65536 * 1048576, 'another length')
+    shutil.rmtree(archive)
+
+
+def seconds(*words):
+    """The processor's time that a command takes."""
+    before = resource.getrusage(resource.RUSAGE_CHILDREN).ru_utime
+    done(*words, cwd=ROOM)
+    return resource.getrusage(resource.RUSAGE_CHILDREN).ru_utime - before
+
+
+def many_zeros():
+    """Zeros, added or left by a release, take about the time of other bytes."""
+    zeros = [word for k in range(255) for word in ('--as', '/%d' % k, 'zeros')]
+    write('zeros', bytes(65536))
+    done('new', 'empties', cwd=ROOM)
+    done('new', 'collars', cwd=ROOM)
+    usual = seconds('add', 'collars', *['collar' if word == 'zeros' else word for word in zeros])
+    expect(seconds('add', 'empties', *zeros) < 3 * usual + 0.5, 'zeros take long to add')
+    expect(seconds('release', 'collars', *map(str, range(255))) < 3 * usual + 0.5, 'zeros take long to write down')
+    for name in ('empties', 'collars'):
+        shutil.rmtree(os.path.join(ROOM, name))
+
+
+def scattered():
+    """Every other piece of many is released by one command, of a page each: more places than a process may have mappings."""
+    archive, n, size = os.path.join(ROOM, 'scattered'), 70000, 4096
+    done('new', archive)
+    used = model.used_sizes(n, n, n * size)
+    for name, length in zip(('tree', 'signatures', 'bitfield', 'data'), used):
+        os.truncate(os.path.join(archive, 'content.' + name), length)
+    tree = bytearray(used[0] - 32)
+    for index in range(2 * n - 1):
+        tree[40 * index + 32:40 * index + 40] = (size << model.depth(index)).to_bytes(8, 'big')
+    for name, content in (('tree', tree), ('bitfield', b'\xff' * (used[2] - 32))):
+        with open(os.path.join(archive, 'content.' + name), 'r+b') as file:
+            file.seek(32)
+            file.write(content)
+    looked_at = [*range(100), *range(32700, 32900), *range(n - 100, n)]
+    with open(os.path.join(archive, 'content.data'), 'r+b') as file:
+        for chunk in looked_at:
+            file.seek(chunk * size)
+            file.write(b'x' * size)
+    done('release', archive, *map(str, range(0, n, 2)))
+    expect(done('missing', archive).out.split() == [b'%d' % chunk for chunk in range(0, n, 2)], 'others are released')
+    with open(os.path.join(archive, 'content.data'), 'rb') as file:
+        for chunk in looked_at:
+            file.seek(chunk * size)
+            expect(file.read(size) == (b'x' if chunk % 2 else b'\0') * size, 'another piece', chunk)
+    shutil.rmtree(archive)
+
+
+def way_up(n, chunk):
+    """The tree indexes from a chunk's leaf up to its root."""
+    index, found = 2 * chunk, [2 * chunk]
+    while index not in model.roots(n):
+        index = model.parent(index)
+        found.append(index)
+    return found
+
+
+def on_read_only_medium(folder, *words):
+    """A command on a folder that is mounted to be read only, where this user may do that, or whose files and folder may not be written."""
+    if os.geteuid() == 0:
+        mount = 'mount --bind "$0" "$0" && mount -o remount,bind,ro "$0" && exec "$@"'
+        ran = subprocess.run(['unshare', '-m', 'sh', '-c', mount, folder, PROGRAM, *words], capture_output=True)
+        return Ran(ran.returncode, ran.stdout, ran.stderr)
+    paths = [os.path.join(folder, name) for name in os.listdir(folder)]
+    for path in paths + [folder]:
+        os.chmod(path, 0o555)
+    ran = run(*words)
+    os.chmod(folder, 0o755)
+    return ran
+
+
+def unwritable_medium():
+    """A journal that was left on a medium that can't be written ends the command, and is named. Without one, or with one that was not synced and so not
+    begun, an archive there is read as any other, and no command changes it."""
+    folder = os.path.join(ROOM, 'medium')
+    for kind, at, left, status, says in (('kill', 20, JOURNAL, 2, b"left unfinished in sleep-archive.journal, and can't be finished now: this "),
+                                         ('torn', 9, UNSYNCED, 0, b''), ('kill', 1, None, 0, b'')):
+        fresh(folder)
+        done('new', folder)
+        run('add', folder, 'sleeve', cwd=ROOM, faults={'UNDER': folder, 'KIND': kind, 'AT': at})
+        before = under(folder)
+        expect([name for name in before if name in (JOURNAL, UNSYNCED)] == [left] * (left is not None), 'another step', sorted(before))
+        ran = on_read_only_medium(folder, 'audit', folder)
+        expect(ran.status == status and says in ran.err and (says or not ran.err), 'not named', ran)
+        ran = on_read_only_medium(folder, 'add', folder, os.path.join(ROOM, 'sleeve'))
+        expect(ran.status == 2 and ran.err, 'not refused', ran)
+        expect(under(folder) == before, 'changed', ran)
+
+
+def main():
+    global sleeve
+    rng = random.Random(2)
+    fresh(ROOM)
+    sleeve = rng.randbytes(5000)
+    write('sleeve', sleeve)
+    for name, size in (('collar', 65536), ('empty', 0), ('long', 65537), ('signature', 64), ('short', 3)):
+        write(name, rng.randbytes(size))
+    fresh(os.path.join(ROOM, 'drawings'))
+    for archive in ('coats', 'owing', 'gone'):
+        done('new', archive, cwd=ROOM)
+        done('add', archive, 'sleeve', 'collar', '--as', '/coat/empty', 'empty', cwd=ROOM)
+        if archive != 'owing':
+            done('sign', archive, '--with', 'head -c 64 /dev/urandom', cwd=ROOM)
+    done('release', 'gone', '1', cwd=ROOM)
+    wrong_words()
+    wrong_files()
+    refused()
+    helps()
+    results()
+    smaller()
+    unheard()
+    odd_names()
+    filters()
+    locks()
+    moved_folders()
+    unwritable_medium()
+    many_zeros()
+    scattered()
+    large()
+    print('usage: wrong words, wrong files and refusals told, and nothing changed; the help, results in files, names of any bytes, filters, locks, folders that '
+          'are moved, a medium that can\'t be written, many zeros, many places, 64 GiB')
+
+
+if __name__ == '__main__':
+    main()

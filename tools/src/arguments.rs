@@ -1,0 +1,112 @@
+//! The words behind a command: options, and what else stands there, in order.
+use crate::words::{from_hex, usage, Done};
+use std::ffi::{OsStr, OsString};
+use std::os::unix::ffi::{OsStrExt, OsStringExt};
+
+/// An option that a command takes.
+pub struct Rule {
+    pub name: &'static str,
+    pub takes_word: bool,
+}
+
+pub const fn flag(name: &'static str) -> Rule {
+    Rule { name, takes_word: false }
+}
+
+pub const fn word(name: &'static str) -> Rule {
+    Rule { name, takes_word: true }
+}
+
+/// One thing that was typed, in the order of typing.
+#[derive(Clone, PartialEq, Eq)]
+pub enum Typed {
+    Word(OsString),
+    Option(&'static str, OsString),
+}
+
+pub struct Arguments {
+    pub typed: Vec<Typed>,
+}
+
+impl Arguments {
+    /// Takes the words apart; `--` ends the options, and `--name=word` is `--name word`.
+    pub fn of(words: impl Iterator<Item = OsString>, rules: &[Rule]) -> Done<Arguments> {
+        let (mut words, mut typed, mut ended) = (words, Vec::new(), false);
+        while let Some(next) = words.next() {
+            let bytes = next.as_encoded_bytes();
+            if ended || bytes == b"-" || !bytes.starts_with(b"-") {
+                typed.push(Typed::Word(next));
+            } else if bytes == b"--" {
+                ended = true;
+            } else {
+                typed.push(option(&next, &mut words, rules)?);
+            }
+        }
+        Ok(Arguments { typed })
+    }
+
+    /// The words that are no options.
+    pub fn words(&self) -> Vec<&OsStr> {
+        let word = |one| match one {
+            &Typed::Word(ref word) => Some(word.as_os_str()),
+            Typed::Option(..) => None,
+        };
+        self.typed.iter().filter_map(word).collect()
+    }
+
+    pub fn has(&self, name: &str) -> bool {
+        self.option(name).is_some()
+    }
+
+    /// The word of an option, the last where it is given twice.
+    pub fn option(&self, name: &str) -> Option<&OsStr> {
+        self.typed.iter().rev().find_map(|one| match one {
+            Typed::Option(known, word) if *known == name => Some(word.as_os_str()),
+            _ => None,
+        })
+    }
+
+    /// A number that an option gives.
+    pub fn number(&self, name: &str) -> Done<Option<u64>> {
+        self.option(name).map(|word| number(word, name)).transpose()
+    }
+
+    /// The 32 bytes that an option gives in hex.
+    pub fn root(&self, name: &str) -> Done<Option<[u8; 32]>> {
+        let Some(word) = self.option(name) else { return Ok(None) };
+        match word.to_str().and_then(from_hex).and_then(|bytes| bytes.try_into().ok()) {
+            Some(root) => Ok(Some(root)),
+            None => usage(format!("{name} needs a root hash: 64 hexadecimal digits")),
+        }
+    }
+}
+
+fn option(next: &OsStr, words: &mut impl Iterator<Item = OsString>, rules: &[Rule]) -> Done<Typed> {
+    let bytes = next.as_bytes();
+    let (name, given) = match bytes.iter().position(|byte| *byte == b'=') {
+        Some(at) if bytes.starts_with(b"--") => (&bytes[..at], Some(OsString::from_vec(bytes[at + 1..].to_vec()))),
+        _ => (bytes, None),
+    };
+    let name = String::from_utf8_lossy(name);
+    let Some(rule) = rules.iter().find(|rule| rule.name == name) else {
+        return usage(format!("there is no option {name} here"));
+    };
+    match (rule.takes_word, given) {
+        (false, None) => Ok(Typed::Option(rule.name, OsString::new())),
+        (false, Some(_)) => usage(format!("{name} takes no word")),
+        (true, Some(given)) => Ok(Typed::Option(rule.name, given)),
+        (true, None) => match words.next() {
+            Some(word) => Ok(Typed::Option(rule.name, word)),
+            None => usage(format!("{name} needs a word behind it")),
+        },
+    }
+}
+
+/// A decimal number.
+pub fn number(word: &OsStr, what: &str) -> Done<u64> {
+    let digits = word.to_str().filter(|text| !text.is_empty() && text.bytes().all(|byte| byte.is_ascii_digit()));
+    match digits.and_then(|text| text.parse().ok()) {
+        Some(number) => Ok(number),
+        None => usage(format!("{what} needs a number, not {}", word.to_string_lossy())),
+    }
+}

@@ -131,14 +131,17 @@ def index_part(data_bits):
     return bytes(index)
 
 @functools.lru_cache(maxsize=16)
-def bitfield_of(n, held):
-    """The used part of the bitfield of n chunks, of which those are held that `held` tells, with its header."""
+def bitfield_of(n, released=frozenset()):
+    """The used part of the bitfield of n chunks, of which some were released, with its header."""
     out = bytearray(HEADERS["bitfield"])
     for e in range((n + 8191) // 8192):
-        data_bits = pack(k < n and held(k) for k in range(8192 * e, 8192 * (e + 1)))
-        tree_bits = pack(filled(i, n) for i in range(16384 * e, 16384 * (e + 1)))
-        out += data_bits + tree_bits + index_part(data_bits)
+        data_bits = pack(k < n and k not in released for k in range(8192 * e, 8192 * (e + 1)))
+        out += data_bits + tree_bits_of(n, e) + index_part(data_bits)
     return bytes(out)
+
+@functools.lru_cache(maxsize=64)
+def tree_bits_of(n, e):
+    return pack(filled(i, n) for i in range(16384 * e, 16384 * (e + 1)))
 
 
 # --- registers
@@ -199,7 +202,8 @@ def audit(register):
         else:
             refuse_unless(register.raw(i) == bytes(ENTRY), 10, "tree", i)
     bitfield = register.files["bitfield"]
-    for at, byte in enumerate(bitfield_of(register.n, register.held)):  # step 7
+    released = frozenset(k for k in range(register.n) if not register.held(k))
+    for at, byte in enumerate(bitfield_of(register.n, released)):   # step 7
         refuse_unless(bitfield[at] == byte, 11, "bitfield", at)
 
 def right_leaf(register, i, start):
@@ -292,15 +296,25 @@ def short_find_byte(register, p):
             return j, p - start
     refuse_unless(False, 10, "tree", 2 * register.n - 2)    # step 3
 
-def tuple_over(register, k):
-    """The two bits of the Index for the 16 chunks about k."""
-    at = HEADER + 3328 * (k // 8192) + 3072 + 2 * (k % 8192 // 64)
-    return register.files["bitfield"][at] >> 6 - 2 * (k // 16 % 4) & 3
-
-def first_gone(register, k, short):
+def short_first_not_held(register, k):
     first_checks(register)
-    passed = lambda j: register.held(j) or not short and tuple_over(register, j) == 3
-    return next((j for j in range(k, register.n) if not passed(j)), "none"),
+    return next((j for j in range(k, register.n) if not register.held(j)), "none"),
+
+
+# --- what is not held
+
+def first_not_held(register, k):
+    """The first chunk from k on that is not held, or none."""
+    first_checks(register)                          # step 1
+    while k < register.n:                           # step 2
+        group = k // 16
+        index = register.files["bitfield"][HEADER + BITS * (group // 512) + 3072 + 2 * (group % 512 // 4)]
+        if index >> (6 - 2 * (group % 4)) & 3 != 3:     # step 3
+            for one in range(k, min(16 * (group + 1), register.n)):     # step 4
+                if not register.held(one):
+                    return (one,)
+        k = 16 * (group + 1)                        # step 5
+    return ("none",)
 
 
 # --- packets
@@ -391,6 +405,13 @@ def write_bits(register, n, written):
 def set_bit(file, at, bit):
     file[at + bit // 8] |= 0x80 >> bit % 8
 
+def release(register, k):
+    start, length = find(register, k, to_read=True)
+    bitfield, at = register.files["bitfield"], HEADER + BITS * (k // 8192)
+    bitfield[at + k % 8192 // 8] ^= 0x80 >> k % 8
+    bitfield[at + 3072:at + BITS] = index_part(bitfield[at:at + 1024])
+    register.files["data"][start:start + length] = bytes(length)
+
 def store_signature(register, signature):
     first_checks(register)
     refuse_unless(register.s != register.n, 8)
@@ -471,7 +492,7 @@ def tables_differ(text):
     if [row[0] for row in of_index] != ["10", "16", "64", "128"]:
         return "the Index: other rows"
     for n, row in of_index:
-        if bytes.fromhex(row) != bitfield_of(int(n), lambda k: True)[3104:3108]:
+        if bytes.fromhex(row) != bitfield_of(int(n))[3104:3108]:
             return f"the Index of {n} chunks"
     numbers = [row[0] for row in rows_of(text, "Number")]
     return None if numbers == [str(number) for number in (*range(1, 19), 21, 22)] else "the numbers of what can be wrong"
@@ -698,8 +719,8 @@ def short_way_differs(text):
             if answer(audit, r) != "done":
                 return f"chunk {gone} of {r.n}, released"
             for k in range(max(r.n, r.size) + 2):
-                both = [[answer(find, r, k), answer(find_byte, r, k), answer(first_gone, r, k, False)],
-                        [answer(short_find, r, k), answer(short_find_byte, r, k), answer(first_gone, r, k, True)]]
+                both = [[answer(find, r, k), answer(find_byte, r, k), answer(first_not_held, r, k)],
+                        [answer(short_find, r, k), answer(short_find_byte, r, k), answer(short_first_not_held, r, k)]]
                 if both[0] != both[1]:
                     return f"the short way at {k} of {r.n}: {both}"
     register = changed(next(register for register, _, _ in registers_in(text) if register.n == 3), "tree", 151, 1)
@@ -708,25 +729,44 @@ def short_way_differs(text):
     expected = ["refused 10 tree 1", "done 2 3", "done 2 2", "done 3 0", "done 0 2", "done 3 3", "done 2 1", "done 3 0"]
     return (answer(audit, register), given) != ("refused 10 tree 1", expected) and f"the short way: {given}"
 
+def copied(register):
+    """The same register in files that can be written."""
+    return Register({name: bytearray(file) for name, file in register.files.items()}, register.n, register.s, register.size)
+
 def released(register, k):
     """The register without chunk k."""
-    start, length = find(register, k)
-    at = HEADER + 3328 * (k // 8192)
-    register = changed(register, "bitfield", at + k % 8192 // 8, register.files["bitfield"][at + k % 8192 // 8] & ~(0x80 >> k % 8))
-    for offset in range(start, start + length):
-        register = changed(register, "data", offset, 0)
-    index = index_part(bytes(register.files["bitfield"][at:at + 1024]))
-    for j, byte in enumerate(index):
-        if register.files["bitfield"][at + 3072 + j] != byte:
-            register = changed(register, "bitfield", at + 3072 + j, byte)
+    register = copied(register)
+    release(register, k)
     return register
+
+def releases_differ():
+    """All chunks of the registers that this program wrote, released one after the other: what the page says stays the same does."""
+    for n in (1, 2, 3, 7, 10, 13, 40):
+        whole, gone = written(n), []
+        register = copied(whole)
+        for k in (6, 0, 2, 5, 1, 3, 4) if n == 7 else [(7 * step + 3) % n for step in range(n)]:
+            if answer(release, register, k) != "done" or answer(audit, register) != "done":
+                return f"the release of chunk {k} of {n}"
+            gone.append(k)
+            if register.files["tree"] != whole.files["tree"] or answer(release, register, k) != f"refused 18 tree {2 * k}":
+                return f"the register behind the release of chunk {k} of {n}"
+            for one in range(n + 1):
+                said = f"refused 18 tree {2 * one}" if one in gone else answer(read, whole, one)
+                if answer(read, register, one) != said or answer(find, register, one) != answer(find, whole, one):
+                    return f"chunk {one} behind the release of chunk {k} of {n}"
+                if answer(first_not_held, register, one) != f"done {min((k for k in gone if k >= one), default='none')}":
+                    return f"the chunk not held from {one} on, behind the release of chunk {k} of {n}"
+        for p in range(register.size):
+            if answer(audit, changed(register, "data", p, 1)) != f"refused 10 tree {2 * find_byte(register, p)[0]}":
+                return f"byte {p} of the released chunks of {n} isn't seen"
+    return None
 
 def main(path):
     with open(path, encoding="utf-8") as file:
         text = file.read()
     return (tables_differ(text) or drawing_differs(text) or hashes_differ(text) or registers_differ(text) or outside_differs(text)
             or packets_differ(text) or all_packets_differ() or answers_differ(text) or released_differ(text)
-            or short_way_differs(text))
+            or short_way_differs(text) or releases_differ())
 
 if __name__ == "__main__":
     wrong = main(sys.argv[1])

@@ -1,34 +1,40 @@
-"""Prints, from the reference model alone, the text that the program `gate_audits` is to print."""
+"""The lines of the program gate_script's script about audits and comparisons."""
 
-from samples import buffers, bytes_of, grow, said, told
-from sleep_model import (ENTRY, HEADER, SIGNATURE, Register, append, audit, be, compare, entry_bytes, images_of,
-                         leaf_node, node_hash, start, store_signature, used_sizes)
+from samples import BITFIELD, DATA, FIRST, LAST, SECOND, SIGNATURES, TEXT, TREE, bytes_of
+from sleep_model import ENTRY, HEADER, SIGNATURE, be, entry_bytes, leaf_node, node_hash, used_sizes
 
-TREE, SIGNATURES, BITFIELD, DATA = range(4)
-NAMES = 'tree', 'signatures', 'bitfield', 'data'
 PARTS = 0, 31, 32, 37, 39  # of an entry: both ends of the hash, and the length's bytes for 2^56, 65,536 and 1
-MOST = 2 ** 64 - 1
+SIZES = 1152, 960, 3392, 40
+FILLS = b'\xaa\xbb\xcc\xdd', b'\x11\x22\x33\x44'
 
 
-def register(n, span, sizes=(1152, 960, 3392, 40)):
-    r = buffers(*sizes)
-    start(r)
-    grow(r, n, span)
-    return r
+def cases(script):
+    script.run('# audits and comparisons')
+    damaged(script, 10, 7, 1)
+    damaged(script, 13, 5, 128)
+    two_bitfield_entries(script)
+    doubly_damaged(script)
+    register(script, 10, 7)
+    told_wrong(script)
+    lent_short(script)
+    longest(script)
+    wrapping(script)
+    for pair in EQUAL + OTHER_CUTS + OTHER_COUNTS:
+        walked(script, *pair)
+    for changes in SPOILT:
+        walked(script, EVEN, EVEN, changes)
+    for pair in TOLD_WRONG:
+        walked(script, *pair)
 
 
-def change(r, image, at, mask):
-    """Turns the bits of the mask, and turns them back when it is called again."""
-    images_of(r)[image][at] ^= mask
-
-
-def shown(image, at, mask):
-    return '%s %d ' % (NAMES[image], at)
+def register(script, n, span, sizes=SIZES):
+    script.begun(FIRST, sizes)
+    script.run('grow %d %d' % (n, span))
 
 
 # ---- One byte changed, or two ----
 def places(n):
-    """The places of each image; one entry, signature or byte past the used ones is among them."""
+    """The places of each file; one entry, signature or byte past the used ones is among them."""
     header = list(range(HEADER))
     entries = [HEADER + ENTRY * index + part for index in range(2 * n) for part in PARTS]
     signatures = [HEADER + SIGNATURE * k + SIGNATURE - 1 for k in range(n + 1)]
@@ -36,36 +42,33 @@ def places(n):
     return header + entries, header + signatures, header + bitfield, list(range(32))
 
 
-def damaged(n, span, mask):
-    r = register(n, span)
-    for image, several in enumerate(places(n)):
+def damaged(script, n, span, mask):
+    register(script, n, span)
+    for file, several in enumerate(places(n)):
         for at in several:
-            changed(r, (image, at, mask))
+            changed(script, (file, at, mask))
 
 
-def two_bitfield_entries():
+def two_bitfield_entries(script):
     """8,193 empty chunks: entries at both ends, and the borders between the parts of the bitfield entries."""
-    r = register(8193, 1, (655552, 524480, 6720, 8))
+    register(script, 8193, 1, (655552, 524480, 6720, 8))
     for part, index in enumerate((8191, 16382, 16383, 16384, 16385)):
-        changed(r, entry(index, part, 1))
+        changed(script, entry(index, part, 1))
     for border in (1056, 3104, 3360, 4384, 6432, 6688):
         for at in range(border - 2, border + 2):
-            changed(r, (BITFIELD, at, 1))
+            changed(script, (BITFIELD, at, 1))
 
 
-def changed(r, *changes):
-    for each in changes:
-        change(r, *each)
-    print(''.join(shown(*each) for each in changes) + said(audit(r)))
-    for each in changes:
-        change(r, *each)
+def changed(script, *changes):
+    with script.turned(*changes):
+        script.run('audit')
 
 
 def entry(index, part, mask):
     return TREE, HEADER + ENTRY * index + PARTS[part], mask
 
 
-def doubly_damaged():
+def doubly_damaged(script):
     pairs = [
         ((BITFIELD, 0, 1), (TREE, 31, 1)),
         ((BITFIELD, 4, 1), entry(7, 4, 1)),
@@ -83,80 +86,78 @@ def doubly_damaged():
         ((SIGNATURES, 32, 1), (BITFIELD, 3359, 1)),
         ((SIGNATURES, 863, 1), (TREE, 1032, 1)),
     ]
-    r = register(13, 5)
+    register(script, 13, 5)
     for pair in pairs:
-        changed(r, *pair)
+        changed(script, *pair)
 
 
 # ---- Told wrong, or lent short ----
-def told_wrong(r):
-    cases = [(10, 10, 24), (10, 9, 24), (10, 8, 24), (10, 11, 24), (0, 0, 0), (0, 1, 0), (0, MOST, 0), (0, 0, 24),
-             (1048576, 10, 24), (1048576, 1048576, 24), (1048577, 1048577, 24), (MOST, 10, 24), (10, 10, 23),
-             (10, 10, 25), (10, 10, 40), (10, 10, 41), (10, 10, MOST), (8, 8, 21), (9, 9, 22), (9, 9, 24),
-             (11, 10, 24), (12, 12, 24)]
-    for case in cases:
-        print('told', *case, said(audit(told(r, *case))))
+def told_wrong(script):
+    for numbers in ((10, 10, 24), (10, 9, 24), (10, 8, 24), (10, 11, 24), (0, 0, 0), (0, 1, 0), (0, LAST, 0), (0, 0, 24), (1048576, 10, 24),
+                    (1048576, 1048576, 24), (1048577, 1048577, 24), (LAST, 10, 24), (10, 10, 23), (10, 10, 25), (10, 10, 40), (10, 10, 41),
+                    (10, 10, LAST), (8, 8, 21), (9, 9, 22), (9, 9, 24), (11, 10, 24), (12, 12, 24)):
+        script.told(*numbers)
+        script.run('audit')
+    script.told(10, 10, 24)
 
 
-def lent_short(r):
-    """The used sizes, and then an image after the other lent a byte shorter, or not at all."""
-    used = list(used_sizes(r.n, r.s, r.size))
+def lent_short(script):
+    """The used sizes, and then a file after the other lent a byte shorter, or not at all."""
+    used = list(used_sizes(10, 10, 24))
     shorter = [used[:k] + [used[k] - 1] + used[k + 1:] for k in range(4)]
     without = [used[:k] + [0] + used[k + 1:] for k in range(4)]
-    for case in [used] + shorter + without + [[0] * 4]:
-        fronts = [image[:count] for image, count in zip(images_of(r), case)]
-        print('lent', *case, said(audit(Register(*fronts, r.n, r.s, r.size))))
+    for sizes in [used] + shorter + without + [[0] * 4]:
+        script.lend_from(FIRST, sizes)
+        script.run('audit')
 
 
 # ---- Entries that no append writes, with hashes that follow from what they say ----
-def longest():
-    r = buffers(72, 96, 3360, 65537, b'\xaa\xbb\xcc\x5a')
-    start(r)
-    append(r, b'\x5a' * 65536)
-    print('leaf', r.size, said(audit(r)))
-    r.put(0, entry_bytes(leaf_node(bytes(r.data), node_hash)))
-    r.size = len(r.data)
-    print('leaf', r.size, said(audit(r)))
+def longest(script):
+    script.begun(FIRST, (72, 96, 3360, 65537), b'\xaa\xbb\xcc\x5a')
+    script.run('fill %d 0 65537 90 0' % TEXT)
+    script.run('append 0 65536')
+    script.run('audit')
+    script.written(TREE, HEADER, entry_bytes(leaf_node(b'\x5a' * 65537, node_hash)))
+    script.told(1, 0, 65537)
+    script.run('audit')
 
 
-def wrapping():
+def wrapping(script):
     """The second leaf says 2^64 - 1, so that the sum at the parent is 3 modulo 2^64; the roots still say 8 together."""
-    r = laid((7, 3, 3, 4, 0), 101, b'\xaa\xbb\xcc\xdd')
-    left, right = r.node(0)[0], b'\7' * 32
-    r.put(1, entry_bytes((node_hash(b'\1' + be(8, 3) + left + right), 3)))
-    r.put(2, entry_bytes((right, MOST)))
-    r.put(4, entry_bytes((right, 5)))
-    print('sum', said(audit(r)))
+    laid(script, FIRST, (7, 3, 3, 4, 0), 101, FILLS[0])
+    left, right = script.register().node(0)[0], b'\7' * 32
+    for index, node in ((1, (node_hash(b'\1' + be(8, 3) + left + right), 3)), (2, (right, LAST)), (4, (right, 5))):
+        script.written(TREE, HEADER + ENTRY * index, entry_bytes(node))
+    script.run('audit')
 
 
 # ---- Pairs ----
-def laid(cut, mark, fill):
+def laid(script, at, cut, mark, fill):
     """The first 24 bytes of bytes_of(text) as n chunks of `even` and `odd` bytes in turn, fewer at the end."""
     text, n, s, even, odd = cut
-    r = buffers(1952, 1600, 3392, 32, fill)
-    start(r)
+    script.begun(at, (1952, 1600, 3392, 32), fill)
+    script.written(TEXT, 0, bytes_of(text))
+    size = 0
     for k in range(n):
-        append(r, bytes_of(text)[r.size:min(24, r.size + (odd if k % 2 else even))])
-        store_signature(r, bytes_of(mark))
-    return told(r, n, s, r.size)
+        end = min(24, size + (odd if k % 2 else even))
+        script.run('append %d %d' % (size, end))
+        script.sign(bytes_of(mark))
+        size = end
+    script.told(n, s, size)
 
 
-def walked(first, second, changes=(None, None)):
-    registers = laid(first, 101, b'\xaa\xbb\xcc\xdd'), laid(second, 201, b'\x11\x22\x33\x44')
-    sides = []
-    for r, cut, each in zip(registers, (first, second), changes):
-        if each:
-            change(r, *each)
-        sides.append(' '.join(map(str, cut)) + ' ' + (shown(*each) if each else ''))
-    print('and '.join(sides) + compared(compare(*registers)))
+def walked(script, first, second, changes=(None, None)):
+    laid(script, SECOND, second, 201, FILLS[1])
+    turned(script, changes[1])
+    script.run('swap')
+    laid(script, FIRST, first, 101, FILLS[0])
+    turned(script, changes[0])
+    script.run('compare')
 
 
-def compared(answer):
-    if answer[0] == 'refused':
-        return answer[3] + ' ' + said(answer)
-    if answer[0] == 'collision':
-        return 'collision at ' + ('the roots' if answer[1] == 'at the roots' else str(answer[1][1]))
-    return answer[0]
+def turned(script, change):
+    if change:
+        script.turn(change)
 
 
 EVEN = 7, 6, 6, 4, 4
@@ -177,20 +178,3 @@ SPOILT = [((TREE, 40, 1), None), (None, (TREE, 40, 1)), ((TREE, 240, 1), (TREE, 
           (None, (TREE, 191, 1)), ((SIGNATURES, 32, 1), (DATA, 24, 1))]
 
 TOLD_WRONG = [((7, 6, 7, 4, 4), EVEN), (EVEN, (7, 6, 4, 4, 4)), ((7, 0, 1, 0, 0), (7, 6, 4, 4, 4))]
-
-
-if __name__ == '__main__':
-    damaged(10, 7, 1)
-    damaged(13, 5, 128)
-    two_bitfield_entries()
-    doubly_damaged()
-    told_wrong(register(10, 7))
-    lent_short(register(10, 7))
-    longest()
-    wrapping()
-    for pair in EQUAL + OTHER_CUTS + OTHER_COUNTS:
-        walked(*pair)
-    for changes in SPOILT:
-        walked(EVEN, EVEN, changes)
-    for pair in TOLD_WRONG:
-        walked(*pair)

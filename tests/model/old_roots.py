@@ -1,144 +1,125 @@
-"""Prints, from the reference model alone, the text that the program `gate_old_roots` is to print: the root hashes of the first m chunks, beside
-those that the appends answered at the time, and walks along two packets."""
+"""The lines of the program gate_script's script about the root hashes of the first m chunks, beside those that the appends answered at the time, and
+about walks along two packets."""
 
-import copy
+from samples import BITFIELD, DATA, FIRST, LAST, ROOT_AT, SIGNATURES, TEXT, TREE
+from sleep_model import ENTRY, HEADER, SIGNATURE, make_packet, root_hash
 
-from samples import buffers, grow, said, told
-from sleep_model import (ENTRY, HEADER, SIGNATURE, append, compare_packets, images_of, make_packet, old_root, root_hash, start, store_signature)
-
-MOST, LAST = 1048576, 2 ** 64 - 1
-TREE, SIGNATURES, BITFIELD, DATA = range(4)
-NAMES = 'tree', 'signatures', 'bitfield', 'data'
+MOST = 1048576
+SIZES = 1592, 1312, 3360, 57
 
 
-def shown(answer):
-    return answer[1].hex() if answer[0] == 'done' else said(answer)
-
-
-def old(r, m):
-    answer = old_root(r, m)
-    print('old %d %d %d %d: %s' % (r.n, r.s, r.size, m, shown(answer)))
-    return answer
+def cases(script):
+    script.run('# old root hashes, and walks along packets')
+    then = twenty(script)
+    each_count(script, then)
+    thirteen(script)
+    numbers(script)
+    walks(script)
+    damaged(script)
+    order(script)
+    far(script)
 
 
 # ---- Root hashes of earlier years ----
-def twenty():
+def twenty(script):
     """What each append answered at the time: chunk k is the first k % 7 bytes of a text."""
-    r = buffers(1592, 1312, 3360, 57)
-    start(r)
-    then = [root_hash(r)]
+    script.begun(FIRST, SIZES)
+    then = [script.run('root')]
     for k in range(20):
-        then.append(append(r, b'abcdef'[:k % 7]))
-        print('then %d: %s' % (k + 1, shown(then[-1])))
-        store_signature(r, bytes([7]) * SIGNATURE)
-    return r, then
+        then.append(script.append(b'abcdef'[:k % 7]).split(' ')[0])
+        script.sign(bytes([7]) * SIGNATURE)
+    return then
 
 
-def first(r, n):
-    return told(r, n, n, sum(k % 7 for k in range(n)))
+def first(script, n):
+    script.told(n, n, sum(k % 7 for k in range(n)))
 
 
-def each_count(r, then):
+def old(script, m):
+    return script.run('old %d' % m)
+
+
+def each_count(script, then):
     for n in range(21):
+        first(script, n)
         for m in range(n + 2):
-            assert old(first(r, n), m) == (then[m] if m <= n else ('refused', 9, None))
+            assert old(script, m) == (then[m] if m <= n else 'refused 9:' + '0' * 64)
 
 
-def far():
-    r = buffers(655552, 524480, 6720, 8192)
-    start(r)
-    grow(r, 8193, 2)
+def far(script):
+    script.begun(FIRST, (655552, 524480, 6720, 8192))
+    script.run('grow 8193 2')
     for m in (0, 1, 4095, 4096, 8190, 8191, 8192, 8193, 8194, LAST):
-        old(r, m)
+        old(script, m)
 
 
-def thirteen(r):
+def thirteen(script):
+    first(script, 13)
     for m in range(15):
-        old(first(r, 13), m)
+        old(script, m)
 
 
-def numbers(r):
-    for told_numbers in ((MOST + 1, 13, 36), (LAST, LAST, 36), (MOST, MOST, 36), (13, 12, 36), (13, 11, 36), (13, 14, 36), (13, 13, 35), (13, 13, 37),
-                         (13, 13, 58), (12, 12, 31), (12, 11, 31), (0, 0, 0), (0, 1, 0), (0, 0, 1)):
+def numbers(script):
+    for told in ((MOST + 1, 13, 36), (LAST, LAST, 36), (MOST, MOST, 36), (13, 12, 36), (13, 11, 36), (13, 14, 36), (13, 13, 35), (13, 13, 37),
+                 (13, 13, 58), (12, 12, 31), (12, 11, 31), (0, 0, 0), (0, 1, 0), (0, 0, 1)):
+        script.told(*told)
         for m in (0, 12, 13, 14):
-            old(told(r, *told_numbers), m)
+            old(script, m)
 
 
 # ---- Registers that no audit would accept, and the order of the checks ----
-def flip(r, image, at):
-    images_of(r)[image][at] ^= 1
-
-
-def changed(r, image, at):
-    print('%s %d changed' % (NAMES[image], at))
-    flip(r, image, at)
-
-
-def damaged(r):
+def damaged(script):
     """A byte of an entry changes the root hashes that have the entry as a root, and no others; a length of a root of n gives 6. Leaves, parents
-    and roots are changed in their hash or in their length; then a header, and at last a byte of each other image."""
+    and roots are changed in their hash or in their length; then a header, and at last a byte of each other file."""
     for at in [HEADER + ENTRY * index + part for index, part in
                ((0, 0), (1, 39), (3, 32), (7, 0), (8, 31), (9, 39), (15, 5), (19, 0), (22, 36), (24, 39))] + [31]:
-        changed(r, TREE, at)
-        thirteen(r)
-        flip(r, TREE, at)
-    for image, at in ((SIGNATURES, 40), (BITFIELD, 32), (DATA, 3)):
-        changed(r, image, at)
-    thirteen(r)
+        with script.turned((TREE, at, 1)):
+            thirteen(script)
+    script.turn((SIGNATURES, 40, 1), (BITFIELD, 32, 1), (DATA, 3, 1))
+    thirteen(script)
 
 
-def order(r):
+def order(script):
     """From each fault on, all that come behind it in the order of the checks: n is 1,048,577; s is two more; the tree is a byte shorter than
     used; the last byte of the signatures' header is another; the data size is one more; m is one more than n."""
     for fault, number in enumerate((2, 3, 4, 5, 6, 9)):
         n = MOST + 1 if fault == 0 else 13
-        faulty = copy.deepcopy(told(r, n, n + 2 if fault <= 1 else n, 37 if fault <= 4 else 36))
-        if fault <= 2:
-            del faulty.tree[1031:]
-        if fault <= 3:
-            flip(faulty, SIGNATURES, 31)
-        assert old(faulty, n + 1) == ('refused', number, None)
+        script.told(n, n + 2 if fault <= 1 else n, 37 if fault <= 4 else 36)
+        script.lend_from(FIRST, (1031 if fault <= 2 else SIZES[0], *SIZES[1:]))
+        with script.turned(*[(SIGNATURES, 31, 1)] * (fault <= 3)):
+            assert old(script, n + 1) == 'refused %d:%s' % (number, '0' * 64)
 
 
 # ---- Walks along two packets ----
-def walk(*words):
-    answer = compare_packets(*words)
-    print(answer[3] + ' ' + said(answer) if answer[0] == 'refused' else answer[0])
-
-
 def packet_of(r, chunk, size):
     out = bytearray(size)
     assert make_packet(r, chunk, out) == ('done', size)
     return bytes(out)
 
 
-def turned(packet, at):
-    return packet[:at] + bytes([packet[at] ^ 1]) + packet[at + 1:]
+WHOLE, OTHER, EIGHT = (0, 212), (216, 428), (432, 599)  # where packets lie
 
 
-def walks(r):
+def walk(script, one, two, n, chunk):
+    return script.run('walk %d %d %d %d %d %d %d' % (n, chunk, ROOT_AT, *one, *two))
+
+
+def walks(script):
     """The packet of chunk 6 of 13, of six bytes: 3 siblings and 2 other roots behind it, each byte changed in turn, of the first packet, of the
     second and of both. Then whole and damaged packets and those of two chunks, in both orders, numbers told wrong, and another root hash."""
-    root, whole, eight = root_hash(r)[1], packet_of(r, 6, 212), packet_of(r, 8, 167)
+    first(script, 13)
+    r = script.register()
+    for (start, end), chunk in ((WHOLE, 6), (OTHER, 6), (EIGHT, 8)):
+        script.written(TEXT, start, packet_of(r, chunk, end - start))
+        script.run('packet %d %d' % (chunk, end - start))
+    script.written(TEXT, ROOT_AT, root_hash(r)[1])
     for at in range(212):
-        print('byte %d' % at)
-        other = turned(whole, at)
-        for both in ((other, whole), (whole, other), (other, other)):
-            walk(*both, 13, 6, root)
-    print('pairs')
-    damage = turned(whole, 50)
-    for words in ((whole, whole, 13, 6), (eight, eight, 13, 8), (whole, eight, 13, 6), (whole, eight, 13, 8), (damage, eight, 13, 6),
-                  (eight, damage, 13, 6), (whole, whole, 13, 13), (whole, whole, 12, 6), (whole, whole, MOST + 1, 6)):
-        walk(*words, root)
-    walk(whole, whole, 13, 6, b'an old root hash of 32 bytes ...')
-
-
-if __name__ == '__main__':
-    grown, answered = twenty()
-    each_count(grown, answered)
-    thirteen(grown)
-    numbers(grown)
-    walks(first(grown, 13))
-    damaged(grown)
-    order(grown)
-    far()
+        with script.turned((TEXT, OTHER[0] + at, 1)):
+            for both in ((OTHER, WHOLE), (WHOLE, OTHER), (OTHER, OTHER)):
+                walk(script, *both, 13, 6)
+    script.turn((TEXT, OTHER[0] + 50, 1))
+    for words in ((WHOLE, WHOLE, 13, 6), (EIGHT, EIGHT, 13, 8), (WHOLE, EIGHT, 13, 6), (WHOLE, EIGHT, 13, 8), (OTHER, EIGHT, 13, 6),
+                  (EIGHT, OTHER, 13, 6), (WHOLE, WHOLE, 13, 13), (WHOLE, WHOLE, 12, 6), (WHOLE, WHOLE, MOST + 1, 6)):
+        walk(script, *words)
+    script.written(TEXT, ROOT_AT, b'an old root hash of 32 bytes ...')
+    walk(script, WHOLE, WHOLE, 13, 6)

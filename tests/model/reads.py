@@ -1,29 +1,37 @@
-"""Prints, from the reference model alone, the text that the program `gate_reads` is to print."""
+"""The lines of the program gate_script's script about lookups, reads and packets."""
 
-from contextlib import contextmanager
+from samples import BITFIELD, DATA, FIRST, LAST, ROOT_AT, SECOND, SIGNATURES, TEXT, TREE, bytes_of
+from sleep_model import ENTRY, HEADER, be, leaf_message, make_packet, node_hash, root_hash, root_message
 
-from samples import buffers, bytes_of, grow, said, told
-from sleep_model import (Register, append, be, byte_lookup, check_packet, leaf_message, make_packet, node_hash, place_lookup, read,
-                         root_hash, root_message, start, store_signature)
-
-LAST = 2 ** 64 - 1
+SIZES = 1032, 864, 3360, 65600  # of the content register
+APART = 1100000, 1040000, 3400, 66000  # where a file lies that is lent in another's place
 
 
-def metadata_register():
-    r = buffers(232, 224, 3360, 5)
-    start(r)
+def cases(script):
+    """Two registers: the content register is the first, and the metadata register the second."""
+    script.run('# lookups, reads and packets')
+    metadata_register(script)
+    line(script)
+    script.run('swap')
+    content_register(script)
+    lookups(script)
+    all_reads(script)
+    packets(script)
+    checks(script)
+    sums(script)
+
+
+def metadata_register(script):
+    script.begun(SECOND, (232, 224, 3360, 5))
     for k, chunk in enumerate((b'AB', b'', b'CDE')):
-        append(r, chunk)
-        store_signature(r, bytes_of(k))
-    return r
+        script.append(chunk)
+        script.sign(bytes_of(k))
 
 
-def content_register():
+def content_register(script):
     """Chunk k has k % 4 bytes."""
-    r = buffers(1032, 864, 3360, 65600)
-    start(r)
-    grow(r, 13, 4)
-    return r
+    script.begun(FIRST, SIZES)
+    script.run('grow 13 4')
 
 
 def first(n):
@@ -44,163 +52,166 @@ CHANGES = [((7, 19), 32, 0x80, first(13)), ((0, 2), 32, 0x80, first(13)), ((1, 5
 LAST_ROOT = ((21,), 39, 1, first(12))
 
 
-@contextmanager
-def flipped(buffer, places, by):
-    flip(buffer, places, by)
-    yield
-    flip(buffer, places, by)
-
-
-def flip(buffer, places, by):
-    for at in places:
-        buffer[at] ^= by
-
-
-def in_entries(entries, byte):
-    return [32 + 40 * entry + byte for entry in entries]
+def in_entries(entries, byte, by):
+    return [(TREE, HEADER + ENTRY * entry + byte, by) for entry in entries]
 
 
 # ---- Lookups ----
-def looked(r, chunks, offsets):
-    answers = [place_lookup(r, chunk) for chunk in chunks] + [byte_lookup(r, offset) for offset in offsets]
-    pairs = ['%d %d' % answer[1:] if answer[0] == 'done' else said(answer) for answer in answers]
-    print('told %d %d %d:' % (r.n, r.s, r.size) + ''.join(' %s,' % pair for pair in pairs))
+def looked(script, chunks, offsets):
+    for chunk in chunks:
+        script.run('place %d' % chunk)
+    for offset in offsets:
+        script.run('byte %d' % offset)
 
 
-def line(r):
-    looked(r, [*range(15), LAST], [*range(20), 65535, 65536, 65537, 65553, 65554, LAST])
+def line(script):
+    looked(script, [*range(15), LAST], [*range(20), 65535, 65536, 65537, 65553, 65554, LAST])
 
 
-def brief(r):
-    looked(r, [3], [5])
+def brief(script):
+    looked(script, [3], [5])
 
 
-def lent_wrong(r):
-    t, s, b, d = r.tree, r.signatures, r.bitfield, r.data
-    for images in ((t[:-1], s, b, d), (t, s[:-1], b, d), (t, s, b[:-1], d), (t, s, b, d[:17]), (t, s, b, d[:18]), (b, s, b, d),
-                   (t, b, b, d), (t, s, d, d)):
-        brief(Register(*images, *first(13)))
+def lent_wrong(script):
+    """Buffers that are one byte too short, data that just suffices, and buffers in each other's place."""
+    for file, size in ((TREE, 1031), (SIGNATURES, 863), (BITFIELD, 3359), (DATA, 17), (DATA, 18)):
+        script.lend_from(FIRST, [size if k == file else whole for k, whole in enumerate(SIZES)])
+        brief(script)
+    script.lend_from(FIRST, SIZES)
+    r = script.register()
+    for file, image in ((TREE, r.bitfield), (SIGNATURES, r.bitfield), (BITFIELD, r.data[:5600])):
+        at, sizes = list(FIRST), list(SIZES)
+        at[file], sizes[file] = APART[file], len(image)
+        script.lend_from(at, sizes)
+        script.run('fill %d 0 %d %d 0' % (file, len(image), image[-1]))
+        script.written(file, 0, bytes(image))
+        brief(script)
+    script.lend_from(FIRST, SIZES)
 
 
-def lookups(r):
-    lent_wrong(r)
+def lookups(script):
+    lent_wrong(script)
     for n in range(14):
-        line(told(r, *first(n)))
+        script.told(*first(n))
+        line(script)
     for numbers in WRONG:
-        brief(told(r, *numbers))
+        script.told(*numbers)
+        brief(script)
     for entry in range(25):
         for byte in (39, 32):
-            with flipped(r.tree, in_entries([entry], byte), 1):
-                line(r)
+            with script.turned(*in_entries([entry], byte, 1)):
+                line(script)
     for entries, byte, by, numbers in [*CHANGES, LAST_ROOT]:
-        with flipped(r.tree, in_entries(entries, byte), by):
-            line(told(r, *numbers))
+        with script.turned(*in_entries(entries, byte, by)):
+            script.told(*numbers)
+            line(script)
+    script.told(*first(13))
 
 
 # ---- Reads ----
-def reads(m, c):
-    answers = [read(m, c, 'metadata', chunk) for chunk in range(4)] + [read(m, c, 'content', chunk) for chunk in (*range(15), LAST)]
-    print('reads:' + ''.join(' %s,' % part_of(answer) for answer in answers))
+def reads(script):
+    script.run('swap')
+    for chunk in range(4):
+        script.run('get 0 %d' % chunk)
+    script.run('swap')
+    for chunk in (*range(15), LAST):
+        script.run('get 1 %d' % chunk)
 
 
-def part_of(answer):
-    return '%s:%s' % (said(answer), answer[1].hex() if answer[0] == 'done' else '')
-
-
-def all_reads(m, c):
+def all_reads(script):
+    """With bytes changed in the content register; beside a register of which no call could use what is told; and with bytes changed in the metadata
+    register."""
     for at in range(18):
-        with flipped(c.data, [at], 1):
-            reads(m, c)
+        with script.turned((DATA, at, 1)):
+            reads(script)
     for entry in range(25):
         for byte in (0, 31):
-            with flipped(c.tree, in_entries([entry], byte), 1):
-                reads(m, c)
+            with script.turned(*in_entries([entry], byte, 1)):
+                reads(script)
     for entries, byte, by, numbers in CHANGES:
-        with flipped(c.tree, in_entries(entries, byte), by):
-            reads(m, told(c, *numbers))
-    reads(m, c)
-    reads(told(m, LAST, 5, 7), c)
-    reads(m, told(c, LAST, 5, 7))
+        with script.turned(*in_entries(entries, byte, by)):
+            script.told(*numbers)
+            reads(script)
+            script.told(*first(13))
+    reads(script)
+    script.run('swap')
+    script.told(LAST, 5, 7)
+    script.run('swap')
+    reads(script)
+    script.run('swap')
+    script.told(3, 3, 5)
+    script.run('swap')
+    script.told(LAST, 5, 7)
+    reads(script)
+    script.told(*first(13))
+    script.run('swap')
     for at in range(5):
-        with flipped(m.data, [at], 1):
-            reads(m, c)
+        with script.turned((DATA, at, 1)):
+            script.run('swap')
+            reads(script)
+            script.run('swap')
+    script.run('swap')
 
 
 # ---- Packets ----
-def packet(r, chunk, room, out):
-    answer = make_packet(r, chunk, memoryview(out)[:room])
-    length = answer[1] if answer[0] == 'done' else 0
-    print('packet', r.n, chunk, length or said(answer), node_hash(bytes(out)).hex(), end=' ')
-    checked(out, length, r.n, chunk, root_of(r))
-
-
-def root_of(r):
-    answer = root_hash(r)
-    return answer[1] if answer[0] == 'done' else bytes(32)
-
-
-def checked(packet, length, n, chunk, root):
-    print(part_of(check_packet(bytes(packet[:length]), n, chunk, root)))
-
-
-def packets(r, out):
+def packets(script):
     for n in range(1, 14):
+        script.told(*first(n))
         for chunk in range(n + 1):
-            packet(told(r, *first(n)), chunk, 300, out)
+            script.run('packet %d 300' % chunk)
     for room in (0, 1, 207, 208, 209):
-        packet(r, 6, room, out)
+        script.run('packet 6 %d' % room)
     for numbers in WRONG:
-        packet(told(r, *numbers), 3, 300, out)
-    with flipped(r.data, [12], 1):
+        script.told(*numbers)
+        script.run('packet 3 300')
+    with script.turned((DATA, 12, 1)):
         for room in (0, 300):
             for chunk in range(8, 12):
-                packet(r, chunk, room, out)
+                script.run('packet %d %d' % (chunk, room))
 
 
-def checks(r, out):
+def checks(script):
     """The packet of the chunk 6 of 13: each byte changed, the counts, each length, root hash, i and n."""
+    out = bytearray(300)
+    r = script.register()
     length = make_packet(r, 6, out)[1]
-    print(length)
-    root = root_of(r)
-    usual = ([], 0, length, 13, 6, root)
-    cases = [([at], by, *usual[2:]) for by in (1, 0x80) for at in range(length)]
-    cases += [([at], by, *usual[2:]) for at, by in ((6, 7), (127, 3), (6, 3), (127, 2))]
-    cases += [(*usual[:2], count, *usual[3:]) for count in range(length + 4)]
-    cases += [(*usual[:5], bytes(byte ^ (k == j) for j, byte in enumerate(root))) for k in range(32)]
-    cases += [(*usual[:4], chunk, root) for chunk in (*range(15), LAST)]
-    cases += [(*usual[:3], n, 6, root) for n in (*range(27), 1048576, 1048577, LAST)]
-    for k, (places, by, *numbers) in enumerate(cases):
-        with flipped(out, places, by):
-            print('check', k, end=' ')
-            checked(out, *numbers)
+    script.written(TEXT, 0, bytes(out))
+    script.written(TEXT, ROOT_AT, root_hash(r)[1])
+    turns = [(at, by) for by in (1, 0x80) for at in range(length)] + [(6, 7), (127, 3), (6, 3), (127, 2)] + [(ROOT_AT + k, 1) for k in range(32)]
+    for at, by in turns:
+        with script.turned((TEXT, at, by)):
+            check(script, length)
+    for count in range(length + 4):
+        check(script, count)
+    for chunk in (*range(15), LAST):
+        check(script, length, chunk=chunk)
+    for n in (*range(27), 1048576, 1048577, LAST):
+        check(script, length, n=n)
+
+
+def check(script, length, n=13, chunk=6):
+    script.run('check %d %d %d 0 %d' % (n, chunk, ROOT_AT, length))
 
 
 # ---- Sums ----
-def forged(first_length, second_length):
+def forged(script, first_length, second_length):
     """The packet of the chunk 0 of 3, the byte Q, and the root hash of its entries, with sums modulo 2^64."""
     beside, size = b'\x77' * 32, (1 + first_length) % 2 ** 64
     packet = be(4, 1) + b'Q' + be(1, 1) + beside + be(8, first_length) + be(1, 1) + beside + be(8, second_length)
     above = node_hash(b'\1' + be(8, size) + node_hash(leaf_message(b'Q')) + beside)
     root = node_hash(root_message([(1, (above, size)), (4, (beside, second_length))]))
-    print('lengths', first_length, second_length, end=' ')
-    checked(packet, len(packet), 3, 0, root)
+    script.written(TEXT, 0, packet)
+    script.written(TEXT, ROOT_AT, root)
+    check(script, len(packet), 3, 0)
 
 
-def sums():
+def sums(script):
     most, half = 2 ** 36, 2 ** 35
     for lengths in ((0, 0), (most - 1, 0), (most, 0), (0, most - 1), (0, most), (half, half - 1), (half, half), (LAST - 1, 0), (LAST, 0),
                     (2 ** 63, 2 ** 63 - 1), (1, LAST), (LAST, 1)):
-        forged(*lengths)
+        forged(script, *lengths)
+    script.run('fill %d 0 65543 0 0' % TEXT)
+    script.written(TEXT, ROOT_AT, bytes(32))
     for length in (65536, 65537):
-        print(length, end=' ')
-        checked(be(4, length) + bytes(length) + bytes(2), length + 6, 1, 0, bytes(32))
-
-
-if __name__ == '__main__':
-    metadata, content, buffer = metadata_register(), content_register(), bytearray(b'\xee' * 300)
-    line(metadata)
-    lookups(content)
-    all_reads(metadata, content)
-    packets(content, buffer)
-    checks(content, buffer)
-    sums()
+        script.written(TEXT, 0, be(4, length))
+        check(script, length + 6, 1, 0)

@@ -1,88 +1,60 @@
-"""Prints, from the reference model alone, the text that the program `gate_registers` is to print."""
+"""The lines of the program gate_script's script about registers that are built, and about the refusals of the calls that build them."""
 
-from samples import buffers, bytes_of, grow, said, told
-from sleep_model import append, bitfield_image, node_hash, root_hash, start, store_signature
-
-
-def root_of(answer):
-    return (answer[1] if answer[0] == 'done' else bytes(32)).hex()
+from samples import FIRST, LAST, SIGNATURES, TEXT, bytes_of
 
 
-def report(r):
-    answer = root_hash(r)
-    hashes = ' '.join(node_hash(bytes(b)).hex() for b in (r.tree, r.signatures, r.bitfield, r.data))
-    print(r.n, r.s, r.size, said(answer), root_of(answer), hashes)
+def cases(script):
+    script.run('# registers that are built')
+    staged(script, (1024, 1024, 4096, 256), range(11), 7)
+    long(script)
+    begun(script, (152, 160, 31, 16), 0, 7)
+    refusals(script)
+    staged(script, (655552, 524480, 6720, 8192), range(8190, 8195), 2)
+    bitfields(script)
 
 
-def appended(r, chunk):
-    answer = append(r, chunk)
-    print('append', said(answer), root_of(answer))
+def begun(script, sizes, upto, span):
+    """Where no register could be started the root hash is refused too."""
+    script.begun(FIRST, sizes)
+    if upto > 0:
+        script.run('grow %d %d' % (upto, span))
+    script.run('root')
 
 
-def signed(r):
-    print('sign', said(store_signature(r, bytes_of(r.n % 1000))))
+def staged(script, sizes, counts, span):
+    begun(script, sizes, counts[0], span)
+    for n in counts[1:]:
+        script.run('grow %d %d' % (n, span))
+        script.run('root')
 
 
-def begun(r, upto, span):
-    print('start', said(start(r)))
-    grow(r, upto, span)
-    report(r)
-
-
-def staged(r, first, last, span):
-    begun(r, first, span)
-    for k in range(first + 1, last + 1):
-        grow(r, k, span)
-        report(r)
-
-
-def tried(r, *row):
+def tried(script, *row):
+    """An append, a signature and the root hash, each of the register as it is told."""
     *numbers, count = row
-    appended(told(r, *numbers), b'\x5a' * count)
-    signed(told(r, *numbers))
-    report(told(r, *numbers))
+    for line in ('append 0 %d' % count, None, 'root'):
+        script.told(*numbers)
+        if line:
+            script.run(line)
+        else:
+            script.sign(bytes_of(numbers[0] % 1000))
 
 
-def small():
-    staged(buffers(1024, 1024, 4096, 256), 0, 10, 7)
+def long(script):
+    """Chunks of 65,536 and 65,537 bytes, and one that just fits the data buffer."""
+    begun(script, (1024, 1024, 4096, 65540), 0, 7)
+    script.run('fill %d 0 65537 90 0' % TEXT)
+    for row in ((0, 0, 0, 65537), (0, 0, 0, 65536), (1, 0, 65536, 5), (1, 1, 65536, 5), (1, 1, 65536, 4), (2, 1, 65540, 4)):
+        tried(script, *row)
 
 
-def long():
-    r = buffers(1024, 1024, 4096, 65540)
-    begun(r, 0, 7)
-    for row in [(0, 0, 0, 65537), (0, 0, 0, 65536), (1, 0, 65536, 5), (1, 1, 65536, 5), (1, 1, 65536, 4), (2, 1, 65540, 4)]:
-        tried(r, *row)
+def refusals(script):
+    begun(script, (152, 160, 3360, 16), 2, 7)
+    for numbers in ((1048577, 2, 1), (1048576, 2, 1), (2, 3, 1), (0, LAST, 1), (3, 2, 1), (2, 2, 2), (2, 2, 1), (2, 1, 1)):
+        tried(script, *numbers, 3)
+    script.turn((SIGNATURES, 7, 6))
+    tried(script, 2, 2, 1, 3)
 
 
-def short():
-    begun(buffers(152, 160, 31, 16), 0, 7)
-
-
-def refusals():
-    r = buffers(152, 160, 3360, 16)
-    begun(r, 2, 7)
-    most = 2 ** 64 - 1
-    for numbers in [(1048577, 2, 1), (1048576, 2, 1), (2, 3, 1), (0, most, 1), (3, 2, 1), (2, 2, 2), (2, 2, 1), (2, 1, 1)]:
-        tried(r, *numbers, 3)
-    r.signatures[7] = 1
-    tried(r, 2, 2, 1, 3)
-
-
-def borders():
-    staged(buffers(655552, 524480, 6720, 8192), 8190, 8194, 2)
-
-
-def bitfield_alone():
-    for n in (8191, 8192, 8193, 16383, 16384, 16385, 16386):
-        image = bitfield_image(n)
-        whole = image + b'\xee' * (10048 - len(image))
-        print('bitfield', n, node_hash(whole).hex())
-
-
-if __name__ == '__main__':
-    small()
-    long()
-    short()
-    refusals()
-    borders()
-    bitfield_alone()
+def bitfields(script):
+    """Up to 16,386 chunks, where bitfield entries begin: chunk 16,383 completes a parent whose tree bit lies in an earlier entry."""
+    staged(script, (1310912, 1048736, 10048, 8), (8191, 8192, 8193, 16383, 16384, 16385, 16386), 1)

@@ -3,13 +3,11 @@
 Of the registers, chunk k is the first k % span bytes of bytes_of(k) and its signature is bytes_of(k + 101).
 """
 
-from sleep_model import (BITFIELD_ENTRY, DATA_BYTES, ENTRY, HEADER, TREE_BYTES, be, entry_bytes, images_of, leaf_node, node_hash, number_in,
-                         register_of, root_hash, used_sizes)
+from samples import BITFIELD, DATA, FIRST, LAST, SECOND, SIGNATURES, TEXT, TREE, bytes_of
+from sleep_model import BITFIELD_ENTRY, DATA_BYTES, ENTRY, HEADER, TREE_BYTES, images_of, leaf_node, node_hash, register_of, used_sizes
 
-TREE, SIGNATURES, BITFIELD, DATA = range(4)
 INDEX = HEADER + DATA_BYTES + TREE_BYTES
-LAST = 2 ** 64 - 1
-FIRST, SECOND = (0, 0, 0, 0), (700000, 600000, 9000, 70000)  # where the two registers lie, but for the longest
+GETS = 'get 0 %d', 'get 1 %d'  # a read of the register as the metadata register, and as the content register
 
 
 def cases(script):
@@ -46,6 +44,18 @@ def register(script, n, span, gone=(), at=FIRST, spare=9):
         assert script.run('release %d' % chunk).startswith('done')
 
 
+def chunks(script, *several):
+    """An empty register, and chunks: their bytes, or how many bytes of some that follow each other by steps."""
+    script.told(0, 0, 0)
+    script.run('start')
+    for k, chunk in enumerate(several):
+        if isinstance(chunk, int):
+            script.append_steps(k + 1, chunk)
+        else:
+            script.append(chunk)
+        script.sign(bytes_of(k))
+
+
 # ---- One release, and what the calls answer then ----
 def each(script, n, span):
     script.run('# each chunk of %d, released alone' % n)
@@ -57,7 +67,7 @@ def each(script, n, span):
         assert done == (chunk < n)
         assert run('audit') == 'done'
         assert (run('root'), run('place %d' % chunk)) == whole
-        for call in ('release %d', 'get %d', 'packet %d 300'):
+        for call in ('release %d', *GETS, 'packet %d 300'):
             assert run(call % chunk).startswith('refused 18 tree %d' % (2 * chunk) if done else 'refused 9')
         for number in (0, chunk, min(chunk + 1, LAST)):
             assert run('search %d' % number) == (str(chunk) if done and number <= chunk else 'none')
@@ -68,14 +78,13 @@ def others(script):
     script.run('# the chunks beside released ones')
     run = script.run
     register(script, 13, 5)
-    asked = [call % chunk for chunk in range(13) for call in ('get %d', 'packet %d 300', 'place %d')]
-    offsets = ['byte %d' % offset for offset in range(25)]
-    whole = [run(line) for line in asked + offsets]
+    asked = [(call % chunk, chunk in (8, 3, 9)) for chunk in range(13) for call in (*GETS, 'packet %d 300')]
+    asked += [('place %d' % chunk, False) for chunk in range(13)] + [('byte %d' % offset, False) for offset in range(25)]
+    whole = [run(line) for line, _ in asked]
     for chunk in (8, 3, 9):
         run('release %d' % chunk)
-    after = [run(line) for line in asked + offsets]
-    for line, before, answer in zip(asked + offsets, whole, after):
-        gone = line.startswith(('get', 'packet')) and int(line.split(' ')[1]) in (3, 8, 9)
+    for (line, gone), before in zip(asked, whole):
+        answer = run(line)
         assert answer.startswith('refused 18 tree') if gone else answer == before
     run('root')
 
@@ -91,17 +100,18 @@ def several(script, n, span):
         for number in (0, 15, 16, 17, n - 1, n):
             run('search %d' % number)
     for k in range(3):
-        run('append %d %d' % (k, 5 * k))
-        run('append 9 9')
-        run('sign %d' % k)
+        script.append_steps(k, 5 * k)
+        script.append_steps(9, 9)
+        script.sign(bytes_of(k))
         assert run('audit') == 'done'
-    run('list 7 13 3 4 0 9')
+    run('fill %d 0 13 7 7' % TEXT)
+    run('list 0 13 3 4 0 9')
     assert run('audit') == 'done'
     for number in (0, n - 1, n, n + 5, n + 6):
         run('search %d' % number)
     run('release %d' % (n + 4))  # an empty chunk of the list
-    run('get %d' % (n + 3))
-    run('sign 8')
+    run('get 0 %d' % (n + 3))
+    script.sign(bytes_of(8))
     run('release %d' % (n + 5))
     assert run('audit') == 'done'
     run('search %d' % n)
@@ -181,7 +191,7 @@ def refusals(script):
     ordered(script)
     run('# an empty register')
     register(script, 0, 5)
-    for line in ('release 0', 'get 0', 'packet 0 300', 'search 0', 'search 1', 'search %d' % LAST, 'audit', 'root'):
+    for line in ('release 0', 'get 0 0', 'get 1 0', 'packet 0 300', 'search 0', 'search 1', 'search %d' % LAST, 'audit', 'root'):
         run(line)
 
 
@@ -197,7 +207,8 @@ def ordered(script):
         run('told %d %d %d' % (1048577 if right <= 2 else 13, 11 if right <= 3 else 13, 24 if right <= 6 else 23))
         if right in (2, 6):
             run('flip %d %d 1' % (SIGNATURES, HEADER - 1))
-        for line in ('release 13', 'release 3', 'release 4', 'search 0', 'get 13', 'get 3', 'get 4', 'packet 13 0', 'packet 3 0', 'packet 4 0', 'compare'):
+        several = [call % chunk for call in ('release %d', *GETS, 'packet %d 0') for chunk in (13, 3, 4)]
+        for line in (*several, 'search 0', 'compare'):
             answer = run(line)
             assert right == 7 or line == 'compare' or answer.startswith('refused %d' % right)
     run('flip %d %d 1' % (TREE, wrong))
@@ -213,7 +224,7 @@ def changed(script, gone, image, at):
 
 def ask_all(script, gone, n=13, s=13, size=23):
     """Every call that asks for chunk 3, and those that ask for none. What was released anew is held again."""
-    for line in ('told %d %d %d' % (n, s, size), 'get 3', 'packet 3 0', 'place 3', 'search 0', 'root'):
+    for line in ('told %d %d %d' % (n, s, size), 'get 0 3', 'get 1 3', 'packet 3 0', 'place 3', 'search 0', 'root'):
         script.run(line)
     kept = [bytes(buffer[a:b]) for buffer, (a, b) in zip(script.buffers, script.parts[0])]
     if not gone and script.run('release 3').startswith('done'):
@@ -225,13 +236,8 @@ def ask_all(script, gone, n=13, s=13, size=23):
 
 def restore(script, kept):
     """Puts back what the lent parts held."""
-    for file, (buffer, (a, b), before) in enumerate(zip(script.buffers, script.parts[0], kept)):
-        at = 0
-        while at + 8 <= b - a:
-            if buffer[a + at:a + at + 8] != before[at:at + 8]:
-                script.run('put %d %d %d' % (file, at, number_in(before[at:at + 8])))
-            at += 1
-        assert buffer[a:b] == before
+    for file, before in enumerate(kept):
+        script.written(file, 0, before)
 
 
 # ---- The audit ----
@@ -267,8 +273,7 @@ def audits(run):
     audited(run, *all_bits)
     audited(run, *all_bits, *odd)
     lend(script, 3, 9, spare=700)
-    for line in ('told 0 0 0', 'start', 'append 0 1', 'sign 0', 'append 0 1', 'sign 1', 'append 1 3', 'sign 2'):  # chunks 00, 00 and one of three bytes
-        run(line)
+    chunks(script, b'\0', b'\0', b'\1\10\17')
     for chunk in range(3):
         audited(run, (BITFIELD, HEADER, 0x80 >> chunk))
 
@@ -301,7 +306,7 @@ def handed_in(script):
         script.run('root')
         script.run('search 0')
         at = next(k for k, piece in enumerate(pieces) if not isinstance(piece, bytes))
-        for call in ('release %d', 'get %d', 'packet %d 300', 'place %d'):
+        for call in ('release %d', *GETS, 'packet %d 300', 'place %d'):
             script.run(call % at)
         script.run('put %d %d 0' % (TREE, HEADER + ENTRY * 2 * at))  # the parents don't follow, unless there are none
         script.run('audit')
@@ -312,21 +317,17 @@ def handed_in(script):
 def cleared(script, size):
     """Data of zeros, which two released chunks leave."""
     lend(script, 2, size)
-    for line in ('told 0 0 0', 'start', 'append 1 %d' % min(size, 65536), 'sign 1', 'append 2 %d' % max(size - 65536, 0), 'sign 2', 'release 0', 'release 1'):
-        script.run(line)
+    chunks(script, min(size, 65536), max(size - 65536, 0))
+    for chunk in range(2):
+        script.run('release %d' % chunk)
 
 
 def given(script, r):
     """The images of a register, but for its signatures, written number by number."""
     ends = [used + 8 for used in used_sizes(r.n, r.n, r.size)]
     script.run('lend ' + ' '.join('0 %d' % end for end in ends))
-    for image, used, file in zip(images_of(r), used_sizes(r.n, r.n, r.size), range(4)):
-        for at in range(0, HEADER if file == SIGNATURES else used, 8):
-            now = bytes(script.buffers[file][at:at + 8])
-            meant = bytes(image[at:at + 8]) + now[min(8, used - at):]
-            if now != meant:
-                script.run('put %d %d %d' % (file, at, number_in(meant)))
-        assert file == SIGNATURES or script.buffers[file][:used] == image
+    for file, (image, used) in enumerate(zip(images_of(r), used_sizes(r.n, r.n, r.size))):
+        script.written(file, 0, bytes(image[:HEADER if file == SIGNATURES else used]))
     script.run('told %d %d %d' % (r.n, r.s, r.size))
 
 
@@ -334,8 +335,8 @@ def longest_chunks(run):
     run('# chunks of 65,536 bytes')
     script = run.__self__
     lend(script, 3, 2 * 65536 + 7, spare=64)
-    for line in ('told 0 0 0', 'start', 'append 1 65536', 'sign 1', 'append 2 7', 'sign 2', 'append 3 65536', 'sign 3', 'release 2', 'audit', 'release 0', 'audit',
-                 'get 1', 'packet 1 300', 'search 1', 'root'):
+    chunks(script, 65536, 7, 65536)
+    for line in ('release 2', 'audit', 'release 0', 'audit', 'get 0 1', 'get 1 1', 'packet 1 300', 'search 1', 'root'):
         run(line)
 
 

@@ -2,6 +2,14 @@
 
 from sleep_model import HEADER, Register, append, register_of, store_signature
 
+LAST = 2 ** 64 - 1
+
+# Of the script of gate_script: the files of a register and the text, where two registers lie that aren't long, and in the text a root hash and a
+# signature; chunks and packets lie before them.
+TREE, SIGNATURES, BITFIELD, DATA, TEXT = range(5)
+FIRST, SECOND = (0, 0, 0, 0), (700000, 600000, 9000, 70000)
+ROOT_AT, SIGNATURE_AT = 65664, 65728
+
 
 def bytes_of(k):
     return bytes((k % 251 + 3 * i) % 256 for i in range(64))
@@ -12,12 +20,6 @@ def said(answer):
         return 'done'
     place = '' if answer[2] is None else ' %s %d' % answer[2]
     return 'refused %d%s' % (answer[1], place)
-
-
-def buffers(tree, signatures, bitfield, data, fill=b'\xaa\xbb\xcc\xdd'):
-    """Buffers of these sizes that held other bytes before."""
-    filled = (bytes([byte]) * count for byte, count in zip(fill, (tree, signatures, bitfield, data)))
-    return Register(*map(bytearray, filled))
 
 
 def told(r, n, s, size):

@@ -1,25 +1,36 @@
 """Runs the script of the program `gate_script` on the reference model alone, and prints what the program is to print; with --stdin, prints the script.
 
-Each line has a word, of which the first two letters count, and decimal numbers. The registers of a script are parts of four buffers that hold a5 at
-first: `lend` names the parts of the first register, from and to where in each buffer, `told` what is told of it, and `swap` makes the second register
-the first. The other words are a call each, on the first register, or on both where they are compared; a call that is not refused changes what is told.
+Each line has a word, of which the first two letters count, and decimal numbers. The registers of a script are parts of four buffers, and chunks,
+signatures, root hashes and packets are parts of a fifth, the text; all hold a5 at first. `lend` names the parts of the first register, from and to
+where in each buffer, `told` what is told of it, and `swap` makes the second register the first. `flip`, `put` and `fill` change bytes of a lent
+part of the first register or of the text. The other words are a call each, on the first register, on both, or on parts of the text alone.
 `splace`, `sbyte` and `ssearch` ask both ways, the quick one and the short one, for a number and those that follow it.
 
 A sum is the first 8 bytes of the hash of a lent part, whole. A call that may write has them behind its answer: tree, signatures, bitfield, data.
 """
 
+import functools
 import sys
+from contextlib import contextmanager
 
 sys.dont_write_bytecode = True  # nothing generated lies beside the sources
+import audits
+import lists
+import old_roots
+import preview as previews
+import reads
+import registers
 import released
 import short_way
-from samples import bytes_of, grow, said, sampled
-from sleep_model import (Register, append, append_list, audit, be, byte_lookup, check_packet, compare, first_not_held, images_of, make_packet,
-                         node_hash, place_lookup, read, release, root_hash, short_byte, short_place, short_search, start, store_signature)
+from samples import SIGNATURE_AT, TEXT, grow, said, sampled
+from sleep_model import (HASH, SIGNATURE, Register, append, append_list, audit, be, byte_lookup, check_packet, compare, compare_packets,
+                         first_not_held, images_of, make_packet, node_hash, number_in, old_root, place_lookup, preview, read, release, root_hash,
+                         short_byte, short_place, short_search, start, store_signature)
 
-ROOM = 1320000, 1054000, 18000, 140000  # of the four buffers
-MOST_BYTES = 131072  # of a script
+ROOM = 1320000, 1054000, 18000, 140000, 66000  # of the buffers
+MOST_BYTES = 524288  # of a script
 PACKET_ROOM = 1200
+MOST_LENGTHS = 12  # that a line has
 
 
 class Script:
@@ -30,33 +41,62 @@ class Script:
         self.lines, self.answers = [], []
 
     def run(self, line):
-        """Runs a line, and gives its answer."""
+        """Runs a line, and gives its answer. What a call has changed is told next."""
         word, *numbers = line.split(' ')
+        before = self.numbers[0]
         if word == '#':
             answer = None
-        elif word in ('lend', 'told', 'swap'):
-            answer = getattr(self, word)(*map(int, numbers))
-        elif word == 'compare':
-            answer = compared(self.register(), self.register(1))
+        elif word in SETTINGS:
+            answer = SETTINGS[word](self, *map(int, numbers))
         else:
-            r = self.register()
-            answer = CALLS[word](r, *map(int, numbers))
-            self.keep(r)
+            answer = self.call(word, *map(int, numbers))
         self.lines.append(line)
         self.answers.append(line if answer is None else line + ': ' + answer)
+        if word not in ('told', 'swap') and self.numbers[0] != before:
+            self.run('told %d %d %d' % self.numbers[0])
         return answer
+
+    def call(self, word, *numbers):
+        r, text = self.register(), self.buffers[TEXT]
+        if word in ON_TEXT:
+            return ON_TEXT[word](text, *numbers)
+        if word in ON_PAIRS:
+            return ON_PAIRS[word](r, self.register(1), *numbers)
+        if word in ASKING:
+            return ASKING[word](r, text, *numbers)
+        answer = WRITING[word](r, text, *numbers)
+        self.keep(r)
+        return ' '.join([answer] + [digest(image) for image in images_of(r)])
 
     def lend(self, *ends):
         parts = list(zip(ends[::2], ends[1::2]))
         assert len(parts) == 4 and all(a <= b <= room for (a, b), room in zip(parts, ROOM))
         self.parts[0] = parts
 
-    def told(self, n, s, size):
+    def tell(self, n, s, size):
         self.numbers[0] = n, s, size
 
     def swap(self):
         self.parts.reverse()
         self.numbers.reverse()
+
+    def place(self, file, at, count):
+        """The buffer of a file, and where in it the bytes at a place of the lent part, or of the text, begin and end."""
+        start, end = self.parts[0][file] if file < TEXT else (0, ROOM[TEXT])
+        assert start + at + count <= end
+        return self.buffers[file], start + at, start + at + count
+
+    def flip(self, file, at, mask):
+        buffer, a, _ = self.place(file, at, 1)
+        buffer[a] ^= mask
+
+    def put(self, file, at, number):
+        buffer, a, b = self.place(file, at, 8)
+        buffer[a:b] = be(8, number)
+
+    def fill(self, file, at, count, first, step):
+        buffer, a, b = self.place(file, at, count)
+        buffer[a:b] = stepped(first, step, count)
 
     def register(self, which=0):
         """The lent parts, and what is told."""
@@ -69,14 +109,69 @@ class Script:
             buffer[a:b] = image
         self.numbers[0] = r.n, r.s, r.size
 
+    # ---- Lines that several cases need ----
+    def lend_from(self, at, sizes):
+        """Parts of these sizes, from these places on."""
+        self.run('lend ' + ' '.join('%d %d' % (a, a + size) for a, size in zip(at, sizes)))
+
+    def written(self, file, at, content):
+        """Writes bytes, by the words of eight that differ."""
+        start, end = self.parts[0][file] if file < TEXT else (0, ROOM[TEXT])
+        buffer, meant = self.buffers[file], self.buffers[file][start:end]
+        meant[at:at + len(content)] = content
+        for k in range(at, at + len(content), 8):
+            k = min(k, end - start - 8)
+            if buffer[start + k:start + k + 8] != meant[k:k + 8]:
+                self.run('put %d %d %d' % (file, k, number_in(meant[k:k + 8])))
+        assert buffer[start:end] == meant
+
+    def begun(self, at, sizes, fill=b'\xaa\xbb\xcc\xdd'):
+        """An empty register in parts of these sizes that held other bytes before."""
+        self.lend_from(at, sizes)
+        for file in range(4):
+            self.run('fill %d 0 %d %d 0' % (file, sizes[file], fill[file]))
+        self.run('told 0 0 0')
+        return self.run('start')
+
+    def append(self, chunk):
+        self.written(TEXT, 0, chunk)
+        return self.run('append 0 %d' % len(chunk))
+
+    def append_steps(self, first, count):
+        """A chunk whose bytes follow each other by steps of 7."""
+        self.run('fill %d 0 %d %d 7' % (TEXT, count, first))
+        return self.run('append 0 %d' % count)
+
+    def sign(self, signature):
+        self.written(TEXT, SIGNATURE_AT, signature)
+        return self.run('sign %d' % SIGNATURE_AT)
+
+    def told(self, *numbers):
+        self.run('told %d %d %d' % numbers)
+
+    @contextmanager
+    def turned(self, *changes):
+        """Bytes turned, and then turned back. A change is a file, a place in it and a mask."""
+        self.turn(*changes)
+        yield
+        self.turn(*changes)
+
+    def turn(self, *changes):
+        for change in changes:
+            self.run('flip %d %d %d' % change)
+
+
+SETTINGS = {'lend': Script.lend, 'told': Script.tell, 'swap': Script.swap, 'flip': Script.flip, 'put': Script.put, 'fill': Script.fill}
+
 
 # ---- The calls ----
 def digest(part):
     return node_hash(bytes(part)).hex()[:16]
 
 
-def with_sums(answer, r):
-    return ' '.join([answer] + [digest(image) for image in images_of(r)])
+@functools.lru_cache(maxsize=64)
+def stepped(first, step, count):
+    return bytes((first + step * p) % 256 for p in range(count))
 
 
 def pair(answer):
@@ -84,65 +179,36 @@ def pair(answer):
 
 
 def rooted(answer):
-    return answer[1].hex() if answer[0] == 'done' else said(answer)
+    return '%s:%s' % (said(answer), root_beside(answer).hex())
 
 
-def bytes_from(seed, count):
-    return bytes((7 * p + seed) % 256 for p in range(count))
+def root_beside(answer):
+    return answer[1] if answer[0] == 'done' else bytes(HASH)
 
 
-def started(r):
-    return with_sums(said(start(r)), r)
+def with_bytes(answer):
+    return '%s:%s' % (said(answer), answer[1].hex() if answer[0] == 'done' else '')
 
 
-def grown(r, upto, span):
+def grown(r, text, upto, span):
     """Chunks and signatures of the samples, up to a count; a long register is taken from the images."""
     if upto < 1000:
         grow(r, upto, span)
     else:
-        assert r.n == 0
         whole = sampled(upto, span)
         for image, right in zip(images_of(r), images_of(whole)):
             image[:len(right)] = right
         r.n, r.s, r.size = whole.n, whole.s, whole.size
     assert r.n == r.s == upto
-    return with_sums('done', r)
+    return 'done'
 
 
-def appended(r, seed, count):
-    return with_sums(rooted(append(r, bytes_from(seed, count))), r)
-
-
-def listed(r, seed, count, k, *lengths):
+def listed(r, text, start, end, k, *lengths):
+    """The lengths of more than a few chunks follow from their places and from a number."""
+    if k > MOST_LENGTHS:
+        lengths = [(5 * j + lengths[0]) % 23 for j in range(k)]
     assert len(lengths) == k
-    return with_sums(rooted(append_list(r, list(lengths), bytes_from(seed, count))), r)
-
-
-def signed(r, k):
-    return with_sums(said(store_signature(r, bytes_of(k))), r)
-
-
-def released_one(r, chunk):
-    return with_sums(said(release(r, chunk)), r)
-
-
-def flipped(r, file, at, mask):
-    images_of(r)[file][at] ^= mask
-    return 'done'
-
-
-def put(r, file, at, number):
-    images_of(r)[file][at:at + 8] = be(8, number)
-    return 'done'
-
-
-def root(r):
-    answer = root_hash(r)
-    return '%s:%s' % (said(answer), root_beside(answer).hex())
-
-
-def root_beside(answer):
-    return answer[1] if answer[0] == 'done' else bytes(32)
+    return rooted(append_list(r, list(lengths), bytes(text[start:end])))
 
 
 def sought(answer):
@@ -151,18 +217,10 @@ def sought(answer):
 
 def both_ways(quick, short, shown):
     """The answers of both ways to some numbers, from a first one on."""
-    return lambda r, first, count: ''.join('%s|%s;' % (shown(quick(r, k)), shown(short(r, k))) for k in range(first, first + count))
+    return lambda r, text, first, count: ''.join('%s|%s;' % (shown(quick(r, k)), shown(short(r, k))) for k in range(first, first + count))
 
 
-def got(r, chunk):
-    return with_bytes(read(r, r, 'content', chunk))
-
-
-def with_bytes(answer):
-    return '%s:%s' % (said(answer), answer[1].hex() if answer[0] == 'done' else '')
-
-
-def packed(r, chunk, room):
+def packed(r, text, chunk, room):
     """A packet made in a buffer of some bytes, the sum of what that buffer is the front of, and the packet's check."""
     out, behind = bytearray(b'\xee' * room), b'\xee' * (PACKET_ROOM - room)
     made = make_packet(r, chunk, out)
@@ -171,15 +229,16 @@ def packed(r, chunk, room):
     return '%s %s %s' % (length if made[0] == 'done' else said(made), digest(out + behind), with_bytes(checked))
 
 
-CALLS = {'start': started, 'grow': grown, 'append': appended, 'list': listed, 'sign': signed, 'release': released_one, 'flip': flipped, 'put': put,
-         'audit': lambda r: said(audit(r)), 'root': root, 'search': lambda r, number: sought(first_not_held(r, number)),
-         'place': lambda r, chunk: pair(place_lookup(r, chunk)), 'byte': lambda r, offset: pair(byte_lookup(r, offset)), 'get': got,
-         'packet': packed, 'splace': both_ways(place_lookup, short_place, pair), 'sbyte': both_ways(byte_lookup, short_byte, pair),
-         'ssearch': both_ways(first_not_held, short_search, sought)}
+def got(first, second, name, chunk):
+    """A read of the first register: 0 has it as the metadata register, beside the second, and 1 as the content register."""
+    return with_bytes(read(second, first, 'content', chunk) if name else read(first, second, 'metadata', chunk))
 
 
 def compared(first, second):
-    answer = compare(first, second)
+    return found(compare(first, second))
+
+
+def found(answer):
     if answer[0] == 'refused':
         return answer[3] + ' ' + said(answer)
     if answer[0] == 'collision':
@@ -187,10 +246,32 @@ def compared(first, second):
     return answer[0]
 
 
+def checked(text, n, chunk, root, start, end):
+    return with_bytes(check_packet(bytes(text[start:end]), n, chunk, bytes(text[root:root + HASH])))
+
+
+def walked(text, n, chunk, root, *ends):
+    first, second = (bytes(text[a:b]) for a, b in (ends[:2], ends[2:]))
+    return found(compare_packets(first, second, n, chunk, bytes(text[root:root + HASH])))
+
+
+WRITING = {'start': lambda r, text: said(start(r)), 'grow': grown, 'append': lambda r, text, a, b: rooted(append(r, bytes(text[a:b]))),
+           'list': listed, 'sign': lambda r, text, at: said(store_signature(r, bytes(text[at:at + SIGNATURE]))),
+           'release': lambda r, text, chunk: said(release(r, chunk))}
+ASKING = {'audit': lambda r, text: said(audit(r)), 'root': lambda r, text: rooted(root_hash(r)), 'old': lambda r, text, m: rooted(old_root(r, m)),
+          'preview': lambda r, text, a, b: rooted(preview(r, bytes(text[a:b]))), 
+          'search': lambda r, text, number: sought(first_not_held(r, number)),
+          'place': lambda r, text, chunk: pair(place_lookup(r, chunk)), 'byte': lambda r, text, offset: pair(byte_lookup(r, offset)), 'packet': packed,
+          'splace': both_ways(place_lookup, short_place, pair), 'sbyte': both_ways(byte_lookup, short_byte, pair),
+          'ssearch': both_ways(first_not_held, short_search, sought)}
+ON_PAIRS = {'compare': compared, 'get': got}
+ON_TEXT = {'check': checked, 'walk': walked}
+
+
 if __name__ == '__main__':
     script = Script()
-    released.cases(script)
-    short_way.cases(script)
+    for module in (registers, lists, reads, audits, previews, old_roots, released, short_way):
+        module.cases(script)
     letters = {line.split(' ')[0]: line[:2] for line in script.lines}
     assert len(set(letters.values())) == len(letters)
     assert len('\n'.join(script.lines)) < MOST_BYTES

@@ -1,48 +1,140 @@
 // The calls that write nothing.
+use super::parts::Both;
 use super::reading::Line;
+use super::words;
 use counts::ByteOffset;
 use counts::ChunkNumber;
 use gate_samples::Told;
 use lookup::Located;
-use lookup::Name;
 use lookup::Placed;
 use packet::Made;
 use search::Searched;
-ghost use Prim.Native.Nat.{_≤_};
-ghost use lib.ListN.{length};
 
-pub fn by(tree: &[u8], signatures: &[u8], bitfield: &[u8], data: &[u8], line: Line, told: Told) {
+pub fn by(
+    tree: &[u8],
+    signatures: &[u8],
+    bitfield: &[u8],
+    data: &[u8],
+    text: &[u8],
+    line: Line,
+    both: Both,
+) {
     let word = line.word;
-    if word == super::reading::word(b'a', b'u') {
+    if words::sets(word) {
+        return;
+    }
+    gate_printing::text(b": ");
+    if words::on_packets(word) {
+        super::packets::by(text, line);
+        return;
+    }
+    on_registers(tree, signatures, bitfield, data, text, line, both);
+}
+
+fn on_registers(
+    tree: &[u8],
+    signatures: &[u8],
+    bitfield: &[u8],
+    data: &[u8],
+    text: &[u8],
+    line: Line,
+    both: Both,
+) {
+    let lent = both.first.lent;
+    with_first(
+        super::parts::of(tree, lent.tree),
+        super::parts::of(signatures, lent.signatures),
+        super::parts::of(bitfield, lent.bitfield),
+        super::parts::of(data, lent.data),
+        tree,
+        signatures,
+        bitfield,
+        data,
+        text,
+        line,
+        both,
+    );
+}
+
+fn with_first<'a>(
+    tree: &[u8],
+    signatures: &[u8],
+    bitfield: &[u8],
+    data: &'a [u8],
+    tree2: &[u8],
+    signatures2: &[u8],
+    bitfield2: &[u8],
+    data2: &'a [u8],
+    text: &[u8],
+    line: Line,
+    both: Both,
+) {
+    let word = line.word;
+    if words::on_pairs(word) {
+        super::pairs::by(
+            tree,
+            signatures,
+            bitfield,
+            data,
+            tree2,
+            signatures2,
+            bitfield2,
+            data2,
+            line,
+            both,
+        );
+    } else {
+        called(
+            tree,
+            signatures,
+            bitfield,
+            data,
+            text,
+            line,
+            both.first.told,
+        );
+    }
+}
+
+fn called(
+    tree: &[u8],
+    signatures: &[u8],
+    bitfield: &[u8],
+    data: &[u8],
+    text: &[u8],
+    line: Line,
+    told: Told,
+) {
+    let word = line.word;
+    if word == words::AUDIT {
         audited(tree, signatures, bitfield, data, told);
     }
-    if word == super::reading::word(b'r', b'o') {
+    if word == words::ROOT {
         root(tree, signatures, bitfield, data, told);
     }
+    if word == words::OLD {
+        old(tree, signatures, bitfield, data, line, told);
+    }
+    if word == words::PREVIEW {
+        previewed(tree, signatures, bitfield, data, text, line, told);
+    }
     found(tree, signatures, bitfield, data, line, told);
-    brought(tree, signatures, bitfield, data, line, told);
+    super::ways::by(tree, signatures, bitfield, data, line, told);
 }
 
 fn found(tree: &[u8], signatures: &[u8], bitfield: &[u8], data: &[u8], line: Line, told: Told) {
     let word = line.word;
     let x = line.numbers;
-    if word == super::reading::word(b'p', b'l') {
-        place(tree, signatures, bitfield, data, told, x[1]);
-    }
-    if word == super::reading::word(b'b', b'y') {
-        byte(tree, signatures, bitfield, data, told, x[1]);
-    }
-    if word == super::reading::word(b's', b'e') {
+    if word == words::SEARCH {
         searched(tree, signatures, bitfield, data, told, x[1]);
     }
-}
-
-fn brought(tree: &[u8], signatures: &[u8], bitfield: &[u8], data: &[u8], line: Line, told: Told) {
-    let word = line.word;
-    if word == super::reading::word(b'g', b'e') {
-        read(tree, signatures, bitfield, data, line, told);
+    if word == words::PLACE {
+        place(tree, signatures, bitfield, data, told, x[1]);
     }
-    if word == super::reading::word(b'p', b'a') {
+    if word == words::BYTE {
+        byte(tree, signatures, bitfield, data, told, x[1]);
+    }
+    if word == words::PACKET {
         packed(tree, signatures, bitfield, data, line, told);
     }
 }
@@ -62,10 +154,52 @@ fn audited(tree: &[u8], signatures: &[u8], bitfield: &[u8], data: &[u8], told: T
 fn root(tree: &[u8], signatures: &[u8], bitfield: &[u8], data: &[u8], told: Told) {
     let r = writing::root_hash(tree, signatures, bitfield, data, told.n, told.s, told.size);
     let answer = r.answer;
-    let hash = r.root;
-    gate_printing::answer(answer);
-    gate_printing::text(b":");
-    gate_printing::hex(&hash);
+    let root = r.root;
+    super::written::rooted(answer, root);
+}
+
+// The root hash of the first chunks.
+fn old(tree: &[u8], signatures: &[u8], bitfield: &[u8], data: &[u8], line: Line, told: Told) {
+    let x = line.numbers;
+    let r = old_root::old_root(
+        tree,
+        signatures,
+        bitfield,
+        data,
+        told.n,
+        told.s,
+        told.size,
+        x[1],
+    );
+    let answer = r.answer;
+    let root = r.root;
+    super::written::rooted(answer, root);
+}
+
+// An append that is only previewed.
+fn previewed(
+    tree: &[u8],
+    signatures: &[u8],
+    bitfield: &[u8],
+    data: &[u8],
+    text: &[u8],
+    line: Line,
+    told: Told,
+) {
+    let x = line.numbers;
+    let r = preview::preview(
+        tree,
+        signatures,
+        bitfield,
+        data,
+        told.n,
+        told.s,
+        told.size,
+        super::parts::of(text, super::parts::between(x[1], x[2])),
+    );
+    let answer = r.answer;
+    let root = r.root;
+    super::written::rooted(answer, root);
 }
 
 pub fn searched(
@@ -142,69 +276,18 @@ fn pair(a: u64, b: u64) {
     gate_printing::number(b);
 }
 
-// A read: what the call beside it answers, and the bytes. The register is lent as both of an archive's.
-fn read(tree: &[u8], signatures: &[u8], bitfield: &[u8], data: &[u8], line: Line, told: Told) {
-    let x = line.numbers;
-    let chunk = ChunkNumber(x[1]);
-    gate_printing::answer(lookup::read_answer(
-        Name::Content,
-        tree,
-        signatures,
-        bitfield,
-        data,
-        told.n,
-        told.s,
-        told.size,
-        tree,
-        signatures,
-        bitfield,
-        data,
-        told.n,
-        told.s,
-        told.size,
-        chunk,
-    ));
-    gate_printing::text(b":");
-    gate_printing::hex(bytes(tree, signatures, bitfield, data, told, chunk));
-}
-
-fn bytes<'a>(
-    tree: &[u8],
-    signatures: &[u8],
-    bitfield: &[u8],
-    data: &'a [u8],
-    told: Told,
-    chunk: ChunkNumber,
-) -> &'a [u8] {
-    lookup::read(
-        Name::Metadata,
-        tree,
-        signatures,
-        bitfield,
-        data,
-        told.n,
-        told.s,
-        told.size,
-        tree,
-        signatures,
-        bitfield,
-        data,
-        told.n,
-        told.s,
-        told.size,
-        chunk,
-    )
-}
-
 // A packet made in a buffer of some bytes that held others before, a sum of the buffer, and the packet's check.
 fn packed(tree: &[u8], signatures: &[u8], bitfield: &[u8], data: &[u8], line: Line, told: Told) {
     let x = line.numbers;
     let mut out = [0xeeu8; 1200];
-    let room = super::written::most(x[2], 1200) as usize;
+    let room = super::parts::between(0, x[2]);
     let length = made(tree, signatures, bitfield, data, told, x[1], &mut out, room);
     let r = writing::root_hash(tree, signatures, bitfield, data, told.n, told.s, told.size);
-    let hash = r.root;
-    checked(&out, length, told.n, x[1], &hash);
+    let root = r.root;
+    super::written::sum(&out);
+    gate_printing::text(b" ");
+    let made_part = super::parts::between(0, length);
+    super::packets::check(super::parts::of(&out, made_part), told.n, x[1], &root);
 }
 
 // The length of a packet that is made, or 0.
@@ -216,11 +299,8 @@ fn made(
     told: Told,
     chunk: u64,
     out: &mut [u8],
-    room: usize,
+    room: super::parts::Part,
 ) -> u64 {
-    if out.len() < room {
-        return 0;
-    }
     match packet::make(
         tree,
         signatures,
@@ -230,7 +310,7 @@ fn made(
         told.s,
         told.size,
         ChunkNumber(chunk),
-        &mut out[0..room],
+        super::parts::of_mut(out, room),
     ) {
         Made::Refused(refusal) => {
             gate_printing::refusal(refusal);
@@ -241,18 +321,4 @@ fn made(
             length
         }
     }
-}
-
-fn checked(out: &[u8], length: u64, n: u64, chunk: u64, root: &[u8; 32]) {
-    super::written::sum(out);
-    if length <= out.len() as u64 {
-        check(&out[0..length as usize], n, chunk, root);
-    }
-}
-
-fn check(packet: &[u8], n: u64, chunk: u64, root: &[u8; 32]) {
-    gate_printing::text(b" ");
-    gate_printing::answer(packet::check_answer(packet, n, ChunkNumber(chunk), root));
-    gate_printing::text(b":");
-    gate_printing::hex(packet::check(packet, n, ChunkNumber(chunk), root));
 }

@@ -1,11 +1,13 @@
 // Runs the script on standard input, a call of the library on each line, and prints each line with its answer, for comparison with the text in stdout.
-// The registers of the script are parts of four arrays that held other bytes before.
+// The registers of the script are parts of four arrays that held other bytes before; chunks, signatures and packets are parts of a fifth.
 mod asked;
-mod calls;
+mod edited;
+mod packets;
 mod pairs;
 mod parts;
 mod reading;
 mod ways;
+mod words;
 mod written;
 
 fn main() {
@@ -13,13 +15,30 @@ fn main() {
     let mut signatures = [0xa5u8; 1054000];
     let mut bitfield = [0xa5u8; 18000];
     let mut data = [0xa5u8; 140000];
-    scripted(&mut tree, &mut signatures, &mut bitfield, &mut data);
+    let mut text = [0xa5u8; 66000];
+    let mut script = [0u8; 524288];
+    scripted(
+        &mut tree,
+        &mut signatures,
+        &mut bitfield,
+        &mut data,
+        &mut text,
+        &mut script,
+    );
 }
 
-fn scripted(tree: &mut [u8], signatures: &mut [u8], bitfield: &mut [u8], data: &mut [u8]) {
-    let mut script = [0u8; 131072];
-    let count = io::read_full(0, &mut script);
-    lines(tree, signatures, bitfield, data, &script[0..count]);
+// (References to the arrays bring their lengths along.)
+fn scripted(
+    tree: &mut [u8; 1320000],
+    signatures: &mut [u8; 1054000],
+    bitfield: &mut [u8; 18000],
+    data: &mut [u8; 140000],
+    text: &mut [u8; 66000],
+    script: &mut [u8; 524288],
+) {
+    let count = io::read_full(0, script);
+    let all: &[u8] = script;
+    lines(tree, signatures, bitfield, data, text, &all[0..count]);
 }
 
 fn lines(
@@ -27,43 +46,47 @@ fn lines(
     signatures: &mut [u8],
     bitfield: &mut [u8],
     data: &mut [u8],
+    text: &mut [u8],
     script: &[u8],
 ) {
-    let mut both = parts::nothing_lent();
+    let mut turn = parts::before_all();
     let mut at = 0;
     while at < script.len() {
         let end = reading::line_end(script, at);
-        let next = one(
-            tree,
-            signatures,
-            bitfield,
-            data,
-            reading::line_of(script, at, end),
-            both,
-        );
-        both = next;
+        let next = parts::next(script, at, end, turn);
+        run(tree, signatures, bitfield, data, text, next);
+        turn = next;
         at = reading::next_line(script, at, end);
     }
 }
 
-// One line: what is lent or told is set, two registers are compared, or a call is made on the first of them.
-fn one(
+// One line: bytes are changed by hand, or a call is made.
+fn run(
     tree: &mut [u8],
     signatures: &mut [u8],
     bitfield: &mut [u8],
     data: &mut [u8],
-    line: reading::Line,
-    both: parts::Both,
-) -> parts::Both {
-    if parts::sets(line) {
-        return parts::set(line, both);
+    text: &mut [u8],
+    turn: parts::Turn,
+) {
+    let line = turn.line;
+    let both = turn.both;
+    let word = line.word;
+    if words::edits(word) {
+        edited::by(
+            tree,
+            signatures,
+            bitfield,
+            data,
+            text,
+            line,
+            both.first.lent,
+        );
+    } else {
+        if words::writes(word) {
+            written::by(tree, signatures, bitfield, data, text, line, both.first);
+        } else {
+            asked::by(tree, signatures, bitfield, data, text, line, both);
+        }
     }
-    if line.word == reading::word(b'c', b'o') {
-        pairs::compared(tree, signatures, bitfield, data, both);
-        return both;
-    }
-    parts::both_of(
-        calls::on_first(tree, signatures, bitfield, data, line, both.first),
-        both.second,
-    )
 }

@@ -1,80 +1,101 @@
-// Two registers compared.
+// The calls on two registers. Of the second register the numbers have a 2.
+use super::parts;
 use super::parts::Both;
-use super::parts::Register;
+use super::reading::Line;
+use super::words;
 use compare::Compared;
+use counts::ChunkNumber;
+use counts::Refusal;
+use counts::TreeIndex;
+use gate_samples::Told;
+use lookup::Name;
 
-pub fn compared(tree: &[u8], signatures: &[u8], bitfield: &[u8], data: &[u8], both: Both) {
-    gate_printing::text(b": ");
-    let lent = both.first.lent;
-    let te = super::parts::end_in(lent.tree, tree.len());
-    let ts = super::parts::start_in(lent.tree, te);
-    let ge = super::parts::end_in(lent.signatures, signatures.len());
-    let gs = super::parts::start_in(lent.signatures, ge);
-    let be = super::parts::end_in(lent.bitfield, bitfield.len());
-    let bs = super::parts::start_in(lent.bitfield, be);
-    let de = super::parts::end_in(lent.data, data.len());
-    let ds = super::parts::start_in(lent.data, de);
-    with_second(
-        &tree[ts..te],
-        &signatures[gs..ge],
-        &bitfield[bs..be],
-        &data[ds..de],
-        tree,
-        signatures,
-        bitfield,
-        data,
-        both,
-    );
-    gate_printing::text(b"\n");
-}
-
-fn with_second(
+// The first register, and the arrays that the second is a part of.
+pub fn by<'a>(
     tree: &[u8],
     signatures: &[u8],
     bitfield: &[u8],
-    data: &[u8],
+    data: &'a [u8],
     tree2: &[u8],
     signatures2: &[u8],
     bitfield2: &[u8],
-    data2: &[u8],
+    data2: &'a [u8],
+    line: Line,
     both: Both,
 ) {
     let lent = both.second.lent;
-    let te = super::parts::end_in(lent.tree, tree2.len());
-    let ts = super::parts::start_in(lent.tree, te);
-    let ge = super::parts::end_in(lent.signatures, signatures2.len());
-    let gs = super::parts::start_in(lent.signatures, ge);
-    let be = super::parts::end_in(lent.bitfield, bitfield2.len());
-    let bs = super::parts::start_in(lent.bitfield, be);
-    let de = super::parts::end_in(lent.data, data2.len());
-    let ds = super::parts::start_in(lent.data, de);
-    say(compared_parts(
+    called(
         tree,
         signatures,
         bitfield,
         data,
-        &tree2[ts..te],
-        &signatures2[gs..ge],
-        &bitfield2[bs..be],
-        &data2[ds..de],
-        both,
-    ));
+        both.first.told,
+        parts::of(tree2, lent.tree),
+        parts::of(signatures2, lent.signatures),
+        parts::of(bitfield2, lent.bitfield),
+        parts::of(data2, lent.data),
+        both.second.told,
+        line,
+    );
 }
 
-fn compared_parts(
+fn called<'a>(
+    tree: &[u8],
+    signatures: &[u8],
+    bitfield: &[u8],
+    data: &'a [u8],
+    told: Told,
+    tree2: &[u8],
+    signatures2: &[u8],
+    bitfield2: &[u8],
+    data2: &'a [u8],
+    told2: Told,
+    line: Line,
+) {
+    let word = line.word;
+    if word == words::COMPARE {
+        compared(
+            tree,
+            signatures,
+            bitfield,
+            data,
+            told,
+            tree2,
+            signatures2,
+            bitfield2,
+            data2,
+            told2,
+        );
+    } else {
+        get(
+            tree,
+            signatures,
+            bitfield,
+            data,
+            told,
+            tree2,
+            signatures2,
+            bitfield2,
+            data2,
+            told2,
+            line,
+        );
+    }
+}
+
+fn compared(
     tree: &[u8],
     signatures: &[u8],
     bitfield: &[u8],
     data: &[u8],
+    told: Told,
     tree2: &[u8],
     signatures2: &[u8],
     bitfield2: &[u8],
     data2: &[u8],
-    both: Both,
-) -> Compared {
-    let told = both.first.told;
-    let told2 = both.second.told;
-    compare::compare(
+    told2: Told,
+) {
+    say(compare::compare(
         tree,
         signatures,
         bitfield,
@@ -89,25 +110,150 @@ fn compared_parts(
         told2.n,
         told2.s,
         told2.size,
-    )
+    ));
 }
 
 fn say(answer: Compared) {
     match answer {
-        Compared::FirstRefused(r) => {
-            gate_printing::text(b"first ");
-            gate_printing::refusal(r);
-        }
-        Compared::SecondRefused(r) => {
-            gate_printing::text(b"second ");
-            gate_printing::refusal(r);
-        }
+        Compared::FirstRefused(refusal) => first_refused(refusal),
+        Compared::SecondRefused(refusal) => second_refused(refusal),
         Compared::RootsDiffer => gate_printing::text(b"roots differ"),
         Compared::AtRoots => gate_printing::text(b"collision at the roots"),
-        Compared::AtIndex(i) => {
-            gate_printing::text(b"collision tree ");
-            gate_printing::number(i.0);
-        }
+        Compared::AtIndex(index) => collision(index),
         Compared::Equal => gate_printing::text(b"equal"),
     }
+}
+
+pub fn first_refused(refusal: Refusal) {
+    gate_printing::text(b"first ");
+    gate_printing::refusal(refusal);
+}
+
+pub fn second_refused(refusal: Refusal) {
+    gate_printing::text(b"second ");
+    gate_printing::refusal(refusal);
+}
+
+pub fn collision(index: TreeIndex) {
+    gate_printing::text(b"collision tree ");
+    gate_printing::number(index.0);
+}
+
+// A read of the first register: 0 has it as the metadata register, beside the second, and 1 as the content register.
+fn get<'a>(
+    tree: &[u8],
+    signatures: &[u8],
+    bitfield: &[u8],
+    data: &'a [u8],
+    told: Told,
+    tree2: &[u8],
+    signatures2: &[u8],
+    bitfield2: &[u8],
+    data2: &'a [u8],
+    told2: Told,
+    line: Line,
+) {
+    let x = line.numbers;
+    if x[1] == 0 {
+        read(
+            Name::Metadata,
+            tree,
+            signatures,
+            bitfield,
+            data,
+            told,
+            tree2,
+            signatures2,
+            bitfield2,
+            data2,
+            told2,
+            ChunkNumber(x[2]),
+        );
+    } else {
+        read(
+            Name::Content,
+            tree2,
+            signatures2,
+            bitfield2,
+            data2,
+            told2,
+            tree,
+            signatures,
+            bitfield,
+            data,
+            told,
+            ChunkNumber(x[2]),
+        );
+    }
+}
+
+// What the call beside the read answers, and the bytes.
+fn read<'a>(
+    name: Name,
+    mt: &[u8],
+    ms: &[u8],
+    mb: &[u8],
+    md: &'a [u8],
+    m: Told,
+    ct: &[u8],
+    cs: &[u8],
+    cb: &[u8],
+    cd: &'a [u8],
+    c: Told,
+    chunk: ChunkNumber,
+) {
+    gate_printing::answer(lookup::read_answer(
+        name,
+        mt,
+        ms,
+        mb,
+        md,
+        m.n,
+        m.s,
+        m.size,
+        ct,
+        cs,
+        cb,
+        cd,
+        c.n,
+        c.s,
+        c.size,
+        chunk,
+    ));
+    gate_printing::text(b":");
+    bytes(name, mt, ms, mb, md, m, ct, cs, cb, cd, c, chunk);
+}
+
+fn bytes<'a>(
+    name: Name,
+    mt: &[u8],
+    ms: &[u8],
+    mb: &[u8],
+    md: &'a [u8],
+    m: Told,
+    ct: &[u8],
+    cs: &[u8],
+    cb: &[u8],
+    cd: &'a [u8],
+    c: Told,
+    chunk: ChunkNumber,
+) {
+    gate_printing::hex(lookup::read(
+        name,
+        mt,
+        ms,
+        mb,
+        md,
+        m.n,
+        m.s,
+        m.size,
+        ct,
+        cs,
+        cb,
+        cd,
+        c.n,
+        c.s,
+        c.size,
+        chunk,
+    ));
 }

@@ -1,19 +1,21 @@
-// What is lent and told of the two registers that a script works on. Nothing is lent here.
+// What is lent and told of the two registers that a script works on.
 use super::reading::Line;
+use super::words;
 use gate_samples::Told;
 ghost use Prim.Native.Nat.{_≤_};
+ghost use lib.ListN.{length};
 
-// From and to where in each array a register lies.
+// From and to where in an array something lies.
+pub struct Part {
+    pub from: u64,
+    pub to: u64,
+}
+
 pub struct Lent {
     pub tree: Part,
     pub signatures: Part,
     pub bitfield: Part,
     pub data: Part,
-}
-
-pub struct Part {
-    pub from: u64,
-    pub to: u64,
 }
 
 pub struct Register {
@@ -26,78 +28,125 @@ pub struct Both {
     pub second: Register,
 }
 
-pub fn both_of(first: Register, second: Register) -> Both {
-    Both { first, second }
+// A line, and the registers after it.
+pub struct Turn {
+    pub line: Line,
+    pub both: Both,
 }
 
-pub fn register_of(lent: Lent, told: Told) -> Register {
-    Register { lent, told }
+pub fn between(from: u64, to: u64) -> Part {
+    Part { from, to }
 }
 
-pub fn told_of(n: u64, s: u64, size: u64) -> Told {
-    Told { n, s, size }
-}
-
-pub fn nothing_lent() -> Both {
-    let none = Part { from: 0, to: 0 };
+fn nothing_lent() -> Both {
+    let none = between(0, 0);
     let lent = Lent {
         tree: none,
         signatures: none,
         bitfield: none,
         data: none,
     };
-    let told = told_of(0, 0, 0);
+    let told = Told {
+        n: 0,
+        s: 0,
+        size: 0,
+    };
     let register = Register { lent, told };
-    both_of(register, register)
+    Both {
+        first: register,
+        second: register,
+    }
 }
 
-// Whether a line sets what is lent or told, says which register is the first, or is a remark.
-pub fn sets(line: Line) -> bool {
-    let word = line.word;
-    word == super::reading::word(b'l', b'e')
-        || word == super::reading::word(b't', b'o')
-        || word == super::reading::word(b's', b'w')
-        || word == super::reading::word(b'#', b' ')
+// Before any line.
+pub fn before_all() -> Turn {
+    Turn {
+        line: super::reading::no_line(),
+        both: nothing_lent(),
+    }
 }
 
-pub fn set(line: Line, both: Both) -> Both {
-    gate_printing::text(b"\n");
+// The next line, behind another.
+pub fn next(script: &[u8], at: usize, end: usize, before: Turn) -> Turn
+    requires { ⌜ (at ≤ end) × (end ≤ length (now script)) ⌝ }
+{
+    let line = super::reading::line_of(script, at, end);
+    let both = before.both;
+    Turn {
+        line,
+        both: set(line, both),
+    }
+}
+
+// The registers after a line.
+fn set(line: Line, both: Both) -> Both {
     let word = line.word;
     let first = both.first;
     let second = both.second;
-    if word == super::reading::word(b's', b'w') {
-        return both_of(second, first);
+    if word == words::SWAP {
+        return Both {
+            first: second,
+            second: first,
+        };
     }
-    if word == super::reading::word(b'l', b'e') {
-        return both_of(register_of(lent_in(line), first.told), second);
+    Both {
+        first: first_set(line, first),
+        second,
     }
-    if word == super::reading::word(b't', b'o') {
-        return both_of(register_of(first.lent, told_in(line)), second);
+}
+
+fn first_set(line: Line, first: Register) -> Register {
+    let word = line.word;
+    let lent = first.lent;
+    let told = first.told;
+    if word == words::LEND {
+        return Register {
+            lent: lent_in(line),
+            told,
+        };
     }
-    both
+    if word == words::TOLD {
+        return Register {
+            lent,
+            told: told_in(line),
+        };
+    }
+    first
 }
 
 fn lent_in(line: Line) -> Lent {
     let x = line.numbers;
     Lent {
-        tree: part_of(x[1], x[2]),
-        signatures: part_of(x[3], x[4]),
-        bitfield: part_of(x[5], x[6]),
-        data: part_of(x[7], x[8]),
+        tree: between(x[1], x[2]),
+        signatures: between(x[3], x[4]),
+        bitfield: between(x[5], x[6]),
+        data: between(x[7], x[8]),
     }
-}
-
-fn part_of(from: u64, to: u64) -> Part {
-    Part { from, to }
 }
 
 fn told_in(line: Line) -> Told {
     let x = line.numbers;
-    told_of(x[1], x[2], x[3])
+    Told {
+        n: x[1],
+        s: x[2],
+        size: x[3],
+    }
 }
 
-// The end of a part of an array, and then its start: both lie in the array.
-pub fn end_in(part: Part, count: usize) -> usize
+// The part of an array, as far as the array reaches.
+pub fn of<'a>(xs: &'a [u8], part: Part) -> &'a [u8] {
+    let end = end_in(part, xs.len());
+    let start = start_in(part, end);
+    &xs[start..end]
+}
+
+pub fn of_mut<'a>(xs: &'a mut [u8], part: Part) -> &'a mut [u8] {
+    let end = end_in(part, xs.len());
+    let start = start_in(part, end);
+    &mut xs[start..end]
+}
+
+fn end_in(part: Part, count: usize) -> usize
     ensures { λ r. ⌜ r ≤ count ⌝ }
 {
     let whole = count as u64;
@@ -108,7 +157,7 @@ pub fn end_in(part: Part, count: usize) -> usize
     }
 }
 
-pub fn start_in(part: Part, end: usize) -> usize
+fn start_in(part: Part, end: usize) -> usize
     ensures { λ r. ⌜ r ≤ end ⌝ }
 {
     let whole = end as u64;

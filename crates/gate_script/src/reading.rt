@@ -8,6 +8,13 @@ pub struct Line {
     pub numbers: [u64; 16],
 }
 
+pub fn no_line() -> Line {
+    Line {
+        word: 0,
+        numbers: [0; 16],
+    }
+}
+
 // Two letters as a number.
 pub fn word(first: u8, second: u8) -> u64 {
     256 * first as u64 + second as u64
@@ -28,11 +35,12 @@ pub fn line_end(script: &[u8], at: usize) -> usize
     i
 }
 
-// Where the next line begins.
+// Where the next line begins. The printed line ends too.
 pub fn next_line(script: &[u8], at: usize, end: usize) -> usize
     requires { ⌜ (at < length (now script)) × (at ≤ end) × (end ≤ length (now script)) ⌝ }
     ensures { λ r. ⌜ (at < r) × (r ≤ length (now (script .entry))) ⌝ }
 {
+    gate_printing::text(b"\n");
     if end < script.len() { end + 1 } else { end }
 }
 

@@ -1,15 +1,13 @@
 // The quick way, a stroke, and the short way, of each of some numbers.
 use super::reading::Line;
+use super::words;
 use counts::ByteOffset;
 use counts::ChunkNumber;
 use gate_samples::Told;
 
 pub fn by(tree: &[u8], signatures: &[u8], bitfield: &[u8], data: &[u8], line: Line, told: Told) {
     let word = line.word;
-    if word == super::reading::word(b's', b'p')
-        || word == super::reading::word(b's', b'b')
-        || word == super::reading::word(b's', b's')
-    {
+    if words::both_ways(word) {
         all(tree, signatures, bitfield, data, line, told);
     }
 }
@@ -36,9 +34,9 @@ fn one(
     told: Told,
     number: u64,
 ) {
-    if word == super::reading::word(b's', b'p') {
+    if word == words::BOTH_PLACES {
         place(tree, signatures, bitfield, data, told, number);
-    } else if word == super::reading::word(b's', b'b') {
+    } else if word == words::BOTH_BYTES {
         byte(tree, signatures, bitfield, data, told, number);
     } else {
         searched(tree, signatures, bitfield, data, told, number);

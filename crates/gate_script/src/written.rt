@@ -1,70 +1,103 @@
-// The calls that write, and bytes changed by hand.
+// The calls that may write, on the first register. Behind the answer stands a sum of each lent part.
+use super::parts::Register;
 use super::reading::Line;
+use super::words;
 use counts::Answer;
 use counts::ChunkNumber;
 use gate_samples::Told;
-use writing::Appended;
-ghost use Prim.Native.Nat.{_≤_, _<_};
+ghost use Prim.Native.Nat.{_≤_};
 
 pub fn by(
     tree: &mut [u8],
     signatures: &mut [u8],
     bitfield: &mut [u8],
     data: &mut [u8],
+    text: &[u8],
     line: Line,
-    told: Told,
-) -> Told {
-    let word = line.word;
-    if word == super::reading::word(b's', b't') {
-        return started(tree, signatures, bitfield, data, told);
-    }
-    if word == super::reading::word(b'g', b'r') {
-        return grown(tree, signatures, bitfield, data, line, told);
-    }
-    if word == super::reading::word(b'f', b'l') || word == super::reading::word(b'p', b'u') {
-        changed(tree, signatures, bitfield, data, line);
-        return told;
-    }
-    more(tree, signatures, bitfield, data, line, told)
+    first: Register,
+) {
+    let lent = first.lent;
+    gate_printing::text(b": ");
+    called(
+        super::parts::of_mut(tree, lent.tree),
+        super::parts::of_mut(signatures, lent.signatures),
+        super::parts::of_mut(bitfield, lent.bitfield),
+        super::parts::of_mut(data, lent.data),
+        text,
+        line,
+        first.told,
+    );
 }
 
-fn more(
+fn called(
     tree: &mut [u8],
     signatures: &mut [u8],
     bitfield: &mut [u8],
     data: &mut [u8],
+    text: &[u8],
     line: Line,
     told: Told,
-) -> Told {
-    let word = line.word;
-    if word == super::reading::word(b'a', b'p') {
-        return appended(tree, signatures, bitfield, data, line, told);
-    }
-    if word == super::reading::word(b'l', b'i') {
-        return listed(tree, signatures, bitfield, data, line, told);
-    }
-    if word == super::reading::word(b's', b'i') {
-        return signed(tree, signatures, bitfield, data, line, told);
-    }
-    if word == super::reading::word(b'r', b'e') {
-        released(tree, signatures, bitfield, data, line, told);
-    }
-    told
-}
-
-fn started(
-    tree: &mut [u8],
-    signatures: &mut [u8],
-    bitfield: &mut [u8],
-    data: &mut [u8],
-    told: Told,
-) -> Told {
-    let answer = writing::start(tree, signatures, bitfield, data);
-    gate_printing::answer(answer);
+) {
+    act(tree, signatures, bitfield, data, text, line, told);
     sums(tree, signatures, bitfield, data);
-    match answer {
-        Answer::Done => super::parts::told_of(0, 0, 0),
-        Answer::Refused(_) => told,
+}
+
+fn act(
+    tree: &mut [u8],
+    signatures: &mut [u8],
+    bitfield: &mut [u8],
+    data: &mut [u8],
+    text: &[u8],
+    line: Line,
+    told: Told,
+) {
+    let word = line.word;
+    if word == words::START {
+        gate_printing::answer(writing::start(tree, signatures, bitfield, data));
+    } else {
+        if word == words::LIST {
+            listed(tree, signatures, bitfield, data, text, line, told);
+        } else {
+            add(tree, signatures, bitfield, data, text, line, told);
+        }
+    }
+}
+
+fn add(
+    tree: &mut [u8],
+    signatures: &mut [u8],
+    bitfield: &mut [u8],
+    data: &mut [u8],
+    text: &[u8],
+    line: Line,
+    told: Told,
+) {
+    let word = line.word;
+    if word == words::APPEND {
+        appended(tree, signatures, bitfield, data, text, line, told);
+    } else {
+        if word == words::GROW {
+            grown(tree, signatures, bitfield, data, line, told);
+        } else {
+            store(tree, signatures, bitfield, data, text, line, told);
+        }
+    }
+}
+
+fn store(
+    tree: &[u8],
+    signatures: &mut [u8],
+    bitfield: &mut [u8],
+    data: &mut [u8],
+    text: &[u8],
+    line: Line,
+    told: Told,
+) {
+    let word = line.word;
+    if word == words::SIGN {
+        signed(tree, signatures, bitfield, data, text, line, told);
+    } else {
+        released(tree, signatures, bitfield, data, line, told);
     }
 }
 
@@ -76,13 +109,12 @@ fn grown(
     data: &mut [u8],
     line: Line,
     told: Told,
-) -> Told {
+) {
     let x = line.numbers;
     let upto = most(x[1], 20000);
-    let after = gate_samples::grow(tree, signatures, bitfield, data, told, upto, span_of(x[2]));
+    let span = span_of(x[2]);
+    gate_samples::grow(tree, signatures, bitfield, data, told, upto, span);
     gate_printing::text(b"done");
-    sums(tree, signatures, bitfield, data);
-    after
 }
 
 fn span_of(x: u64) -> u64
@@ -100,110 +132,18 @@ pub fn most(x: u64, bound: u64) -> u64
     if x < bound { x } else { bound }
 }
 
-// A byte turned in a file, or 8 bytes written: 0 is the tree, then as they are lent.
-fn changed(
-    tree: &mut [u8],
-    signatures: &mut [u8],
-    bitfield: &mut [u8],
-    data: &mut [u8],
-    line: Line,
-) {
-    let x = line.numbers;
-    match x[1] {
-        0 => change(tree, line),
-        1 => change(signatures, line),
-        2 => change(bitfield, line),
-        _ => change(data, line),
-    }
-}
-
-fn change(file: &mut [u8], line: Line) {
-    let x = line.numbers;
-    let at = place_in(x[2], file.len());
-    gate_printing::text(b"done");
-    if line.word == super::reading::word(b'f', b'l') {
-        flip(file, at, (x[3] % 256) as u8);
-    } else {
-        let bytes = sequences::be64(x[3]);
-        put(file, at, &bytes);
-    }
-}
-
-fn place_in(at: u64, count: usize) -> usize {
-    if at < count as u64 {
-        at as usize
-    } else {
-        count
-    }
-}
-
-fn flip(file: &mut [u8], at: usize, mask: u8) {
-    if at < file.len() {
-        file[at] = file[at] ^ mask;
-    }
-}
-
-fn put(file: &mut [u8], at: usize, bytes: &[u8; 8]) {
-    if file.len() < at {
-        return;
-    }
-    if file.len() - at < 8 {
-        return;
-    }
-    sequences::copy_to(file, at, bytes);
-}
-
-// A chunk of some bytes that follow from a number.
+// A chunk: from and to where it lies.
 fn appended(
-    tree: &mut [u8],
-    signatures: &mut [u8],
-    bitfield: &mut [u8],
-    data: &mut [u8],
-    line: Line,
-    told: Told,
-) -> Told {
-    let x = line.numbers;
-    let bytes = bytes_from(x[1]);
-    let count = most(x[2], 65600);
-    let a = append(
-        tree,
-        signatures,
-        bitfield,
-        data,
-        told,
-        &bytes,
-        count as usize,
-    );
-    rooted(a);
-    sums(tree, signatures, bitfield, data);
-    let answer = a.answer;
-    match answer {
-        Answer::Done => grown_by(told, 1, told.s, count),
-        Answer::Refused(_) => told,
-    }
-}
-
-fn grown_by(told: Told, chunks: u64, s: u64, bytes: u64) -> Told {
-    super::parts::told_of(
-        std::num::wrapping_add_u64(told.n, chunks),
-        s,
-        std::num::wrapping_add_u64(told.size, bytes),
-    )
-}
-
-fn append(
     tree: &mut [u8],
     signatures: &[u8],
     bitfield: &mut [u8],
     data: &mut [u8],
+    text: &[u8],
+    line: Line,
     told: Told,
-    bytes: &[u8; 65600],
-    count: usize,
-) -> Appended
-    requires { ⌜ count ≤ 65600 ⌝ }
-{
-    let whole: &[u8] = bytes;
-    writing::append(
+) {
+    let x = line.numbers;
+    let a = writing::append(
         tree,
         signatures,
         bitfield,
@@ -211,77 +151,26 @@ fn append(
         told.n,
         told.s,
         told.size,
-        &whole[0..count],
-    )
+        super::parts::of(text, super::parts::between(x[1], x[2])),
+    );
+    let answer = a.answer;
+    let root = a.root;
+    rooted(answer, root);
 }
 
-// Bytes that follow from their places.
-fn bytes_from(seed: u64) -> [u8; 65600] {
-    let start = seed % 256;
-    let mut bytes = [0u8; 65600];
-    let mut p = 0;
-    while p < 65600 {
-        bytes[p] = ((7 * (p as u64) + start) % 256) as u8;
-        p += 1;
-    }
-    bytes
-}
-
-// A list: the number that its bytes follow from, how many bytes are lent, how many chunks, and their lengths.
+// A list: from and to where its bytes lie, how many chunks, and their lengths.
 fn listed(
     tree: &mut [u8],
     signatures: &mut [u8],
     bitfield: &mut [u8],
     data: &mut [u8],
+    text: &[u8],
     line: Line,
     told: Told,
-) -> Told {
+) {
     let x = line.numbers;
-    let bytes = bytes_from(x[1]);
-    let count = most(x[2], 65600);
-    let k = most(x[3], 12);
-    let a = append_list(
-        tree,
-        signatures,
-        bitfield,
-        data,
-        told,
-        &x,
-        k as usize,
-        &bytes,
-        count as usize,
-    );
-    rooted(a);
-    sums(tree, signatures, bitfield, data);
-    let answer = a.answer;
-    match answer {
-        Answer::Done => grown_by(
-            told,
-            k,
-            std::num::wrapping_sub_u64(std::num::wrapping_add_u64(told.s, k), 1),
-            count,
-        ),
-        Answer::Refused(_) => told,
-    }
-}
-
-fn append_list(
-    tree: &mut [u8],
-    signatures: &mut [u8],
-    bitfield: &mut [u8],
-    data: &mut [u8],
-    told: Told,
-    numbers: &[u64; 16],
-    k: usize,
-    bytes: &[u8; 65600],
-    count: usize,
-) -> Appended
-    requires { ⌜ (k ≤ 12) × (count ≤ 65600) ⌝ }
-{
-    let all: &[u64] = numbers;
-    let whole: &[u8] = bytes;
-    let end = 4 + k;
-    list_append::append_list(
+    let lengths = lengths_in(x);
+    let a = list_append::append_list(
         tree,
         signatures,
         bitfield,
@@ -289,34 +178,63 @@ fn append_list(
         told.n,
         told.s,
         told.size,
-        &all[4..end],
-        &whole[0..count],
-    )
-}
-
-// A refusal, or the root hash.
-fn rooted(a: Appended) {
+        front(&lengths, x[3]),
+        super::parts::of(text, super::parts::between(x[1], x[2])),
+    );
     let answer = a.answer;
-    match answer {
-        Answer::Refused(r) => gate_printing::refusal(r),
-        Answer::Done => {
-            let root = a.root;
-            gate_printing::hex(&root);
-        }
-    }
+    let root = a.root;
+    rooted(answer, root);
 }
 
+fn lengths_in(x: [u64; 16]) -> [u64; 257] {
+    let mut lengths = [0u64; 257];
+    let mut j = 0;
+    while j < 257 {
+        lengths[j] = length_at(x, j);
+        j += 1;
+    }
+    lengths
+}
+
+// The lengths of up to twelve chunks stand in the line; those of more follow from their places and from a number.
+fn length_at(x: [u64; 16], j: usize) -> u64
+    requires { ⌜ j ≤ 257 ⌝ }
+{
+    if 12 < x[3] {
+        return (5 * (j as u64) + x[4] % 23) % 23;
+    }
+    if j < 12 {
+        return x[j + 4];
+    }
+    0
+}
+
+fn front<'a>(lengths: &'a [u64; 257], k: u64) -> &'a [u64] {
+    let all: &'a [u64] = lengths;
+    let count = most(k, 257) as usize;
+    &all[0..count]
+}
+
+// An answer, and the root hash beside it.
+pub fn rooted(answer: Answer, root: [u8; 32]) {
+    gate_printing::answer(answer);
+    gate_printing::text(b":");
+    gate_printing::hex(&root);
+}
+
+// A signature: where it lies.
 fn signed(
     tree: &[u8],
     signatures: &mut [u8],
     bitfield: &[u8],
     data: &[u8],
+    text: &[u8],
     line: Line,
     told: Told,
-) -> Told {
+) {
     let x = line.numbers;
-    let signature = gate_samples::bytes_of(x[1]);
-    let answer = writing::store_signature(
+    let signature = signature_at(text, x[1]);
+    gate_printing::answer(writing::store_signature(
         tree,
         signatures,
         bitfield,
@@ -325,12 +243,22 @@ fn signed(
         told.s,
         told.size,
         &signature,
+    ));
+}
+
+fn signature_at(text: &[u8], at: u64) -> [u8; 64] {
+    let mut signature = [0u8; 64];
+    let end = std::num::wrapping_add_u64(at, 64);
+    copied(
+        &mut signature,
+        super::parts::of(text, super::parts::between(at, end)),
     );
-    gate_printing::answer(answer);
-    sums(tree, signatures, bitfield, data);
-    match answer {
-        Answer::Done => grown_by(told, 0, std::num::wrapping_add_u64(told.s, 1), 0),
-        Answer::Refused(_) => told,
+    signature
+}
+
+fn copied(signature: &mut [u8; 64], bytes: &[u8]) {
+    if bytes.len() == 64 {
+        sequences::copy_to(signature, 0, bytes);
     }
 }
 
@@ -353,10 +281,8 @@ fn released(
         told.size,
         ChunkNumber(x[1]),
     ));
-    sums(tree, signatures, bitfield, data);
 }
 
-// A sum of each lent part: the first 8 bytes of its hash.
 fn sums(tree: &[u8], signatures: &[u8], bitfield: &[u8], data: &[u8]) {
     sum(tree);
     sum(signatures);
@@ -364,6 +290,7 @@ fn sums(tree: &[u8], signatures: &[u8], bitfield: &[u8], data: &[u8]) {
     sum(data);
 }
 
+// A sum: the first 8 bytes of the hash.
 pub fn sum(part: &[u8]) {
     let hash = blake2b::hash_parts(b"", b"", part);
     gate_printing::text(b" ");

@@ -1,0 +1,89 @@
+// The words of a script, each by its first two letters as a number.
+pub const LEND: u64 = 0x6c65;
+
+pub const TOLD: u64 = 0x746f;
+
+pub const SWAP: u64 = 0x7377;
+
+pub const REMARK: u64 = 0x2320;
+
+pub const FLIP: u64 = 0x666c;
+
+pub const PUT: u64 = 0x7075;
+
+pub const FILL: u64 = 0x6669;
+
+pub const START: u64 = 0x7374;
+
+pub const GROW: u64 = 0x6772;
+
+pub const APPEND: u64 = 0x6170;
+
+pub const LIST: u64 = 0x6c69;
+
+pub const SIGN: u64 = 0x7369;
+
+pub const RELEASE: u64 = 0x7265;
+
+pub const AUDIT: u64 = 0x6175;
+
+pub const ROOT: u64 = 0x726f;
+
+pub const OLD: u64 = 0x6f6c;
+
+pub const SEARCH: u64 = 0x7365;
+
+pub const PLACE: u64 = 0x706c;
+
+pub const BYTE: u64 = 0x6279;
+
+pub const BOTH_PLACES: u64 = 0x7370;
+
+pub const BOTH_BYTES: u64 = 0x7362;
+
+pub const BOTH_SEARCHES: u64 = 0x7373;
+
+pub const PACKET: u64 = 0x7061;
+
+pub const PREVIEW: u64 = 0x7072;
+
+pub const COMPARE: u64 = 0x636f;
+
+pub const GET: u64 = 0x6765;
+
+pub const CHECK: u64 = 0x6368;
+
+pub const WALK: u64 = 0x7761;
+
+// Whether a line sets what is lent or told, says which register is the first, or is a remark.
+pub fn sets(word: u64) -> bool {
+    word == LEND || word == TOLD || word == SWAP || word == REMARK
+}
+
+// Whether a line changes bytes by hand.
+pub fn edits(word: u64) -> bool {
+    word == FLIP || word == PUT || word == FILL
+}
+
+// Whether a line is a call that may write.
+pub fn writes(word: u64) -> bool {
+    if word == START || word == GROW || word == APPEND {
+        return true;
+    }
+    word == LIST || word == SIGN || word == RELEASE
+}
+
+// Whether a call is on packets alone.
+pub fn on_packets(word: u64) -> bool {
+    word == CHECK || word == WALK
+}
+
+// Whether a call is on two registers.
+pub fn on_pairs(word: u64) -> bool {
+    word == COMPARE || word == GET
+}
+
+// Whether a call is made both ways, the quick one and the short one.
+pub fn both_ways(word: u64) -> bool {
+    word == BOTH_PLACES || word == BOTH_BYTES || word == BOTH_SEARCHES
+}

@@ -14,6 +14,8 @@ pub enum Case {
     Append,
     List,
     Release,
+    /// The packet of this chunk, taken into a copy that was made, and then that of the next chunk.
+    Take(u64),
 }
 
 /// The chunks of a list.
@@ -25,13 +27,16 @@ pub const RELEASED: [u64; 6] = [0, 7, 8, 15, 4096, 8191];
 /// The chunk counts and what is called there, from the largest down; each append is previewed first. What an append does beside its hashing follows from the parents that it
 /// completes, the roots that it leaves, and how far its bitfield entry is filled, whose Index it makes anew; so there are appends that have
 /// these three in common at very different n. Lists are appended beside the single calls that leave the same, one of them across the border of
-/// two bitfield entries. Chunks are released where their entry is full, at very different n.
-pub const CASES: [(usize, Case); 23] = [
+/// two bitfield entries. Chunks are released where their entry is full, at very different n. Packets are taken in with the longest path, and with
+/// nine siblings and five other roots at very different n.
+pub const CASES: [(usize, Case); 27] = [
     (CHUNKS, Case::Lookups),
     (CHUNKS, Case::Release),
+    (CHUNKS, Case::Take(6)),
     (1_048_575, Case::Append),
     (1_048_536, Case::List),
     (1_041_384, Case::Append),
+    (983_560, Case::Take(983_046)),
     (525_288, Case::Release),
     (525_288, Case::Append),
     (525_287, Case::Append),
@@ -44,10 +49,12 @@ pub const CASES: [(usize, Case); 23] = [
     (9192, Case::Append),
     (9191, Case::Append),
     (8192, Case::Release),
+    (8192, Case::Take(6)),
     (8191, Case::Append),
     (8172, Case::List),
     (1000, Case::List),
     (1000, Case::Lookups),
+    (1000, Case::Take(6)),
     (1000, Case::Append),
     (999, Case::Append),
 ];

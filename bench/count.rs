@@ -8,7 +8,7 @@ mod simple_register;
 mod timing;
 
 use cases::{cut_back, picked, Case, CASES, CHUNKS, LENGTH, LISTED, RELEASED};
-use proved::Store;
+use proved::{CopyStore, Store, PACKET_EXTRA};
 
 /// Counts of first chunks, with no roots, with nine, with one and with six.
 const OLD: [u64; 4] = [0, 511, 512, 952];
@@ -66,6 +66,22 @@ fn released(store: &mut Store, n: usize, chunk: u64) {
     store.data[at].copy_from_slice(&bytes);
 }
 
+/// Packets of two neighbours, made from the register, taken into a copy of which nothing is known.
+fn taken(store: &Store, n: usize, chunk: u64) {
+    let mut copy = CopyStore::with_room(n, n * LENGTH);
+    copy.make().unwrap();
+    println!("make {n}");
+    let root = store.register().root_hash().unwrap();
+    println!("root {n}");
+    for number in [chunk, chunk + 1] {
+        let mut packet = [0; LENGTH + PACKET_EXTRA];
+        let length = store.register().make_packet(number, &mut packet).unwrap();
+        println!("packet {n}");
+        copy.take_in(&packet[..length], number, &root).unwrap();
+        println!("take{}of{} {n}", number - chunk, (length - LENGTH - 6) / 40);
+    }
+}
+
 fn main() {
     let folder = std::env::args().nth(1).expect("the folder of the images");
     let mut store = loaded(&folder);
@@ -92,6 +108,7 @@ fn main() {
                     released(&mut store, n, chunk);
                 }
             }
+            Case::Take(chunk) => taken(&store, n, chunk),
             Case::Append => {
                 for m in OLD {
                     store.register().old_root(m).unwrap();

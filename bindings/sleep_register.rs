@@ -139,6 +139,26 @@ pub struct Store<B = Vec<u8>> {
     pub size: u64,
 }
 
+/// A partial copy's images, to be read, and its numbers. A register's tree, bitfield and data may be lent as one.
+#[derive(Clone, Copy)]
+pub struct Copied<'a> {
+    pub tree: &'a [u8],
+    pub bitfield: &'a [u8],
+    pub data: &'a [u8],
+    pub n: u64,
+    pub size: u64,
+}
+
+/// A partial copy's images in buffers that can be written. No call changes the numbers.
+#[derive(Clone, Debug, PartialEq, Eq)]
+pub struct CopyStore<B = Vec<u8>> {
+    pub tree: B,
+    pub bitfield: B,
+    pub data: B,
+    pub n: u64,
+    pub size: u64,
+}
+
 #[repr(C)]
 struct Answer {
     number: u64,
@@ -300,6 +320,37 @@ extern "C" {
     #[rustfmt::skip]
     fn sleep_compare(t: In, tl: usize, g: In, gl: usize, b: In, bl: usize, d: In, dl: usize, n: u64, s: u64, size: u64,
         t2: In, tl2: usize, g2: In, gl2: usize, b2: In, bl2: usize, d2: In, dl2: usize, n2: u64, s2: u64, size2: u64) -> Compared;
+    fn sleep_make_copy(t: Out, tl: usize, b: Out, bl: usize, d: Out, dl: usize, n: u64, size: u64) -> Answer;
+    #[rustfmt::skip]
+    fn sleep_take_in(t: Out, tl: usize, b: Out, bl: usize, d: Out, dl: usize, n: u64, size: u64,
+        packet: In, packet_length: usize, chunk: u64, root: In) -> Answer;
+    fn sleep_copy_audit(t: In, tl: usize, b: In, bl: usize, d: In, dl: usize, n: u64, size: u64) -> Answer;
+    fn sleep_copy_root_hash(t: In, tl: usize, b: In, bl: usize, d: In, dl: usize, n: u64, size: u64, root: Out) -> Answer;
+    fn sleep_copy_old_root(t: In, tl: usize, b: In, bl: usize, d: In, dl: usize, n: u64, size: u64, m: u64, root: Out) -> Answer;
+    fn sleep_copy_place(t: In, tl: usize, b: In, bl: usize, d: In, dl: usize, n: u64, size: u64, chunk: u64, out: *mut u64) -> Answer;
+    fn sleep_copy_byte(t: In, tl: usize, b: In, bl: usize, d: In, dl: usize, n: u64, size: u64, offset: u64, out: *mut u64) -> Answer;
+    fn sleep_copy_read(t: In, tl: usize, b: In, bl: usize, d: In, dl: usize, n: u64, size: u64, chunk: u64, out: *mut u64) -> Answer;
+    fn sleep_copy_search(t: In, tl: usize, b: In, bl: usize, d: In, dl: usize, n: u64, size: u64, from: u64, out: *mut u64) -> Answer;
+    #[rustfmt::skip]
+    fn sleep_copy_short_place(t: In, tl: usize, b: In, bl: usize, d: In, dl: usize, n: u64, size: u64,
+        chunk: u64, out: *mut u64) -> Answer;
+    #[rustfmt::skip]
+    fn sleep_copy_short_byte(t: In, tl: usize, b: In, bl: usize, d: In, dl: usize, n: u64, size: u64,
+        offset: u64, out: *mut u64) -> Answer;
+    #[rustfmt::skip]
+    fn sleep_copy_short_search(t: In, tl: usize, b: In, bl: usize, d: In, dl: usize, n: u64, size: u64,
+        from: u64, out: *mut u64) -> Answer;
+    fn sleep_copy_release(t: In, tl: usize, b: Out, bl: usize, d: Out, dl: usize, n: u64, size: u64, chunk: u64) -> Answer;
+    #[rustfmt::skip]
+    fn sleep_copy_make_packet(t: In, tl: usize, b: In, bl: usize, d: In, dl: usize, n: u64, size: u64,
+        chunk: u64, out: Out, out_length: usize, length: *mut u64) -> Answer;
+    #[rustfmt::skip]
+    fn sleep_copy_header_of(t: In, tl: usize, b: In, bl: usize, d: In, dl: usize, n: u64, size: u64,
+        chunk: u64, out: *mut u64) -> Answer;
+    fn sleep_copy_node_of(t: In, tl: usize, b: In, bl: usize, d: In, dl: usize, n: u64, size: u64, chunk: u64) -> NodeRead;
+    #[rustfmt::skip]
+    fn sleep_copy_find(t: In, tl: usize, b: In, bl: usize, d: In, dl: usize, n: u64, size: u64,
+        path: In, path_length: usize) -> Sought;
 }
 
 impl Answer {
@@ -642,6 +693,168 @@ impl<'a> Register<'a> {
     }
 }
 
+/// A call on a copy that is only read: the three slices and the two numbers come first.
+macro_rules! reading_copy {
+    ($call:ident, $c:expr $(, $other:expr)*) => {
+        unsafe {
+            $call(
+                $c.tree.as_ptr(), $c.tree.len(), $c.bitfield.as_ptr(), $c.bitfield.len(), $c.data.as_ptr(), $c.data.len(), $c.n,
+                $c.size $(, $other)*
+            )
+        }
+    };
+}
+
+/// The calls of a register on a copy. Each is refused with 20 where it would read an entry that is not known.
+impl<'a> Copied<'a> {
+    pub fn audit(&self) -> Result<(), Refusal> {
+        reading_copy!(sleep_copy_audit, self).result(())
+    }
+
+    pub fn root_hash(&self) -> Result<[u8; 32], Refusal> {
+        let mut root = [0; 32];
+        let answer = reading_copy!(sleep_copy_root_hash, self, root.as_mut_ptr());
+        answer.result(root)
+    }
+
+    /// The root hash of the first m chunks, as it was when the register had m.
+    pub fn old_root(&self, m: u64) -> Result<[u8; 32], Refusal> {
+        let mut root = [0; 32];
+        let answer = reading_copy!(sleep_copy_old_root, self, m, root.as_mut_ptr());
+        answer.result(root)
+    }
+
+    /// Start and length of a chunk, held or not.
+    pub fn place(&self, chunk: u64) -> Result<Pair, Refusal> {
+        let mut out = [0; 2];
+        let answer = reading_copy!(sleep_copy_place, self, chunk, out.as_mut_ptr());
+        answer.result((out[0], out[1]))
+    }
+
+    /// The chunk that has the byte at an offset, and the offset less its start; at the data size n and 0.
+    pub fn byte(&self, offset: u64) -> Result<Pair, Refusal> {
+        let mut out = [0; 2];
+        let answer = reading_copy!(sleep_copy_byte, self, offset, out.as_mut_ptr());
+        answer.result((out[0], out[1]))
+    }
+
+    /// The bytes of a chunk that is held, where they lie, after their hash was compared.
+    pub fn read(&self, chunk: u64) -> Result<&'a [u8], Refusal> {
+        let mut out = [0; 2];
+        let answer = reading_copy!(sleep_copy_read, self, chunk, out.as_mut_ptr());
+        answer.result(())?;
+        Ok(part(self.data, out))
+    }
+
+    /// The first chunk from a number on, below n, that is not held.
+    pub fn search(&self, from: u64) -> Result<Option<u64>, Refusal> {
+        let mut out = [0; 2];
+        let answer = reading_copy!(sleep_copy_search, self, from, out.as_mut_ptr());
+        answer.result(())?;
+        Ok((out[0] == 1).then_some(out[1]))
+    }
+
+    /// Start and length of a chunk by the leaf lengths alone, added up from chunk 0 on. Of a copy that no audit accepted they may run past the data.
+    pub fn short_place(&self, chunk: u64) -> Result<Pair, Refusal> {
+        let mut out = [0; 2];
+        let answer = reading_copy!(sleep_copy_short_place, self, chunk, out.as_mut_ptr());
+        answer.result((out[0], out[1]))
+    }
+
+    /// The chunk that has the byte at an offset, and the offset less its start, by the leaf lengths alone; at the data size n and 0.
+    pub fn short_byte(&self, offset: u64) -> Result<Pair, Refusal> {
+        let mut out = [0; 2];
+        let answer = reading_copy!(sleep_copy_short_byte, self, offset, out.as_mut_ptr());
+        answer.result((out[0], out[1]))
+    }
+
+    /// The first chunk from a number on, below n, whose data bit is 0.
+    pub fn short_search(&self, from: u64) -> Result<Option<u64>, Refusal> {
+        let mut out = [0; 2];
+        let answer = reading_copy!(sleep_copy_short_search, self, from, out.as_mut_ptr());
+        answer.result(())?;
+        Ok((out[0] == 1).then_some(out[1]))
+    }
+
+    /// The packet of a chunk that is held, at the front of `out`; its length.
+    pub fn make_packet(&self, chunk: u64, out: &mut [u8]) -> Result<usize, Refusal> {
+        let mut length = 0;
+        let answer = reading_copy!(sleep_copy_make_packet, self, chunk, out.as_mut_ptr(), out.len(), &mut length);
+        answer.result(())?;
+        Ok(length as usize)
+    }
+
+    /// The bytes of a chunk that was read.
+    fn chunk(&self, chunk: u64) -> Result<&'a [u8], Refusal> {
+        self.place(chunk).map(|(start, length)| part(self.data, [start, length]))
+    }
+
+    /// The content bytes of the Header that a chunk is, as a rule chunk 0.
+    pub fn header_of(&self, chunk: u64) -> Result<&'a [u8], Refusal> {
+        let mut out = [0; 2];
+        reading_copy!(sleep_copy_header_of, self, chunk, out.as_mut_ptr()).result(())?;
+        Ok(part(self.chunk(chunk)?, out))
+    }
+
+    /// The Node that a chunk is, with parts of the data.
+    pub fn node_of(&self, chunk: u64) -> Result<Node<'a>, Refusal> {
+        let read = reading_copy!(sleep_copy_node_of, self, chunk);
+        read.answer.result(())?;
+        Ok(Node::of(self.chunk(chunk)?, &read.node))
+    }
+
+    /// The highest chunk number from 1 up whose record has this path.
+    pub fn find(&self, path: &[u8]) -> Result<Option<u64>, Refusal> {
+        let sought = reading_copy!(sleep_copy_find, self, path.as_ptr(), path.len());
+        sought.answer.result(())?;
+        Ok((sought.found != 0).then_some(sought.chunk))
+    }
+}
+
+impl CopyStore {
+    /// Buffers for a copy of `n` chunks with `size` data bytes; `make` comes next.
+    pub fn with_room(n: usize, size: usize) -> CopyStore {
+        let Store { tree, bitfield, data, .. } = Store::with_room(n, size);
+        CopyStore { tree, bitfield, data, n: n as u64, size: size as u64 }
+    }
+}
+
+impl<B: AsRef<[u8]> + AsMut<[u8]>> CopyStore<B> {
+    pub fn copied(&self) -> Copied<'_> {
+        Copied { tree: self.tree.as_ref(), bitfield: self.bitfield.as_ref(), data: self.data.as_ref(), n: self.n, size: self.size }
+    }
+
+    /// A copy of which nothing is known yet.
+    pub fn make(&mut self) -> Result<(), Refusal> {
+        let (t, b, d) = (self.tree.as_mut(), self.bitfield.as_mut(), self.data.as_mut());
+        let (tl, bl, dl) = (t.len(), b.len(), d.len());
+        unsafe { sleep_make_copy(t.as_mut_ptr(), tl, b.as_mut_ptr(), bl, d.as_mut_ptr(), dl, self.n, self.size) }.result(())
+    }
+
+    /// The packet of a chunk, under the root hash of the register: its entries are known then, and the chunk is held.
+    pub fn take_in(&mut self, packet: &[u8], chunk: u64, root: &[u8; 32]) -> Result<(), Refusal> {
+        let (t, b, d) = (self.tree.as_mut(), self.bitfield.as_mut(), self.data.as_mut());
+        let (tl, bl, dl) = (t.len(), b.len(), d.len());
+        #[rustfmt::skip]
+        let answer = unsafe {
+            sleep_take_in(t.as_mut_ptr(), tl, b.as_mut_ptr(), bl, d.as_mut_ptr(), dl, self.n, self.size, packet.as_ptr(), packet.len(), chunk,
+                root.as_ptr())
+        };
+        answer.result(())
+    }
+
+    /// Makes room: the chunk is no longer held, and its bytes are zeros; its entries stay known.
+    pub fn release(&mut self, chunk: u64) -> Result<(), Refusal> {
+        let (t, b, d) = (self.tree.as_ref(), self.bitfield.as_mut(), self.data.as_mut());
+        let (bl, dl) = (b.len(), d.len());
+        #[rustfmt::skip]
+        let answer = unsafe {
+            sleep_copy_release(t.as_ptr(), t.len(), b.as_mut_ptr(), bl, d.as_mut_ptr(), dl, self.n, self.size, chunk)
+        };
+        answer.result(())
+    }
+}
+
 impl Table {
     /// No read waits, as if station 15 had been served.
     pub fn fresh() -> Table {
@@ -769,5 +982,11 @@ impl<B: AsRef<[u8]> + AsMut<[u8]>> Store<B> {
             sleep_release(t.as_ptr(), t.len(), g.as_ptr(), g.len(), b.as_mut_ptr(), bl, d.as_mut_ptr(), dl, self.n, self.s, self.size, chunk)
         };
         answer.result(())
+    }
+
+    /// The packet of a chunk that was released, or that is held already: the register's images taken as those of a copy.
+    pub fn take_back(&mut self, packet: &[u8], chunk: u64, root: &[u8; 32]) -> Result<(), Refusal> {
+        let (tree, bitfield, data) = (self.tree.as_mut(), self.bitfield.as_mut(), self.data.as_mut());
+        CopyStore { tree, bitfield, data, n: self.n, size: self.size }.take_in(packet, chunk, root)
     }
 }

@@ -2,7 +2,7 @@
 mod sleep_register;
 
 use sleep_register::{
-    check_packet, compare_packets, group, hash, hash_parts, label, needs, read_header, read_node, ungroup, write_header, write_node, Comparison, HEADER_BYTES, NODE_ROOM, Name, Needs, Node, PACKET_EXTRA, Place, Refusal, Stat, Store, Table, Walked, Writer,
+    check_packet, compare_packets, group, hash, hash_parts, label, needs, read_header, read_node, ungroup, write_header, write_node, Comparison, CopyStore, HEADER_BYTES, NODE_ROOM, Name, Needs, Node, PACKET_EXTRA, Place, Refusal, Stat, Store, Table, Walked, Writer,
 };
 
 fn refused<T>(number: u64, place: Place) -> Result<T, Refusal> {
@@ -434,4 +434,125 @@ fn pieces_found_by_name() {
     assert_eq!(broken.register().find(b"/coat/sleeve"), Ok(Some(2)));
     assert_eq!(broken.register().find(b"/coat"), refused(15, Place::TreeIndex(2)));
     assert_eq!(filled(&[b"x", &records[0]]).register().find(b"/coat/sleeve"), refused(15, Place::TreeIndex(0)));
+}
+
+fn packet_of(store: &Store, chunk: u64) -> Vec<u8> {
+    let mut packet = vec![0; 100 + PACKET_EXTRA];
+    let length = store.register().make_packet(chunk, &mut packet).unwrap();
+    packet.truncate(length);
+    packet
+}
+
+fn made(n: usize, size: usize) -> CopyStore {
+    let mut copy = CopyStore::with_room(n, size);
+    copy.make().unwrap();
+    copy
+}
+
+/// Every chunk taken in, from the last to the first: the copy is the register but for the signatures.
+#[test]
+fn a_copy_takes_in_its_chunks() {
+    let chunks: Vec<Vec<u8>> = (0..13u8).map(|k| vec![k; k as usize % 5]).collect();
+    let store = filled(&chunks.iter().map(|chunk| &chunk[..]).collect::<Vec<_>>());
+    let (root, size) = (store.register().root_hash().unwrap(), store.size as usize);
+    let mut copy = made(13, size);
+    assert_eq!(copy.copied().audit(), Ok(()));
+    assert_eq!(copy.copied().root_hash(), refused(20, Place::TreeIndex(7)));
+    for chunk in (0..13).rev() {
+        assert_eq!(copy.take_in(&packet_of(&store, chunk), chunk, &root), Ok(()));
+        let held = copy.copied();
+        assert_eq!((held.audit(), held.root_hash(), held.read(chunk)), (Ok(()), Ok(root), Ok(&chunks[chunk as usize][..])));
+        assert_eq!(held.make_packet(chunk, &mut [0; 2000]), Ok(packet_of(&store, chunk).len()));
+        assert_eq!(held.search(0), Ok((chunk > 0).then_some(0)));
+    }
+    assert_eq!((&copy.tree, &copy.bitfield, &copy.data), (&store.tree, &store.bitfield, &store.data));
+    let (copied, register) = (copy.copied(), store.register());
+    for m in 0..13 {
+        assert_eq!((copied.old_root(m), copied.place(m)), (register.old_root(m), register.place(m)));
+        assert_eq!((copied.short_place(m), copied.short_search(m)), (register.short_place(m), register.short_search(m)));
+    }
+    for offset in 0..=store.size + 1 {
+        assert_eq!((copied.byte(offset), copied.short_byte(offset)), (register.byte(offset), register.short_byte(offset)));
+    }
+}
+
+#[test]
+fn two_packets_in_either_order() {
+    let store = filled(&[b"AB", b"", b"CDE", b"F", b"GH"]);
+    let root = store.register().root_hash().unwrap();
+    for (first, second) in [(0, 1), (0, 4), (2, 3), (3, 3)] {
+        let (mut there, mut back) = (made(5, 8), made(5, 8));
+        for chunk in [first, second] {
+            assert_eq!(there.take_in(&packet_of(&store, chunk), chunk, &root), Ok(()));
+        }
+        for chunk in [second, first] {
+            assert_eq!(back.take_in(&packet_of(&store, chunk), chunk, &root), Ok(()));
+        }
+        assert_eq!(there, back);
+    }
+}
+
+/// What a copy doesn't know it refuses, and what contradicts it too.
+#[test]
+fn a_copy_knows_what_it_took_in() {
+    let (store, other) = (filled(&[b"AB", b"", b"CDE", b"F", b"GH"]), filled(&[b"AC", b"", b"CDE", b"F", b"GH"]));
+    let (root, other_root) = (store.register().root_hash().unwrap(), other.register().root_hash().unwrap());
+    let mut copy = made(5, 8);
+    assert_eq!(copy.copied().place(0), refused(20, Place::TreeIndex(3)));
+    assert_eq!(copy.take_in(&packet_of(&store, 2)[1..], 2, &root), refused(12, Place::None));
+    assert_eq!(copy.take_in(&packet_of(&store, 2), 2, &other_root), refused(13, Place::None));
+    assert_eq!(made(5, 9).take_in(&packet_of(&store, 2), 2, &root), refused(6, Place::None));
+    assert_eq!(copy, made(5, 8));
+    assert_eq!(copy.take_in(&packet_of(&store, 2), 2, &root), Ok(()));
+    let before = copy.clone();
+    assert_eq!(copy.take_in(&packet_of(&other, 0), 0, &other_root), refused(19, Place::TreeIndex(1)));
+    assert_eq!(copy, before);
+    assert_eq!(copy.copied().read(2), Ok(&b"CDE"[..]));
+    assert_eq!(copy.copied().read(3), refused(18, Place::TreeIndex(6)));
+    assert_eq!((copy.copied().place(3), copy.copied().place(4)), (Ok((5, 1)), Ok((6, 2))));
+    assert_eq!(copy.copied().place(1), refused(20, Place::TreeIndex(0)));
+    assert_eq!((copy.copied().byte(1), copy.copied().byte(2)), (refused(20, Place::TreeIndex(0)), Ok((2, 0))));
+    assert_eq!(copy.copied().old_root(3), Ok(store.register().old_root(3).unwrap()));
+    assert_eq!(copy.copied().old_root(1), refused(20, Place::TreeIndex(0)));
+    assert_eq!(copy.copied().short_place(2), refused(20, Place::TreeIndex(0)));
+    assert_eq!((copy.copied().search(2), copy.copied().short_search(2)), (Ok(Some(3)), Ok(Some(3))));
+    copy.data[2] ^= 1;
+    assert_eq!(copy.take_in(&packet_of(&store, 2), 2, &root), refused(19, Place::TreeIndex(4)));
+    assert_eq!(copy.copied().audit(), refused(10, Place::TreeIndex(4)));
+}
+
+#[test]
+fn released_chunks_come_back() {
+    let mut store = filled(&[b"AB", b"", b"CDE", b"F", b"GH"]);
+    let (whole, packet) = (store.clone(), packet_of(&store, 2));
+    let root = store.register().root_hash().unwrap();
+    store.release(2).unwrap();
+    assert_eq!(store.take_back(&packet, 3, &root), refused(13, Place::None));
+    assert_eq!(store.take_back(&packet, 2, &root), Ok(()));
+    assert_eq!(store, whole);
+    let mut copy = made(5, 8);
+    copy.take_in(&packet, 2, &root).unwrap();
+    let before = copy.clone();
+    assert_eq!((copy.release(2), copy.release(2)), (Ok(()), refused(18, Place::TreeIndex(4))));
+    assert_eq!((copy.copied().audit(), copy.copied().place(2)), (Ok(()), Ok((2, 3))));
+    assert_eq!(copy.take_in(&packet, 2, &root), Ok(()));
+    assert_eq!(copy, before);
+}
+
+#[test]
+fn records_of_a_copy() {
+    let mut out = [0; NODE_ROOM];
+    write_header(&[3; 32], &mut out).unwrap();
+    let header = out[..HEADER_BYTES].to_vec();
+    let records: Vec<Vec<u8>> = [full(), Node { path: b"/coat", ..Node::default() }].iter().map(|node| record(node, &mut out).to_vec()).collect();
+    let named = filled(&[&header, &records[0], &records[1]]);
+    let root = named.register().root_hash().unwrap();
+    let mut copy = made(3, named.size as usize);
+    for chunk in [0, 2] {
+        assert_eq!(copy.take_in(&packet_of(&named, chunk), chunk, &root), Ok(()));
+    }
+    assert_eq!(copy.copied().header_of(0), Ok(&[3; 32][..]));
+    assert_eq!(copy.copied().node_of(2).map(|node| node.path), Ok(&b"/coat"[..]));
+    assert_eq!(copy.copied().node_of(0), refused(15, Place::TreeIndex(0)));
+    assert_eq!((copy.copied().find(b"/coat"), copy.copied().find(b"/")), (Ok(Some(2)), refused(18, Place::TreeIndex(2))));
 }

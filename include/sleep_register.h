@@ -14,6 +14,16 @@
  *   zeros over the chunk's bytes, as many as before, so no other chunk moves. The tree entries stay, and with them the root hash, old root hashes
  *   and the packets of other chunks. A released chunk still has its place, and can't be read, packed, released or compared here (18).
  *
+ * PARTIAL COPIES
+ *   A copy holds a few chunks of a large register. It is three images, tree, bitfield and data, as long as the register's and laid out alike, and two
+ *   numbers, the register's n and size; it has no signatures and no s. An entry of its tree is known while its tree bit in the bitfield is 1; a chunk is held
+ *   while its data bit is, as in a register. sleep_make_copy begins one, of which nothing is known and all is zeros. sleep_take_in takes in a packet,
+ *   checked against the register's root hash: it makes the entries known that the packet gives or leads to, and the chunk held. No call changes
+ *   n or size.
+ *   Every call that reads a register, but for comparisons and servings, and the release, has its form for a copy, sleep_copy_.., which answers 20 where it
+ *   would go by an entry that is not known. A copy takes no appends, signatures or comparisons. A register's tree, bitfield and data may be lent as a copy too: so a chunk that was
+ *   released comes back, by a packet of it.
+ *
  * THE BUFFERS
  *   Each is a pointer and a length in bytes, and may hold anything: what it holds is checked before it is used. The length may be larger
  *   than what is used; no byte behind the used size is looked at. Used sizes, for n chunks, s signatures and size data bytes:
@@ -60,7 +70,7 @@
  *     160         the station last served, modulo 16
  *
  * WHAT FIRMWARE HAS TO PROVIDE
- *   Code: at most 64,000 bytes with its read-only constants (some 59,000 today). The archive has no variables: no static data, zeroed or
+ *   Code: at most 88,000 bytes with its read-only constants (some 79,000 today). The archive has no variables: no static data, zeroed or
  *   not, and nothing to set up. From outside it needs memcpy and memset, and nothing else; it allocates nothing. The stack that each call
  *   takes at most, counted from the caller's frame, with arguments, return address and what memcpy or memset takes, is SLEEP_STACK_.. below.
  *   tests/run holds the archive to all of this, the stack by calls on a painted one.
@@ -79,7 +89,10 @@
  *     3       s is neither n nor n - 1, or is not 0 when n is 0                            none
  *     4       a buffer is shorter than its used size                                       none
  *     5       a header differs from its 32 bytes                                           none
- *     6       the stored root lengths don't add up to size                                 none
+ *     20      a call on a copy, but for the taking in and the audit, meets a root that is
+ *             not known (the first from the left)                                          tree index
+ *     6       the stored root lengths don't add up to size; taking in and the audit of
+ *             a copy pass over it while a root is unknown                                  none
  *     16      a list has more than 256 chunks; to append, no chunks, or lengths that
  *             don't add up to the bytes lent                                               none
  *     7       a chunk to append or of a job, or the bytes to group or ungroup, are longer
@@ -91,10 +104,15 @@
  *             lowest for a comparison, which judges this just before 10)                   tree index of its leaf
  *     10      a lookup meets wrong lengths, a read another leaf hash, or the audit
  *             a wrong tree entry (the lowest)                                              tree index
+ *     20      a call on a copy comes to another entry that is not known, the left child of
+ *             a parent before the right one, and both before the parent's 10               tree index
  *     11      the audit finds a wrong byte in the bitfield (the lowest)                    byte offset in the bitfield image
  *     12      a packet's counts aren't those of n and the chunk number, its chunk is
  *             over 65,536 bytes, or bytes lack or remain                                   none
  *     13      a packet's lengths add up to over 68,719,476,736, or its root hash differs   none
+ *     6       the lengths of a packet to be taken in don't add up to the copy's size       none
+ *     19      a packet to be taken in gives or leads to an entry that is known as another,
+ *             or its chunk is held with other bytes, which counts at its leaf (the lowest) tree index
  *     15      fields to be written are out of their bounds, or bytes are no record as
  *             sleep_write_.. writes it                                                     none, or the tree index of a chunk's leaf
  *     14      a buffer to be written is shorter than the result needs; a preview judges
@@ -103,9 +121,11 @@
  *     22      four reads of the station wait already                                       none
  *
  *   1, 17, 2 to 4, 16, 7 to 9, 14, 21, 22 and 15 without a place point at the call: a number, a field or a buffer that doesn't fit. 5 and 6 mean that
- *   the images are not those of a register with these numbers: other files, other numbers, or damage. 18 means that the chunk was released here; the
- *   office may have it. 10 and 11 mean damage where the place says. 12 and 13 mean that a packet shows nothing of this chunk under this root hash. 15
- *   with a place means that a chunk, though undamaged, is no record.
+ *   the images are not those of a register with these numbers: other files, other numbers, or damage; 6 of a packet to be taken in means that it is of a
+ *   register of another size. 18 means that the chunk was released here, or never taken in; the office may have it. 20 means that no packet was taken in
+ *   that shows this entry. 10 and 11 mean damage where the place says. 12 and 13 mean that a packet shows nothing of this chunk under this root hash. 19 means
+ *   that packet and copy contradict each other: they are of different registers, or the copy is damaged where the place says. 15 with a place means
+ *   that a chunk, though undamaged, is no record.
  */
 #ifndef SLEEP_REGISTER_H
 #define SLEEP_REGISTER_H
@@ -177,6 +197,23 @@ extern "C" {
 #define SLEEP_STACK_WRITE_NODE 6144u
 #define SLEEP_STACK_COMPARE_PACKETS 7168u
 #define SLEEP_STACK_COMPARE 8192u
+#define SLEEP_STACK_MAKE_COPY 512u
+#define SLEEP_STACK_TAKE_IN 8192u
+#define SLEEP_STACK_COPY_AUDIT 4096u
+#define SLEEP_STACK_COPY_ROOT_HASH 6144u
+#define SLEEP_STACK_COPY_OLD_ROOT 6144u
+#define SLEEP_STACK_COPY_PLACE 4096u
+#define SLEEP_STACK_COPY_BYTE 4096u
+#define SLEEP_STACK_COPY_READ 4096u
+#define SLEEP_STACK_COPY_RELEASE 5120u
+#define SLEEP_STACK_COPY_SEARCH 2048u
+#define SLEEP_STACK_COPY_SHORT_PLACE 2048u
+#define SLEEP_STACK_COPY_SHORT_BYTE 2048u
+#define SLEEP_STACK_COPY_SHORT_SEARCH 2048u
+#define SLEEP_STACK_COPY_MAKE_PACKET 5120u
+#define SLEEP_STACK_COPY_HEADER_OF 5120u
+#define SLEEP_STACK_COPY_NODE_OF 6144u
+#define SLEEP_STACK_COPY_FIND 5120u
 
 enum { SLEEP_PLACE_NONE = 0, SLEEP_PLACE_TREE_INDEX = 1, SLEEP_PLACE_BITFIELD_BYTE = 2 };
 
@@ -279,6 +316,14 @@ enum {
 #define SLEEP_REGISTER_READ                                                                                                     \
     const uint8_t *tree, size_t tree_length, const uint8_t *signatures, size_t signatures_length, const uint8_t *bitfield,      \
         size_t bitfield_length, const uint8_t *data, size_t data_length, uint64_t n, uint64_t s, uint64_t size
+
+/* The three images of a copy, read only, or to be written, and its two numbers. */
+#define SLEEP_COPY_READ                                                                                                         \
+    const uint8_t *tree, size_t tree_length, const uint8_t *bitfield, size_t bitfield_length, const uint8_t *data,              \
+        size_t data_length, uint64_t n, uint64_t size
+#define SLEEP_COPY_WRITTEN                                                                                                      \
+    uint8_t *tree, size_t tree_length, uint8_t *bitfield, size_t bitfield_length, uint8_t *data, size_t data_length,            \
+        uint64_t n, uint64_t size
 
 /* Two registers, read only: metadata, then content. */
 #define SLEEP_ARCHIVE_READ                                                                                                      \
@@ -458,12 +503,69 @@ sleep_node_read sleep_node_of(SLEEP_REGISTER_READ, uint64_t chunk) SLEEP_NOT_NUL
  * isn't looked at. An empty register has none. Any path may be sought. Refusals: 2 to 6, and then of each chunk 18, 10 and 15. */
 sleep_found sleep_find(SLEEP_REGISTER_READ, const uint8_t *path, size_t path_length) SLEEP_NOT_NULL;
 
+/* A copy for n chunks with size data bytes, of which nothing is known yet: writes both headers, zero entries, zero bits and zero data, and no byte
+ * behind the used sizes. Refusals: 2, 14. */
+sleep_answer sleep_make_copy(SLEEP_COPY_WRITTEN) SLEEP_NOT_NULL;
+
+/* Takes in the packet of a chunk, after it was checked against the root hash as sleep_check_packet does: writes the chunk's leaf, its siblings, the
+ * parents on the way and the roots with their tree bits, and the chunk's bytes where they belong, sets its data bit and makes the Index of its bitfield
+ * entry anew. Two packets that are both taken in, one right after the other, are taken in the other way round too, and leave the same images (proved:
+ * CommuteForAll, crates/packets_commute/specs/Commute.antt). What it costs grows with the chunk and with the packet's path, not with n. Refusals: 2, 4, 5, 6 of the
+ * copy unless a root is unknown, 9, 12, 13, 6 of the packet, 19. */
+sleep_answer sleep_take_in(SLEEP_COPY_WRITTEN, const uint8_t *packet, size_t packet_length, uint64_t chunk, const uint8_t root[32]) SLEEP_NOT_NULL;
+
+/* Whether the images are those of a copy: an entry that isn't known must be zeros, and its chunk not held; what is known is judged as sleep_audit judges
+ * it, a parent only where both its children are known too, and a leaf by its data, which the descent to it finds: a stop is a wrong entry at the stop, and a
+ * leaf whose descent meets an unknown entry is wrong itself. Data of unknown leaves are passed over. Refusals: 2, 4, 5, 6 unless a root is unknown, 10, 11. */
+sleep_answer sleep_copy_audit(SLEEP_COPY_READ) SLEEP_NOT_NULL;
+
+/* The calls of a register on a copy: each gives what its namesake gives, and goes by no entry that isn't known. Refusals: 2, 4, 5, 20 at a root, 6, and
+ * then as its namesake has them, with 20 in the turn of 10. */
+sleep_answer sleep_copy_root_hash(SLEEP_COPY_READ, uint8_t root[32]) SLEEP_NOT_NULL;
+
+/* Refusals: 2, 4, 5, 20 at a root of n, 6, 9 for m above n, 20 at a root of m, from the left. */
+sleep_answer sleep_copy_old_root(SLEEP_COPY_READ, uint64_t m, uint8_t root[32]) SLEEP_NOT_NULL;
+
+/* Refusals: 2, 4, 5, 20, 6, 9, 10 or 20 on the way down. A chunk that isn't held has its place too. */
+sleep_answer sleep_copy_place(SLEEP_COPY_READ, uint64_t chunk, uint64_t out[2]) SLEEP_NOT_NULL;
+
+/* Refusals: 2, 4, 5, 20, 6, 9 for an offset above size, 10 or 20 on the way down. */
+sleep_answer sleep_copy_byte(SLEEP_COPY_READ, uint64_t offset, uint64_t out[2]) SLEEP_NOT_NULL;
+
+/* Refusals: 2, 4, 5, 20, 6, 9, 18, 10 or 20 on the way down, 10 for another leaf hash. */
+sleep_answer sleep_copy_read(SLEEP_COPY_READ, uint64_t chunk, uint64_t out[2]) SLEEP_NOT_NULL;
+
+/* Refusals: 2, 4, 5, 20, 6, 9, 18, 10 or 20 on the way down. The entries stay known; the packet brings the chunk back. */
+sleep_answer sleep_copy_release(const uint8_t *tree, size_t tree_length, uint8_t *bitfield, size_t bitfield_length, uint8_t *data,
+                                size_t data_length, uint64_t n, uint64_t size, uint64_t chunk) SLEEP_NOT_NULL;
+
+/* Refusals: 2, 4, 5, 20, 6. */
+sleep_answer sleep_copy_search(SLEEP_COPY_READ, uint64_t from, uint64_t out[2]) SLEEP_NOT_NULL;
+
+/* The short way. On every copy that sleep_copy_audit accepts, and of which every entry but the holes is known, the three give what sleep_copy_place,
+ * sleep_copy_byte and sleep_copy_search give (proved: CopyShortWayForAll, crates/copies_agree/specs/Agree.antt). Refusals of the two lookups: 2, 4, 5,
+ * 20 at a root, 6, 9, then of each leaf that they come to 20, and 10; of the search: 2, 4, 5, 20, 6. */
+sleep_answer sleep_copy_short_place(SLEEP_COPY_READ, uint64_t chunk, uint64_t out[2]) SLEEP_NOT_NULL;
+sleep_answer sleep_copy_short_byte(SLEEP_COPY_READ, uint64_t offset, uint64_t out[2]) SLEEP_NOT_NULL;
+sleep_answer sleep_copy_short_search(SLEEP_COPY_READ, uint64_t from, uint64_t out[2]) SLEEP_NOT_NULL;
+
+/* Refusals: those of sleep_copy_read, 14. A copy hands on what it holds, under the register's root hash. */
+sleep_answer sleep_copy_make_packet(SLEEP_COPY_READ, uint64_t chunk, uint8_t *out, size_t out_length, uint64_t *length) SLEEP_NOT_NULL;
+
+/* Refusals: those of sleep_copy_read, and then 15 at the chunk's leaf. */
+sleep_answer sleep_copy_header_of(SLEEP_COPY_READ, uint64_t chunk, uint64_t out[2]) SLEEP_NOT_NULL;
+sleep_node_read sleep_copy_node_of(SLEEP_COPY_READ, uint64_t chunk) SLEEP_NOT_NULL;
+
+/* Refusals: 2, 4, 5, 20, 6, and then of each chunk that is read 18, 10 or 20, and 15. */
+sleep_found sleep_copy_find(SLEEP_COPY_READ, const uint8_t *path, size_t path_length) SLEEP_NOT_NULL;
+
 /* EMPTY BUFFERS
  *   The archive's own calls take no NULL, even where a length is 0. So from here on, in C and C++, the name of each call stands for an inline
  *   front, sleep_.._front, which looks at the lengths: for an empty buffer it hands on a pointer that is not NULL, and everything else as it
  *   is. The archive's symbols are the names above, without _front; whoever links them from another language keeps to their rule. */
 #define SLEEP_LENT(buffer) (buffer##_length == 0 ? (uint8_t *)&buffer##_length : buffer), buffer##_length
 #define SLEEP_REGISTER_LENT SLEEP_LENT(tree), SLEEP_LENT(signatures), SLEEP_LENT(bitfield), SLEEP_LENT(data), n, s, size
+#define SLEEP_COPY_LENT SLEEP_LENT(tree), SLEEP_LENT(bitfield), SLEEP_LENT(data), n, size
 
 static inline uint64_t sleep_hash_front(uint64_t length, const uint8_t *key, size_t key_length, const uint8_t *message,
                                         size_t message_length, uint8_t digest[64]) {
@@ -633,7 +735,77 @@ static inline sleep_found sleep_find_front(SLEEP_REGISTER_READ, const uint8_t *p
     return sleep_find(SLEEP_REGISTER_LENT, SLEEP_LENT(path));
 }
 
+static inline sleep_answer sleep_make_copy_front(SLEEP_COPY_WRITTEN) {
+    return sleep_make_copy(SLEEP_COPY_LENT);
+}
+
+static inline sleep_answer sleep_take_in_front(SLEEP_COPY_WRITTEN, const uint8_t *packet, size_t packet_length, uint64_t chunk, const uint8_t root[32]) {
+    return sleep_take_in(SLEEP_COPY_LENT, SLEEP_LENT(packet), chunk, root);
+}
+
+static inline sleep_answer sleep_copy_audit_front(SLEEP_COPY_READ) {
+    return sleep_copy_audit(SLEEP_COPY_LENT);
+}
+
+static inline sleep_answer sleep_copy_root_hash_front(SLEEP_COPY_READ, uint8_t root[32]) {
+    return sleep_copy_root_hash(SLEEP_COPY_LENT, root);
+}
+
+static inline sleep_answer sleep_copy_old_root_front(SLEEP_COPY_READ, uint64_t m, uint8_t root[32]) {
+    return sleep_copy_old_root(SLEEP_COPY_LENT, m, root);
+}
+
+static inline sleep_answer sleep_copy_place_front(SLEEP_COPY_READ, uint64_t chunk, uint64_t out[2]) {
+    return sleep_copy_place(SLEEP_COPY_LENT, chunk, out);
+}
+
+static inline sleep_answer sleep_copy_byte_front(SLEEP_COPY_READ, uint64_t offset, uint64_t out[2]) {
+    return sleep_copy_byte(SLEEP_COPY_LENT, offset, out);
+}
+
+static inline sleep_answer sleep_copy_read_front(SLEEP_COPY_READ, uint64_t chunk, uint64_t out[2]) {
+    return sleep_copy_read(SLEEP_COPY_LENT, chunk, out);
+}
+
+static inline sleep_answer sleep_copy_release_front(const uint8_t *tree, size_t tree_length, uint8_t *bitfield, size_t bitfield_length, uint8_t *data,
+                                                    size_t data_length, uint64_t n, uint64_t size, uint64_t chunk) {
+    return sleep_copy_release(SLEEP_COPY_LENT, chunk);
+}
+
+static inline sleep_answer sleep_copy_search_front(SLEEP_COPY_READ, uint64_t from, uint64_t out[2]) {
+    return sleep_copy_search(SLEEP_COPY_LENT, from, out);
+}
+
+static inline sleep_answer sleep_copy_short_place_front(SLEEP_COPY_READ, uint64_t chunk, uint64_t out[2]) {
+    return sleep_copy_short_place(SLEEP_COPY_LENT, chunk, out);
+}
+
+static inline sleep_answer sleep_copy_short_byte_front(SLEEP_COPY_READ, uint64_t offset, uint64_t out[2]) {
+    return sleep_copy_short_byte(SLEEP_COPY_LENT, offset, out);
+}
+
+static inline sleep_answer sleep_copy_short_search_front(SLEEP_COPY_READ, uint64_t from, uint64_t out[2]) {
+    return sleep_copy_short_search(SLEEP_COPY_LENT, from, out);
+}
+
+static inline sleep_answer sleep_copy_make_packet_front(SLEEP_COPY_READ, uint64_t chunk, uint8_t *out, size_t out_length, uint64_t *length) {
+    return sleep_copy_make_packet(SLEEP_COPY_LENT, chunk, SLEEP_LENT(out), length);
+}
+
+static inline sleep_answer sleep_copy_header_of_front(SLEEP_COPY_READ, uint64_t chunk, uint64_t out[2]) {
+    return sleep_copy_header_of(SLEEP_COPY_LENT, chunk, out);
+}
+
+static inline sleep_node_read sleep_copy_node_of_front(SLEEP_COPY_READ, uint64_t chunk) {
+    return sleep_copy_node_of(SLEEP_COPY_LENT, chunk);
+}
+
+static inline sleep_found sleep_copy_find_front(SLEEP_COPY_READ, const uint8_t *path, size_t path_length) {
+    return sleep_copy_find(SLEEP_COPY_LENT, SLEEP_LENT(path));
+}
+
 #undef SLEEP_REGISTER_LENT
+#undef SLEEP_COPY_LENT
 #undef SLEEP_LENT
 #define sleep_hash sleep_hash_front
 #define sleep_hash_parts sleep_hash_parts_front
@@ -671,6 +843,23 @@ static inline sleep_found sleep_find_front(SLEEP_REGISTER_READ, const uint8_t *p
 #define sleep_header_of sleep_header_of_front
 #define sleep_node_of sleep_node_of_front
 #define sleep_find sleep_find_front
+#define sleep_make_copy sleep_make_copy_front
+#define sleep_take_in sleep_take_in_front
+#define sleep_copy_audit sleep_copy_audit_front
+#define sleep_copy_root_hash sleep_copy_root_hash_front
+#define sleep_copy_old_root sleep_copy_old_root_front
+#define sleep_copy_place sleep_copy_place_front
+#define sleep_copy_byte sleep_copy_byte_front
+#define sleep_copy_read sleep_copy_read_front
+#define sleep_copy_release sleep_copy_release_front
+#define sleep_copy_search sleep_copy_search_front
+#define sleep_copy_short_place sleep_copy_short_place_front
+#define sleep_copy_short_byte sleep_copy_short_byte_front
+#define sleep_copy_short_search sleep_copy_short_search_front
+#define sleep_copy_make_packet sleep_copy_make_packet_front
+#define sleep_copy_header_of sleep_copy_header_of_front
+#define sleep_copy_node_of sleep_copy_node_of_front
+#define sleep_copy_find sleep_copy_find_front
 
 #ifdef __cplusplus
 }

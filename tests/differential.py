@@ -29,6 +29,7 @@ import stations
 from lent import NUMBER, Answer, Buffer, Comparison, Library, Serving, answer_of, comparison_of, numbers, serving_of
 
 IMAGES = ('tree', 'signatures', 'bitfield', 'data')
+COPIED = ('tree', 'bitfield', 'data')
 EXPECTED = {Answer: answer_of, Comparison: comparison_of, Serving: serving_of, NUMBER: lambda answer: answer_of(answer)[:8], None: lambda answer: b''}
 
 
@@ -40,6 +41,11 @@ def pieces_of(r):
         pieces.append(r.part(start, node[1]) if model.held(r, k) else node)
         start += node[1]
     return pieces
+
+
+def lent_as(r):
+    """The images and the numbers that a call is lent: a copy has no signatures and no s."""
+    return (COPIED, (r.n, r.size)) if r.signatures is None else (IMAGES, (r.n, r.s, r.size))
 
 
 def root_shown(packet, n, chunk):
@@ -72,9 +78,9 @@ class Calls:
 
     def call(self, name, registers, others, expect, gives=Answer):
         """`expect` calls the model, which changes the registers as the library is to change the lent copies of them."""
-        told = [(r.n, r.s, r.size) for r in registers]
-        lent = [[Buffer(getattr(r, image)) for image in IMAGES] for r in registers]
-        words = [word for images, three in zip(lent, told) for word in images + ([] if name == 'start' else list(three))]
+        images, told = [lent_as(r)[0] for r in registers], [lent_as(r)[1] for r in registers]
+        lent = [[Buffer(getattr(r, image)) for image in names] for r, names in zip(registers, images)]
+        words = [word for buffers, three in zip(lent, told) for word in buffers + ([] if name == 'start' else list(three))]
         answered = self.library.call(name, words + others, gives)
         expected = expect()
         self.calls[name] = self.calls.get(name, 0) + 1
@@ -83,8 +89,8 @@ class Calls:
         self.same('the answer', name, told, answered, EXPECTED[gives](expected))
         for number, buffer in enumerate(one for one in others if isinstance(one, Buffer)):
             self.same('buffer %d' % number, name, told, buffer.held(), buffer.expected(expected))
-        for r, images in zip(registers, lent):
-            for image, buffer in zip(IMAGES, images):
+        for r, names, buffers in zip(registers, images, lent):
+            for image, buffer in zip(names, buffers):
                 self.same(image, name, told, buffer.held(), bytes(getattr(r, image)))
 
     def result(self, length, after):

@@ -120,10 +120,11 @@ class Records(differential.Run):
 
     def on_register(self, name, r, others, gives):
         """The answer by value of a call on a register that is only read."""
-        lent = [Buffer(getattr(r, image)) for image in differential.IMAGES]
-        answered = self.library.call(name, lent + [r.n, r.s, r.size] + others, gives)
-        for image, buffer in zip(differential.IMAGES, lent):
-            self.same(image, name, (r.n, r.s, r.size), buffer.held(), buffer.before)
+        images, told = differential.lent_as(r)
+        lent = [Buffer(getattr(r, image)) for image in images]
+        answered = self.library.call(name, lent + list(told) + others, gives)
+        for image, buffer in zip(images, lent):
+            self.same(image, name, told, buffer.held(), buffer.before)
         return answered
 
     def node_of(self, r, chunk):

@@ -19,6 +19,7 @@ typedef struct {
     (r).at[TREE], (r).length[TREE], (r).at[SIGNATURES], (r).length[SIGNATURES], (r).at[BITFIELD], (r).length[BITFIELD],         \
         (r).at[DATA], (r).length[DATA]
 #define REGISTER(r) IMAGES(r), (r).n, (r).s, (r).size
+#define COPY(r) (r).at[TREE], (r).length[TREE], (r).at[BITFIELD], (r).length[BITFIELD], (r).at[DATA], (r).length[DATA], (r).n, (r).size
 
 static uint8_t images[BUFFERS][ROOM], signature[64], packet[SLEEP_PACKET_EXTRA], root[32];
 static uint64_t packet_length, tried;
@@ -74,6 +75,26 @@ static uint64_t header_of(lent r) { uint64_t out[2]; return sleep_header_of(REGI
 static uint64_t node_of(lent r) { return sleep_node_of(REGISTER(r), 2).answer.number; }
 static uint64_t find(lent r) { return sleep_find(REGISTER(r), (const uint8_t *)"/a", 2).answer.number; }
 static uint64_t find_nothing(lent r) { return sleep_find(REGISTER(r), NULL, 0).answer.number; }
+static uint64_t make_copy(lent r) { return sleep_make_copy(COPY(r)).number; }
+static uint64_t take_in(lent r) { return sleep_take_in(COPY(r), packet, packet_length, 2, root).number; }
+static uint64_t take_nothing(lent r) { return sleep_take_in(COPY(r), NULL, 0, 2, root).number; }
+static uint64_t copy_audit(lent r) { return sleep_copy_audit(COPY(r)).number; }
+static uint64_t copy_root_hash(lent r) { return sleep_copy_root_hash(COPY(r), root).number; }
+static uint64_t copy_old_root(lent r) { uint8_t old[32]; return sleep_copy_old_root(COPY(r), 2, old).number; }
+static uint64_t copy_place(lent r) { uint64_t out[2]; return sleep_copy_place(COPY(r), 2, out).number; }
+static uint64_t copy_byte(lent r) { uint64_t out[2]; return sleep_copy_byte(COPY(r), 0, out).number; }
+static uint64_t copy_read(lent r) { uint64_t out[2]; return sleep_copy_read(COPY(r), 2, out).number; }
+static uint64_t copy_release(lent r) { return sleep_copy_release(COPY(r), 2).number; }
+static uint64_t copy_search(lent r) { uint64_t out[2]; return sleep_copy_search(COPY(r), 0, out).number; }
+static uint64_t copy_short_place(lent r) { uint64_t out[2]; return sleep_copy_short_place(COPY(r), 2, out).number; }
+static uint64_t copy_short_byte(lent r) { uint64_t out[2]; return sleep_copy_short_byte(COPY(r), 0, out).number; }
+static uint64_t copy_short_search(lent r) { uint64_t out[2]; return sleep_copy_short_search(COPY(r), 0, out).number; }
+static uint64_t copy_make(lent r) { uint64_t length; return sleep_copy_make_packet(COPY(r), 2, packet, sizeof packet, &length).number; }
+static uint64_t copy_make_in_nothing(lent r) { uint64_t length; return sleep_copy_make_packet(COPY(r), 2, NULL, 0, &length).number; }
+static uint64_t copy_header_of(lent r) { uint64_t out[2]; return sleep_copy_header_of(COPY(r), 0, out).number; }
+static uint64_t copy_node_of(lent r) { return sleep_copy_node_of(COPY(r), 2).answer.number; }
+static uint64_t copy_find(lent r) { return sleep_copy_find(COPY(r), (const uint8_t *)"/a", 2).answer.number; }
+static uint64_t copy_find_nothing(lent r) { return sleep_copy_find(COPY(r), NULL, 0).answer.number; }
 static uint64_t compare_first(lent r) { lent b = empty_chunks(3); return sleep_compare(REGISTER(r), REGISTER(b)).outcome; }
 static uint64_t compare_second(lent r) { lent a = empty_chunks(3); return sleep_compare(REGISTER(a), REGISTER(r)).outcome; }
 
@@ -97,6 +118,21 @@ static void each_buffer(const char *name, uint64_t (*call)(lent), uint64_t witho
         r.at[b] = some;
         r.length[b] = 0;
         expect(name, b, call(r), b == DATA ? done : without);
+    }
+}
+
+/* A call on a copy is lent no signatures, so that it is done where those are empty. */
+static void each_of_a_copy(const char *name, uint64_t (*call)(lent), uint64_t without, uint64_t done) {
+    static uint8_t some[1];
+    for (int b = TREE; b < BUFFERS; b++) {
+        for (int null = 0; null < 2; null++) {
+            lent r = empty_chunks(3);
+            root_hash(r);
+            make(r);
+            r.at[b] = null ? NULL : some;
+            r.length[b] = 0;
+            expect(name, b, call(r), b == DATA || b == SIGNATURES ? done : without);
+        }
     }
 }
 
@@ -148,6 +184,26 @@ int main(void) {
     each_buffer("find of no path", find_nothing, 4, 15);
     each_buffer("compare, the first", compare_first, SLEEP_FIRST_REFUSED, SLEEP_EQUAL);
     each_buffer("compare, the second", compare_second, SLEEP_SECOND_REFUSED, SLEEP_EQUAL);
+    each_of_a_copy("make_copy", make_copy, 14, 0);
+    each_of_a_copy("take_in", take_in, 4, 0);
+    each_of_a_copy("take_in of no packet", take_nothing, 4, 12);
+    each_of_a_copy("copy_audit", copy_audit, 4, 0);
+    each_of_a_copy("copy_root_hash", copy_root_hash, 4, 0);
+    each_of_a_copy("copy_old_root", copy_old_root, 4, 0);
+    each_of_a_copy("copy_place", copy_place, 4, 0);
+    each_of_a_copy("copy_byte", copy_byte, 4, 0);
+    each_of_a_copy("copy_read", copy_read, 4, 0);
+    each_of_a_copy("copy_release", copy_release, 4, 0);
+    each_of_a_copy("copy_search", copy_search, 4, 0);
+    each_of_a_copy("copy_short_place", copy_short_place, 4, 0);
+    each_of_a_copy("copy_short_byte", copy_short_byte, 4, 0);
+    each_of_a_copy("copy_short_search", copy_short_search, 4, 0);
+    each_of_a_copy("copy_make_packet", copy_make, 4, 0);
+    each_of_a_copy("copy_make_packet in no room", copy_make_in_nothing, 4, 14);
+    each_of_a_copy("copy_header_of", copy_header_of, 4, 15);
+    each_of_a_copy("copy_node_of", copy_node_of, 4, 15);
+    each_of_a_copy("copy_find", copy_find, 4, 15);
+    each_of_a_copy("copy_find of no path", copy_find_nothing, 4, 15);
     expect("all four", 0, start(nothing) + audit(nothing) + append(nothing), 14 + 4 + 4);
 
     r = empty_chunks(3);

@@ -1,6 +1,7 @@
 /* The most stack that each call takes, held to the header's SLEEP_STACK_..: a call runs on a stack of its own that was painted, and what is no
  * longer paint was taken. The calls are made while a register grows to GROWN chunks, at its first chunks and where bitfield entries begin, on
- * whole and on damaged images, and then on a tree of the greatest depth and one with the most roots, that hold a path alone.
+ * whole and on damaged images, and then on a tree of the greatest depth and one with the most roots, that hold a path alone: a register's, and a
+ * copy's that took it in. While it grows the register is lent as a copy too.
  * Link it with -z now, so that no symbol is looked up on the painted stack. */
 #include <inttypes.h>
 #include <stdio.h>
@@ -15,6 +16,7 @@ enum { GROWN = 16386, MOST = SLEEP_MOST_CHUNKS, STACK = 32768, PAINT = 0xa5, DAT
 static uint8_t tree[32 + 40 * (2 * MOST - 1)], signatures[32 + 64 * MOST], bitfield[32 + 3328 * (MOST / 8192)], data[DATA];
 static uint64_t n, s, size;
 #define REGISTER tree, sizeof tree, signatures, sizeof signatures, bitfield, sizeof bitfield, data, sizeof data, n, s, size
+#define COPY tree, sizeof tree, bitfield, sizeof bitfield, data, sizeof data, n, size
 
 static uint8_t chunk[SLEEP_LONGEST_CHUNK], packet[SLEEP_LONGEST_CHUNK + SLEEP_PACKET_EXTRA], root[32], digest[64];
 static uint64_t chunk_length, sought, packet_length, out[2], number, outcome, lengths[SLEEP_MOST_LISTED], listed, needed[SLEEP_NEEDS_NUMBERS], table[SLEEP_TABLE_NUMBERS];
@@ -56,9 +58,28 @@ static void read_node(void) { number = (read_back = sleep_read_node(packet, pack
 static void header_of(void) { number = sleep_header_of(REGISTER, sought, out).number; }
 static void node_of(void) { number = (read_back = sleep_node_of(REGISTER, sought)).answer.number; }
 static void find(void) { number = sleep_find(REGISTER, chunk, 3).answer.number; }
+static void make_copy(void) { number = sleep_make_copy(COPY).number; }
+static void take_in(void) { number = sleep_take_in(COPY, packet, packet_length, sought, root).number; }
+static void copy_audit(void) { number = sleep_copy_audit(COPY).number; }
+static void copy_root_hash(void) { number = sleep_copy_root_hash(COPY, digest).number; }
+static void copy_old_root(void) { number = sleep_copy_old_root(COPY, sought, digest).number; }
+static void copy_place(void) { number = sleep_copy_place(COPY, sought, out).number; }
+static void copy_byte(void) { number = sleep_copy_byte(COPY, sought, out).number; }
+static void copy_read(void) { number = sleep_copy_read(COPY, sought, out).number; }
+static void copy_release(void) { number = sleep_copy_release(COPY, sought).number; }
+static void copy_search(void) { number = sleep_copy_search(COPY, sought, out).number; }
+static void copy_short_place(void) { number = sleep_copy_short_place(COPY, sought, out).number; }
+static void copy_short_byte(void) { number = sleep_copy_short_byte(COPY, sought, out).number; }
+static void copy_short_search(void) { number = sleep_copy_short_search(COPY, sought, out).number; }
+static void copy_make_packet(void) { number = sleep_copy_make_packet(COPY, sought, packet, sizeof packet, &packet_length).number; }
+static void copy_header_of(void) { number = sleep_copy_header_of(COPY, sought, out).number; }
+static void copy_node_of(void) { number = (read_back = sleep_copy_node_of(COPY, sought)).answer.number; }
+static void copy_find(void) { number = sleep_copy_find(COPY, chunk, 3).answer.number; }
 static void compare(void) { outcome = sleep_compare(REGISTER, REGISTER).outcome; }
 
-enum { START, HASH, HASH_PARTS, LABEL, APPEND, APPEND_LIST, PREVIEW, STORE_SIGNATURE, ROOT_HASH, OLD_ROOT, AUDIT, PLACE, BYTE, READ, RELEASE, SEARCH, SHORT_PLACE, SHORT_BYTE, SHORT_SEARCH, MAKE_PACKET, CHECK_PACKET, COMPARE_PACKETS, COMPARE, GROUP, UNGROUP, NEEDS, FRESH, ENTER, SERVE, WRITE_HEADER, WRITE_NODE, READ_HEADER, READ_NODE, HEADER_OF, NODE_OF, FIND, CALLS };
+enum { START, HASH, HASH_PARTS, LABEL, APPEND, APPEND_LIST, PREVIEW, STORE_SIGNATURE, ROOT_HASH, OLD_ROOT, AUDIT, PLACE, BYTE, READ, RELEASE, SEARCH, SHORT_PLACE, SHORT_BYTE, SHORT_SEARCH, MAKE_PACKET, CHECK_PACKET, COMPARE_PACKETS, COMPARE, GROUP, UNGROUP, NEEDS, FRESH, ENTER, SERVE, WRITE_HEADER, WRITE_NODE, READ_HEADER, READ_NODE, HEADER_OF, NODE_OF, FIND,
+       MAKE_COPY, TAKE_IN, COPY_AUDIT, COPY_ROOT_HASH, COPY_OLD_ROOT, COPY_PLACE, COPY_BYTE, COPY_READ,
+       COPY_RELEASE, COPY_SEARCH, COPY_SHORT_PLACE, COPY_SHORT_BYTE, COPY_SHORT_SEARCH, COPY_MAKE_PACKET, COPY_HEADER_OF, COPY_NODE_OF, COPY_FIND, CALLS };
 
 static struct {
     const char *name;
@@ -101,6 +122,23 @@ static struct {
     {"sleep_header_of", header_of, SLEEP_STACK_HEADER_OF, 0},
     {"sleep_node_of", node_of, SLEEP_STACK_NODE_OF, 0},
     {"sleep_find", find, SLEEP_STACK_FIND, 0},
+    {"sleep_make_copy", make_copy, SLEEP_STACK_MAKE_COPY, 0},
+    {"sleep_take_in", take_in, SLEEP_STACK_TAKE_IN, 0},
+    {"sleep_copy_audit", copy_audit, SLEEP_STACK_COPY_AUDIT, 0},
+    {"sleep_copy_root_hash", copy_root_hash, SLEEP_STACK_COPY_ROOT_HASH, 0},
+    {"sleep_copy_old_root", copy_old_root, SLEEP_STACK_COPY_OLD_ROOT, 0},
+    {"sleep_copy_place", copy_place, SLEEP_STACK_COPY_PLACE, 0},
+    {"sleep_copy_byte", copy_byte, SLEEP_STACK_COPY_BYTE, 0},
+    {"sleep_copy_read", copy_read, SLEEP_STACK_COPY_READ, 0},
+    {"sleep_copy_release", copy_release, SLEEP_STACK_COPY_RELEASE, 0},
+    {"sleep_copy_search", copy_search, SLEEP_STACK_COPY_SEARCH, 0},
+    {"sleep_copy_short_place", copy_short_place, SLEEP_STACK_COPY_SHORT_PLACE, 0},
+    {"sleep_copy_short_byte", copy_short_byte, SLEEP_STACK_COPY_SHORT_BYTE, 0},
+    {"sleep_copy_short_search", copy_short_search, SLEEP_STACK_COPY_SHORT_SEARCH, 0},
+    {"sleep_copy_make_packet", copy_make_packet, SLEEP_STACK_COPY_MAKE_PACKET, 0},
+    {"sleep_copy_header_of", copy_header_of, SLEEP_STACK_COPY_HEADER_OF, 0},
+    {"sleep_copy_node_of", copy_node_of, SLEEP_STACK_COPY_NODE_OF, 0},
+    {"sleep_copy_find", copy_find, SLEEP_STACK_COPY_FIND, 0},
 };
 
 /* One call on the painted stack. The frame that makes the call counts too, so the figure is never too low. */
@@ -144,14 +182,43 @@ static void measure_release(void) {
     memcpy(data + at, bytes, length);
 }
 
+/* The register lent as a copy: the chunk that is sought, released and taken in again. */
+static void measure_return(void) {
+    measure(COPY_MAKE_PACKET, 0);
+    measure(TAKE_IN, 0);
+    measure(COPY_RELEASE, 0);
+    measure(COPY_RELEASE, 18);
+    measure(COPY_SEARCH, 0);
+    measure(COPY_READ, 18);
+    measure(COPY_AUDIT, 0);
+    measure(TAKE_IN, 0);
+    measure(COPY_READ, 0);
+}
+
+/* Every call that reads a copy, for the chunk that is sought. */
+static void measure_copied(void) {
+    measure(COPY_OLD_ROOT, 0);
+    measure(COPY_SEARCH, 0);
+    measure(COPY_SHORT_SEARCH, 0);
+    measure(COPY_PLACE, sought < n ? 0 : 9);
+    measure(COPY_SHORT_PLACE, sought < n ? 0 : 9);
+    measure(COPY_READ, sought < n ? 0 : 9);
+    measure(COPY_MAKE_PACKET, sought < n ? 0 : 9);
+    if (sought < n) measure_return();
+    else measure(COPY_RELEASE, 9);
+}
+
 /* Every call that reads the register, for the first, a middle, the last and no chunk. */
 static void measure_reads(void) {
     const uint64_t some[4] = {0, n / 2, n - 1, n};
     measure(ROOT_HASH, 0);
     measure(AUDIT, 0);
     measure(COMPARE, 0);
+    measure(COPY_ROOT_HASH, 0);
+    measure(COPY_AUDIT, 0);
     for (int k = 0; k < 4; k++) {
         sought = some[k];
+        measure_copied();
         measure(OLD_ROOT, 0);
         measure(SEARCH, 0);
         measure(SHORT_SEARCH, 0);
@@ -170,9 +237,13 @@ static void measure_reads(void) {
         sought = k < 3 && size > 0 ? some[k] * (size - 1) / n : size;
         measure(BYTE, 0);
         measure(SHORT_BYTE, 0);
+        measure(COPY_BYTE, 0);
+        measure(COPY_SHORT_BYTE, 0);
         sought = size + 1;
         measure(BYTE, 9);
         measure(SHORT_BYTE, 9);
+        measure(COPY_BYTE, 9);
+        measure(COPY_SHORT_BYTE, 9);
     }
 }
 
@@ -182,8 +253,10 @@ static void measure_damage(void) {
     for (int k = 0; k < 2; k++) {
         *wrong[k] ^= 1;
         measure(AUDIT, k == 0 ? 10 : 11);
+        measure(COPY_AUDIT, k == 0 ? 10 : 11);
         measure(COMPARE, 0);
         sought = n - 1;
+        measure(COPY_READ, k == 0 ? 10 : 0);
         measure(READ, k == 0 ? 10 : 0);
         measure(FRESH, 0);
         measure(ENTER, sought % 17 < SLEEP_STATIONS ? 0 : 21);
@@ -275,6 +348,59 @@ static void measure_depth(void) {
     measure(APPEND, 0);
 }
 
+/* The packet of chunk 0, one byte, of a register whose other chunks are empty, with zero entries beside it and beside the root above it; its root hash. */
+static void forge(void) {
+    uint8_t hashes[1 + 8 + 64] = {0}, roots[1 + 20 * 48] = {2};
+    uint64_t block = 1, depth = 0, count = 0;
+    hashes[8] = 1;
+    sleep_hash_parts(NULL, 0, hashes, 9, chunk, 1, hashes + 9);
+    for (hashes[0] = 1; 2 * block <= n; block *= 2, depth++) {
+        uint8_t above[32];
+        sleep_hash_parts(NULL, 0, hashes, sizeof hashes, NULL, 0, above);
+        memcpy(hashes + 9, above, 32);
+    }
+    for (uint64_t first = 0; first < n; first += block, count++) {
+        while (block > n - first) block /= 2;
+        for (int k = 0; k < 8; k++) roots[1 + 48 * count + 32 + k] = (uint8_t)((2 * first + block - 1) >> (56 - 8 * k));
+    }
+    memcpy(roots + 1, hashes + 9, 32);
+    roots[48] = 1;
+    sleep_hash_parts(NULL, 0, roots, 1 + 48 * count, NULL, 0, root);
+    memset(packet, 0, sizeof packet);
+    packet[3] = 1;
+    packet[4] = chunk[0];
+    packet[5] = (uint8_t)depth;
+    packet[6 + 40 * depth] = (uint8_t)(count - 1);
+    packet_length = 7 + 40 * (depth + count - 1);
+}
+
+/* A copy of the greatest depth, and one with the most roots, that took in chunk 0. */
+static void measure_copies(void) {
+    for (n = MOST; n >= MOST - 1; n--) {
+        size = 1;
+        sought = 0;
+        measure(MAKE_COPY, 0);
+        measure(COPY_AUDIT, 0);
+        measure(COPY_PLACE, 20);
+        forge();
+        measure(TAKE_IN, 0);
+        measure(COPY_ROOT_HASH, 0);
+        measure(COPY_AUDIT, 0);
+        measure_copied();
+        measure(COPY_BYTE, 0);
+        measure(COPY_SHORT_BYTE, 0);
+        measure(COPY_HEADER_OF, 15);
+        measure(COPY_NODE_OF, 15);
+        sought = n - 1;
+        measure(COPY_OLD_ROOT, n == MOST ? 20 : 0);
+        measure(COPY_PLACE, n == MOST ? 20 : 0);
+        measure(COPY_READ, 18);
+        measure(COPY_FIND, 15);
+        sought = n;
+        measure(COPY_OLD_ROOT, 0);
+    }
+}
+
 /* The largest number that a field may have. */
 static sleep_number most(uint64_t value) { return (sleep_number){1, value}; }
 
@@ -297,8 +423,11 @@ static void measure_records(void) {
         for (sought = 0; sought < n; sought++) {
             measure(HEADER_OF, sought == 0 ? 0 : 15);
             measure(NODE_OF, sought == 0 ? 15 : 0);
+            measure(COPY_HEADER_OF, sought == 0 ? 0 : 15);
+            measure(COPY_NODE_OF, sought == 0 ? 15 : 0);
         }
         measure(FIND, 0);
+        measure(COPY_FIND, 0);
     }
     node.writers[7].key.length = 33;
     measure(WRITE_NODE, 15);
@@ -317,8 +446,9 @@ int main(void) {
     for (sought = 0; sought <= MOST; sought += MOST / 4 - 64) measure(NEEDS, sought + 256 <= MOST ? 0 : 2);
     grow();
     measure_depth();
+    measure_copies();
     for (int k = 0; k < CALLS; k++) {
-        printf("%-22s %5zu of %5zu bytes of stack\n", calls[k].name, calls[k].taken, calls[k].most);
+        printf("%-24s %5zu of %5zu bytes of stack\n", calls[k].name, calls[k].taken, calls[k].most);
         if (calls[k].taken > calls[k].most) failed = 1;
     }
     return failed;

@@ -5,6 +5,7 @@ import copy
 import sys
 
 sys.dont_write_bytecode = True  # nothing generated lies beside the sources
+from copy_model import Copy, audit_copy, copy_sizes, lent_as_copy, make_copy, take_in
 from needs import completed, needs
 from record_model import *
 from rfc7693 import blocks_of
@@ -412,6 +413,234 @@ def short_refusals():
         yield 'short ends', (short_byte(r, 8), short_byte(r, 9), short_place(r, 4)), (('done', 4, 0), refused(9), refused(9))
 
 
+def made_copy(n, size):
+    c = Copy(*(bytearray(b'\xa5' * (used + 3)) for used in copy_sizes(n, size)), n, size)
+    check('make a copy', make_copy(c), ('done',))
+    return c
+
+
+def used_images(c):
+    return [bytes(image[:used]) for image, used, _ in c.lent()]
+
+
+def spoilt_copy(c, numbers):
+    """Some bytes of entries, tree bits, data bits and data turned."""
+    for _ in range(numbers.below(4)):
+        c.tree[HEADER + numbers.below(len(c.tree) - HEADER)] ^= 1
+        c.bitfield[HEADER + DATA_BYTES + numbers.below(2 * c.n) // 8] ^= 1 << numbers.below(8)
+        c.bitfield[HEADER + numbers.below(c.n) // 8] ^= 1 << numbers.below(8)
+        if c.size:
+            c.data[numbers.below(c.size)] ^= 1
+    return c
+
+
+def both_taken(c, *packets):
+    """What is left of the copy where all these are taken in, one right after the other, or None."""
+    taker, F = copy.deepcopy(c), packets[0][-1]
+    for packet, chunk, root, _ in packets:
+        before = used_images(taker)
+        if take_in(taker, packet, chunk, root, F)[0] == 'refused':
+            check('refused and changed', used_images(taker), before)
+            return None
+    return used_images(taker)
+
+
+def packets_both_ways():
+    """Two packets taken in are taken in the other way round too, with the same images, whatever the copy held."""
+    numbers, taken = Numbers(1), 0
+    for F in (node_hash, weak):
+        for n, span in ((1, 3), (2, 3), (3, 3), (5, 4), (6, 2)):
+            lists = [[bytes([k * v % 5 + 1]) * (k % span) for k in range(n)] for v in range(4)]
+            registers = [register_of(chunks, F) for chunks in lists]
+            packets = [(made_packet(r, chunk, F), chunk, root_hash(r, F)[1], F) for r in registers for chunk in range(n)]
+            for step in range(80):
+                first, second = packets[numbers.below(len(packets))], packets[numbers.below(len(packets))]
+                c = made_copy(n, registers[0].size)
+                for _ in range(step % 3):
+                    take_in(c, *packets[numbers.below(len(packets))])
+                if step % 2:
+                    spoilt_copy(c, numbers)
+                one, other = both_taken(c, first, second), both_taken(c, second, first)
+                yield 'packets both ways', one, other
+                taken += one is not None
+    yield 'enough of them taken in', taken > 150, True
+
+
+def any_packet(c, chunk, numbers):
+    """A packet of no register, of entries that a copy knows and of others, with lengths that add up to its size, and the weak root hash
+    under which the packet is accepted."""
+    indexes, rest, entries = packet_indexes(c.n, chunk), c.size, []
+    for index in sum(indexes, []):
+        known = c.known(index) and numbers.below(8) > 0 and c.node(index)[1] <= rest
+        entries.append(c.node(index) if known else (bytes([numbers.below(3)] * HASH), numbers.below(min(rest, 3) + 1)))
+        rest -= entries[-1][1]
+    found, parts = bytes(numbers.below(3) for _ in range(rest)), list(map(entry_bytes, entries))
+    sections = parts[:len(indexes[0])], parts[len(indexes[0]):]
+    packet = be(4, rest) + found + b''.join(be(1, len(section)) + b''.join(section) for section in sections)
+    roots_tried = ((packet, chunk, bytes([v] * HASH), weak) for v in range(3))
+    return next(tried for tried in roots_tried if check_packet(packet, c.n, *tried[1:]) == ('done', found))
+
+
+def grown_copies():
+    """A copy that was made and grew by packets, of registers or of none, and by releases stays accepted; each packet that a copy gives
+    is accepted."""
+    numbers, taken = Numbers(2), 0
+    yield 'audit of nothing', audit_copy(made_copy(0, 0)), ('done',)
+    for n, size in [(n, size) for n in (1, 2, 3, 4, 6, 7) for size in (0, 1, 4, 7)]:
+        c = made_copy(n, size)
+        yield 'audit of a new copy', audit_copy(c, weak), ('done',)
+        for _ in range(25):
+            chunk = numbers.below(n)
+            if numbers.below(5) == 0:
+                release(c, chunk)
+            else:
+                taken += take_in(c, *any_packet(c, chunk, numbers))[0] == 'done'
+            yield 'audit of a copy', audit_copy(c, weak), ('done',)
+        for chunk in range(n):
+            if read(c, c, 'content', chunk, weak)[0] == 'done':
+                packet, root = made_packet(c, chunk, weak), root_hash(c, weak)[1]
+                yield 'packet of a copy', check_packet(packet, n, chunk, root, weak), read(c, c, 'content', chunk, weak)
+    yield 'enough of them taken in', taken > 100, True
+
+
+def full_copies():
+    """A copy that took in all of a sequence, in any order and with releases between, has its images; where every entry but the holes is
+    known, the short ways agree."""
+    numbers = Numbers(3)
+    for F in (node_hash, weak):
+        for n in (1, 2, 3, 6, 13):
+            r = register_of(chunk_list(n), F)
+            c, root = made_copy(n, r.size), root_hash(r, F)[1]
+            while not all(held(c, chunk) for chunk in range(n)):
+                chunk = numbers.below(n)
+                if held(c, chunk) and numbers.below(4) == 0:
+                    yield 'release', release(c, chunk), ('done',)
+                else:
+                    yield 'take in', take_in(c, made_packet(r, chunk, F), chunk, root, F), ('done',)
+            yield 'images of a full copy', used_images(c), [r.tree, r.bitfield, r.data]
+            release(c, n // 2)
+            yield 'audit', audit_copy(c, F), ('done',)
+            yield 'both ways', *both_ways(c)
+
+
+def lent_registers():
+    """A packet taken in on an accepted register that is lent as a copy leaves an accepted register, with that piece held."""
+    numbers, other = Numbers(4), 0
+    for step in range(150):
+        n = 1 + step % 6
+        r = register_of([bytes([1 + k % 2] * (k % 3)) for k in range(n)], weak)
+        for _ in range(numbers.below(4)):
+            release(r, numbers.below(n))
+        check('audit', audit(r, weak), ('done',))
+        chunk = numbers.below(n)
+        packet = any_packet(lent_as_copy(r), chunk, numbers)
+        if take_in(lent_as_copy(r), *packet)[0] == 'done':
+            found = check_packet(packet[0], n, *packet[1:])[1]
+            other += found != bytes([1 + chunk % 2] * (chunk % 3))
+            yield 'a piece that came back', (audit(r, weak), read(r, r, 'content', chunk, weak)), (('done',), ('done', found))
+    yield 'other pieces than were released', other > 0, True
+
+
+def copy_calls(c):
+    for chunk in range(c.n + 1):
+        yield from (place_lookup(c, chunk), read(c, c, 'content', chunk), make_packet(c, chunk, bytearray(300)), release(copy.deepcopy(c), chunk),
+                    first_not_held(c, chunk), short_place(c, chunk), short_search(c, chunk), old_root(c, chunk))
+    yield root_hash(c)
+    for offset in range(c.size + 2):
+        yield from (byte_lookup(c, offset), short_byte(c, offset))
+
+
+def calls_on_copies():
+    """A call on a copy answers 20, or what it answers on a register with these very bytes; 20 alone where something is unknown."""
+    numbers = Numbers(5)
+    for step in range(60):
+        n = 1 + step % 7
+        r = register_of(chunk_list(n))
+        if step % 3 == 0:
+            r.tree[HEADER + ENTRY * numbers.below(2 * n - 1) + 39] ^= 1
+        release(r, numbers.below(n))
+        c = Copy(bytearray(r.tree), bytearray(r.bitfield), bytearray(r.data), n, r.size)
+        unknown = {numbers.below(2 * n - 1) for _ in range(step % 4)}
+        for index in unknown:
+            at, alone = bit_at(index, NODES_PER_ENTRY, DATA_BYTES)
+            c.bitfield[at] &= ~alone
+        for answer, as_register in zip(copy_calls(c), copy_calls(r)):
+            if answer[:2] == ('refused', 20):
+                yield 'unknown', (answer[2][1] in unknown, filled(n, answer[2][1])), (True, True)
+            else:
+                yield 'call on a copy', answer, as_register
+        if not unknown:
+            yield 'accepted both ways', audit_copy(c) == ('done',), audit(r) == ('done',)
+
+
+def descent_events(n, chunk):
+    """What the place lookup's descent looks at, in its order: an entry that has to be known, a sum, and the leaf's length."""
+    root = root_above(n, chunk)
+    yield from (('known', left) for left in roots(n) if left <= root)
+    index = root
+    while index != 2 * chunk:
+        left, right = children(index)
+        yield from (('known', left), ('known', right), ('sum', index))
+        index = left if 2 * chunk < index else right
+    yield 'length', 2 * chunk
+
+
+def wrong_leaf(c, chunk, F):
+    """The index that a known leaf makes wrong, or None."""
+    length = lambda index: c.node(index)[1]
+    for kind, index in descent_events(c.n, chunk):
+        if kind == 'known' and not c.known(index):
+            return 2 * chunk
+        if kind == 'sum' and length(index) != sum(map(length, children(index))) or kind == 'length' and length(index) > LONGEST_CHUNK:
+            return index
+    siblings, others = packet_indexes(c.n, chunk)
+    at = sum(length(index) for index in siblings + others if index < 2 * chunk)
+    found = bytes(c.data[at:at + length(2 * chunk)])
+    right = F(leaf_message(found)) == c.node(2 * chunk)[0] if held(c, chunk) else not any(found)
+    return None if right and at + len(found) <= c.size and len(found) == length(2 * chunk) else 2 * chunk
+
+
+def wrong_indexes(c, F):
+    for index in range(2 * c.n - 1):
+        zero, leaf = not any(c.entry(index)), index % 2 == 0
+        if not filled(c.n, index) or not c.known(index):
+            if not zero or leaf and held(c, index // 2):
+                yield index
+        elif leaf:
+            yield from (wrong for wrong in [wrong_leaf(c, index // 2, F)] if wrong is not None)
+        elif all(map(c.known, children(index))):
+            left, right = map(c.node, children(index))
+            total = left[1] + right[1]
+            if total >= 2 ** 64 or c.entry(index) != F(b'\1' + be(8, total) + left[0] + right[0]) + be(8, total):
+                yield index
+
+
+def copy_audits():
+    """Of copies that took in a few packets, with bytes turned and entries forgotten: the lowest wrong index, or a wrong byte, or done."""
+    numbers, seen = Numbers(6), {}
+    for step in range(400):
+        n, F = 1 + step % 9, (node_hash, weak)[step % 2]
+        r = register_of(chunk_list(n), F)
+        c = made_copy(n, r.size)
+        for _ in range(1 + step % 4):
+            chunk = numbers.below(n)
+            check('take in', take_in(c, made_packet(r, chunk, F), chunk, root_hash(r, F)[1], F), ('done',))
+        if step % 5:
+            spoilt_copy(c, numbers)
+        for _ in range(step % 3):
+            index = numbers.below(2 * n - 1)
+            at, alone = bit_at(index, NODES_PER_ENTRY, DATA_BYTES)
+            c.bitfield[at] &= ~alone
+            c.put(index, bytes(ENTRY))
+        answer = audit_copy(c, F)
+        kind = answer[0] if answer == ('done',) else answer[1]
+        seen[kind] = seen.get(kind, 0) + 1
+        if kind != 6:
+            wrong = min(wrong_indexes(c, F), default=None)
+            yield 'audit of a copy', answer[2] if kind == 10 else None, None if wrong is None else ('tree', wrong)
+    yield 'kinds of answers', {'done', 6, 10, 11} <= set(seen), True
+
+
 def spoilt_size(none):
     r = told(none, size=1)
     r.data.append(0)
@@ -554,5 +783,5 @@ def paths():
 
 if __name__ == '__main__':
     groups = (agreement, borders, refusals, jobs, lists, tables, fairness, pieces, searches, short_ways, short_refusals, records, accepted_records, paths,
-              walks, old_roots, packet_walks, weak_rows)
+              walks, old_roots, packet_walks, weak_rows, packets_both_ways, grown_copies, full_copies, lent_registers, calls_on_copies, copy_audits)
     print('model: %d more cases agree' % sum(check(*case) for cases in groups for case in cases()))

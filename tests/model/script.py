@@ -4,7 +4,9 @@ Each line has a word, of which the first two letters count, and decimal numbers.
 signatures, root hashes and packets are parts of a fifth, the text; all hold a5 at first. `lend` names the parts of the first register, from and to
 where in each buffer, `told` what is told of it, and `swap` makes the second register the first. `flip`, `put` and `fill` change bytes of a lent
 part of the first register or of the text. The other words are a call each, on the first register, on both, or on parts of the text alone.
-`splace`, `sbyte` and `ssearch` ask both ways, the quick one and the short one, for a number and those that follow it.
+`splace`, `sbyte` and `ssearch` ask both ways, the quick one and the short one, for a number and those that follow it. A word that begins with a
+capital letter is a call on a copy: tree, bitfield and data of the first register, with n and the size that are told. `bring` makes a packet of the
+second register, in a part of the text.
 
 A sum is the first 8 bytes of the hash of a lent part, whole. A call that may write has them behind its answer: tree, signatures, bitfield, data.
 """
@@ -15,6 +17,7 @@ from contextlib import contextmanager
 
 sys.dont_write_bytecode = True  # nothing generated lies beside the sources
 import audits
+import copies
 import lists
 import old_roots
 import preview as previews
@@ -22,6 +25,8 @@ import reads
 import registers
 import released
 import short_way
+from copy_model import Copy, audit_copy, make_copy, take_in
+from record_model import find, read_record
 from samples import SIGNATURE_AT, TEXT, grow, said, sampled
 from sleep_model import (HASH, SIGNATURE, Register, append, append_list, audit, be, byte_lookup, check_packet, compare, compare_packets,
                          first_not_held, images_of, make_packet, node_hash, number_in, old_root, place_lookup, preview, read, release, root_hash,
@@ -58,6 +63,8 @@ class Script:
 
     def call(self, word, *numbers):
         r, text = self.register(), self.buffers[TEXT]
+        if word[0].isupper():
+            return self.call_on_copy(word, *numbers)
         if word in ON_TEXT:
             return ON_TEXT[word](text, *numbers)
         if word in ON_PAIRS:
@@ -67,6 +74,21 @@ class Script:
         answer = WRITING[word](r, text, *numbers)
         self.keep(r)
         return ' '.join([answer] + [digest(image) for image in images_of(r)])
+
+    def call_on_copy(self, word, *numbers):
+        r, text = self.register(), self.buffers[TEXT]
+        c = Copy(r.tree, r.bitfield, r.data, r.n, r.size)
+        if word in COPY_ASKING:
+            return COPY_ASKING[word](c, text, *numbers)
+        answer = COPY_WRITING[word](c, text, *numbers)
+        self.keep(r)
+        return ' '.join([answer] + [digest(image) for image in images_of(r)])
+
+    def bring(self, chunk, start, end):
+        out = self.buffers[TEXT][start:end]
+        made = make_packet(self.register(1), chunk, out)
+        self.buffers[TEXT][start:end] = out
+        return str(made[1]) if made[0] == 'done' else said(made)
 
     def lend(self, *ends):
         parts = list(zip(ends[::2], ends[1::2]))
@@ -161,7 +183,8 @@ class Script:
             self.run('flip %d %d %d' % change)
 
 
-SETTINGS = {'lend': Script.lend, 'told': Script.tell, 'swap': Script.swap, 'flip': Script.flip, 'put': Script.put, 'fill': Script.fill}
+SETTINGS = {'lend': Script.lend, 'told': Script.tell, 'swap': Script.swap, 'flip': Script.flip, 'put': Script.put, 'fill': Script.fill,
+            'bring': Script.bring}
 
 
 # ---- The calls ----
@@ -264,13 +287,18 @@ ASKING = {'audit': lambda r, text: said(audit(r)), 'root': lambda r, text: roote
           'place': lambda r, text, chunk: pair(place_lookup(r, chunk)), 'byte': lambda r, text, offset: pair(byte_lookup(r, offset)), 'packet': packed,
           'splace': both_ways(place_lookup, short_place, pair), 'sbyte': both_ways(byte_lookup, short_byte, pair),
           'ssearch': both_ways(first_not_held, short_search, sought)}
+COPY_WRITING = {'Make': lambda c, text: said(make_copy(c)), 'Release': WRITING['release'],
+                'Take': lambda c, text, a, b, chunk, root: said(take_in(c, bytes(text[a:b]), chunk, bytes(text[root:root + HASH])))}
+COPY_ASKING = {'Audit': lambda c, text: said(audit_copy(c)), 'Get': lambda c, text, chunk: with_bytes(read(c, c, 'content', chunk)),
+               'Find': lambda c, text, a, b: sought(find(c, bytes(text[a:b]))), 'Node': lambda c, text, chunk: said(read_record(c, chunk)),
+               **{name.capitalize(): ASKING[name] for name in ('root', 'old', 'packet', 'splace', 'sbyte', 'ssearch')}}
 ON_PAIRS = {'compare': compared, 'get': got}
 ON_TEXT = {'check': checked, 'walk': walked}
 
 
 if __name__ == '__main__':
     script = Script()
-    for module in (registers, lists, reads, audits, previews, old_roots, released, short_way):
+    for module in (registers, lists, reads, audits, previews, old_roots, released, short_way, copies):
         module.cases(script)
     letters = {line.split(' ')[0]: line[:2] for line in script.lines}
     assert len(set(letters.values())) == len(letters)

@@ -165,6 +165,7 @@ def combine(left, right):
     a, b, c, d = ({(0b11, 0b11): 0b11, (0b00, 0b00): 0b00}.get(pair, 0b10) for pair in pairs)
     return a << 6 | b << 4 | c << 2 | d
 
+@functools.lru_cache(maxsize=256)
 def index_bytes(data_bits):
     """The 256 Index bytes of 1024 data bytes; byte 255 is 0."""
     index = bytearray(INDEX_BYTES)
@@ -224,6 +225,16 @@ class Register:
         """Of the stored roots of the first m chunks, or of all."""
         return root_message([(index, self.node(index)) for index in roots(self.n if m is None else m)])
 
+    def signed_right(self):
+        return self.s == 0 if self.n == 0 else self.s in (self.n, self.n - 1)
+
+    def lent(self):
+        """Each image with its used size and its header."""
+        return zip(images_of(self), used_sizes(self.n, self.s, self.size), (TREE_HEADER, SIGNATURES_HEADER, BITFIELD_HEADER, b''))
+
+    def need(self, index):
+        """Called where a call comes to an entry that it reads; a partial copy may not know it."""
+
 def is_released(piece):
     """A piece is a chunk that is held, its bytes, or one that is released: then its leaf's (hash, length) is handed in."""
     return isinstance(piece, tuple)
@@ -257,14 +268,22 @@ def used_sizes(n, s, size):
 def images_of(r):
     return r.tree, r.signatures, r.bitfield, r.data
 
-def check_register(r, most=MOST_CHUNKS):
-    """Refusals 2 to 6, with which every call on a register begins."""
+def check_lent(r, most=MOST_CHUNKS):
+    """Refusals 2 to 5, of what is told and lent; a partial copy has no 3."""
     refuse_if(r.n > most, 2)
-    refuse_if(r.s != 0 if r.n == 0 else r.s not in (r.n, r.n - 1), 3)
-    refuse_if(any(len(image) < used for image, used in zip(images_of(r), used_sizes(r.n, r.s, r.size))), 4)
-    headers = (TREE_HEADER, SIGNATURES_HEADER, BITFIELD_HEADER)
-    refuse_if(any(image[:HEADER] != right for image, right in zip(images_of(r), headers)), 5)
+    refuse_if(not r.signed_right(), 3)
+    refuse_if(any(len(image) < used for image, used, _ in r.lent()), 4)
+    refuse_if(any(image[:len(right)] != right for image, _, right in r.lent()), 5)
+
+def check_register(r, most=MOST_CHUNKS):
+    """Refusals 2 to 6, with which every call on a register begins; on a partial copy, 20 for an unknown root just before 6."""
+    check_lent(r, most)
+    need_all(r, roots(r.n))
     refuse_if(sum(r.node(root)[1] for root in roots(r.n)) != r.size, 6)
+
+def need_all(r, indexes):
+    for index in indexes:
+        r.need(index)
 
 # ---- The calls that write ----
 @call
@@ -337,7 +356,7 @@ def set_bit(r, number, per_entry, section):
 def put_index(r, chunk):
     """Regenerates the Index of the chunk's bitfield entry from the data bits as they are."""
     at = HEADER + BITFIELD_ENTRY * (chunk // CHUNKS_PER_ENTRY)
-    r.bitfield[at + DATA_BYTES + TREE_BYTES:at + BITFIELD_ENTRY] = index_bytes(r.bitfield[at:at + DATA_BYTES])
+    r.bitfield[at + DATA_BYTES + TREE_BYTES:at + BITFIELD_ENTRY] = index_bytes(bytes(r.bitfield[at:at + DATA_BYTES]))
 
 @call
 def store_signature(r, signature):
@@ -374,8 +393,9 @@ def entry_right(r, index, start_of_leaf, F):
     """By the leaf's place in the data, from the parent's stored children, or as a hole."""
     if not filled(r.n, index):
         return r.entry(index) == HOLE
-    if index % 2 == 0:
-        return leaf_right(r, index // 2, start_of_leaf, F)
+    return leaf_right(r, index // 2, start_of_leaf, F) if index % 2 == 0 else parent_right(r, index, F)
+
+def parent_right(r, index, F):
     node, left, right = map(r.node, (index, *children(index)))
     return node[1] == left[1] + right[1] and node == parent_node(left, right, F)
 
@@ -432,6 +452,7 @@ def old_root(r, m, F=node_hash):
     """The root hash of the first m chunks from the stored entries, whether an audit would take them or not."""
     check_register(r)
     refuse_if(m > r.n, 9)
+    need_all(r, roots(m))
     return (F(r.root_message(m)),)
 
 # ---- Lookups ----
@@ -440,7 +461,12 @@ def place_of(r, chunk, to_be_held=False):
     check_register(r)
     refuse_if(chunk >= r.n, 9)
     refuse_if(to_be_held and not held(r, chunk), 18, ('tree', 2 * chunk))
+    return descent_to(r, chunk)
+
+def descent_to(r, chunk):
+    """By the lengths of the roots to its left, and then from the root above it down."""
     root = root_above(r.n, chunk)
+    need_all(r, [other for other in roots(r.n) if other <= root])
     start_of_root = sum(r.node(other)[1] for other in roots(r.n) if other < root)
     return descend(r, root, start_of_root, lambda right, start_of_right: chunk >= chunks_below(right).start)[1:]
 
@@ -469,6 +495,7 @@ def descend(r, index, start_of_node, goes_right):
         refuse_if(length > LONGEST_CHUNK, 10, ('tree', index))
         return index // 2, start_of_node, length
     left, right = children(index)
+    need_all(r, (left, right))
     refuse_if(length != r.node(left)[1] + r.node(right)[1], 10, ('tree', index))
     start_of_right = start_of_node + r.node(left)[1]
     if goes_right(right, start_of_right):
@@ -478,6 +505,7 @@ def descend(r, index, start_of_node, goes_right):
 # ---- The short way ----
 def leaf_length(r, chunk):
     """Of a leaf that a short lookup comes to."""
+    r.need(2 * chunk)
     length = r.node(2 * chunk)[1]
     refuse_if(length > LONGEST_CHUNK, 10, ('tree', 2 * chunk))
     return length

@@ -28,7 +28,7 @@ use Rattle.files.proofs.Spans.{total-run-add}
 use Rattle.files.proofs.OfImage.{entry-inside}
 use Rattle.checks.proofs.Steps.{and-stop, and-pass}
 use Rattle.audit.specs.Audit.{Lowest, lowest, leafRight, parentRight, holeRight, entryRight, refusedAt}
-use Rattle.audit.specs.Walked.{leavesBefore, FilesIn, Started, AtEntry, AtLeaf, AtParent}
+use Rattle.audit.specs.Walked.{leavesBefore, leafFrom, FilesIn, Started, AtEntry, AtLeaf, AtParent}
 use Rattle.audit.proofs.Audited.{zero-same, leaf-right, even-entry, odd-entry, entryRight-hole}
 use Rattle.audit.proofs.Search.{lowest-on, lowest-off, lowest-end}
 
@@ -90,38 +90,47 @@ behind-parent t i start h e = let a : (i + 1) / 2 ≡ (i + 1 + 1) / 2 = omega ar
 
 -- ---- one entry
 
-module _ (F : List ℕ → List ℕ) (t d : List ℕ) (size : ℕ) (held : Bool) (k : ℕ) where
-  pub leaf-long : (len : ℕ) → len ≡ storedSize t (2 * k) → longestChunk < len → false ≡ leafRight F t d size held k
-  unfolding leafRight
+-- a leaf judged from the sum of the leaf lengths before it
+pub leaf-from : (F : List ℕ → List ℕ) (t d : List ℕ) (size : ℕ) (held : Bool) (k start : ℕ) → start ≡ storedStart t k
+    → leafFrom F t d size held k start ≡ leafRight F t d size held k
+unfolding leafFrom leafRight storedChunk
+leaf-from F t d size held k start e = ap (leafFrom F t d size held k) e
+
+module _ (F : List ℕ → List ℕ) (t d : List ℕ) (size : ℕ) (held : Bool) (k start : ℕ) where
+  pub leaf-long : (len : ℕ) → len ≡ storedSize t (2 * k) → longestChunk < len → false ≡ leafFrom F t d size held k start
+  unfolding leafFrom
   leaf-long len e h = and-stop _ _ (lt-leb (storedSize t (2 * k)) longestChunk (omega (arith, e)))
 
-  module _ (start len : ℕ) (e : start ≡ storedStart t k) (q : len ≡ storedSize t (2 * k)) (s : len ≤ longestChunk) (g : start ≤ size) where
-    pub leaf-past : size - start < len → false ≡ leafRight F t d size held k
-    unfolding leafRight
-    leaf-past h =
+  module _ (len : ℕ) (q : len ≡ storedSize t (2 * k)) (s : len ≤ longestChunk) where
+    pub leaf-past : start ≤ size → size - start < len → false ≡ leafFrom F t d size held k start
+    unfolding leafFrom
+    leaf-past g h =
         and-pass _ _ false (le-leb (storedSize t (2 * k)) longestChunk (omega arith))
-        (and-stop _ _ (lt-leb (storedStart t k + storedSize t (2 * k)) size (omega arith)))
+        (and-stop _ _ (lt-leb (start + storedSize t (2 * k)) size (omega arith)))
 
     -- the last test, of a leaf that passes those of its length
-    module _ (m : ℕ) (h : len ≤ size - start) (me : m ≡ len) (r : Bool) where
-      abbrev lastTest : Bool → Bool
-      lastTest x = cond x (sameList (storedHash t (2 * k)) (F (leafMessage (storedChunk t d k)))) (allZero (storedChunk t d k))
+    module _ (m : ℕ) (g : start ≤ size) (h : len ≤ size - start) (me : m ≡ len) (r : Bool) where
+      abbrev chunk : List ℕ
+      chunk = part d start (storedSize t (2 * k))
 
-      last-test : r ≡ lastTest held → r ≡ leafRight F t d size held k
-      unfolding leafRight
+      abbrev lastTest : Bool → Bool
+      lastTest x = cond x (sameList (storedHash t (2 * k)) (F (leafMessage chunk))) (allZero chunk)
+
+      last-test : r ≡ lastTest held → r ≡ leafFrom F t d size held k start
+      unfolding leafFrom
       last-test l =
           and-pass _ _ r (le-leb (storedSize t (2 * k)) longestChunk (omega arith))
-          (and-pass _ _ r (le-leb (storedStart t k + storedSize t (2 * k)) size (omega arith)) l)
+          (and-pass _ _ r (le-leb (start + storedSize t (2 * k)) size (omega arith)) l)
 
-      chunk-is : take m (drop start d) ≡ storedChunk t d k
-      unfolding storedChunk part
-      chunk-is = ap₂ (λ (a b : ℕ). take a (drop b d)) (me ∙ q) e
+      chunk-is : take m (drop start d) ≡ chunk
+      unfolding part
+      chunk-is = ap (λ (a : ℕ). take a (drop start d)) (me ∙ q)
 
-      pub leaf-zero : held ≡ false → r ≡ allZero (take m (drop start d)) → r ≡ leafRight F t d size held k
+      pub leaf-zero : held ≡ false → r ≡ allZero (take m (drop start d)) → r ≡ leafFrom F t d size held k start
       leaf-zero f rr = last-test (rr ∙ ap allZero chunk-is ∙ ap lastTest (sym f))
 
       pub leaf-same : held ≡ true → (stored expected : List ℕ) → stored ≡ storedHash t (2 * k) → expected ≡ F (leafMessage (take m (drop start d)))
-          → r ≡ sameList stored expected → r ≡ leafRight F t d size held k
+          → r ≡ sameList stored expected → r ≡ leafFrom F t d size held k start
       leaf-same f stored expected st ex rr =
           last-test (rr ∙ ap₂ sameList st (ex ∙ ap (λ (c : List ℕ). F (leafMessage c)) chunk-is) ∙ ap lastTest (sym f))
 
@@ -172,7 +181,6 @@ module _ (F : List ℕ → List ℕ) (t bits d : List ℕ) (n size i start : ℕ
       record {
         entry = entry-as t (omega arith) at-entry;
         bytes = p .files .bytes;
-        here = p .here ∙ ap (storedStart t) (omega arith);
         inside = p .inside;
       }
 
@@ -187,8 +195,11 @@ module _ (F : List ℕ → List ℕ) (t bits d : List ℕ) (n size i start : ℕ
       omega (arith, p .entry, p .files .field .inside)
 
   pub leaf-entry : (k : ℕ) (held r : Bool) → i % 2 ≡ 0 → filled n i ≡ true → k ≡ block i → held ≡ storedHeld bits k
-      → r ≡ leafRight F t d size held k → r ≡ entryRight F t bits d n size i
-  leaf-entry k held r h f e b rr = rr ∙ ap₂ (leafRight F t d size) (b ∙ ap (storedHeld bits) e) e ∙ sym (even-entry F t d bits n size i (even-depth i h) f)
+      → r ≡ leafFrom F t d size held k start → r ≡ entryRight F t bits d n size i
+  leaf-entry k held r h f e b rr =
+      let q : k ≡ i / 2 = e ∙ sym (leaf-block i h) in
+      rr ∙ leaf-from F t d size held k start (p .here ∙ ap (storedStart t) (omega arith))
+      ∙ ap₂ (leafRight F t d size) (b ∙ ap (storedHeld bits) e) e ∙ sym (even-entry F t d bits n size i (even-depth i h) f)
 
   pub parent-entry : (r : Bool) → (i % 2 ≡ 0 → ⊥) → filled n i ≡ true → r ≡ parentRight F t i → r ≡ entryRight F t bits d n size i
   parent-entry r h f rr =

@@ -1,16 +1,29 @@
 -- What the inner functions of the audit require: where a walk over the tree entries from the left has come to.
 use Prim.Native.Nat.{ℕ, _+_, _*_, _/_, _%_, _^_, _≤_, _<_}
 use mathlib.Core.Path.{_≡_}
+use mathlib.Core.Bool.{Bool, cond, _&&_}
 use mathlib.Core.List.{List}
 use lib.ListN.{length}
+use lib.Dec.{leb}
+use Rattle.sequences.specs.Lists.{part, sameList, allZero}
 use Rattle.tree_index.specs.Tree.{depth, leftChild, rightChild, entries}
-use Rattle.files.specs.Stored.{storedSize, storedStart}
+use Rattle.files.specs.Sizes.{longestChunk}
+use Rattle.files.specs.Messages.{leafMessage}
+use Rattle.files.specs.Stored.{storedHash, storedSize, storedStart}
 use Rattle.files.specs.Within.{EntryIn, RootsIn}
 use Rattle.audit.specs.Bytes.{BitsIn}
 
 -- how many leaves stand before the tree index i
 abbrev pub leavesBefore : ℕ → ℕ
 leavesBefore i = (i + 1) / 2
+
+-- whether a leaf is right whose data begin at `start`, wherever that was found
+unfoldable pub leafFrom : (List ℕ → List ℕ) → List ℕ → List ℕ → ℕ → Bool → ℕ → ℕ → Bool
+leafFrom F t content size held k start =
+    leb (storedSize t (2 * k)) longestChunk
+    && (leb (start + storedSize t (2 * k)) size
+    && cond held (sameList (storedHash t (2 * k)) (F (leafMessage (part content start (storedSize t (2 * k))))))
+    (allZero (part content start (storedSize t (2 * k)))))
 
 -- what the checks 2 to 6 give of the lent bytes: they hold the files of n chunks and of a data size
 pub record FilesIn (tree bits content : List ℕ) (n size : ℕ) : Type 0 where
@@ -31,11 +44,10 @@ pub record AtEntry (tree bits content : List ℕ) (n size i start : ℕ) : Type 
   pub here : start ≡ storedStart tree (leavesBefore i)
   pub inside : start ≤ size
 
--- a leaf that is to be judged
+-- a leaf that is to be judged, and a start within the data
 pub record AtLeaf (tree content : List ℕ) (size k start : ℕ) : Type 0 where
   pub entry : EntryIn tree (2 * k)
   pub bytes : size ≤ length content
-  pub here : start ≡ storedStart tree k
   pub inside : start ≤ size
 
 -- a parent and its children, all within the tree file

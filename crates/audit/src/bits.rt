@@ -8,11 +8,10 @@ ghost use Prim.Native.Nat.{_+_, _*_, _-_, _≤_, _<_};
 ghost use lib.ListN.{length, getD};
 ghost use Rattle.counts.specs.Verdict.{bitfield as atByte, done};
 ghost use Rattle.counts.specs.Said.{said};
-ghost use Rattle.tree_index.specs.Tree.{filled};
 ghost use Rattle.bitfield.specs.Bits.{bit, byteOf};
 ghost use Rattle.files.specs.Sizes.{usedBitfield};
-ghost use Rattle.audit.specs.Audit.{lowest, heldBits, byteRight, refusedAt};
-ghost use Rattle.audit.specs.Bytes.{eight, entryWith, BitsIn, AtBits};
+ghost use Rattle.audit.specs.Audit.{lowest, heldBits, refusedAt};
+ghost use Rattle.audit.specs.Bytes.{eight, treeBits, entryWith, byteRightBy, BitsIn, AtBits};
 
 fn bit_of(b: bool) -> u8
     ensures { λ r. ⌜ (r ≡ bit b) × (r ≤ 1) ⌝ }
@@ -60,28 +59,35 @@ fn data_byte(xs: &[u8], n: u64, c: ChunkNumber) -> u8
     )
 }
 
-// Whether the entry k behind a tree index is filled.
-fn filled_behind(n: u64, i: TreeIndex, k: u64) -> bool
-    requires { ⌜ i .0 + k < 4194304 ⌝ }
-    ensures { λ r. ⌜ r ≡ filled n (i .0 + k) ⌝ }
+// Whether the tree bit of the entry k behind a tree index is to be 1: that of a filled entry, and in a partial copy only where it is 1.
+fn tree_behind(xs: &[u8], n: u64, i: TreeIndex, k: u64, partly: bool) -> bool
+    requires { ⌜ (i .0 + k < 4194304) × BitsIn (now xs) n ⌝ }
+    ensures { λ r. ⌜ r ≡ treeBits partly (now (xs .entry)) n (i .0 + k) ⌝ }
 {
-    tree_index::is_filled(n, TreeIndex(i.0 + k))
+    let behind = TreeIndex(i.0 + k);
+    if !tree_index::is_filled(n, behind) {
+        return false;
+    }
+    if !partly {
+        return true;
+    }
+    bitfield::is_known(xs, behind)
 }
 
 // The byte of the tree bits from a tree index on.
-fn tree_byte(n: u64, i: TreeIndex) -> u8
-    requires { ⌜ i .0 + 7 < 4194304 ⌝ }
-    ensures { λ r. ⌜ r ≡ byteOf (filled n) (i .0) ⌝ }
+fn tree_byte(xs: &[u8], n: u64, i: TreeIndex, partly: bool) -> u8
+    requires { ⌜ (i .0 + 7 < 4194304) × BitsIn (now xs) n ⌝ }
+    ensures { λ r. ⌜ r ≡ byteOf (treeBits partly (now (xs .entry)) n) (i .0) ⌝ }
 {
     byte_of(
-        tree_index::is_filled(n, i),
-        filled_behind(n, i, 1),
-        filled_behind(n, i, 2),
-        filled_behind(n, i, 3),
-        filled_behind(n, i, 4),
-        filled_behind(n, i, 5),
-        filled_behind(n, i, 6),
-        filled_behind(n, i, 7),
+        tree_behind(xs, n, i, 0, partly),
+        tree_behind(xs, n, i, 1, partly),
+        tree_behind(xs, n, i, 2, partly),
+        tree_behind(xs, n, i, 3, partly),
+        tree_behind(xs, n, i, 4, partly),
+        tree_behind(xs, n, i, 5, partly),
+        tree_behind(xs, n, i, 6, partly),
+        tree_behind(xs, n, i, 7, partly),
     )
 }
 
@@ -102,15 +108,18 @@ fn first_index(e: u64, j: u64) -> TreeIndex
 }
 
 // The byte j of entry e, with the Index bytes that are handed in.
-fn expected_byte(xs: &[u8], n: u64, e: u64, j: u64, index: &[u8; 256]) -> u8
+fn expected_byte(xs: &[u8], n: u64, e: u64, j: u64, index: &[u8; 256], partly: bool) -> u8
     requires { ⌜ (e < 128) × (j < 3328) × BitsIn (now xs) n ⌝ }
-    ensures { λ r. ⌜ r ≡ getD (entryWith (heldBits (now (xs .entry)) n) n e (now (index .entry))) j 0 ⌝ }
+    ensures { λ r.
+        ⌜
+        r ≡ getD (entryWith (heldBits (now (xs .entry)) n) (treeBits partly (now (xs .entry)) n) e (now (index .entry))) j 0
+        ⌝ }
 {
     if j < 1024 {
         return data_byte(xs, n, first_chunk(e, j));
     }
     if j < 3072 {
-        return tree_byte(n, first_index(e, j - 1024));
+        return tree_byte(xs, n, first_index(e, j - 1024), partly);
     }
     let k = (j - 3072) as usize;
     index[k]
@@ -125,9 +134,14 @@ fn entry_offset(e: u64) -> ByteOffset
 }
 
 // The lowest wrong byte of entry e. Its Index is judged by the stored data bytes: a wrong one of these comes first.
-fn wrong_in_entry(xs: &[u8], n: u64, e: u64) -> Answer
+fn wrong_in_entry(xs: &[u8], n: u64, e: u64, partly: bool) -> Answer
     requires { ⌜ AtBits (now xs) n e ⌝ }
-    ensures { λ r. ⌜ said r ≡ refusedAt 11 atByte (lowest (byteRight (now (xs .entry)) n) (32 + 3328 * e) 3328) done ⌝ }
+    ensures { λ r.
+        ⌜
+        said r ≡
+        refusedAt 11 atByte
+        (lowest (byteRightBy (treeBits partly (now (xs .entry)) n) (now (xs .entry)) n) (32 + 3328 * e) 3328) done
+        ⌝ }
 {
     let at = entry_offset(e);
     let from = at.0 as usize;
@@ -136,7 +150,7 @@ fn wrong_in_entry(xs: &[u8], n: u64, e: u64) -> Answer
     let mut j: u64 = 0;
     while j < 3328 {
         let place = (at.0 + j) as usize;
-        if xs[place] != expected_byte(xs, n, e, j, &index) {
+        if xs[place] != expected_byte(xs, n, e, j, &index, partly) {
             return counts::refuse_byte(11, ByteOffset(at.0 + j));
         }
         j += 1;
@@ -144,15 +158,20 @@ fn wrong_in_entry(xs: &[u8], n: u64, e: u64) -> Answer
     Answer::Done
 }
 
-// The lowest wrong byte of the file behind its header, entry by entry.
-pub fn wrong_byte(xs: &[u8], n: u64) -> Answer
+// Inner: the lowest wrong byte of the file behind its header, entry by entry. In a partial copy the tree bit of an entry may be 0 that is no hole.
+pub fn wrong_byte(xs: &[u8], n: u64, partly: bool) -> Answer
     requires { ⌜ BitsIn (now xs) n ⌝ }
-    ensures { λ r. ⌜ said r ≡ refusedAt 11 atByte (lowest (byteRight (now (xs .entry)) n) 32 (usedBitfield n - 32)) done ⌝ }
+    ensures { λ r.
+        ⌜
+        said r ≡
+        refusedAt 11 atByte
+        (lowest (byteRightBy (treeBits partly (now (xs .entry)) n) (now (xs .entry)) n) 32 (usedBitfield n - 32)) done
+        ⌝ }
 {
     let count = (n + 8191) / 8192;
     let mut e: u64 = 0;
     while e < count {
-        let answer = wrong_in_entry(xs, n, e);
+        let answer = wrong_in_entry(xs, n, e, partly);
         let Answer::Done = answer else {
             return answer;
         };

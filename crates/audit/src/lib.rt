@@ -2,8 +2,12 @@
 mod bits;
 mod tree;
 
+pub use bits::wrong_byte;
 use counts::Answer;
 pub use tree::entry_count;
+pub use tree::hole_right;
+pub use tree::leaf_right;
+pub use tree::parent_right;
 pub use tree::start_behind;
 ghost use mathlib.Core.Path.{_≡_};
 ghost use mathlib.Core.List.{[]};
@@ -27,7 +31,7 @@ pub fn images(tree: &[u8], bitfield: &[u8], content: &[u8], n: u64, size: u64) -
     let Answer::Done = entry else {
         return entry;
     };
-    bits::wrong_byte(bitfield, n)
+    bits::wrong_byte(bitfield, n, false)
 }
 
 // The checks 2 to 6, then 10 at the lowest wrong tree entry, then 11 at the lowest wrong byte of the bitfield file.

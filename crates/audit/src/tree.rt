@@ -13,8 +13,8 @@ ghost use Rattle.tree_index.specs.Tree.{entries as entriesOf};
 ghost use Rattle.blake2b.specs.Hash.{nodeHash};
 ghost use Rattle.files.specs.Stored.{storedStart};
 ghost use Rattle.files.specs.Within.{EntryIn};
-ghost use Rattle.audit.specs.Audit.{lowest, leafRight, parentRight, holeRight, entryRight, refusedAt};
-ghost use Rattle.audit.specs.Walked.{leavesBefore, FilesIn, Started, AtEntry, AtLeaf, AtParent};
+ghost use Rattle.audit.specs.Audit.{lowest, parentRight, holeRight, entryRight, refusedAt};
+ghost use Rattle.audit.specs.Walked.{leavesBefore, leafFrom, FilesIn, Started, AtEntry, AtLeaf, AtParent};
 
 // Inner: how many entries the tree file of n chunks has.
 pub fn entry_count(n: u64) -> u64
@@ -38,8 +38,9 @@ pub fn start_behind(tree: &[u8], i: TreeIndex, start: ByteOffset) -> ByteOffset
     start
 }
 
-// Whether a leaf is right. A chunk that is held is hashed from its place in the data; there one that is not held is zero.
-fn leaf_right(
+// Inner: whether a leaf is right whose data begin at `start`. A chunk that is held is hashed from its place in the data; there one that is not
+// held is zero.
+pub fn leaf_right(
     tree: &[u8],
     content: &[u8],
     size: u64,
@@ -48,7 +49,7 @@ fn leaf_right(
     start: ByteOffset,
 ) -> bool
     requires { ⌜ AtLeaf (now tree) (now content) size (c .0) (start .0) ⌝ }
-    ensures { λ r. ⌜ r ≡ leafRight nodeHash (now (tree .entry)) (now (content .entry)) size held (c .0) ⌝ }
+    ensures { λ r. ⌜ r ≡ leafFrom nodeHash (now (tree .entry)) (now (content .entry)) size held (c .0) (start .0) ⌝ }
 {
     let i = tree_index::leaf_index(c);
     let length = files::entries::stored_size(tree, i);
@@ -68,8 +69,8 @@ fn leaf_right(
     sequences::same(&stored, &expected)
 }
 
-// Whether a parent is right. No sum is taken that could wrap.
-fn parent_right(tree: &[u8], i: TreeIndex) -> bool
+// Inner: whether a parent is right. No sum is taken that could wrap.
+pub fn parent_right(tree: &[u8], i: TreeIndex) -> bool
     requires { ⌜ AtParent (now tree) (i .0) ⌝ }
     ensures { λ r. ⌜ r ≡ parentRight nodeHash (now (tree .entry)) (i .0) ⌝ }
 {
@@ -91,8 +92,8 @@ fn parent_right(tree: &[u8], i: TreeIndex) -> bool
     sequences::same(&stored, &expected)
 }
 
-// Whether a hole is right.
-fn hole_right(tree: &[u8], i: TreeIndex) -> bool
+// Inner: whether a hole is right.
+pub fn hole_right(tree: &[u8], i: TreeIndex) -> bool
     requires { ⌜ EntryIn (now tree) (i .0) ⌝ }
     ensures { λ r. ⌜ r ≡ holeRight nodeHash (now (tree .entry)) (i .0) ⌝ }
 {

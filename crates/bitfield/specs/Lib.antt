@@ -4,5 +4,6 @@ pub mod Index
 pub mod Image
 pub mod Append
 pub mod Release
+pub mod Known
 pub mod Missing
 pub mod Levels

@@ -11,6 +11,7 @@ ghost use Rattle.bitfield.specs.Bits.{bitAt, setBit, clearBit};
 ghost use Rattle.bitfield.specs.Append.{bitsPlace, zeroedIfNew, setDataBit, setTreeBit, setTreeBits, regenerated, withBits, appended};
 ghost use Rattle.bitfield.specs.Image.{entryCount};
 ghost use Rattle.bitfield.specs.Release.{storedHeld, clearDataBit, releasedBits};
+ghost use Rattle.bitfield.specs.Known.{storedKnown, heldAgain};
 ghost use Rattle.bitfield.specs.Missing.{foundAt};
 ghost use Rattle.tree_index.specs.Tree.{filledBy};
 
@@ -215,5 +216,31 @@ pub fn release_bits(xs: &mut [u8], c: ChunkNumber)
     ensures { λ _. ⌜ now (xs .exit) ≡ releasedBits (now (xs .entry)) (c .0) ⌝ }
 {
     clear_data_bit(xs, c);
+    make_index(xs, c);
+}
+
+// Inner: whether the tree bit of a tree index is 1, which says that its entry is known.
+pub fn is_known(xs: &[u8], i: TreeIndex) -> bool
+    requires { ⌜ bitsPlace (i .0 / 16384 + 1) ≤ length (now xs) ⌝ }
+    ensures { λ r. ⌜ r ≡ storedKnown (now (xs .entry)) (i .0) ⌝ }
+{
+    let at = entry_place(entry_of_index(i)) + 1024;
+    bit_is_set(xs, at, tree_bit(i))
+}
+
+// Inner: the tree bit of a tree index becomes 1.
+pub fn make_known(xs: &mut [u8], i: TreeIndex)
+    requires { ⌜ bitsPlace (i .0 / 16384 + 1) ≤ length (now xs) ⌝ }
+    ensures { λ _. ⌜ now (xs .exit) ≡ setTreeBit (now (xs .entry)) (i .0) ⌝ }
+{
+    set_tree_bit(xs, entry_of_index(i), i);
+}
+
+// Inner: what the taking in of a chunk does to its data bit and to the Index.
+pub fn hold_bits(xs: &mut [u8], c: ChunkNumber)
+    requires { ⌜ bitsPlace (c .0 / 8192 + 1) ≤ length (now xs) ⌝ }
+    ensures { λ _. ⌜ now (xs .exit) ≡ heldAgain (now (xs .entry)) (c .0) ⌝ }
+{
+    set_data_bit(xs, c);
     make_index(xs, c);
 }

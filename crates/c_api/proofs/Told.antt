@@ -20,9 +20,9 @@ use Rattle.paths.specs.declared.finding.Found.{Found}
 use Rattle.paths.specs.declared.finding.Found.the-variants.{Refused as NotFound, At, Nowhere}
 use Rattle.flat_records.specs.Flat.{nodeIn}
 use Rattle.flat_records.specs.declared.FlatNode.{FlatNode}
-use Rattle.c_api.specs.Encoding.{encoded}
+use Rattle.c_answers.specs.Encoding.{encoded}
 use Rattle.c_api.specs.Metadata.{Told, Writes, WritesNode, encodedHeader, headerNumbers, encodedFound}
-use Rattle.c_api.specs.declared.answers.SleepAnswer.{SleepAnswer}
+use Rattle.c_answers.specs.declared.answers.SleepAnswer.{SleepAnswer}
 use Rattle.c_api.specs.declared.metadata.SleepFound.{SleepFound}
 
 -- ---- writing

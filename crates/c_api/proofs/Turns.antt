@@ -13,9 +13,9 @@ use Rattle.stations.specs.Table.{Read, Turn, nobody, turn, next}
 use Rattle.stations.specs.Words.{tableOf}
 use Rattle.stations.specs.Calls.{Entered, Left}
 use Rattle.serving.specs.Serving.{numberOf, namedBy}
-use Rattle.c_api.specs.Encoding.{encoded, verdictOf, numbersUnless, Gives, asPart}
+use Rattle.c_answers.specs.Encoding.{encoded, verdictOf, numbersUnless, Gives, asPart}
 use Rattle.c_api.specs.Waiting.{Enters, Hands, encodedNobody, encodedServing, numbersServed}
-use Rattle.c_api.specs.declared.answers.SleepAnswer.{SleepAnswer}
+use Rattle.c_answers.specs.declared.answers.SleepAnswer.{SleepAnswer}
 use Rattle.c_api.specs.declared.waiting.SleepServing.{SleepServing}
 
 -- an entry, from the register that a number names

@@ -1,5 +1,5 @@
 -- What C is answered.
-pub mod Number
 pub mod Encoding
 pub mod Waiting
 pub mod Metadata
+pub mod Partial

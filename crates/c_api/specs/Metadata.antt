@@ -7,8 +7,6 @@ use lib.ListN.{length}
 use Rattle.counts.specs.Verdict.{Verdict, done, refused, unlessRefused}
 use Rattle.counts.specs.Said.{said}
 use Rattle.counts.specs.declared.Answer.{Answer}
-use Rattle.blake2b.specs.Hash.{nodeHash}
-use Rattle.files.specs.Belongs.{Register}
 use Rattle.records.specs.Records.{HeaderWithin, headerBytes, nodeBytes}
 use Rattle.records.specs.Calls.{Decides, writeVerdict, frontUnless, writtenVerdict, writtenLength, headerOf}
 use Rattle.records.specs.declared.answers.Written.{Written}
@@ -19,9 +17,9 @@ use Rattle.nodes.specs.declared.reading.Node.{Node}
 use Rattle.flat_records.specs.Flat.{flatNode, nodeIn}
 use Rattle.flat_records.specs.declared.FlatNode.{FlatNode}
 use Rattle.paths.specs.Chunks.{headerVerdict}
-use Rattle.paths.specs.Finding.{Outcome, failed, at, nowhere, FindAs}
-use Rattle.c_api.specs.Encoding.{encoded}
-use Rattle.c_api.specs.declared.answers.SleepAnswer.{SleepAnswer}
+use Rattle.paths.specs.Finding.{Outcome, failed, at, nowhere}
+use Rattle.c_answers.specs.Encoding.{encoded}
+use Rattle.c_answers.specs.declared.answers.SleepAnswer.{SleepAnswer}
 use Rattle.c_api.specs.declared.metadata.SleepNodeRead.{SleepNodeRead}
 use Rattle.c_api.specs.declared.metadata.SleepFound.{SleepFound}
 
@@ -80,8 +78,8 @@ encodedFound (failed number spot) = record { found = 0; chunk = 0; answer = enco
 encodedFound (at c) = record { found = 1; chunk = c; answer = encoded done }
 encodedFound nowhere = record { found = 0; chunk = 0; answer = encoded done }
 
--- a path sought in a register
-pub record Finds (r : Register) (path : List ℕ) (x : SleepFound) : Type 0 where
+-- a path sought, with an outcome as `As` says
+pub record FindsAs (As : Outcome → Type 0) (x : SleepFound) : Type 0 where
   pub outcome : Outcome
-  pub holds : FindAs nodeHash r path outcome
+  pub holds : As outcome
   pub says : x ≡ encodedFound outcome

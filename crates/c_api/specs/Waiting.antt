@@ -11,8 +11,8 @@ use Rattle.lookup.specs.Said.{readFound}
 use Rattle.stations.specs.Table.{Read, Turn, nobody, turn, enterVerdict, entered, next, served}
 use Rattle.stations.specs.Words.{storedAt, leftAt, tableOf}
 use Rattle.serving.specs.Serving.{numberOf, namedBy}
-use Rattle.c_api.specs.Encoding.{encoded, verdictOf, numbersUnless, asPart}
-use Rattle.c_api.specs.declared.answers.SleepAnswer.{SleepAnswer}
+use Rattle.c_answers.specs.Encoding.{encoded, verdictOf, numbersUnless, asPart}
+use Rattle.c_answers.specs.declared.answers.SleepAnswer.{SleepAnswer}
 use Rattle.c_api.specs.declared.waiting.SleepServing.{SleepServing}
 
 -- entering a read of station s: the answer, and the table's numbers before and after

@@ -1,5 +1,5 @@
 // The comparing walk on two registers, and the walk along two packets. Both write nothing.
-use super::answers::SleepAnswer;
+use c_answers::SleepAnswer;
 use compare::Compared;
 use counts::Answer;
 use counts::ChunkNumber;
@@ -12,7 +12,8 @@ ghost use Rattle.compare.specs.Walk as Walk;
 ghost use Rattle.compare.specs.Answered.{compared as Answered·compared};
 ghost use Rattle.packet_walk.specs.Walk.{comparePackets};
 ghost use Rattle.packet_walk.specs.Answered.{walkOf};
-ghost use Rattle.c_api.specs.Encoding.{encoded, outcomeWith, encodedComparison, encodedWalk};
+ghost use Rattle.c_answers.specs.Encoding.{encoded};
+ghost use Rattle.c_api.specs.Encoding.{outcomeWith, encodedComparison, encodedWalk};
 
 // `outcome` is 0 for equal (of packets: the same chunk), 1 for roots differ, 2 for a collision at the roots, 3 for one at the tree index `answer.place`, 4 where the
 // first register or packet is refused and 5 where the second is, by `answer`.
@@ -26,7 +27,7 @@ pub struct SleepComparison {
 fn plain(outcome: u64) -> SleepComparison
     ensures { λ r. ⌜ r ≡ outcomeWith outcome (encoded done) ⌝ }
 {
-    let answer = super::answers::encode(Answer::Done);
+    let answer = c_answers::encode(Answer::Done);
     SleepComparison { outcome, answer }
 }
 
@@ -47,11 +48,11 @@ fn encode_comparison(compared: Compared) -> SleepComparison
             SleepComparison { outcome: 3, answer }
         }
         Compared::FirstRefused(refusal) => {
-            let answer = super::answers::refused(refusal);
+            let answer = c_answers::refused(refusal);
             SleepComparison { outcome: 4, answer }
         }
         Compared::SecondRefused(refusal) => {
-            let answer = super::answers::refused(refusal);
+            let answer = c_answers::refused(refusal);
             SleepComparison { outcome: 5, answer }
         }
     }
@@ -116,11 +117,11 @@ fn encode_walk(walked: Walked) -> SleepComparison
             SleepComparison { outcome: 3, answer }
         }
         Walked::FirstRefused(refusal) => {
-            let answer = super::answers::refused(refusal);
+            let answer = c_answers::refused(refusal);
             SleepComparison { outcome: 4, answer }
         }
         Walked::SecondRefused(refusal) => {
-            let answer = super::answers::refused(refusal);
+            let answer = c_answers::refused(refusal);
             SleepComparison { outcome: 5, answer }
         }
     }

@@ -6,7 +6,7 @@ ghost use Rattle.counts.specs.Verdict.{unlessRefused};
 ghost use Rattle.blake2b.specs.Hash.{blake2b as Hash·blake2b};
 ghost use Rattle.blake2b.specs.Call.{verdict, digest as Call·digest};
 ghost use Rattle.label.specs.Label.{labelVerdict, labelBytes};
-ghost use Rattle.c_api.specs.Number.{numberOf};
+ghost use Rattle.c_answers.specs.Number.{numberOf};
 
 // BLAKE2b with `length` bytes of output under a key: these and then zeros in `digest`, 64 bytes in all. It answers 0 or the number of its
 // refusal, which has no place. After a refusal `digest` is as it was.
@@ -18,13 +18,7 @@ pub extern "C" fn sleep_hash(length: u64, key: &[u8], message: &[u8], digest: &m
     let hashed = blake2b::hash(length as usize, key, message);
     let bytes = hashed.digest;
     let answer = hashed.answer;
-    match answer {
-        counts::Answer::Done => {
-            *digest = bytes;
-            0
-        }
-        counts::Answer::Refused(refusal) => refusal.number,
-    }
+    c_answers::give_digest(answer, bytes, digest)
 }
 
 // The same with 32 bytes of output, of a message that lies in two parts: with the empty key the hash of leaves, parents and roots.
@@ -54,11 +48,6 @@ pub extern "C" fn sleep_label(root: &[u8; 32], key: &[u8], out: &mut [u8; 32]) -
     let labelled = label::label(root, key);
     let bytes = labelled.bytes;
     let answer = labelled.answer;
-    match answer {
-        counts::Answer::Done => {
-            *out = bytes;
-            0
-        }
-        counts::Answer::Refused(why) => why.number,
-    }
+    let told = c_answers::give_hash(answer, bytes, out);
+    told.number
 }

@@ -1,5 +1,5 @@
 // What a job will need. No register is lent.
-use super::answers::SleepAnswer;
+use c_answers::SleepAnswer;
 use counts::Answer;
 ghost use Rattle.c_api.specs.Encoding.{Needs};
 
@@ -13,7 +13,7 @@ pub extern "C" fn sleep_needs(n: u64, size: u64, lengths: &[u64], out: &mut [u64
     let needed = needs::needs(n, size, lengths);
     let answer = needed.answer;
     match answer {
-        Answer::Refused(refusal) => super::answers::refused(refusal),
+        Answer::Refused(refusal) => c_answers::refused(refusal),
         Answer::Done => {
             *out = [
                 needed.tree,
@@ -25,7 +25,7 @@ pub extern "C" fn sleep_needs(n: u64, size: u64, lengths: &[u64], out: &mut [u64
                 needed.root,
                 needed.runs,
             ];
-            super::answers::encode(Answer::Done)
+            c_answers::encode(Answer::Done)
         }
     }
 }

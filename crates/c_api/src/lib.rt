@@ -1,6 +1,5 @@
 // What firmware links: the library's calls with flat numbers and slices. A slice is a pointer and a length in C, and a
 // reference to an array a pointer. include/sleep_register.h declares them.
-pub mod answers;
 pub mod comparing;
 pub mod grouping;
 pub mod hashing;
@@ -8,6 +7,9 @@ pub mod jobs;
 pub mod lookups;
 pub mod metadata;
 pub mod packets;
+pub mod partial;
+pub mod partial_lookups;
+pub mod partial_records;
 pub mod registers;
 pub mod short;
 pub mod waiting;

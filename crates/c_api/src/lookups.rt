@@ -1,62 +1,13 @@
 // The lookups, the verified read and the search. Each gives two numbers, in `out`, which is as it was after a refusal.
-use super::answers::SleepAnswer;
+use c_answers::SleepAnswer;
 use counts::ByteOffset;
 use counts::ChunkNumber;
-use lookup::Located;
-use lookup::Placed;
-use lookup::Verified;
-use search::Searched;
-ghost use mathlib.Core.Path.{_≡_};
 ghost use Rattle.blake2b.specs.Hash.{nodeHash};
 ghost use Rattle.checks.specs.Given.{registerOf};
 ghost use Rattle.lookup.specs.Lookup.{placeOf, byteAt};
-ghost use Rattle.lookup.specs.Said.{placedOf, locatedOf, readFound};
+ghost use Rattle.lookup.specs.Said.{readFound};
 ghost use Rattle.search.specs.Search.{searchFor};
-ghost use Rattle.search.specs.Said.{searchedOf};
-ghost use Rattle.c_api.specs.Encoding.{Gives, asPart, asFound};
-
-// What a place lookup found: start and length.
-pub fn give_place(found: Placed, out: &mut [u64; 2]) -> SleepAnswer
-    ensures { λ r. ⌜ Gives (placedOf found) (now (out .entry)) r (now (out .exit)) ⌝ }
-{
-    match found {
-        Placed::Refused(refusal) => super::answers::refused(refusal),
-        Placed::At(start, length) => {
-            *out = [start.0, length];
-            super::answers::encode(counts::Answer::Done)
-        }
-    }
-}
-
-// What a byte lookup found: the chunk, and the offset less its start.
-pub fn give_byte(found: Located, out: &mut [u64; 2]) -> SleepAnswer
-    ensures { λ r. ⌜ Gives (locatedOf found) (now (out .entry)) r (now (out .exit)) ⌝ }
-{
-    match found {
-        Located::Refused(refusal) => super::answers::refused(refusal),
-        Located::In(chunk, rest) => {
-            *out = [chunk.0, rest];
-            super::answers::encode(counts::Answer::Done)
-        }
-    }
-}
-
-// What a search found: 1 and the chunk, or 0 and 0.
-pub fn give_search(found: Searched, out: &mut [u64; 2]) -> SleepAnswer
-    ensures { λ r. ⌜ Gives (asFound (searchedOf found)) (now (out .entry)) r (now (out .exit)) ⌝ }
-{
-    match found {
-        Searched::Refused(refusal) => super::answers::refused(refusal),
-        Searched::At(chunk) => {
-            *out = [1, chunk.0];
-            super::answers::encode(counts::Answer::Done)
-        }
-        Searched::Nothing => {
-            *out = [0, 0];
-            super::answers::encode(counts::Answer::Done)
-        }
-    }
-}
+ghost use Rattle.c_answers.specs.Encoding.{Gives, asPart, asFound};
 
 // Where the bytes of a chunk begin in `content`, and how many they are.
 #[no_mangle]
@@ -88,7 +39,7 @@ pub extern "C" fn sleep_place(
         size,
         ChunkNumber(chunk),
     );
-    give_place(found, out)
+    c_answers::give_place(found, out)
 }
 
 // The chunk whose bytes contain an offset, and the offset less its start; never an empty chunk. At the data size n and 0, also in an empty
@@ -122,7 +73,7 @@ pub extern "C" fn sleep_byte(
         size,
         ByteOffset(offset),
     );
-    give_byte(found, out)
+    c_answers::give_byte(found, out)
 }
 
 // A verified read: where the bytes of a chunk begin in `content` and how many they are, after its leaf hash was compared. The caller names
@@ -156,13 +107,7 @@ pub extern "C" fn sleep_read(
         size,
         ChunkNumber(chunk),
     );
-    match found {
-        Verified::Refused(refusal) => super::answers::refused(refusal),
-        Verified::Part(start, end) => {
-            *out = [start.0, end.0 - start.0];
-            super::answers::encode(counts::Answer::Done)
-        }
-    }
+    c_answers::give_part(found, out)
 }
 
 // The first chunk from a given number on, below n, that is not held: 1 and its number, or 0 and 0 where there is none.
@@ -195,5 +140,5 @@ pub extern "C" fn sleep_search(
         size,
         ChunkNumber(from),
     );
-    give_search(found, out)
+    c_answers::give_search(found, out)
 }

@@ -1,6 +1,6 @@
 // The records of a metadata register, and the paths in them. The fields of a Node are numbers alone, whose parts lie in the bytes lent or, of a
 // chunk of a register, in the bytes of the chunk.
-use super::answers::SleepAnswer;
+use c_answers::SleepAnswer;
 use counts::Answer;
 use counts::ChunkNumber;
 use flat_records::FlatNode;
@@ -14,8 +14,8 @@ ghost use Rattle.checks.specs.Given.{registerOf};
 ghost use Rattle.records.specs.Calls.{HeaderReadAs};
 ghost use Rattle.nodes.specs.Calls.{NodeReadAs};
 ghost use Rattle.paths.specs.Chunks.{HeaderAs, NodeAs};
-ghost use Rattle.paths.specs.Finding.{foundOf};
-ghost use Rattle.c_api.specs.Metadata.{WritesHeader, WritesNode, Told, GivesHeader, encodedHeader, headerNumbers, GivesNode, encodedNode, encodedFound, Finds};
+ghost use Rattle.paths.specs.Finding.{foundOf, FindAs};
+ghost use Rattle.c_api.specs.Metadata.{WritesHeader, WritesNode, Told, GivesHeader, encodedHeader, headerNumbers, GivesNode, encodedNode, encodedFound, FindsAs};
 
 // What reading a Node answers, and its fields, which are all 0 after a refusal.
 #[repr(C)]
@@ -37,10 +37,10 @@ fn give_length(written: Written, length: &mut u64) -> SleepAnswer
     ensures { λ r. ⌜ Told written (now (length .entry)) r (now (length .exit)) ⌝ }
 {
     match written {
-        Written::Refused(refusal) => super::answers::refused(refusal),
+        Written::Refused(refusal) => c_answers::refused(refusal),
         Written::Length(bytes) => {
             *length = bytes;
-            super::answers::encode(Answer::Done)
+            c_answers::encode(Answer::Done)
         }
     }
 }
@@ -78,15 +78,15 @@ pub extern "C" fn sleep_write_node(
 }
 
 // What reading a Header answers; where its content bytes lie, as two numbers, unless it is refused.
-fn give_header(read: HeaderRead, out: &mut [u64; 2]) -> SleepAnswer
+pub fn give_header(read: HeaderRead, out: &mut [u64; 2]) -> SleepAnswer
     ensures answers { λ r. ⌜ r ≡ encodedHeader read ⌝ }
     ensures gives { λ _. ⌜ now (out .exit) ≡ headerNumbers read (now (out .entry)) ⌝ }
 {
     match read {
-        HeaderRead::Refused(refusal) => super::answers::refused(refusal),
+        HeaderRead::Refused(refusal) => c_answers::refused(refusal),
         HeaderRead::Content(part) => {
             *out = [part.at as u64, part.len as u64];
-            super::answers::encode(Answer::Done)
+            c_answers::encode(Answer::Done)
         }
     }
 }
@@ -100,12 +100,12 @@ pub extern "C" fn sleep_read_header(bytes: &[u8], out: &mut [u64; 2]) -> SleepAn
 }
 
 // What reading a Node answers, with its fields as numbers.
-fn flat(read: NodeRead) -> SleepNodeRead
+pub fn flat(read: NodeRead) -> SleepNodeRead
     ensures { λ r. ⌜ r ≡ encodedNode (read .answer) (read .node) ⌝ }
 {
     let said = read.answer;
     let node = read.node;
-    let answer = super::answers::encode(said);
+    let answer = c_answers::encode(said);
     let fields = flat_records::flat_node(node);
     SleepNodeRead {
         answer,
@@ -186,12 +186,12 @@ pub extern "C" fn sleep_node_of(
 }
 
 // What a search answers, as numbers.
-fn found_as(found: Found) -> SleepFound
+pub fn found_as(found: Found) -> SleepFound
     ensures { λ r. ⌜ r ≡ encodedFound (foundOf found) ⌝ }
 {
     match found {
         Found::Refused(refusal) => {
-            let answer = super::answers::refused(refusal);
+            let answer = c_answers::refused(refusal);
             SleepFound {
                 found: 0,
                 chunk: 0,
@@ -199,7 +199,7 @@ fn found_as(found: Found) -> SleepFound
             }
         }
         Found::At(chunk) => {
-            let answer = super::answers::encode(Answer::Done);
+            let answer = c_answers::encode(Answer::Done);
             SleepFound {
                 found: 1,
                 chunk: chunk.0,
@@ -207,7 +207,7 @@ fn found_as(found: Found) -> SleepFound
             }
         }
         Found::Nowhere => {
-            let answer = super::answers::encode(Answer::Done);
+            let answer = c_answers::encode(Answer::Done);
             SleepFound {
                 found: 0,
                 chunk: 0,
@@ -231,9 +231,9 @@ pub extern "C" fn sleep_find(
 ) -> SleepFound
     ensures { λ r.
         ⌜
-        Finds
-        (registerOf (now (tree .entry)) (now (signatures .entry)) (now (bitfield .entry)) (now (content .entry)) n s size)
-        (now (path .entry)) r
+        FindsAs
+        (FindAs nodeHash (registerOf (now (tree .entry)) (now (signatures .entry)) (now (bitfield .entry)) (now (content .entry)) n s size) (now (path .entry)))
+        r
         ⌝ }
 {
     found_as(paths::find(tree, signatures, bitfield, content, n, s, size, path))

@@ -1,10 +1,10 @@
 // Packets: made from a register, and checked against a root hash by whoever has no register.
-use super::answers::SleepAnswer;
+use c_answers::SleepAnswer;
 use counts::Answer;
 use counts::ChunkNumber;
-use packet::Made;
 ghost use Rattle.checks.specs.Given.{registerOf};
-ghost use Rattle.c_api.specs.Encoding.{Gives, Makes, packetPart};
+ghost use Rattle.c_answers.specs.Encoding.{Gives};
+ghost use Rattle.c_api.specs.Encoding.{Makes, packetPart};
 
 // The packet of a chunk at the front of `out`, the rest as it was, and the packet's length in `length`. Both are as they were after a
 // refusal.
@@ -39,13 +39,7 @@ pub extern "C" fn sleep_make_packet(
         ChunkNumber(chunk),
         out,
     );
-    match made {
-        Made::Refused(refusal) => super::answers::refused(refusal),
-        Made::Length(bytes) => {
-            *length = bytes;
-            super::answers::encode(Answer::Done)
-        }
-    }
+    c_answers::give_length(made, length)
 }
 
 // The chunk's part of a packet that passes the check: where it begins in `packet` and how many bytes it has, in `out`, which is as it was
@@ -67,11 +61,11 @@ pub extern "C" fn sleep_check_packet(
 {
     let answer = packet::check_answer(packet, n, ChunkNumber(chunk), root);
     match answer {
-        Answer::Refused(refusal) => super::answers::refused(refusal),
+        Answer::Refused(refusal) => c_answers::refused(refusal),
         Answer::Done => {
             let length = sequences::read_be32(packet, 0);
             *out = [4, length];
-            super::answers::encode(Answer::Done)
+            c_answers::encode(Answer::Done)
         }
     }
 }

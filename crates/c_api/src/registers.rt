@@ -1,6 +1,6 @@
 // The calls that start, write and audit a register, and its root hashes. A register is lent as its four images `tree`, `signatures`,
 // `bitfield` and `content` (the data), and told the chunk count `n`, the signature count `s` and the data size `size`.
-use super::answers::SleepAnswer;
+use c_answers::SleepAnswer;
 use counts::ChunkNumber;
 ghost use mathlib.Core.Path.{_≡_};
 ghost use Rattle.counts.specs.Verdict.{unlessRefused};
@@ -15,7 +15,7 @@ ghost use Rattle.release.specs.Release.{releaseVerdict, afterRelease};
 ghost use Rattle.writing.specs.RootHash.{rootVerdict, rootAnswer};
 ghost use Rattle.writing.specs.Post.{lent};
 ghost use Rattle.old_root.specs.OldRoot.{oldVerdict, oldRoot};
-ghost use Rattle.c_api.specs.Encoding.{encoded};
+ghost use Rattle.c_answers.specs.Encoding.{encoded};
 
 // A register without chunks in four buffers.
 #[no_mangle]
@@ -28,7 +28,7 @@ pub extern "C" fn sleep_start(
     ensures answers { λ r. ⌜ r ≡ encoded (startVerdict (lent (now (tree .entry)) (now (signatures .entry)) (now (bitfield .entry)) (now (content .entry)))) ⌝ }
     ensures buffers { λ _. ⌜ lent (now (tree .exit)) (now (signatures .exit)) (now (bitfield .exit)) (now (content .exit)) ≡ afterStart (lent (now (tree .entry)) (now (signatures .entry)) (now (bitfield .entry)) (now (content .entry))) ⌝ }
 {
-    super::answers::encode(writing::start(tree, signatures, bitfield, content))
+    c_answers::encode(writing::start(tree, signatures, bitfield, content))
 }
 
 // One more chunk, whose predecessor's signature is stored; the new root hash in `root`.
@@ -51,7 +51,7 @@ pub extern "C" fn sleep_append(
     let appended = writing::append(tree, signatures, bitfield, content, n, s, size, chunk);
     let hash = appended.root;
     let answer = appended.answer;
-    super::answers::give_hash(answer, hash, root)
+    c_answers::give_hash(answer, hash, root)
 }
 
 // All chunks of a list, lent as their lengths and their bytes one behind the other, or none; the new root hash in `root`.
@@ -85,7 +85,7 @@ pub extern "C" fn sleep_append_list(
     );
     let hash = appended.root;
     let answer = appended.answer;
-    super::answers::give_hash(answer, hash, root)
+    c_answers::give_hash(answer, hash, root)
 }
 
 // What an append of the chunk would answer on a copy of the images; its root hash in `root`.
@@ -107,7 +107,7 @@ pub extern "C" fn sleep_preview(
     let previewed = preview::preview(tree, signatures, bitfield, content, n, s, size, chunk);
     let hash = previewed.root;
     let answer = previewed.answer;
-    super::answers::give_hash(answer, hash, root)
+    c_answers::give_hash(answer, hash, root)
 }
 
 // The signature of the newest chunk, which is owed where `s` is `n` - 1.
@@ -125,7 +125,7 @@ pub extern "C" fn sleep_store_signature(
     ensures answers { λ r. ⌜ r ≡ encoded (signVerdict (registerOf (now (tree .entry)) (now (signatures .entry)) (now (bitfield .entry)) (now (content .entry)) n s size)) ⌝ }
     ensures buffers { λ _. ⌜ lent (now (tree .exit)) (now (signatures .exit)) (now (bitfield .exit)) (now (content .exit)) ≡ afterSign (registerOf (now (tree .entry)) (now (signatures .entry)) (now (bitfield .entry)) (now (content .entry)) n s size) (now (signature .entry)) ⌝ }
 {
-    super::answers::encode(writing::store_signature(
+    c_answers::encode(writing::store_signature(
         tree,
         signatures,
         bitfield,
@@ -152,7 +152,7 @@ pub extern "C" fn sleep_release(
     ensures answers { λ r. ⌜ r ≡ encoded (releaseVerdict (registerOf (now (tree .entry)) (now (signatures .entry)) (now (bitfield .entry)) (now (content .entry)) n s size) chunk) ⌝ }
     ensures buffers { λ _. ⌜ lent (now (tree .exit)) (now (signatures .exit)) (now (bitfield .exit)) (now (content .exit)) ≡ afterRelease (registerOf (now (tree .entry)) (now (signatures .entry)) (now (bitfield .entry)) (now (content .entry)) n s size) chunk ⌝ }
 {
-    super::answers::encode(release::release(
+    c_answers::encode(release::release(
         tree,
         signatures,
         bitfield,
@@ -182,7 +182,7 @@ pub extern "C" fn sleep_root_hash(
     let rooted = writing::root_hash(tree, signatures, bitfield, content, n, s, size);
     let hash = rooted.root;
     let answer = rooted.answer;
-    super::answers::give_hash(answer, hash, root)
+    c_answers::give_hash(answer, hash, root)
 }
 
 // The root hash of the first `m` chunks, from the stored entries, in `root`.
@@ -204,7 +204,7 @@ pub extern "C" fn sleep_old_root(
     let rooted = old_root::old_root(tree, signatures, bitfield, content, n, s, size, m);
     let hash = rooted.root;
     let answer = rooted.answer;
-    super::answers::give_hash(answer, hash, root)
+    c_answers::give_hash(answer, hash, root)
 }
 
 // Whether the used bytes of all four images are those of some chunks, held or released, and some signatures.
@@ -220,5 +220,5 @@ pub extern "C" fn sleep_audit(
 ) -> SleepAnswer
     ensures { λ r. ⌜ r ≡ encoded (Audit.audit nodeHash (registerOf (now (tree .entry)) (now (signatures .entry)) (now (bitfield .entry)) (now (content .entry)) n s size)) ⌝ }
 {
-    super::answers::encode(audit::audit(tree, signatures, bitfield, content, n, s, size))
+    c_answers::encode(audit::audit(tree, signatures, bitfield, content, n, s, size))
 }

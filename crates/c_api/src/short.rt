@@ -1,11 +1,11 @@
 // The short way: the lookups that add up leaf lengths from chunk 0, and the search that reads data bits in order. Each gives two numbers, in `out`, which
 // is as it was after a refusal.
-use super::answers::SleepAnswer;
+use c_answers::SleepAnswer;
 use counts::ByteOffset;
 use counts::ChunkNumber;
 ghost use Rattle.checks.specs.Given.{registerOf};
 ghost use Rattle.short_way.specs.ShortWay.{shortPlaceOf, shortByteAt, shortSearchFor};
-ghost use Rattle.c_api.specs.Encoding.{Gives, asFound};
+ghost use Rattle.c_answers.specs.Encoding.{Gives, asFound};
 
 // Where the bytes of a chunk begin in `content`, and how many they are.
 #[no_mangle]
@@ -37,7 +37,7 @@ pub extern "C" fn sleep_short_place(
         size,
         ChunkNumber(chunk),
     );
-    super::lookups::give_place(found, out)
+    c_answers::give_place(found, out)
 }
 
 // The chunk whose bytes contain an offset, and the offset less its start; never an empty chunk. At the data size n and 0.
@@ -70,7 +70,7 @@ pub extern "C" fn sleep_short_byte(
         size,
         ByteOffset(offset),
     );
-    super::lookups::give_byte(found, out)
+    c_answers::give_byte(found, out)
 }
 
 // The first chunk from a given number on, below n, whose data bit is 0: 1 and its number, or 0 and 0 where there is none.
@@ -103,5 +103,5 @@ pub extern "C" fn sleep_short_search(
         size,
         ChunkNumber(from),
     );
-    super::lookups::give_search(found, out)
+    c_answers::give_search(found, out)
 }

@@ -1,6 +1,6 @@
 // Reads of sixteen stations that wait for their turn, in a table of 161 numbers that the caller lends. Of a serving's registers, what
 // belongs to the metadata register begins with m, to the content register with c.
-use super::answers::SleepAnswer;
+use c_answers::SleepAnswer;
 use counts::Answer;
 use counts::ChunkNumber;
 use lookup::Name;
@@ -13,7 +13,7 @@ ghost use Rattle.lookup.specs.Read.{named};
 ghost use Rattle.lookup.specs.Said.{nameOf, readFound};
 ghost use Rattle.stations.specs.Calls.{Begun};
 ghost use Rattle.serving.specs.Serving.{numberOf, namedBy};
-ghost use Rattle.c_api.specs.Encoding.{encoded, Gives, asPart};
+ghost use Rattle.c_answers.specs.Encoding.{encoded, Gives, asPart};
 ghost use Rattle.c_api.specs.Waiting.{encodedNobody, Enters, Hands};
 
 // `served` is 0 where no read waits, and then all numbers are 0; else 1, with the station that is served, the name of the register
@@ -35,7 +35,7 @@ pub extern "C" fn sleep_fresh(table: &mut [u64; 161]) -> SleepAnswer
 {
     let begun = stations::fresh();
     *table = begun;
-    super::answers::encode(Answer::Done)
+    c_answers::encode(Answer::Done)
 }
 
 // A read that waits from now on behind those of its station. The name 0 is the metadata register's, any other number the content register's.
@@ -52,7 +52,7 @@ pub extern "C" fn sleep_enter(
         ⌝ }
 {
     let named = serving::named_by(name);
-    super::answers::encode(serving::enter(table, station, named, ChunkNumber(chunk)))
+    c_answers::encode(serving::enter(table, station, named, ChunkNumber(chunk)))
 }
 
 // A verified read of the register that is named.
@@ -116,7 +116,7 @@ fn read_named(
 fn nobody() -> SleepServing
     ensures { λ r. ⌜ r ≡ encodedNobody ⌝ }
 {
-    let answer = super::answers::encode(Answer::Done);
+    let answer = c_answers::encode(Answer::Done);
     SleepServing {
         served: 0,
         station: 0,

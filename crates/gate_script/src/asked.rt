@@ -105,6 +105,23 @@ fn called(
     line: Line,
     told: Told,
 ) {
+    if words::on_copies(line.word) {
+        super::partial::ask(tree, bitfield, data, text, line, told);
+    } else {
+        on_one(tree, signatures, bitfield, data, text, line, told);
+    }
+    super::ways::by(tree, signatures, bitfield, data, line, told);
+}
+
+fn on_one(
+    tree: &[u8],
+    signatures: &[u8],
+    bitfield: &[u8],
+    data: &[u8],
+    text: &[u8],
+    line: Line,
+    told: Told,
+) {
     let word = line.word;
     if word == words::AUDIT {
         audited(tree, signatures, bitfield, data, told);
@@ -119,7 +136,6 @@ fn called(
         previewed(tree, signatures, bitfield, data, text, line, told);
     }
     found(tree, signatures, bitfield, data, line, told);
-    super::ways::by(tree, signatures, bitfield, data, line, told);
 }
 
 fn found(tree: &[u8], signatures: &[u8], bitfield: &[u8], data: &[u8], line: Line, told: Told) {
@@ -281,17 +297,21 @@ fn packed(tree: &[u8], signatures: &[u8], bitfield: &[u8], data: &[u8], line: Li
     let x = line.numbers;
     let mut out = [0xeeu8; 1200];
     let room = super::parts::between(0, x[2]);
-    let length = made(tree, signatures, bitfield, data, told, x[1], &mut out, room);
+    let made = made(tree, signatures, bitfield, data, told, x[1], &mut out, room);
     let r = writing::root_hash(tree, signatures, bitfield, data, told.n, told.s, told.size);
     let root = r.root;
-    super::written::sum(&out);
-    gate_printing::text(b" ");
-    let made_part = super::parts::between(0, length);
-    super::packets::check(super::parts::of(&out, made_part), told.n, x[1], &root);
+    say_packet(made, &out, told.n, x[1], &root);
 }
 
-// The length of a packet that is made, or 0.
-fn made(
+pub fn say_packet(made: Made, out: &[u8], n: u64, chunk: u64, root: &[u8; 32]) {
+    say_made(made);
+    super::written::sum(out);
+    gate_printing::text(b" ");
+    let part = super::parts::between(0, length_of(made));
+    super::packets::check(super::parts::of(out, part), n, chunk, root);
+}
+
+pub fn made(
     tree: &[u8],
     signatures: &[u8],
     bitfield: &[u8],
@@ -300,8 +320,8 @@ fn made(
     chunk: u64,
     out: &mut [u8],
     room: super::parts::Part,
-) -> u64 {
-    match packet::make(
+) -> Made {
+    packet::make(
         tree,
         signatures,
         bitfield,
@@ -311,14 +331,21 @@ fn made(
         told.size,
         ChunkNumber(chunk),
         super::parts::of_mut(out, room),
-    ) {
-        Made::Refused(refusal) => {
-            gate_printing::refusal(refusal);
-            0
-        }
-        Made::Length(length) => {
-            gate_printing::number(length);
-            length
-        }
+    )
+}
+
+// The length of a packet, or why none was made.
+pub fn say_made(made: Made) {
+    match made {
+        Made::Refused(refusal) => gate_printing::refusal(refusal),
+        Made::Length(length) => gate_printing::number(length),
+    }
+}
+
+// The length of a packet that was made, or 0.
+fn length_of(made: Made) -> u64 {
+    match made {
+        Made::Refused(_) => 0,
+        Made::Length(length) => length,
     }
 }

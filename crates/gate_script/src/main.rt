@@ -1,9 +1,11 @@
 // Runs the script on standard input, a call of the library on each line, and prints each line with its answer, for comparison with the text in stdout.
 // The registers of the script are parts of four arrays that held other bytes before; chunks, signatures and packets are parts of a fifth.
 mod asked;
+mod copy_ways;
 mod edited;
 mod packets;
 mod pairs;
+mod partial;
 mod parts;
 mod reading;
 mod ways;
@@ -82,6 +84,24 @@ fn run(
             line,
             both.first.lent,
         );
+    } else {
+        call(tree, signatures, bitfield, data, text, line, both);
+    }
+}
+
+// A packet is brought, or a call is made, which may write or does not.
+fn call(
+    tree: &mut [u8],
+    signatures: &mut [u8],
+    bitfield: &mut [u8],
+    data: &mut [u8],
+    text: &mut [u8],
+    line: reading::Line,
+    both: parts::Both,
+) {
+    let word = line.word;
+    if word == words::BRING {
+        packets::bring(tree, signatures, bitfield, data, text, line, both.second);
     } else {
         if words::writes(word) {
             written::by(tree, signatures, bitfield, data, text, line, both.first);

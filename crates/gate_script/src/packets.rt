@@ -24,7 +24,7 @@ pub fn by(text: &[u8], line: Line) {
     }
 }
 
-fn root_at(text: &[u8], at: u64) -> [u8; 32] {
+pub fn root_at(text: &[u8], at: u64) -> [u8; 32] {
     let mut root = [0u8; 32];
     let end = std::num::wrapping_add_u64(at, 32);
     copied(&mut root, parts::of(text, parts::between(at, end)));
@@ -35,6 +35,32 @@ fn copied(root: &mut [u8; 32], bytes: &[u8]) {
     if bytes.len() == 32 {
         sequences::copy_to(root, 0, bytes);
     }
+}
+
+// The packet of a chunk of the second register, from and to where in the text.
+pub fn bring(
+    tree: &[u8],
+    signatures: &[u8],
+    bitfield: &[u8],
+    data: &[u8],
+    text: &mut [u8],
+    line: Line,
+    second: parts::Register,
+) {
+    let x = line.numbers;
+    let lent = second.lent;
+    gate_printing::text(b": ");
+    let made = super::asked::made(
+        parts::of(tree, lent.tree),
+        parts::of(signatures, lent.signatures),
+        parts::of(bitfield, lent.bitfield),
+        parts::of(data, lent.data),
+        second.told,
+        x[1],
+        text,
+        parts::between(x[2], x[3]),
+    );
+    super::asked::say_made(made);
 }
 
 // What the check answers, and the chunk's part.

@@ -34,7 +34,9 @@ fn one(
     told: Told,
     number: u64,
 ) {
-    if word == words::BOTH_PLACES {
+    if words::on_copies(word) {
+        super::copy_ways::one(tree, bitfield, data, word, told, number);
+    } else if word == words::BOTH_PLACES {
         place(tree, signatures, bitfield, data, told, number);
     } else if word == words::BOTH_BYTES {
         byte(tree, signatures, bitfield, data, told, number);

@@ -55,6 +55,36 @@ pub const CHECK: u64 = 0x6368;
 
 pub const WALK: u64 = 0x7761;
 
+// A packet of the second register, in a part of the text.
+pub const BRING: u64 = 0x6272;
+
+// The calls on a copy begin with a capital letter.
+pub const MAKE: u64 = 0x4d61;
+
+pub const TAKE: u64 = 0x5461;
+
+pub const COPY_RELEASE: u64 = 0x5265;
+
+pub const COPY_AUDIT: u64 = 0x4175;
+
+pub const COPY_ROOT: u64 = 0x526f;
+
+pub const COPY_OLD: u64 = 0x4f6c;
+
+pub const COPY_GET: u64 = 0x4765;
+
+pub const COPY_PACKET: u64 = 0x5061;
+
+pub const COPY_FIND: u64 = 0x4669;
+
+pub const COPY_NODE: u64 = 0x4e6f;
+
+pub const COPY_PLACES: u64 = 0x5370;
+
+pub const COPY_BYTES: u64 = 0x5362;
+
+pub const COPY_SEARCHES: u64 = 0x5373;
+
 // Whether a line sets what is lent or told, says which register is the first, or is a remark.
 pub fn sets(word: u64) -> bool {
     word == LEND || word == TOLD || word == SWAP || word == REMARK
@@ -65,8 +95,16 @@ pub fn edits(word: u64) -> bool {
     word == FLIP || word == PUT || word == FILL
 }
 
+// Whether a call is on a copy.
+pub fn on_copies(word: u64) -> bool {
+    word < 0x5b00 && word != REMARK
+}
+
 // Whether a line is a call that may write.
 pub fn writes(word: u64) -> bool {
+    if word == MAKE || word == TAKE || word == COPY_RELEASE {
+        return true;
+    }
     if word == START || word == GROW || word == APPEND {
         return true;
     }
@@ -85,5 +123,8 @@ pub fn on_pairs(word: u64) -> bool {
 
 // Whether a call is made both ways, the quick one and the short one.
 pub fn both_ways(word: u64) -> bool {
-    word == BOTH_PLACES || word == BOTH_BYTES || word == BOTH_SEARCHES
+    if word == BOTH_PLACES || word == BOTH_BYTES || word == BOTH_SEARCHES {
+        return true;
+    }
+    word == COPY_PLACES || word == COPY_BYTES || word == COPY_SEARCHES
 }

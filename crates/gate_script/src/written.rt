@@ -52,6 +52,23 @@ fn act(
     told: Told,
 ) {
     let word = line.word;
+    if words::on_copies(word) {
+        super::partial::write(tree, bitfield, data, text, line, told);
+    } else {
+        on_register(tree, signatures, bitfield, data, text, line, told);
+    }
+}
+
+fn on_register(
+    tree: &mut [u8],
+    signatures: &mut [u8],
+    bitfield: &mut [u8],
+    data: &mut [u8],
+    text: &[u8],
+    line: Line,
+    told: Told,
+) {
+    let word = line.word;
     if word == words::START {
         gate_printing::answer(writing::start(tree, signatures, bitfield, data));
     } else {

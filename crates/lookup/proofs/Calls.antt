@@ -28,7 +28,7 @@ use Rattle.lookup.specs.Descent.{Ending, stopped, reached, chunkWithin, 
 use Rattle.lookup.specs.Lookup.{Found, refusal, found, stopRefused, foundUnless, chunkOf, startOf, toChunk, byteEnding, toByte, placeVerdict, heldVerdict, byteVerdict, placeOf, heldPlaceOf, byteAt}
 use Rattle.lookup.specs.Steps.{Searched, SearchedFor, SearchedHeld, placeIn, heldPlaceIn, byteIn}
 use Rattle.lookup.specs.Read.{chunkBytes, andThen, partUnless, readVerdict, readPart}
-use Rattle.lookup.specs.Said.{readFound}
+use Rattle.lookup.specs.Said.{LiesAt, PlacedIn, hashJudged, readFound}
 use Rattle.lookup.proofs.Descents.{Ends, ends, byte-order}
 use Rattle.lookup.proofs.Visits.{filled-entry}
 use Rattle.lookup.proofs.Answers.{any-start, at-end, not-at-end, stays-inside}
@@ -247,7 +247,7 @@ pub record Placing (r : Register) (c start size : ℕ) : Type 0 where
   pub entry : EntryIn (r .tree) (index 0 c)
 
 verdict-inside : (r : Register) (c : ℕ) → placeVerdict r c ≡ done
-    → (startOf (toChunk r c) + storedSize (r .tree) (index 0 c) ≤ length (r .content)) × (c < 2097152) × EntryIn (r .tree) (index 0 c)
+    → LiesAt (r .tree) (r .content) c (startOf (toChunk r c)) (storedSize (r .tree) (index 0 c))
 unfolding placeVerdict
 verdict-inside r c e =
     let check : Check = record { number = 9; right = ltb c (r .n) } in
@@ -260,7 +260,11 @@ verdict-inside r c e =
     let i : q .1 + storedSize (r .tree) (index 0 c) ≤ r .size = subst (λ (x : ℕ). q .1 + storedSize (r .tree) (index 0 x) ≤ r .size) (l .0) (l .1 .inside) in
     let s : startOf (toChunk r c) ≡ q .1 = ap startOf (q .2) in
     let few : r .n ≤ 1048576 = p .count in
-    (omega (arith, p .content), omega arith, filled-entry (r .tree) (r .n) (index 0 c) (p .count) (p .tree) (end-filled (r .n) 0 c (omega (arith, mul-one (c + 1)))))
+    record {
+      inside = omega (arith, p .content);
+      small = omega arith;
+      entry = filled-entry (r .tree) (r .n) (index 0 c) (p .count) (p .tree) (end-filled (r .n) 0 c (omega (arith, mul-one (c + 1))));
+    }
 
 pub placing : (r : Register) (c start size : ℕ) → found start size ≡ heldPlaceOf r c → Placing r c start size
 unfolding heldPlaceOf
@@ -271,43 +275,63 @@ placing r c start size e =
       verdict = a .0;
       starts = a .1;
       long = a .2;
-      inside = (let p = a .1 in let q = a .2 in let h = b .0 in omega arith);
-      small = b .1;
-      entry = b .2;
+      inside = (let p = a .1 in let q = a .2 in let h = b .inside in omega arith);
+      small = b .small;
+      entry = b .entry;
     }
+
+-- so it may be judged by its hash
+pub placed-in : (r : Register) (c : ℕ) (p : Found) → p ≡ heldPlaceOf r c → PlacedIn (r .tree) (r .content) c p
+placed-in r c (refusal m at) e = tt
+placed-in r c (found start size) e = let p = placing r c start size e in record { inside = p .inside; small = p .small; entry = p .entry }
+
+-- ---- a place that is judged by the hash of its bytes
+
+module _ (F : List ℕ → List ℕ) (t content : List ℕ) (c : ℕ) where
+  abbrev same-hash : List ℕ → Bool
+  same-hash bytes = sameList (storedHash t (index 0 c)) (F (leafMessage bytes))
+
+  pub hash-refused : (m : ℕ) (at : Spot) → refusal m at ≡ hashJudged F t content c (refusal m at)
+  unfolding hashJudged
+  hash-refused m at = refl
+
+  hash-by : (start size : ℕ) (bytes : List ℕ) → bytes ≡ part content start size → (b : Bool) → b ≡ same-hash bytes
+      → cond b (found start (start + size)) (refusal 10 (tree (index 0 c))) ≡ hashJudged F t content c (found start size)
+  unfolding hashJudged
+  hash-by start size bytes e b f =
+      ap (λ (x : Bool). cond x (found start (start + size)) (refusal 10 (tree (index 0 c)))) (f ∙ ap same-hash e)
+
+  pub hash-right : (start size : ℕ) (bytes : List ℕ) → bytes ≡ part content start size → true ≡ same-hash bytes
+      → found start (start + size) ≡ hashJudged F t content c (found start size)
+  hash-right start size bytes e f = hash-by start size bytes e true f
+
+  pub hash-other : (start size : ℕ) (bytes : List ℕ) → bytes ≡ part content start size → false ≡ same-hash bytes
+      → refusal 10 (tree (index 0 c)) ≡ hashJudged F t content c (found start size)
+  hash-other start size bytes e f = hash-by start size bytes e false f
+
+  -- a verdict v that is followed by the comparison of the leaf hash, and its place
+  pub hash-behind : (v : Verdict) (start size : ℕ)
+      → hashJudged F t content c (foundUnless v start size)
+      ≡ foundUnless (andThen v (cond (same-hash (part content start size)) done (refused 10 (tree (index 0 c))))) start (start + size)
+  unfolding hashJudged
+  hash-behind (refused m at) start size = refl
+  hash-behind done start size = go (same-hash (part content start size))
+    where
+      go : (b : Bool) → cond b (found start (start + size)) (refusal 10 (tree (index 0 c)))
+          ≡ foundUnless (cond b done (refused 10 (tree (index 0 c)))) start (start + size)
+      go true = refl
+      go false = refl
 
 module _ (F : List ℕ → List ℕ) (r : Register) (c : ℕ) where
   -- the leaf hash compared
   abbrev next : Verdict
   next = cond (sameList (storedHash (r .tree) (index 0 c)) (F (leafMessage (chunkBytes r c)))) done (refused 10 (tree (index 0 c)))
 
-  verified-by : (v : Verdict) → readVerdict F r c ≡ v
-      → foundUnless v (startOf (toChunk r c)) (startOf (toChunk r c) + storedSize (r .tree) (index 0 c)) ≡ readFound F r c
-  unfolding readFound
-  verified-by v e = sym (ap (λ (x : Verdict). foundUnless x (startOf (toChunk r c)) (startOf (toChunk r c) + storedSize (r .tree) (index 0 c))) e)
-
-  pub verified-refused : (m : ℕ) (at : Spot) → refusal m at ≡ heldPlaceOf r c → refusal m at ≡ readFound F r c
-  unfolding heldPlaceOf readVerdict
-  verified-refused m at e =
-      let v = found-refused (heldVerdict r c) (startOf (toChunk r c)) (storedSize (r .tree) (index 0 c)) m at e in
-      verified-by (refused m at) (ap (λ (x : Verdict). andThen x next) v)
-
-  read-by : (start size : ℕ) → Placing r c start size → (bytes : List ℕ) → bytes ≡ part (r .content) start size → (b : Bool)
-      → b ≡ sameList (storedHash (r .tree) (index 0 c)) (F (leafMessage bytes)) → readVerdict F r c ≡ cond b done (refused 10 (tree (index 0 c)))
-  unfolding readVerdict chunkBytes
-  read-by start size p bytes e b f =
-      ap (λ (x : Verdict). andThen x next) (p .verdict)
-      ∙ ap (λ (x : Bool). cond x done (refused 10 (tree (index 0 c))))
-      (ap (λ (l : List ℕ). sameList (storedHash (r .tree) (index 0 c)) (F (leafMessage l))) (ap₂ (part (r .content)) (sym (p .starts)) (sym (p .long)) ∙ sym e) ∙ sym f)
-
-  pub verified-part : (start size : ℕ) → Placing r c start size → (bytes : List ℕ) → bytes ≡ part (r .content) start size
-      → true ≡ sameList (storedHash (r .tree) (index 0 c)) (F (leafMessage bytes)) → found start (start + size) ≡ readFound F r c
-  verified-part start size p bytes e f =
-      ap₂ found (p .starts) (ap₂ _+_ (p .starts) (p .long)) ∙ verified-by done (read-by start size p bytes e true f)
-
-  pub verified-other : (start size : ℕ) → Placing r c start size → (bytes : List ℕ) → bytes ≡ part (r .content) start size
-      → false ≡ sameList (storedHash (r .tree) (index 0 c)) (F (leafMessage bytes)) → refusal 10 (tree (index 0 c)) ≡ readFound F r c
-  verified-other start size p bytes e f = verified-by (refused 10 (tree (index 0 c))) (read-by start size p bytes e false f)
+  pub verified : (p : Found) → p ≡ heldPlaceOf r c → hashJudged F (r .tree) (r .content) c p ≡ readFound F r c
+  unfolding heldPlaceOf readFound readVerdict chunkBytes
+  verified p e =
+      ap (hashJudged F (r .tree) (r .content) c) e
+      ∙ hash-behind F (r .tree) (r .content) c (heldVerdict r c) (startOf (toChunk r c)) (storedSize (r .tree) (index 0 c))
 
   -- ---- what a read hands back
 
@@ -325,7 +349,7 @@ module _ (F : List ℕ → List ℕ) (r : Register) (c : ℕ) where
       let b = verdict-inside r c (held-done r c (done-first (heldVerdict r c) next (a .0)) .1) in
       let p = a .1 in
       let q = a .2 in
-      let h = b .0 in
+      let h = b .inside in
       let z : end - from ≡ storedSize (r .tree) (index 0 c) = omega arith in
       record {
         ordered = omega arith;

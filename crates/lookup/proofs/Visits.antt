@@ -17,7 +17,7 @@ use Rattle.files.specs.Stored.{storedSize}
 use Rattle.files.specs.Within.{EntryIn}
 use Rattle.files.proofs.OfImage.{entry-inside}
 use Rattle.lookup.specs.Descent.{Ending, stopped, reached, chunkWithin, descend}
-use Rattle.lookup.specs.Steps.{StandsAt}
+use Rattle.lookup.specs.Steps.{StandsAt, Turned, Onward}
 use Rattle.lookup.proofs.Descents.{left-inside, right-end}
 
 -- ---- the tests
@@ -80,7 +80,7 @@ leaf-even = by-coordinates (λ i. depth i ≡ 0 → i % 2 ≡ 0) go
 -- ---- one step
 
 -- a statement about the children of a parent, by coordinates
-by-parents : (P : ℕ → ℕ → ℕ → Type 0) → ((d k : ℕ) → P (index (suc d) k) (index d (2 * k)) (index d (2 * k + 1))) → (i : ℕ) → 0 < depth i → P i (leftChild i) (rightChild i)
+pub by-parents : (P : ℕ → ℕ → ℕ → Type 0) → ((d k : ℕ) → P (index (suc d) k) (index d (2 * k)) (index d (2 * k + 1))) → (i : ℕ) → 0 < depth i → P i (leftChild i) (rightChild i)
 by-parents P h = by-coordinates (λ i. 0 < depth i → P i (leftChild i) (rightChild i)) go
   where
     go : (d k : ℕ) → 0 < depth (index d k) → P (index d k) (leftChild (index d k)) (rightChild (index d k))
@@ -201,35 +201,53 @@ module _ (within : ℕ → ℕ → ℕ → ℕ → Bool) {t : List ℕ} {s i l r
   sums h e =
       sym (v .here) ∙ (let x : size ≡ first + second = omega arith in x) ∙ ap₂ _+_ (v .one ∙ ap (storedSize t) (v .left)) (v .two ∙ ap (storedSize t) (v .right))
 
-  wrong : (size ≡ first + second → ⊥) → stopped i ≡ descend within t (depth i) (block i) s
-  wrong h =
-      sym (at-wrong-sum within t s i (v .deep) (λ e. h (v .here ∙ e ∙ sym (ap₂ _+_ (v .one ∙ ap (storedSize t) (v .left)) (v .two ∙ ap (storedSize t) (v .right))))))
+  -- another sum: the descent stops here
+  abbrev Ended : Type 0
+  Ended = (stopped i ≡ descend within t (depth i) (block i) s) × (0 < depth i → storedSize t i ≡ storedSize t (leftChild i) + storedSize t (rightChild i) → ⊥)
 
-  pub seen-less : size < first → stopped i ≡ descend within t (depth i) (block i) s
+  wrong : (size ≡ first + second → ⊥) → Ended
+  wrong h =
+      let other : storedSize t i ≡ storedSize t (leftChild i) + storedSize t (rightChild i) → ⊥ =
+      λ e. h (v .here ∙ e ∙ sym (ap₂ _+_ (v .one ∙ ap (storedSize t) (v .left)) (v .two ∙ ap (storedSize t) (v .right))))
+      in
+      (sym (at-wrong-sum within t s i (v .deep) other), λ p. other)
+
+  pub seen-less : size < first → Ended
   seen-less h = wrong (λ e. omega arith)
 
-  pub seen-other : (size - first ≡ second → ⊥) → stopped i ≡ descend within t (depth i) (block i) s
+  pub seen-other : (size - first ≡ second → ⊥) → Ended
   seen-other h = wrong (λ e. h (omega arith))
 
-  pub seen-left : first ≤ size → size - first ≡ second → within (depth l) (block l) s first ≡ true
-      → (descend within t (depth l) (block l) s ≡ descend within t (depth i) (block i) s) × (StandsAt t l s × (depth l < depth i))
+  -- the child at x, whose bytes begin at y
+  abbrev Child : ℕ → ℕ → Type 0
+  Child x y =
+      (descend within t (depth x) (block x) y ≡ descend within t (depth i) (block i) s) × ((StandsAt t x y × (depth x < depth i)) × Onward within t i s x y)
+
+  onward : (x y : ℕ) (b : Bool) → storedSize t i ≡ storedSize t (leftChild i) + storedSize t (rightChild i)
+      → within (depth (leftChild i)) (block (leftChild i)) s (storedSize t (leftChild i)) ≡ b → Turned b t i s x y → Onward within t i s x y
+  onward x y b h f g = record { deep = v .deep; sum = h; turned = subst (λ (z : Bool). Turned z t i s x y) (sym f) g }
+
+  pub seen-left : first ≤ size → size - first ≡ second → within (depth l) (block l) s first ≡ true → Child l s
   seen-left h e w =
       let f : within (depth (leftChild i)) (block (leftChild i)) s (storedSize t (leftChild i)) ≡ true =
       subst (λ (y : ℕ). within (depth y) (block y) s (storedSize t y) ≡ true) (v .left) (subst (λ (z : ℕ). within (depth l) (block l) s z ≡ true) (v .one) w)
       in
-      subst (λ (x : ℕ). (descend within t (depth x) (block x) s ≡ descend within t (depth i) (block i) s) × (StandsAt t x s × (depth x < depth i))) (sym (v .left))
-      (goes-left within t s i (v .deep) (sums h e) f, children-stand t s i (v .deep) (sums h e) a .0)
+      subst (λ (x : ℕ). Child x s) (sym (v .left))
+      (goes-left within t s i (v .deep) (sums h e) f, (children-stand t s i (v .deep) (sums h e) a .0, onward (leftChild i) s true (sums h e) f (refl, refl)))
 
-  pub seen-right : first ≤ size → size - first ≡ second → within (depth l) (block l) s first ≡ false
-      → (descend within t (depth r) (block r) (s + first) ≡ descend within t (depth i) (block i) s) × (StandsAt t r (s + first) × (depth r < depth i))
+  pub seen-right : first ≤ size → size - first ≡ second → within (depth l) (block l) s first ≡ false → Child r (s + first)
   seen-right h e w =
       let f : within (depth (leftChild i)) (block (leftChild i)) s (storedSize t (leftChild i)) ≡ false =
       subst (λ (y : ℕ). within (depth y) (block y) s (storedSize t y) ≡ false) (v .left) (subst (λ (z : ℕ). within (depth l) (block l) s z ≡ false) (v .one) w)
       in
-      subst (λ (z : ℕ). (descend within t (depth r) (block r) (s + z) ≡ descend within t (depth i) (block i) s) × (StandsAt t r (s + z) × (depth r < depth i)))
-      (sym (v .one ∙ ap (storedSize t) (v .left)))
-      (subst (λ (x : ℕ). (descend within t (depth x) (block x) (s + storedSize t (leftChild i)) ≡ descend within t (depth i) (block i) s) × (StandsAt t x (s + storedSize t (leftChild i)) × (depth x < depth i))) (sym (v .right))
-      (goes-right within t s i (v .deep) (sums h e) f, children-stand t s i (v .deep) (sums h e) a .1))
+      subst (λ (z : ℕ). Child r (s + z)) (sym (v .one ∙ ap (storedSize t) (v .left)))
+      (subst (λ (x : ℕ). Child x (s + storedSize t (leftChild i))) (sym (v .right)) (
+        goes-right within t s i (v .deep) (sums h e) f,
+        (
+          children-stand t s i (v .deep) (sums h e) a .1,
+          onward (rightChild i) (s + storedSize t (leftChild i)) false (sums h e) f (refl, refl),
+        ),
+      ))
 
   -- the left child's bytes end within the parent's
   pub seen-fits : first ≤ size → size - first ≡ second → s + first < 2 ^ 64

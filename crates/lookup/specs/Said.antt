@@ -1,10 +1,16 @@
 -- The number and the values that each case of an answer stands for.
-use Prim.Native.Nat.{ℕ, _+_}
+use Prim.Native.Nat.{ℕ, _+_, _≤_, _<_}
+use mathlib.Core.Bool.{cond}
 use mathlib.Core.List.{List}
+use lib.ListN.{length}
+use Rattle.counts.specs.Verdict.{tree as atTree}
 use Rattle.counts.specs.Said.{spotOf}
 use Rattle.counts.specs.declared.Refusal.{Refusal}
+use Rattle.sequences.specs.Lists.{part, sameList}
 use Rattle.tree_index.specs.Tree.{index}
-use Rattle.files.specs.Stored.{storedSize}
+use Rattle.files.specs.Messages.{leafMessage}
+use Rattle.files.specs.Stored.{storedHash, storedSize}
+use Rattle.files.specs.Within.{EntryIn}
 use Rattle.files.specs.Belongs.{Register}
 use Rattle.lookup.specs.Lookup.{Found, refusal, found, foundUnless, startOf, toChunk}
 use Rattle.lookup.specs.Read.{Name, metadata, contents, readVerdict}
@@ -40,3 +46,19 @@ verifiedOf (Part start end) = found (start .0) (end .0)
 unfoldable pub readFound : (List ℕ → List ℕ) → Register → ℕ → Found
 readFound F r c =
     foundUnless (readVerdict F r c) (startOf (toChunk r c)) (startOf (toChunk r c) + storedSize (r .tree) (index 0 c))
+
+-- a chunk that has a place has its bytes within the data, and its leaf's entry within the tree file
+pub record LiesAt (tree content : List ℕ) (c start size : ℕ) : Type 0 where
+  pub inside : start + size ≤ length content
+  pub small : c < 2097152
+  pub entry : EntryIn tree (index 0 c)
+
+abbrev pub PlacedIn : List ℕ → List ℕ → ℕ → Found → Type 0
+PlacedIn tree content c (refusal m at) = Unit {0}
+PlacedIn tree content c (found start size) = LiesAt tree content c start size
+
+-- a place, judged by the leaf hash of the bytes there: its refusal, or where they begin and end
+unfoldable pub hashJudged : (List ℕ → List ℕ) → List ℕ → List ℕ → ℕ → Found → Found
+hashJudged F tree content c (refusal m at) = refusal m at
+hashJudged F tree content c (found start size) =
+    cond (sameList (storedHash tree (index 0 c)) (F (leafMessage (part content start size)))) (found start (start + size)) (refusal 10 (atTree (index 0 c)))

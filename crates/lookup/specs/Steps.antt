@@ -1,13 +1,13 @@
 -- The steps of a descent as the code takes them, and what its inner functions require.
 use Prim.Native.Nat.{ℕ, _+_, _-_, _*_, _^_, _≤_, _<_}
 use mathlib.Core.Path.{_≡_}
-use mathlib.Core.Bool.{Bool, cond}
+use mathlib.Core.Bool.{Bool, true, false, cond}
 use mathlib.Core.List.{List, [], _∷_}
 use lib.ListN.{length}
 use lib.Dec.{leb, ltb}
 use Rattle.counts.specs.Verdict.{tree as atTree, refused}
 use Rattle.sequences.specs.Lists.{total}
-use Rattle.tree_index.specs.Tree.{index, depth, block}
+use Rattle.tree_index.specs.Tree.{index, depth, block, leftChild, rightChild}
 use Rattle.bitfield.specs.Release.{storedHeld}
 use Rattle.files.specs.Sizes.{mostChunks, usedTree, usedBitfield}
 use Rattle.files.specs.Stored.{storedSize, storedRootSizes}
@@ -82,7 +82,24 @@ abbrev pub Lower : List ℕ → ℕ → Step → Type 0
 Lower tree i (End e) = Unit {0}
 Lower tree i (Down j start) = StandsAt tree (j .0) (start .0) × (depth (j .0) < depth i)
 
+-- a step down goes to the left child where what is sought lies there, and else to the right one
+abbrev pub Turned : Bool → List ℕ → ℕ → ℕ → ℕ → ℕ → Type 0
+Turned true tree i start j from = (j ≡ leftChild i) × (from ≡ start)
+Turned false tree i start j from = (j ≡ rightChild i) × (from ≡ start + storedSize tree (leftChild i))
+
+-- it is made at a parent whose length is the sum of its children's
+pub record Onward (within : ℕ → ℕ → ℕ → ℕ → Bool) (tree : List ℕ) (i start j from : ℕ) : Type 0 where
+  pub deep : 0 < depth i
+  pub sum : storedSize tree i ≡ storedSize tree (leftChild i) + storedSize tree (rightChild i)
+  pub turned : Turned (within (depth (leftChild i)) (block (leftChild i)) start (storedSize tree (leftChild i))) tree i start j from
+
+-- and at no other node
+abbrev pub Way : (ℕ → ℕ → ℕ → ℕ → Bool) → List ℕ → ℕ → ℕ → Step → Type 0
+Way within tree i start (End e) = 0 < depth i → storedSize tree i ≡ storedSize tree (leftChild i) + storedSize tree (rightChild i) → ⊥
+Way within tree i start (Down j from) = Onward within tree i start (j .0) (from .0)
+
 -- what a visit of the node at i finds
 pub record Visited (within : ℕ → ℕ → ℕ → ℕ → Bool) (tree : List ℕ) (i start : ℕ) (step : Step) : Type 0 where
   pub same : followed within tree step ≡ descend within tree (depth i) (block i) start
   pub lower : Lower tree i step
+  pub way : Way within tree i start step

@@ -3,14 +3,25 @@ mod descent;
 mod places;
 mod reading;
 
+// `Ending`, `Sought`, `Step`, `descend`, `is_within` and `visit`, and the functions ending in `_in` and `_placed`, are inner: a copy's calls share them.
+pub use descent::Ending;
+pub use descent::Sought;
+pub use descent::Step;
+pub use descent::descend;
+pub use descent::is_within;
+pub use descent::visit;
 pub use places::Located;
 pub use places::Placed;
 pub use places::held_place;
+pub use places::held_place_in;
 pub use places::locate;
+pub use places::locate_in;
 pub use places::place;
+pub use places::place_in;
 pub use reading::Name;
 pub use reading::Verified;
 pub use reading::read;
 pub use reading::read_answer;
 pub use reading::read_one;
 pub use reading::verify;
+pub use reading::verify_placed;

@@ -26,7 +26,7 @@ pub enum Located {
 }
 
 // Inner: the place of a chunk, in a register that passes the checks 2 to 6.
-fn place_in(tree: &[u8], n: u64, chunk: ChunkNumber) -> Placed
+pub fn place_in(tree: &[u8], n: u64, chunk: ChunkNumber) -> Placed
     requires { ⌜ Searched (now tree) n ⌝ }
     ensures { λ r. ⌜ placedOf r ≡ placeIn (now (tree .entry)) n (chunk .0) ⌝ }
 {
@@ -75,7 +75,7 @@ pub fn place(
 
 // Inner: the place of a chunk that is held, in a register that passes the checks 2 to 6. Its data bit is looked at behind 9, so that it lies
 // within the bitfield file, and before anything is walked.
-fn held_place_in(tree: &[u8], bitfield: &[u8], n: u64, chunk: ChunkNumber) -> Placed
+pub fn held_place_in(tree: &[u8], bitfield: &[u8], n: u64, chunk: ChunkNumber) -> Placed
     requires { ⌜ SearchedHeld (now tree) (now bitfield) n ⌝ }
     ensures { λ r. ⌜ placedOf r ≡ heldPlaceIn (now (tree .entry)) (now (bitfield .entry)) n (chunk .0) ⌝ }
 {
@@ -120,7 +120,7 @@ pub fn held_place(
 }
 
 // Inner: the chunk of a byte, in a register that passes the checks 2 to 6. At the data size nothing is walked.
-fn locate_in(tree: &[u8], n: u64, size: u64, offset: ByteOffset) -> Located
+pub fn locate_in(tree: &[u8], n: u64, size: u64, offset: ByteOffset) -> Located
     requires { ⌜ SearchedFor (now tree) n size ⌝ }
     ensures { λ r. ⌜ locatedOf r ≡ byteIn (now (tree .entry)) n size (offset .0) ⌝ }
 {

@@ -10,7 +10,7 @@ ghost use Rattle.counts.specs.Said.{said};
 ghost use Rattle.blake2b.specs.Hash.{nodeHash};
 ghost use Rattle.checks.specs.Given.{registerOf};
 ghost use Rattle.lookup.specs.Read.{named, readVerdict, readPart};
-ghost use Rattle.lookup.specs.Said.{nameOf, verifiedOf, readFound};
+ghost use Rattle.lookup.specs.Said.{nameOf, placedOf, verifiedOf, readFound, PlacedIn, hashJudged};
 
 // Which of the two registers a read names.
 pub enum Name {
@@ -24,26 +24,13 @@ pub enum Verified {
     Part(ByteOffset, ByteOffset),
 }
 
-// The checks of a read of one register: the place of the chunk, which must be held, and then its leaf hash, of the bytes where they lie.
-pub fn verify(
-    tree: &[u8],
-    signatures: &[u8],
-    bitfield: &[u8],
-    content: &[u8],
-    n: u64,
-    s: u64,
-    size: u64,
-    chunk: ChunkNumber,
-) -> Verified
+// Inner: the leaf hash of a chunk, of its bytes where they lie; a chunk without a place keeps its refusal.
+pub fn verify_placed(tree: &[u8], content: &[u8], chunk: ChunkNumber, placed: Placed) -> Verified
+    requires { ⌜ PlacedIn (now tree) (now content) (chunk .0) (placedOf placed) ⌝ }
     ensures { λ r.
-        ⌜
-        verifiedOf r ≡
-        readFound nodeHash
-        (registerOf (now (tree .entry)) (now (signatures .entry)) (now (bitfield .entry)) (now (content .entry)) n s size)
-        (chunk .0)
-        ⌝ }
+        ⌜ verifiedOf r ≡ hashJudged nodeHash (now (tree .entry)) (now (content .entry)) (chunk .0) (placedOf placed) ⌝ }
 {
-    match super::places::held_place(tree, signatures, bitfield, content, n, s, size, chunk) {
+    match placed {
         Placed::Refused(refusal) => Verified::Refused(refusal),
         Placed::At(start, length) => {
             let end = ByteOffset(start.0 + length);
@@ -62,6 +49,29 @@ pub fn verify(
             }
         }
     }
+}
+
+// The checks of a read of one register: the place of the chunk, which must be held, and then its leaf hash.
+pub fn verify(
+    tree: &[u8],
+    signatures: &[u8],
+    bitfield: &[u8],
+    content: &[u8],
+    n: u64,
+    s: u64,
+    size: u64,
+    chunk: ChunkNumber,
+) -> Verified
+    ensures { λ r.
+        ⌜
+        verifiedOf r ≡
+        readFound nodeHash
+        (registerOf (now (tree .entry)) (now (signatures .entry)) (now (bitfield .entry)) (now (content .entry)) n s size)
+        (chunk .0)
+        ⌝ }
+{
+    let placed = super::places::held_place(tree, signatures, bitfield, content, n, s, size, chunk);
+    verify_placed(tree, content, chunk, placed)
 }
 
 // A read of one register.

@@ -32,7 +32,7 @@ pub own-wrong : (n m : ℕ) → n < m → ownVerdict n m ≡ refused 9 none
 unfolding ownVerdict judged
 own-wrong n m h = ap (λ (b : Bool). cond b done (refused 9 none)) (lt-leb m n h)
 
-own-passed : (n m : ℕ) → ownVerdict n m ≡ done → m ≤ n
+pub own-passed : (n m : ℕ) → ownVerdict n m ≡ done → m ≤ n
 unfolding ownVerdict
 own-passed n m e = leb-true m n (judged-done (ownChecks n m) done e .0 .0)
 

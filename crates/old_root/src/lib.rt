@@ -8,7 +8,7 @@ ghost use Rattle.checks.specs.Given.{registerOf};
 ghost use Rattle.old_root.specs.OldRoot.{ownVerdict, oldVerdict, OldRootPost};
 
 // "9 is given for m above n".
-fn up_to(n: u64, m: u64) -> Answer
+pub fn up_to(n: u64, m: u64) -> Answer
     ensures { λ r. ⌜ said r ≡ ownVerdict n m ⌝ }
 {
     if n < m {

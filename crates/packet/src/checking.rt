@@ -79,7 +79,7 @@ fn entry_size(packet: &[u8], at: usize) -> u64
 
 // Inner: the lengths of a row of entries added to a sum, as whole numbers: each is compared with what is left up to the bound before it is
 // added, so that nothing wraps.
-fn add_lengths(packet: &[u8], at: usize, count: usize, from: u64) -> u64
+pub fn add_lengths(packet: &[u8], at: usize, count: usize, from: u64) -> u64
     requires { ⌜ RowIn (now packet) at count × from ≤ 68719476737 ⌝ }
     ensures { λ r. ⌜ Summed (from + total (sizesIn (now (packet .entry)) at count)) r ⌝ }
 {

@@ -4,6 +4,7 @@ mod making;
 mod path;
 
 pub use checking::Node;
+pub use checking::add_lengths;
 pub use checking::check;
 pub use checking::check_answer;
 pub use checking::entry_node;
@@ -11,4 +12,9 @@ pub use checking::leaf_node;
 pub use checking::step_up;
 pub use making::Made;
 pub use making::make;
+pub use making::make_read;
+pub use path::other_count;
+pub use path::other_indexes;
+pub use path::root_place;
 pub use path::sibling_count;
+pub use path::sibling_indexes;

@@ -76,7 +76,7 @@ fn write_packet(tree: &[u8], n: u64, chunk: ChunkNumber, bytes: &[u8], out: &mut
 }
 
 // Inner: the packet of a chunk that is read, where the buffer has room for it.
-fn make_read(tree: &[u8], n: u64, chunk: ChunkNumber, bytes: &[u8], out: &mut [u8]) -> Made
+pub fn make_read(tree: &[u8], n: u64, chunk: ChunkNumber, bytes: &[u8], out: &mut [u8]) -> Made
     requires { ⌜ Readable (now tree) n (chunk .0) (now bytes) ⌝ }
     ensures { λ r. ⌜ MadeOf (now (tree .entry)) n (chunk .0) (now (bytes .entry)) (now (out .entry)) r (now (out .exit)) ⌝ }
 {

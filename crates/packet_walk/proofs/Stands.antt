@@ -29,14 +29,14 @@ use Rattle.packet_walk.proofs.Up.{ordered-hash}
 -- ---- the blocks around a chunk are filled up to its root
 
 module _ (n c : ℕ) (h : ChunkOf n c) where
-  abbrev top : ℕ
+  abbrev pub top : ℕ
   top = rootAbove (roots n) c
 
-  top-index : index (depth top) (c / 2 ^ depth top) ≡ top
+  pub top-index : index (depth top) (c / 2 ^ depth top) ≡ top
   top-index =
       let s = root-spans n c h in ap (index (depth top)) (div-eq-of-lt-le (2 ^ depth top) (s .from) (s .to)) ∙ index-of top
 
-  top-filled : filled n top ≡ true
+  pub top-filled : filled n top ≡ true
   top-filled = subst (λ (x : ℕ). filled n x ≡ true) (sym (place-root (roots n) c)) (root-filled n (placeAbove (roots n) c) (place-below n c h))
 
   child-filled : (d : ℕ) → filled n (index (suc d) (c / 2 ^ suc d)) ≡ true → filled n (index d (c / 2 ^ d)) ≡ true
@@ -62,13 +62,13 @@ module _ (n c : ℕ) (h : ChunkOf n c) where
 -- ---- the steps above a block of 2^d chunks around chunk c
 
 module _ (F : List ℕ → List ℕ) (c : ℕ) where
-  above-count : (d k : ℕ) (e : Entry) (ss : List Entry) → length (stepsAbove F d k e ss) ≡ length ss
+  pub above-count : (d k : ℕ) (e : Entry) (ss : List Entry) → length (stepsAbove F d k e ss) ≡ length ss
   unfolding stepsAbove
   above-count d k e [] = refl
   above-count d k e (s ∷ ss) = ap suc (above-count (d + 1) (k / 2) (ordered k (parentOf F) e s) ss)
 
   -- the steps behind the first, by coordinates
-  rest-is : (d : ℕ) (a : Entry) (ss : List Entry) → stepsAbove F (d + 1) (c / 2 ^ d / 2) a ss ≡ stepsAbove F (suc d) (c / 2 ^ suc d) a ss
+  pub rest-is : (d : ℕ) (a : Entry) (ss : List Entry) → stepsAbove F (d + 1) (c / 2 ^ d / 2) a ss ≡ stepsAbove F (suc d) (c / 2 ^ suc d) a ss
   rest-is d a ss = ap₂ (λ (x y : ℕ). stepsAbove F x y a ss) (add-one d) (half c d)
 
   above-at : (d : ℕ) (e : Entry) (ss : List Entry) (j : ℕ) → j < length ss
@@ -118,25 +118,25 @@ module _ (F : List ℕ → List ℕ) (c : ℕ) where
 -- ---- all steps of a packet
 
 module _ (F : List ℕ → List ℕ) (p : List ℕ) (n c : ℕ) where
-  abbrev low : Entry
+  abbrev pub low : Entry
   low = leaf F (packetChunk p)
 
-  abbrev sides : List Entry
+  abbrev pub sides : List Entry
   sides = siblingEntries p n c
 
-  sides-count : length (siblingEntries p n c) ≡ length (siblings n c)
+  pub sides-count : length (siblingEntries p n c) ≡ length (siblings n c)
   unfolding siblingEntries entriesIn
   sides-count = length-run _ 0 (length (siblings n c))
 
   -- the chunk is its own block of one
-  from-chunk : stepsAbove F 0 c low sides ≡ stepsAbove F 0 (c / 2 ^ 0) low sides
+  pub from-chunk : stepsAbove F 0 c low sides ≡ stepsAbove F 0 (c / 2 ^ 0) low sides
   from-chunk = ap (λ (k : ℕ). stepsAbove F 0 k low sides) (sym (div-one c))
 
-  all-count : length (steps F p n c) ≡ suc (length (siblings n c))
+  pub all-count : length (steps F p n c) ≡ suc (length (siblings n c))
   unfolding steps
   all-count = ap suc (above-count F c 0 c low sides ∙ sides-count)
 
-  all-at : (d : ℕ) → d < length (steps F p n c) → stepAt (steps F p n c) d .at ≡ index d (c / 2 ^ d)
+  pub all-at : (d : ℕ) → d < length (steps F p n c) → stepAt (steps F p n c) d .at ≡ index d (c / 2 ^ d)
   unfolding steps
   all-at zero l = ap (index 0) (sym (div-one c))
   all-at (suc j) l =
@@ -161,7 +161,7 @@ module _ (F : List ℕ → List ℕ) (p : List ℕ) (n c : ℕ) where
   under-step zero = refl
   under-step (suc j) = ap (λ (xs : List Step). stepAt xs j .entry) (sym from-chunk)
 
-  all-message : (d : ℕ) → d < length (siblings n c)
+  pub all-message : (d : ℕ) → d < length (siblings n c)
       → stepAt (steps F p n c) (suc d) .message ≡ ordered (c / 2 ^ d) parentMessageOf (stepAt (steps F p n c) d .entry) (getD sides d hole)
   unfolding steps
   all-message d l =
@@ -169,13 +169,13 @@ module _ (F : List ℕ → List ℕ) (p : List ℕ) (n c : ℕ) where
       ∙ ap₂ (λ (x : ℕ) (y : Entry). ordered (c / 2 ^ x) parentMessageOf y (getD sides d hole)) (zero-add d) (under-step d)
 
   -- the sibling stands beside the block
-  sibling-is : (d : ℕ) → d < length (siblings n c) → getD (siblings n c) d 0 ≡ index d (beside (c / 2 ^ d))
+  pub sibling-is : (d : ℕ) → d < length (siblings n c) → getD (siblings n c) d 0 ≡ index d (beside (c / 2 ^ d))
   unfolding siblings
   sibling-is d l =
       getD-run (λ j. index j (beside (c / 2 ^ j))) 0 (depth (rootAbove (roots n) c)) d 0 (omega (arith, length-run (λ j. index j (beside (c / 2 ^ j))) 0 (depth (rootAbove (roots n) c))))
       ∙ ap (λ (j : ℕ). index j (beside (c / 2 ^ j))) (zero-add d)
 
-  children : (d : ℕ) → (leftChild (index (suc d) (c / 2 ^ suc d)) ≡ index d (2 * (c / 2 ^ d / 2)))
+  pub children : (d : ℕ) → (leftChild (index (suc d) (c / 2 ^ suc d)) ≡ index d (2 * (c / 2 ^ d / 2)))
       × (rightChild (index (suc d) (c / 2 ^ suc d)) ≡ index d (2 * (c / 2 ^ d / 2) + 1))
   children d = (
     leftChild-index d (c / 2 ^ suc d) ∙ ap (λ (x : ℕ). index d (2 * x)) (sym (half c d)),

@@ -26,7 +26,7 @@ use Rattle.records.specs.declared.headers.HeaderRead.{HeaderRead}
 use Rattle.records.specs.declared.headers.HeaderRead.the-variants.{Refused as NoHeader, Content}
 use Rattle.records.proofs.Unique.{node-unique}
 use Rattle.paths.specs.Chunks.{ReadThen, HeaderJudged, PathJudged, HeaderAs, PathAs, headerVerdict, comparedVerdict}
-use Rattle.paths.specs.Finding.{Outcome, failed, at, nowhere, Goes, Finds, AfterHeader, FindsIn, Checked, FindAs}
+use Rattle.paths.specs.Finding.{Outcome, failed, at, nowhere, Goes, FindsBy, Finds, AfterHeader, FindsIn, Checked, FindAs}
 use Rattle.paths.specs.Theorems.{beyond, pathAt, Highest, FindsHighest, FindsOnce}
 use Rattle.paths.specs.declared.chunks.Compared.{Compared}
 use Rattle.paths.specs.declared.chunks.Compared.the-variants.{Refused as NotCompared, Same, Other}
@@ -70,7 +70,7 @@ module _ (F : List ℕ → List ℕ) (r : Register) (path : List ℕ) (h : Heade
       (subst (λ (v : Verdict). ReadThen v (comparedVerdict x) (PathJudged (readPart F r (suc j)) (index 0 (suc j)) path x)) (readDone (suc j) inside) p)
 
   found : (k : ℕ) → k ≤ length ns → (o : Outcome) → Finds F r path k o → Below path ns k o
-  unfolding Finds
+  unfolding FindsBy
   found zero l o f = subst (Below path ns zero) (sym f) (λ j m. absurd (omega arith))
   found (suc k) l o f = go (λ g. found k (omega arith) o g) (f .0) (said-of k (f .0) (omega arith) (f .1 .0)) (f .1 .1)
     where
@@ -98,7 +98,7 @@ module _ (F : List ℕ → List ℕ) (r : Register) (path : List ℕ) (h : Heade
       first : 0 < length (headerBytes h ∷ map nodeBytes ns)
       first = omega (arith, long)
 
-      go : (x : HeaderRead) → HeaderAs F r 0 x → AfterHeader F r path x (Finds F r path (length ns) o) o → Highest path ns o
+      go : (x : HeaderRead) → HeaderAs F r 0 x → AfterHeader x (Finds F r path (length ns) o) o → Highest path ns o
       go (NoHeader z) p g =
           let q = subst (λ (v : Verdict). ReadThen v (headerVerdict (NoHeader z)) (HeaderJudged (readPart F r 0) (index 0 0) (NoHeader z))) (readDone 0 first) p in
           absurd (q .1 h hw (sym (read 0 first)))
@@ -124,7 +124,7 @@ refused-done m spot e = let z : _≡_ {A = ℕ} 0 1 = cc in omega arith
 
 module _ (F : List ℕ → List ℕ) (r : Register) (path : List ℕ) where
   once : (k : ℕ) (o p : Outcome) → Finds F r path k o → Finds F r path k p → o ≡ p
-  unfolding Finds
+  unfolding FindsBy
   once zero o p f g = f ∙ sym g
   once (suc k) o p f g = by (λ s t. once k o p s t) (readVerdict F r (suc k)) (f .0) (g .0) (f .1 .0) (g .1 .0) (f .1 .1) (g .1 .1)
     where
@@ -163,7 +163,7 @@ module _ (F : List ℕ → List ℕ) (r : Register) (path : List ℕ) where
   once-headed (suc k) o p f g = by (readVerdict F r 0) (f .0) (g .0) (f .1 .0) (g .1 .0) (f .1 .1) (g .1 .1)
     where
       by : (v : Verdict) (x y : HeaderRead) → ReadThen v (headerVerdict x) (HeaderJudged (readPart F r 0) (index 0 0) x) → ReadThen v (headerVerdict y) (HeaderJudged (readPart F r 0) (index 0 0) y)
-          → AfterHeader F r path x (Finds F r path k o) o → AfterHeader F r path y (Finds F r path k p) p → o ≡ p
+          → AfterHeader x (Finds F r path k o) o → AfterHeader y (Finds F r path k p) p → o ≡ p
       by done (NoHeader x) (NoHeader y) i j s t = s ∙ same-failed x y (refused 15 (tree (index 0 0))) (i .0) (j .0) ∙ sym t
       by done (NoHeader x) (Content c) i j s t = absurd (i .1 _ (j .accepted .within) (j .accepted .bytes))
       by done (Content c) (NoHeader y) i j s t = absurd (j .1 _ (i .accepted .within) (i .accepted .bytes))

@@ -32,26 +32,41 @@ Goes c (NotCompared x) below o = o ≡ failed (x .number) (spotOf (x .place))
 Goes c Same below o = o ≡ at c
 Goes c Other below o = below
 
-module _ (F : List ℕ → List ℕ) (r : Register) (path : List ℕ) where
-  -- among the chunks 1 to k
-  unfoldable pub Finds : ℕ → Outcome → Type 0
-  Finds zero o = o ≡ nowhere
-  Finds (suc k) o = (x : Compared) × (PathAs F r (suc k) path x × Goes (suc k) x (Finds k o) o)
+-- chunk 0 comes first
+abbrev pub AfterHeader : HeaderRead → Type 0 → Outcome → Type 0
+AfterHeader (NoHeader x) below o = o ≡ failed (x .number) (spotOf (x .place))
+AfterHeader (Content p) below o = below
 
-  -- chunk 0 comes first
-  abbrev pub AfterHeader : HeaderRead → Type 0 → Outcome → Type 0
-  AfterHeader (NoHeader x) below o = o ≡ failed (x .number) (spotOf (x .place))
-  AfterHeader (Content p) below o = below
+-- where `Says` is what is said of a chunk, and `Heads` what is said of chunk 0: of a register's chunks, or of a copy's
+module _ (Heads : HeaderRead → Type 0) (Says : ℕ → Compared → Type 0) where
+  -- among the chunks 1 to k
+  unfoldable pub FindsBy : ℕ → Outcome → Type 0
+  FindsBy zero o = o ≡ nowhere
+  FindsBy (suc k) o = (x : Compared) × (Says (suc k) x × Goes (suc k) x (FindsBy k o) o)
 
   -- "An empty register gives none."
+  abbrev pub FindsInBy : ℕ → Outcome → Type 0
+  FindsInBy zero o = o ≡ nowhere
+  FindsInBy (suc k) o = (h : HeaderRead) × (Heads h × AfterHeader h (FindsBy k o) o)
+
+  -- the checks come first, by their verdict
+  abbrev pub CheckedBy : ℕ → Verdict → Outcome → Type 0
+  CheckedBy n (refused m spot) o = o ≡ failed m spot
+  CheckedBy n done o = FindsInBy n o
+
+module _ (F : List ℕ → List ℕ) (r : Register) (path : List ℕ) where
+  abbrev pub Says : ℕ → Compared → Type 0
+  Says c x = PathAs F r c path x
+
+  abbrev pub Finds : ℕ → Outcome → Type 0
+  Finds = FindsBy (HeaderAs F r 0) Says
+
   abbrev pub FindsIn : ℕ → Outcome → Type 0
-  FindsIn zero o = o ≡ nowhere
-  FindsIn (suc k) o = (h : HeaderRead) × (HeaderAs F r 0 h × AfterHeader h (Finds k o) o)
+  FindsIn = FindsInBy (HeaderAs F r 0) Says
 
   -- numbers 2 to 6 come first
   abbrev pub Checked : Verdict → Outcome → Type 0
-  Checked (refused m spot) o = o ≡ failed m spot
-  Checked done o = FindsIn (r .n) o
+  Checked = CheckedBy (HeaderAs F r 0) Says (r .n)
 
   abbrev pub FindAs : Outcome → Type 0
   FindAs o = Checked (judged (registerChecks r) done) o

@@ -36,7 +36,7 @@ fn no_record(chunk: ChunkNumber) -> Refusal
 }
 
 // Inner: the Header that a chunk's bytes are.
-fn header_at(bytes: &[u8], chunk: ChunkNumber) -> HeaderRead
+pub fn header_at(bytes: &[u8], chunk: ChunkNumber) -> HeaderRead
     requires { ⌜ chunk .0 < 2097152 ⌝ }
     ensures { λ r. ⌜ HeaderJudged (now (bytes .entry)) (index 0 (chunk .0)) r ⌝ }
 {
@@ -47,7 +47,7 @@ fn header_at(bytes: &[u8], chunk: ChunkNumber) -> HeaderRead
 }
 
 // Inner: the Node that a chunk's bytes are.
-fn node_at(bytes: &[u8], chunk: ChunkNumber) -> NodeRead
+pub fn node_at(bytes: &[u8], chunk: ChunkNumber) -> NodeRead
     requires { ⌜ chunk .0 < 2097152 ⌝ }
     ensures { λ r. ⌜ NodeJudged (now (bytes .entry)) (index 0 (chunk .0)) (r .answer) (r .node) ⌝ }
 {
@@ -70,7 +70,7 @@ fn node_at(bytes: &[u8], chunk: ChunkNumber) -> NodeRead
 }
 
 // Inner: whether the Node that a chunk's bytes are has a path.
-fn path_at(bytes: &[u8], chunk: ChunkNumber, path: &[u8]) -> Compared
+pub fn path_at(bytes: &[u8], chunk: ChunkNumber, path: &[u8]) -> Compared
     requires { ⌜ chunk .0 < 2097152 ⌝ }
     ensures { λ r. ⌜ PathJudged (now (bytes .entry)) (index 0 (chunk .0)) (now (path .entry)) r ⌝ }
 {

@@ -24,13 +24,13 @@ use Rattle.files.proofs.Slots.{slotAt}
 
 -- ---- lists with one element replaced
 
-map-set : {A B : Type 0} (f : A → B) (l : List A) (i : ℕ) (y : A) → map f (set l i y) ≡ set (map f l) i (f y)
+pub map-set : {A B : Type 0} (f : A → B) (l : List A) (i : ℕ) (y : A) → map f (set l i y) ≡ set (map f l) i (f y)
 map-set f [] i y = refl
 map-set f (x ∷ xs) zero y = refl
 map-set {A} {B} f (x ∷ xs) (suc i) y = ap (λ (l : List B). f x ∷ l) (map-set f xs i y)
 
 -- what holds of each element, and of the new one
-each-set : {A : Type 0} (P : A → Type 0) (xs : List A) (i : ℕ) (y d : A) → ((k : ℕ) → P (getD xs k d)) → P y → (k : ℕ) → P (getD (set xs i y) k d)
+pub each-set : {A : Type 0} (P : A → Type 0) (xs : List A) (i : ℕ) (y d : A) → ((k : ℕ) → P (getD xs k d)) → P y → (k : ℕ) → P (getD (set xs i y) k d)
 each-set P [] i y d h p k = h k
 each-set P (x ∷ xs) zero y d h p zero = p
 each-set P (x ∷ xs) zero y d h p (suc k) = h (suc k)

@@ -9,7 +9,7 @@ ghost use Rattle.checks.specs.Given.{registerOf};
 ghost use Rattle.release.specs.Post.{lent, Clears, Cleared, ReleasePost};
 
 // Inner: what a release writes, of a chunk whose place was found.
-fn clear_chunk(
+pub fn clear_chunk(
     bitfield: &mut [u8],
     content: &mut [u8],
     chunk: ChunkNumber,

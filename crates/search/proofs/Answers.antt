@@ -48,15 +48,15 @@ module _ (r : Register) (from : ℕ) where
   pub search-room : done ≡ judged (registerChecks r) done → (r .n ≤ mostChunks) × DataIn (r .bitfield) (r .n)
   search-room e = let p = passed r done (sym e) .0 in (p .count, data-in (r .bitfield) (r .n) (p .bitfield))
 
--- ---- a bitfield file whose entries are those of a test
+-- ---- a bitfield file whose entries are those of two tests
 
-module _ (xs : List ℕ) (n : ℕ) (held : ℕ → Bool) (cut : part xs 32 (3328 * entryCount n) ≡ entriesOf held n) where
+module _ (xs : List ℕ) (n : ℕ) (held known : ℕ → Bool) (cut : part xs 32 (3328 * entryCount n) ≡ joined (run (entry held known) 0 (entryCount n))) where
   -- an entry of the file, and what it is
   abbrev the-entry : ℕ → List ℕ
-  the-entry e = entry held (filled n) e
+  the-entry e = entry held known e
 
   stored-part : (e a k : ℕ) → e < entryCount n → a + k ≤ 3328 → part xs (bitsPlace e + a) k ≡ part (the-entry e) a k
-  unfolding bitsPlace entriesOf
+  unfolding bitsPlace
   stored-part e a k h l =
       let p : 32 + 3328 * e + a ≡ 32 + (e * 3328 + a) = omega arith in
       ap (λ (x : ℕ). part xs x k) p
@@ -64,28 +64,33 @@ module _ (xs : List ℕ) (n : ℕ) (held : ℕ → Bool) (cut : part xs 32 (3328
       ∙ ap (λ (x : List ℕ). part x (e * 3328 + a) k) cut
       ∙ sym (part-part (joined (run the-entry 0 (entryCount n))) (e * 3328) 3328 a k l)
       ∙ ap (λ (x : List ℕ). part x a k)
-      (part-joined the-entry 3328 (length-entry held (filled n)) 0 (entryCount n) e h ∙ ap the-entry (zero-add e))
+      (part-joined the-entry 3328 (length-entry held known) 0 (entryCount n) e h ∙ ap the-entry (zero-add e))
 
   data-is : (e : ℕ) → e < entryCount n → part xs (bitsPlace e) 1024 ≡ dataBytes held e
   unfolding entry
   data-is e h =
       let p : bitsPlace e ≡ bitsPlace e + 0 = omega arith in
       ap (λ (x : ℕ). part xs x 1024) p ∙ stored-part e 0 1024 h (omega arith)
-      ∙ part-front (dataBytes held e) (treeBytes (filled n) e ++ indexBytes (dataBytes held e)) 1024 (length-data held e)
+      ∙ part-front (dataBytes held e) (treeBytes known e ++ indexBytes (dataBytes held e)) 1024 (length-data held e)
 
   index-is : (e : ℕ) → e < entryCount n → part xs (bitsPlace e + 3072) 256 ≡ indexBytes (dataBytes held e)
   unfolding entry part
   index-is e h =
       let d : List ℕ = dataBytes held e in
-      let t : List ℕ = treeBytes (filled n) e in
+      let t : List ℕ = treeBytes known e in
       stored-part e 3072 256 h (omega arith)
       ∙ part-behind d (t ++ indexBytes d) 1024 2048 256 (length-data held e)
-      ∙ part-behind t (indexBytes d) 2048 0 256 (length-tree (filled n) e)
+      ∙ part-behind t (indexBytes d) 2048 0 256 (length-tree known e)
       ∙ take-all 256 (indexBytes d) (omega (arith, length-index d))
 
-  pub index-follows : IndexFollows xs n
+  -- whichever tree bits are 1
+  pub index-of-data : IndexFollows xs n
   unfolding IndexFollows
-  index-follows e h = index-is e h ∙ ap indexBytes (sym (data-is e h))
+  index-of-data e h = index-is e h ∙ ap indexBytes (sym (data-is e h))
+
+pub index-follows : (xs : List ℕ) (n : ℕ) (held : ℕ → Bool) → part xs 32 (3328 * entryCount n) ≡ entriesOf held n → IndexFollows xs n
+unfolding entriesOf
+index-follows xs n held cut = index-of-data xs n held (filled n) cut
 
 -- ---- a register that belongs to chunks, held or released
 

@@ -5,6 +5,7 @@ use bitfield::Found;
 use counts::Answer;
 use counts::ChunkNumber;
 use counts::Refusal;
+pub use runs::by_runs;
 ghost use mathlib.Core.Path.{_≡_};
 ghost use Rattle.checks.specs.Given.{registerOf};
 ghost use Rattle.search.specs.Search.{searchFor};

@@ -3,9 +3,9 @@
 use Prim.Native.Nat.{ℕ, zero, suc, _+_, _*_, _≤_, _<_}
 use mathlib.Core.Path.{_≡_, sym, _∙_, subst}
 use mathlib.Core.Bool.{Bool}
-use mathlib.Core.List.{List}
+use mathlib.Core.List.{List, _++_}
 use native.Mathlib.Omega.{arith}
-use lib.ListN.{length, getD, length-append}
+use lib.ListN.{length, getD}
 use lib.Seq.{ext-getD}
 use Rattle.sequences.specs.Lists.{part}
 use Rattle.sequences.proofs.Lists.{length-part, getD-part, getD-behind}
@@ -13,12 +13,13 @@ use Rattle.tree_index.specs.Tree.{index}
 use Rattle.tree_index.proofs.Index.{index-leaf}
 use Rattle.tree_index.proofs.Filled.{filled-below}
 use Rattle.bitfield.specs.Image.{entryCount, entriesOf}
+use Rattle.bitfield.proofs.Image.{length-entries}
 use Rattle.files.specs.Headers.{bitfieldHeader}
 use Rattle.files.specs.Sizes.{longestChunk, usedBitfield}
 use Rattle.files.specs.Images.{bitfieldImage}
 use Rattle.files.specs.Stored.{storedSize}
 use Rattle.files.specs.Belongs.{Register}
-use Rattle.files.proofs.OfImage.{bitfieldHeader-length, bitfieldImage-length}
+use Rattle.files.proofs.OfImage.{bitfieldHeader-length}
 use Rattle.audit.specs.Audit.{heldBits}
 use Rattle.audit.proofs.Audited.{Audited, accepted-audited, leaf-says, parent-says}
 use Rattle.search.specs.Answers.{IndexFollows}
@@ -26,21 +27,21 @@ use Rattle.search.proofs.Answers.{index-follows}
 use Rattle.short_way.specs.Answers.{LengthsRight, ShortWayForAll}
 use Rattle.short_way.proofs.Agree.{lookups-agree, search-agrees}
 
--- a bitfield file whose bytes behind the header are an image's has its entries
+-- a bitfield file whose bytes behind the header are those of some entries has these entries
+pub entries-cut : (xs es : List ℕ) (m : ℕ) → 32 + m ≤ length xs → length es ≡ m
+    → ((b : ℕ) → 32 ≤ b → b < 32 + m → getD xs b 0 ≡ getD (bitfieldHeader ++ es) b 0) → part xs 32 m ≡ es
+entries-cut xs es m room whole same =
+    let long : length (part xs 32 m) ≡ m = length-part xs 32 m room in
+    ext-getD 0 (part xs 32 m) es (long ∙ sym whole)
+    (λ j h. getD-part xs 32 m j 0 (omega (arith, long))
+    ∙ same (32 + j) (omega arith) (omega (arith, long))
+    ∙ getD-behind bitfieldHeader es 32 j 0 bitfieldHeader-length)
+
 bits-cut : (xs : List ℕ) (n : ℕ) (held : ℕ → Bool) → usedBitfield n ≤ length xs
     → ((b : ℕ) → 32 ≤ b → b < usedBitfield n → getD xs b 0 ≡ getD (bitfieldImage held n) b 0)
     → part xs 32 (3328 * entryCount n) ≡ entriesOf held n
 unfolding usedBitfield bitfieldImage
-bits-cut xs n held room same =
-    let m : ℕ = 3328 * entryCount n in
-    let long : length (part xs 32 m) ≡ m = length-part xs 32 m room in
-    let whole : length (entriesOf held n) ≡ m =
-    omega (arith, length-append bitfieldHeader (entriesOf held n), bitfieldImage-length held n, bitfieldHeader-length)
-    in
-    ext-getD 0 (part xs 32 m) (entriesOf held n) (long ∙ sym whole)
-    (λ j h. getD-part xs 32 m j 0 (omega (arith, long))
-    ∙ same (32 + j) (omega arith) (omega (arith, long))
-    ∙ getD-behind bitfieldHeader (entriesOf held n) 32 j 0 bitfieldHeader-length)
+bits-cut xs n held room same = entries-cut xs (entriesOf held n) (3328 * entryCount n) room (length-entries held n) same
 
 module _ (F : List ℕ → List ℕ) (r : Register) (a : Audited F r) where
   lengths-right : LengthsRight (r .tree) (r .n)

@@ -1,10 +1,13 @@
 // The short way for a later reader: the simplest programs that someone with the files would write.
 mod leaves;
 
+// Inner: a copy's short lookups share them.
 use bitfield::Found;
 use counts::Answer;
 use counts::ByteOffset;
 use counts::ChunkNumber;
+pub use leaves::locate_in;
+pub use leaves::place_in;
 use lookup::Located;
 use lookup::Placed;
 use search::Searched;

@@ -102,17 +102,17 @@ module _ (t : List ℕ) (n : ℕ) where
 -- ---- the checks 2 to 6
 
 -- a buffer is long enough where the cut one is
-holds-cut : (xs : List ℕ) (u : ℕ) → holds (take u xs) u ≡ holds xs u
+pub holds-cut : (xs : List ℕ) (u : ℕ) → holds (take u xs) u ≡ holds xs u
 holds-cut xs u = go (leb u (length xs)) refl
   where
     go : (b : Bool) → leb u (length xs) ≡ b → holds (take u xs) u ≡ b
     go true e = le-leb u (length (take u xs)) (omega (arith, length-take-le u xs (leb-true u (length xs) e)))
     go false e = lt-leb u (length (take u xs)) (omega (arith, length-take u xs, leb-false u (length xs) e))
 
-headed-cut : (xs : List ℕ) (u : ℕ) (header : List ℕ) → 32 ≤ u → headed (take u xs) header ≡ headed xs header
+pub headed-cut : (xs : List ℕ) (u : ℕ) (header : List ℕ) → 32 ≤ u → headed (take u xs) header ≡ headed xs header
 headed-cut xs u header h = ap (λ (r : List ℕ). sameList r header) (take-take 32 u xs h)
 
-tree-32 : (n : ℕ) → 32 ≤ usedTree n
+pub tree-32 : (n : ℕ) → 32 ≤ usedTree n
 unfolding usedTree
 tree-32 n = omega arith
 
@@ -120,11 +120,11 @@ signatures-32 : (s : ℕ) → 32 ≤ usedSignatures s
 unfolding usedSignatures
 signatures-32 s = omega arith
 
-bitfield-32 : (n : ℕ) → 32 ≤ usedBitfield n
+pub bitfield-32 : (n : ℕ) → 32 ≤ usedBitfield n
 unfolding usedBitfield
 bitfield-32 n = omega arith
 
-adds-cut : (t : List ℕ) (n size : ℕ) → addsUp (take (usedTree n) t) n size ≡ addsUp t n size
+pub adds-cut : (t : List ℕ) (n size : ℕ) → addsUp (take (usedTree n) t) n size ≡ addsUp t n size
 unfolding addsUp
 adds-cut t n size = ap (λ (l : List ℕ). eqb (total l) size) (root-sizes-cut t n)
 

@@ -76,14 +76,14 @@ pub chunk-cut : (r : Register) (c : ℕ) → toChunk (cut r) c ≡ toChunk r c
 unfolding toChunk
 chunk-cut r c = descent-cut (chunkWithin c) (r .tree) (r .n)
 
-byte-cut : (r : Register) (b : ℕ) → toByte (cut r) b ≡ toByte r b
+pub byte-cut : (r : Register) (b : ℕ) → toByte (cut r) b ≡ toByte r b
 unfolding toByte byteEnding
 byte-cut r b = ap (choose (eqb b (r .size)) (reached (r .n) (r .size))) (descent-cut (byteWithin b) (r .tree) (r .n))
 
 -- ---- the lookups
 
 -- what comes behind a verdict is read only where that is done
-found-same : (v : Verdict) (a b x y : ℕ) → a ≡ b → (v ≡ done → x ≡ y) → foundUnless v a x ≡ foundUnless v b y
+pub found-same : (v : Verdict) (a b x y : ℕ) → a ≡ b → (v ≡ done → x ≡ y) → foundUnless v a x ≡ foundUnless v b y
 found-same done a b x y e h = λ i. foundUnless done (e i) (h refl i)
 found-same (refused m at) a b x y e h = refl
 

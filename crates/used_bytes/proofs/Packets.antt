@@ -29,7 +29,7 @@ section-cut t n is f =
     (λ j l. entry-cut t n (getD is j 0) (filled-below n (getD is j 0) (f j l))))
 
 module _ (F : List ℕ → List ℕ) (r : Register) (c : ℕ) where
-  packet-cut : readVerdict F r c ≡ done → packetOf (cut r) c ≡ packetOf r c
+  pub packet-cut : readVerdict F r c ≡ done → packetOf (cut r) c ≡ packetOf r c
   unfolding packetOf readVerdict
   packet-cut e =
       let p : placeVerdict r c ≡ done = held-done r c (then-first (heldVerdict r c) _ e) .1 in

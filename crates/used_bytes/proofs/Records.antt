@@ -13,7 +13,7 @@ use Rattle.lookup.specs.Read.{readVerdict, readPart}
 use Rattle.records.specs.declared.headers.HeaderRead.{HeaderRead}
 use Rattle.nodes.specs.declared.reading.Node.{Node}
 use Rattle.paths.specs.Chunks.{ReadThen, headerVerdict, comparedVerdict, HeaderJudged, NodeSaid, PathJudged, BesideNode, HeaderAs, NodeAs, PathAs}
-use Rattle.paths.specs.Finding.{Outcome, Goes, Finds, AfterHeader, FindsIn, Checked, FindAs}
+use Rattle.paths.specs.Finding.{Outcome, Goes, FindsBy, Finds, AfterHeader, FindsIn, Checked, FindAs}
 use Rattle.paths.specs.declared.chunks.Compared.{Compared}
 use Rattle.paths.specs.declared.chunks.Compared.the-variants.{Refused as NotCompared, Same, Other}
 use Rattle.records.specs.declared.headers.HeaderRead.the-variants.{Refused as NoHeader, Content}
@@ -43,12 +43,12 @@ module _ (F : List ℕ → List ℕ) (a b : Register) (says : (c : ℕ) → read
   goes-to c Other o below later f g = f g
 
   finds-to : (path : List ℕ) (k : ℕ) (o : Outcome) → Finds F a path k o → Finds F b path k o
-  unfolding Finds
+  unfolding FindsBy
   finds-to path zero o f = f
   finds-to path (suc k) o f =
       (f .0, (path-to (suc k) path (f .0) (f .1 .0), goes-to (suc k) (f .0) o (Finds F a path k o) (Finds F b path k o) (finds-to path k o) (f .1 .1)))
 
-  after-to : (path : List ℕ) (k : ℕ) (o : Outcome) (x : HeaderRead) → AfterHeader F a path x (Finds F a path k o) o → AfterHeader F b path x (Finds F b path k o) o
+  after-to : (path : List ℕ) (k : ℕ) (o : Outcome) (x : HeaderRead) → AfterHeader x (Finds F a path k o) o → AfterHeader x (Finds F b path k o) o
   after-to path k o (NoHeader y) g = g
   after-to path k o (Content p) g = finds-to path k o g
 

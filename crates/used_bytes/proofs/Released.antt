@@ -42,7 +42,7 @@ module _ (bits : List ℕ) (n : ℕ) where
   unfolding notMissing passedOver storedTuple
   missing-cut k h = λ i. eqb (tupleIn (tuples-cut k h i) (k / 16)) 3 || held-cut bits n k h i
 
-  first-cut : (from : ℕ) → firstMissing (take (usedBitfield n) bits) n from ≡ firstMissing bits n from
+  pub first-cut : (from : ℕ) → firstMissing (take (usedBitfield n) bits) n from ≡ firstMissing bits n from
   unfolding firstMissing
   first-cut from =
       lowest-agree (notMissing (take (usedBitfield n) bits)) (notMissing bits) from (n - from) (λ j p q before. missing-cut j (omega arith))
@@ -90,7 +90,7 @@ module _ (r : Register) (c : ℕ) where
         (omega (arith, release-inside r c e, length-replicate {A = ℕ} (storedSize (r .tree) (index 0 c)) 0))
         ∙ ap₂ (λ (at size : ℕ). put (cut r .content) at (zeros size)) (sym (ap startOf (chunk-cut r c))) (sym (leaf-size-cut r c (held-done r c e .1)))
 
-    released-cut : cut (releasedRegister r c) ≡ releasedRegister (cut r) c
+    pub released-cut : cut (releasedRegister r c) ≡ releasedRegister (cut r) c
     unfolding releasedRegister
     released-cut =
         λ i. record { tree = cut r .tree; signatures = cut r .signatures; bitfield = bits i; content = bytes i; n = r .n; s = r .s; size = r .size }

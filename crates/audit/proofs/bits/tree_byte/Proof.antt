@@ -1,14 +1,22 @@
--- `audit::bits::tree_byte` meets its contract.  Assumes nothing.
-use Rattle.audit.specs.Bytes.{eight}
-use Rattle.bitfield.specs.Bits.{byteOf}
+-- `audit::bits::tree_byte` meets its contract. Assumes nothing.
+use native.Mathlib.Nat.{add-zero}
+use mathlib.Core.Path.{_∙_, ap}
 use borrow.Author.Needs.{needs}
-use mathlib.Core.Path.{_∙_}
+use Rattle.bitfield.specs.Bits.{byteOf}
+use Rattle.audit.specs.Bytes.{eight, treeBits}
 use Rattle.audit.proofs.bits.tree_byte.Statement.{statement}
 use Rattle.audit.proofs.bits.tree_byte.Tie as tie
 
 returns : tie.Need-returns
 unfolding byteOf
-returns c = c .byte-of .ensures ∙ (λ j. eight (c .before .before .before .before .before .before .before .before .is-filled .ensures j) (c .before .before .before .before .before .before .before .filled-behind .ensures j) (c .before .before .before .before .before .before .filled-behind2 .ensures j) (c .before .before .before .before .before .filled-behind3 .ensures j) (c .before .before .before .before .filled-behind4 .ensures j) (c .before .before .before .filled-behind5 .ensures j) (c .before .before .filled-behind6 .ensures j) (c .before .filled-behind7 .ensures j))
+returns c =
+    let f = c .before .before .before .before .before .before .before .before in
+    let a = f .before .before .args in
+    c .byte-of .ensures
+    ∙ (λ j. eight ((f .tree-behind .ensures ∙ ap (treeBits (a .partly) (a .xs .now) (a .n)) (add-zero (a .i .0))) j) (c .before .before .before .before .before .before .before .tree-behind2 .ensures j) (c .before .before .before .before .before .before .tree-behind3 .ensures j) (c .before .before .before .before .before .tree-behind4 .ensures j) (c .before .before .before .before .tree-behind5 .ensures j) (c .before .before .before .tree-behind6 .ensures j) (c .before .before .tree-behind7 .ensures j) (c .before .tree-behind8 .ensures j))
 
 pub tree-byte-spec : {M : Type 1} → statement M
-tree-byte-spec = tie.close (tie.spec (λ c κs. search needs) (λ c κs. search needs) (λ c κs. search needs) (λ c κs. search needs) (λ c κs. search needs) (λ c κs. search needs) (λ c κs. search needs) (λ c κs. search needs) (λ c κs. search needs) returns)
+tree-byte-spec =
+    tie.close
+    (tie.spec (λ c κs. search needs) (λ c κs. search needs) (λ c κs. search needs) (λ c κs. search needs) (λ c κs. search needs)
+    (λ c κs. search needs) (λ c κs. search needs) (λ c κs. search needs) (λ c κs. search needs) returns)

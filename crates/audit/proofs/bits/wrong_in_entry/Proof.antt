@@ -1,6 +1,7 @@
 -- `audit::bits::wrong_in_entry` meets its contract. The invariant: what is left from byte j on decides. Assumes nothing.
 use Prim.Native.Nat.{_+_, _*_, _-_}
 use Rattle.audit.proofs.Bytes.{Passing, entry-room, part-long, index-by, passing-start, passing-next, passing-found, passing-done}
+use Rattle.audit.specs.Bytes.{treeBits}
 use Rattle.counts.specs.Said.{said}
 use borrow.Author.Needs.{needs}
 use mathlib.Core.Path.{_∙_, sym}
@@ -9,10 +10,10 @@ use Rattle.audit.proofs.bits.wrong_in_entry.Statement.{statement}
 use Rattle.audit.proofs.bits.wrong_in_entry.Tie as tie
 
 abbrev Inv-loop : tie.InvT-loop
-Inv-loop xs n e at from end index j₀ j = Passing xs n e (at .0) j index
+Inv-loop xs n e partly at from end index j₀ j = Passing (treeBits partly xs n) xs n e (at .0) j index
 
 abbrev μ-loop : tie.MeasureT-loop
-μ-loop xs n e at from end index j₀ j = 3328 - j
+μ-loop xs n e partly at from end index j₀ j = 3328 - j
 
 entry-offset-requires : tie.Need-entry-offset-requires Inv-loop μ-loop
 entry-offset-requires c κs =
@@ -44,7 +45,7 @@ loop-holds : tie.Need-loop-holds Inv-loop μ-loop
 loop-holds c =
     let a = c .before .before .before .before .args in
     let o = c .before .before .entry-offset in
-    passing-start (a .xs .now) (a .n) (a .e) (o .result .0) (c .index-of .result) (o .ensures) (index-by (a .xs .now) (a .e) (o .result .0) (o .result .0 + 1024 - o .result .0) (c .index-of .result) (o .ensures) (omega arith) (c .index-of .ensures))
+    passing-start (treeBits (a .partly) (a .xs .now) (a .n)) (a .xs .now) (a .n) (a .e) (o .result .0) (c .index-of .result) (o .ensures) (index-by (a .xs .now) (a .e) (o .result .0) (o .result .0 + 1024 - o .result .0) (c .index-of .result) (o .ensures) (omega arith) (c .index-of .ensures))
 
 add-place : tie.Need-add-place Inv-loop μ-loop
 add-place c =
@@ -65,8 +66,8 @@ expected-byte-requires c κs =
     let a = c .before .before .before .before .before .before .before .before .before .args in
     (entry-room (a .xs .now) (a .n) (a .e) (c .before .before .before .before .before .before .before .before .before .pre) .0, omega (arith, c .before .before .before .loop-test .taken), c .before .before .before .before .before .before .before .before .before .pre .file)
 
-add-t21 : tie.Need-add-t21 Inv-loop μ-loop
-add-t21 c =
+add-t22 : tie.Need-add-t22 Inv-loop μ-loop
+add-t22 c =
     let a = c .before .before .before .before .before .before .before .before .before .before .before .before .args in
     let o = c .before .before .before .before .before .before .before .before .before .before .entry-offset in
     let w = entry-room (a .xs .now) (a .n) (a .e) (c .before .before .before .before .before .before .before .before .before .before .before .before .pre) in
@@ -76,19 +77,19 @@ returns : tie.Need-returns Inv-loop μ-loop
 returns c =
     let a = c .before .before .before .before .before .before .before .before .before .before .before .before .before .args in
     let o = c .before .before .before .before .before .before .before .before .before .before .before .entry-offset in
-    passing-found (a .xs .now) (a .n) (a .e) (o .result .0) (c .before .before .before .before .before .before .before .before .before .index-of .result) (c .before .before .before .before .before .before .before .before .loop .j) (c .before .before .before .before .before .before .before .before .loop .inv) (c .before .before .before .before .before .before .before .before .before .before .before .before .before .pre) (said (c .refuse-byte .result)) (omega (arith, c .before .before .before .before .before .before .before .loop-test .taken)) (λ z. c .before .before .if1 .taken (z ∙ sym (c .before .before .before .expected-byte .ensures))) (c .refuse-byte .ensures)
+    passing-found (treeBits (a .partly) (a .xs .now) (a .n)) (a .xs .now) (a .n) (a .e) (o .result .0) (c .before .before .before .before .before .before .before .before .before .index-of .result) (c .before .before .before .before .before .before .before .before .loop .j) (c .before .before .before .before .before .before .before .before .loop .inv) (c .before .before .before .before .before .before .before .before .before .before .before .before .before .pre) (said (c .refuse-byte .result)) (omega (arith, c .before .before .before .before .before .before .before .loop-test .taken)) (λ z. c .before .before .if1 .taken (z ∙ sym (c .before .before .before .expected-byte .ensures))) (c .refuse-byte .ensures)
 
 loop-again : tie.Need-loop-again Inv-loop μ-loop
 loop-again c =
     let a = c .before .before .before .before .before .before .before .before .before .before .before .args in
     let o = c .before .before .before .before .before .before .before .before .before .entry-offset in
-    passing-next (a .xs .now) (a .n) (a .e) (o .result .0) (c .before .before .before .before .before .before .before .index-of .result) (c .before .before .before .before .before .before .loop .j) (c .before .before .before .before .before .before .loop .inv) (omega (arith, c .before .before .before .before .before .loop-test .taken)) (c .if1 .left ∙ c .before .expected-byte .ensures)
+    passing-next (treeBits (a .partly) (a .xs .now) (a .n)) (a .xs .now) (a .n) (a .e) (o .result .0) (c .before .before .before .before .before .before .before .index-of .result) (c .before .before .before .before .before .before .loop .j) (c .before .before .before .before .before .before .loop .inv) (omega (arith, c .before .before .before .before .before .loop-test .taken)) (c .if1 .left ∙ c .before .expected-byte .ensures)
 
 returns-2 : tie.Need-returns-2 Inv-loop μ-loop
 returns-2 c =
     let a = c .before .before .before .before .before .before .args in
     let o = c .before .before .before .before .entry-offset in
-    passing-done (a .xs .now) (a .n) (a .e) (o .result .0) (c .before .before .index-of .result) (c .before .loop .j) (c .before .loop .inv) (c .before .before .before .before .before .before .pre) (omega (arith, c .loop-test .left))
+    passing-done (treeBits (a .partly) (a .xs .now) (a .n)) (a .xs .now) (a .n) (a .e) (o .result .0) (c .before .before .index-of .result) (c .before .loop .j) (c .before .loop .inv) (c .before .before .before .before .before .before .pre) (omega (arith, c .loop-test .left))
 
 pub wrong-in-entry-spec : {M : Type 1} → statement M
-wrong-in-entry-spec = tie.close (tie.spec Inv-loop μ-loop entry-offset-requires add-end (λ c. search needs) (λ c. search needs) part-index-of-end index-of-requires loop-holds add-place shared-slice-read-if1 expected-byte-requires add-t21 (λ c κs. search needs) returns (λ c. search needs) (λ c. search needs) loop-again returns-2)
+wrong-in-entry-spec = tie.close (tie.spec Inv-loop μ-loop entry-offset-requires add-end (λ c. search needs) (λ c. search needs) part-index-of-end index-of-requires loop-holds add-place shared-slice-read-if1 expected-byte-requires add-t22 (λ c κs. search needs) returns (λ c. search needs) (λ c. search needs) loop-again returns-2)

@@ -5,7 +5,8 @@ use Rattle.counts.specs.Said.{said}
 use Rattle.blake2b.specs.Hash.{nodeHash}
 use Rattle.packet.specs.Check.{chunkLength}
 use Rattle.packet.proofs.Right.{passed-shape}
-use Rattle.c_api.proofs.Laws.{gives-refused, gives-found, packet-refused, packet-found}
+use Rattle.c_answers.proofs.Laws.{gives-refused, gives-found}
+use Rattle.c_api.proofs.Laws.{packet-refused, packet-found}
 use Rattle.c_api.proofs.packets.sleep_check_packet.Statement.{statement}
 use Rattle.c_api.proofs.packets.sleep_check_packet.Tie as tie
 

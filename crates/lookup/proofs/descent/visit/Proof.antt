@@ -1,6 +1,7 @@
 -- `lookup::descent::visit` meets its contract: at each return the laws of one step, given what was read. Assumes nothing.
 use Prim.Native.Nat.{ℕ, _≤_, _<_}
 use mathlib.Core.Path.{sym, ap, _∙_, subst}
+use native.Mathlib.Omega.{arith}
 use Rattle.lookup.specs.Descent.{reached}
 use Rattle.lookup.specs.Steps.{withinOf}
 use Rattle.lookup.proofs.Visits.{deeper, stands-entry, leaf-even, at-leaf, at-long-leaf, seen-children, seen-less, seen-other, seen-left, seen-right, seen-fits}
@@ -23,6 +24,7 @@ returns c =
           (at-long-leaf (withinOf (a .sought)) (a .tree .now) (a .start .0) (a .i .0) (sym (c .before .before .depth .ensures) ∙ c .before .if1 .taken)
           (subst (λ (x : ℕ). 65536 < x) (c .before .before .before .stored-size .ensures) (c .if2 .taken)));
       lower = tt;
+      way = λ p e. absurd (omega (arith, sym (c .before .before .depth .ensures) ∙ c .before .if1 .taken));
     }
 
 chunk-of-leaf-requires : tie.Need-chunk-of-leaf-requires
@@ -38,6 +40,7 @@ returns-2 c =
           (at-leaf (withinOf (a .sought)) (a .tree .now) (a .start .0) (a .i .0) (sym (c .before .before .before .depth .ensures) ∙ c .before .before .if1 .taken)
           (subst (λ (x : ℕ). x ≤ 65536) (c .before .before .before .before .stored-size .ensures) (c .before .if2 .left)));
       lower = tt;
+      way = λ p e. absurd (omega (arith, sym (c .before .before .before .depth .ensures) ∙ c .before .before .if1 .taken));
     }
 
 left-child-requires : tie.Need-left-child-requires
@@ -60,35 +63,31 @@ stored-size-requires-3 c κs =
 
 returns-3 : tie.Need-returns-3
 returns-3 c =
-    record {
-      same =
-          seen-less (withinOf (c .before .before .before .before .before .before .before .before .before .args .sought)) (c .before .before .before .before .before .before .before .before .before .pre) (record {
-            deep = deeper (c .before .before .before .before .before .before .before .before .before .args .i .0) (c .before .before .before .before .before .before .depth .ensures) (c .before .before .before .before .before .if1 .left);
-            left = c .before .before .before .before .left-child .ensures;
-            right = c .before .before .before .right-child .ensures;
-            here = c .before .before .before .before .before .before .before .stored-size .ensures;
-            one = c .before .before .stored-size2 .ensures;
-            two = c .before .stored-size3 .ensures;
-          })
-          (c .if3 .taken);
-      lower = tt;
-    }
+    let v = seen-less (withinOf (c .before .before .before .before .before .before .before .before .before .args .sought)) (c .before .before .before .before .before .before .before .before .before .pre) (record {
+      deep = deeper (c .before .before .before .before .before .before .before .before .before .args .i .0) (c .before .before .before .before .before .before .depth .ensures) (c .before .before .before .before .before .if1 .left);
+      left = c .before .before .before .before .left-child .ensures;
+      right = c .before .before .before .right-child .ensures;
+      here = c .before .before .before .before .before .before .before .stored-size .ensures;
+      one = c .before .before .stored-size2 .ensures;
+      two = c .before .stored-size3 .ensures;
+    })
+    (c .if3 .taken)
+    in
+    record { same = v .0; lower = tt; way = v .1 }
 
 returns-4 : tie.Need-returns-4
 returns-4 c =
-    record {
-      same =
-          seen-other (withinOf (c .before .before .before .before .before .before .before .before .before .before .args .sought)) (c .before .before .before .before .before .before .before .before .before .before .pre) (record {
-            deep = deeper (c .before .before .before .before .before .before .before .before .before .before .args .i .0) (c .before .before .before .before .before .before .before .depth .ensures) (c .before .before .before .before .before .before .if1 .left);
-            left = c .before .before .before .before .before .left-child .ensures;
-            right = c .before .before .before .before .right-child .ensures;
-            here = c .before .before .before .before .before .before .before .before .stored-size .ensures;
-            one = c .before .before .before .stored-size2 .ensures;
-            two = c .before .before .stored-size3 .ensures;
-          })
-          (c .if4 .taken);
-      lower = tt;
-    }
+    let v = seen-other (withinOf (c .before .before .before .before .before .before .before .before .before .before .args .sought)) (c .before .before .before .before .before .before .before .before .before .before .pre) (record {
+      deep = deeper (c .before .before .before .before .before .before .before .before .before .before .args .i .0) (c .before .before .before .before .before .before .before .depth .ensures) (c .before .before .before .before .before .before .if1 .left);
+      left = c .before .before .before .before .before .left-child .ensures;
+      right = c .before .before .before .before .right-child .ensures;
+      here = c .before .before .before .before .before .before .before .before .stored-size .ensures;
+      one = c .before .before .before .stored-size2 .ensures;
+      two = c .before .before .stored-size3 .ensures;
+    })
+    (c .if4 .taken)
+    in
+    record { same = v .0; lower = tt; way = v .1 }
 
 is-within-requires : tie.Need-is-within-requires
 is-within-requires c κs =
@@ -117,7 +116,7 @@ returns-5 c =
     })
     (c .before .before .before .if3 .left) (c .before .before .if4 .left) (sym (c .before .is-within .ensures) ∙ c .if5 .taken)
     in
-    record { same = v .0; lower = v .1 }
+    record { same = v .0; lower = v .1 .0; way = v .1 .1 }
 
 add-t17 : tie.Need-add-t17
 add-t17 c = search needs
@@ -134,7 +133,7 @@ returns-6 c =
     })
     (c .before .before .before .before .if3 .left) (c .before .before .before .if4 .left) (sym (c .before .before .is-within .ensures) ∙ c .before .if5 .left)
     in
-    record { same = v .0; lower = v .1 }
+    record { same = v .0; lower = v .1 .0; way = v .1 .1 }
 
 pub visit-spec : {M : Type 1} → statement M
 visit-spec =

@@ -1,0 +1,3 @@
+-- What C is answered.
+pub mod Number
+pub mod Encoding

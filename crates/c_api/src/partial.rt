@@ -1,0 +1,150 @@
+// Partial copies: made, filled by packets, and their root hashes. A copy is lent as its three images `tree`, `bitfield` and `content` (the
+// data), and told the chunk count `n` and the data size `size`; it has no signatures.
+use c_answers::SleepAnswer;
+use counts::ChunkNumber;
+ghost use mathlib.Core.Path.{_≡_};
+ghost use Rattle.counts.specs.Verdict.{unlessRefused};
+ghost use Rattle.blake2b.specs.Hash.{nodeHash};
+ghost use Rattle.copies.specs.Copy.{copyOf, filesLent};
+ghost use Rattle.make_copy.specs.Make.{makeVerdict, afterMaking};
+ghost use Rattle.take_in.specs.TakeIn.{takeVerdict, afterTaking};
+ghost use Rattle.copy_audit.specs.Audit.{auditCopy};
+ghost use Rattle.copy_release.specs.Release.{copyReleaseVerdict, copyAfterRelease};
+ghost use Rattle.copy_roots.specs.Roots.{copyRootVerdict, copyRootAnswer, copyOldVerdict, copyOldRoot};
+ghost use Rattle.c_answers.specs.Encoding.{encoded};
+ghost use Rattle.c_api.specs.Partial.{CopyMakes};
+
+// A copy of which nothing is known yet, in three buffers.
+#[no_mangle]
+pub extern "C" fn sleep_make_copy(
+    tree: &mut [u8],
+    bitfield: &mut [u8],
+    content: &mut [u8],
+    n: u64,
+    size: u64,
+) -> SleepAnswer
+    ensures answers { λ r. ⌜ r ≡ encoded (makeVerdict (copyOf (now (tree .entry)) (now (bitfield .entry)) (now (content .entry)) n size)) ⌝ }
+    ensures buffers { λ _. ⌜ filesLent (now (tree .exit)) (now (bitfield .exit)) (now (content .exit)) ≡ afterMaking (copyOf (now (tree .entry)) (now (bitfield .entry)) (now (content .entry)) n size) ⌝ }
+{
+    c_answers::encode(make_copy::make_copy(tree, bitfield, content, n, size))
+}
+
+// A packet of a chunk is taken in, under a root hash: the entries that it leads to or gives, and the chunk's bytes.
+#[no_mangle]
+pub extern "C" fn sleep_take_in(
+    tree: &mut [u8],
+    bitfield: &mut [u8],
+    content: &mut [u8],
+    n: u64,
+    size: u64,
+    packet: &[u8],
+    chunk: u64,
+    root: &[u8; 32],
+) -> SleepAnswer
+    ensures answers { λ r. ⌜ r ≡ encoded (takeVerdict nodeHash (copyOf (now (tree .entry)) (now (bitfield .entry)) (now (content .entry)) n size) (now (packet .entry)) chunk (now (root .entry))) ⌝ }
+    ensures buffers { λ _. ⌜ filesLent (now (tree .exit)) (now (bitfield .exit)) (now (content .exit)) ≡ afterTaking nodeHash (copyOf (now (tree .entry)) (now (bitfield .entry)) (now (content .entry)) n size) (now (packet .entry)) chunk (now (root .entry)) ⌝ }
+{
+    c_answers::encode(take_in::take_in(
+        tree,
+        bitfield,
+        content,
+        n,
+        size,
+        packet,
+        ChunkNumber(chunk),
+        root,
+    ))
+}
+
+// Whether the used bytes of the three images are those of a copy.
+#[no_mangle]
+pub extern "C" fn sleep_copy_audit(
+    tree: &[u8],
+    bitfield: &[u8],
+    content: &[u8],
+    n: u64,
+    size: u64,
+) -> SleepAnswer
+    ensures { λ r. ⌜ r ≡ encoded (auditCopy nodeHash (copyOf (now (tree .entry)) (now (bitfield .entry)) (now (content .entry)) n size)) ⌝ }
+{
+    c_answers::encode(copy_audit::audit(tree, bitfield, content, n, size))
+}
+
+// A chunk that is held makes room: its data bit is cleared, and its bytes become zeros. Its entries stay known.
+#[no_mangle]
+pub extern "C" fn sleep_copy_release(
+    tree: &[u8],
+    bitfield: &mut [u8],
+    content: &mut [u8],
+    n: u64,
+    size: u64,
+    chunk: u64,
+) -> SleepAnswer
+    ensures answers { λ r. ⌜ r ≡ encoded (copyReleaseVerdict (copyOf (now (tree .entry)) (now (bitfield .entry)) (now (content .entry)) n size) chunk) ⌝ }
+    ensures buffers { λ _. ⌜ filesLent (now (tree .exit)) (now (bitfield .exit)) (now (content .exit)) ≡ copyAfterRelease (copyOf (now (tree .entry)) (now (bitfield .entry)) (now (content .entry)) n size) chunk ⌝ }
+{
+    c_answers::encode(copy_release::release(tree, bitfield, content, n, size, ChunkNumber(chunk)))
+}
+
+// The root hash that the stored roots give, in `root`.
+#[no_mangle]
+pub extern "C" fn sleep_copy_root_hash(
+    tree: &[u8],
+    bitfield: &[u8],
+    content: &[u8],
+    n: u64,
+    size: u64,
+    root: &mut [u8; 32],
+) -> SleepAnswer
+    ensures answers { λ r. ⌜ r ≡ encoded (copyRootVerdict (copyOf (now (tree .entry)) (now (bitfield .entry)) (now (content .entry)) n size)) ⌝ }
+    ensures gives { λ _. ⌜ now (root .exit) ≡ unlessRefused (copyRootVerdict (copyOf (now (tree .entry)) (now (bitfield .entry)) (now (content .entry)) n size)) (copyRootAnswer nodeHash (copyOf (now (tree .entry)) (now (bitfield .entry)) (now (content .entry)) n size)) (now (root .entry)) ⌝ }
+{
+    let rooted = copy_roots::root_hash(tree, bitfield, content, n, size);
+    let hash = rooted.root;
+    let answer = rooted.answer;
+    c_answers::give_hash(answer, hash, root)
+}
+
+// The root hash of the first `m` chunks, from the stored entries, in `root`.
+#[no_mangle]
+pub extern "C" fn sleep_copy_old_root(
+    tree: &[u8],
+    bitfield: &[u8],
+    content: &[u8],
+    n: u64,
+    size: u64,
+    m: u64,
+    root: &mut [u8; 32],
+) -> SleepAnswer
+    ensures answers { λ r. ⌜ r ≡ encoded (copyOldVerdict (copyOf (now (tree .entry)) (now (bitfield .entry)) (now (content .entry)) n size) m) ⌝ }
+    ensures gives { λ _. ⌜ now (root .exit) ≡ unlessRefused (copyOldVerdict (copyOf (now (tree .entry)) (now (bitfield .entry)) (now (content .entry)) n size) m) (copyOldRoot nodeHash (copyOf (now (tree .entry)) (now (bitfield .entry)) (now (content .entry)) n size) m) (now (root .entry)) ⌝ }
+{
+    let rooted = copy_roots::old_root_hash(tree, bitfield, content, n, size, m);
+    let hash = rooted.root;
+    let answer = rooted.answer;
+    c_answers::give_hash(answer, hash, root)
+}
+
+// The packet of a chunk at the front of `out`, the rest as it was, and the packet's length in `length`. Both are as they were after a
+// refusal.
+#[no_mangle]
+pub extern "C" fn sleep_copy_make_packet(
+    tree: &[u8],
+    bitfield: &[u8],
+    content: &[u8],
+    n: u64,
+    size: u64,
+    chunk: u64,
+    out: &mut [u8],
+    length: &mut u64,
+) -> SleepAnswer
+    ensures { λ r.
+        ⌜
+        CopyMakes
+        (copyOf (now (tree .entry)) (now (bitfield .entry)) (now (content .entry)) n size)
+        chunk (now (out .entry)) (now (length .entry)) r (now (out .exit)) (now (length .exit))
+        ⌝ }
+{
+    let made = copy_packet::make(tree, bitfield, content, n, size, ChunkNumber(chunk), out);
+    c_answers::give_length(made, length)
+}

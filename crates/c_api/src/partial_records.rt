@@ -1,0 +1,78 @@
+// The records of a partial copy's chunks, and the paths in them.
+use super::metadata::SleepFound;
+use super::metadata::SleepNodeRead;
+use c_answers::SleepAnswer;
+use counts::ChunkNumber;
+ghost use Rattle.blake2b.specs.Hash.{nodeHash};
+ghost use Rattle.copies.specs.Copy.{copyOf};
+ghost use Rattle.copy_records.specs.Records.{CopyHeaderAs, CopyNodeAs, CopyFindAs};
+ghost use Rattle.c_api.specs.Metadata.{GivesHeader, GivesNode, FindsAs};
+
+// Where the content bytes of the Header lie that a chunk is, in the chunk.
+#[no_mangle]
+pub extern "C" fn sleep_copy_header_of(
+    tree: &[u8],
+    bitfield: &[u8],
+    content: &[u8],
+    n: u64,
+    size: u64,
+    chunk: u64,
+    out: &mut [u64; 2],
+) -> SleepAnswer
+    ensures { λ r.
+        ⌜
+        GivesHeader
+        (CopyHeaderAs nodeHash (copyOf (now (tree .entry)) (now (bitfield .entry)) (now (content .entry)) n size) chunk)
+        (now (out .entry)) r (now (out .exit))
+        ⌝ }
+{
+    let read = copy_records::header_of(tree, bitfield, content, n, size, ChunkNumber(chunk));
+    super::metadata::give_header(read, out)
+}
+
+// The fields of the Node that a chunk is, with parts of the chunk.
+#[no_mangle]
+pub extern "C" fn sleep_copy_node_of(
+    tree: &[u8],
+    bitfield: &[u8],
+    content: &[u8],
+    n: u64,
+    size: u64,
+    chunk: u64,
+) -> SleepNodeRead
+    ensures { λ r.
+        ⌜
+        GivesNode
+        (CopyNodeAs nodeHash (copyOf (now (tree .entry)) (now (bitfield .entry)) (now (content .entry)) n size) chunk)
+        r
+        ⌝ }
+{
+    super::metadata::flat(copy_records::node_of(
+        tree,
+        bitfield,
+        content,
+        n,
+        size,
+        ChunkNumber(chunk),
+    ))
+}
+
+// The highest chunk number from 1 up whose record has this path.
+#[no_mangle]
+pub extern "C" fn sleep_copy_find(
+    tree: &[u8],
+    bitfield: &[u8],
+    content: &[u8],
+    n: u64,
+    size: u64,
+    path: &[u8],
+) -> SleepFound
+    ensures { λ r.
+        ⌜
+        FindsAs
+        (CopyFindAs nodeHash (copyOf (now (tree .entry)) (now (bitfield .entry)) (now (content .entry)) n size) (now (path .entry)))
+        r
+        ⌝ }
+{
+    super::metadata::found_as(copy_records::find(tree, bitfield, content, n, size, path))
+}

@@ -1,0 +1,4 @@
+-- Laws of the agreements on copies.
+pub mod Known
+pub mod Agree
+pub mod Accepted

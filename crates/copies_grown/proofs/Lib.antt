@@ -1,0 +1,9 @@
+-- Copies that are made and grown are accepted.
+pub mod Grows
+pub mod Accepts
+pub mod Takes
+pub mod Releases
+pub mod Begins
+pub mod Grown
+pub mod Calls
+pub mod Needed

@@ -1,0 +1,9 @@
+-- A copy that holds every chunk, proved.
+pub mod Nodes
+pub mod Full
+pub mod Packets
+pub mod Partly
+pub mod Alike
+pub mod Releases
+pub mod Takes
+pub mod Whole

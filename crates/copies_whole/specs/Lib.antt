@@ -1,0 +1,2 @@
+-- A copy that holds every chunk.
+pub mod Whole

@@ -1,0 +1,242 @@
+-- The entries of a copy as the code judges them, one by one. Assumes nothing.
+use Prim.Native.Nat.{ℕ, zero, suc, _+_, _-_, _*_, _/_, _%_, _^_, _≤_, _<_}
+use mathlib.Core.Path.{_≡_, refl, sym, ap, ap₂, _∙_, subst}
+use mathlib.Core.Bool.{Bool, true, false, cond, not, _&&_, _||_}
+use mathlib.Core.List.{List}
+use native.Mathlib.Nat.{zero-add}
+use native.Mathlib.Omega.{arith}
+use lib.Dec.{leb}
+use lib.ListN.{length, getD}
+use borrow.Author.Tests.{lt-leb}
+use Rattle.sequences.specs.Lists.{part, run, sameList, allZero}
+use Rattle.sequences.proofs.Lists.{length-run, getD-run}
+use Rattle.sequences.specs.Lowest.{Lowest, nowhere, first}
+use Rattle.tree_index.specs.Tree.{index, depth, block, leftChild, rightChild, filled, entries}
+use Rattle.tree_index.proofs.Index.{index-leaf}
+use Rattle.tree_index.proofs.Words.{leaf-block}
+use Rattle.tree_index.proofs.Filled.{filled-leftChild, filled-rightChild}
+use Rattle.bitfield.specs.Image.{entryCount}
+use Rattle.bitfield.specs.Append.{bitsPlace}
+use Rattle.bitfield.specs.Release.{storedHeld}
+use Rattle.bitfield.specs.Known.{storedKnown}
+use Rattle.files.specs.Sizes.{longestChunk, usedBitfield}
+use Rattle.files.specs.Messages.{leafMessage}
+use Rattle.files.specs.Stored.{storedHash, storedSize}
+use Rattle.files.specs.Within.{EntryIn}
+use Rattle.files.proofs.Nodes.{byDepth}
+use Rattle.checks.proofs.Steps.{and-stop, and-pass}
+use Rattle.audit.specs.Audit.{parentRight, holeRight}
+use Rattle.audit.specs.Bytes.{BitsIn}
+use Rattle.audit.specs.Walked.{leafFrom, FilesIn, AtLeaf}
+use Rattle.audit.proofs.Bytes.{tree-bit}
+use Rattle.audit.proofs.Entries.{entry-in, even-depth, odd-depth, parent-in}
+use Rattle.lookup.specs.Descent.{Ending, stopped, reached, chunkWithin, descent}
+use Rattle.lookup.specs.Lookup.{toChunk}
+use Rattle.copies.specs.Copy.{Copy, unsigned}
+use Rattle.copies.specs.Least.{firstUnknown, lowerOf, leastOf}
+use Rattle.copies.proofs.Least.{Lowering, lowering-none, lowering-next, lowering-all}
+use Rattle.copy_descent.specs.Reads.{reads, unknownToChunk}
+use Rattle.copy_descent.specs.Capped.{capped, cappedEnding}
+use Rattle.copy_descent.proofs.Capped.{capped-either}
+use Rattle.copy_audit.specs.Audit.{wrongUnless, heldLeaf, bothKnown, leafRightFrom, wrongFrom, wrongByLeaf, wrongByParent, wrongByKnown, wrongByUnknown, wrongBy, wrongEntryOfCopy}
+use Rattle.copy_audit.specs.Inner.{heldAt, AtNode, AtChunk, AtFamily}
+
+-- ---- where things lie
+
+pub chunk-bit : (bits : List ℕ) (n k : ℕ) → BitsIn bits n → k < n → bitsPlace (k / 8192 + 1) ≤ length bits
+unfolding bitsPlace usedBitfield entryCount
+chunk-bit bits n k b h = omega (arith, b .inside)
+
+-- an even entry is the leaf of one of n chunks
+pub leaf-chunk : (n i k : ℕ) → i < entries n → i % 2 ≡ 0 → k ≡ block i → k < n
+unfolding entries
+leaf-chunk n i k h e q = let b : k ≡ i / 2 = q ∙ sym (leaf-block i e) in omega arith
+
+module _ (tree bits content : List ℕ) (n size : ℕ) (p : FilesIn tree bits content n size) where
+  pub node-at : (i : ℕ) → i < entries n → AtNode bits n i
+  node-at i h = record { field = p .field; entry = h }
+
+  pub family-at : (i : ℕ) → (i % 2 ≡ 0 → ⊥) → filled n i ≡ true → AtFamily tree bits i
+  family-at i o f =
+      record {
+        entries = parent-in tree n i (p .nodes) o f;
+        left = tree-bit bits n (leftChild i) (p .field) (filled-leftChild n i (odd-depth i o) f);
+        right = tree-bit bits n (rightChild i) (p .field) (filled-rightChild n i (odd-depth i o) f);
+      }
+
+  pub leaf-at : (k start : ℕ) → k < n → start ≤ size → AtLeaf tree content size k start
+  unfolding entries
+  leaf-at k start h g = record { entry = entry-in tree n (2 * k) (p .nodes) (omega arith); bytes = p .bytes; inside = g }
+
+-- ---- the tests
+
+pub held-even : (bits : List ℕ) (i k : ℕ) (r : Bool) → i % 2 ≡ 0 → k ≡ block i → r ≡ storedHeld bits k → r ≡ heldAt bits i
+unfolding heldAt
+held-even bits i k r h e q =
+    q ∙ ap (storedHeld bits) e ∙ sym (ap (λ (d : ℕ). byDepth d (storedHeld bits (block i)) false) (even-depth i h))
+
+pub held-odd : (bits : List ℕ) (i : ℕ) → (i % 2 ≡ 0 → ⊥) → false ≡ heldAt bits i
+unfolding heldAt
+held-odd bits i h =
+    let e : depth i ≡ suc (depth i - 1) = omega (arith, odd-depth i h) in
+    sym (ap (λ (d : ℕ). byDepth d (storedHeld bits (block i)) false) e)
+
+-- a test that is not needed, and one that decides
+pub left-unknown : (a b r : Bool) → a ≡ false → true ≡ (not (a && b) || r)
+left-unknown false b r e = refl
+left-unknown true b r e = let z : _≡_ {A = ℕ} 0 1 = cc in absurd (omega arith)
+
+pub right-unknown : (a b r : Bool) → a ≡ true → b ≡ false → true ≡ (not (a && b) || r)
+right-unknown true false r e f = refl
+right-unknown false b r e f = let z : _≡_ {A = ℕ} 0 1 = cc in absurd (omega arith)
+right-unknown true true r e f = let z : _≡_ {A = ℕ} 0 1 = cc in absurd (omega arith)
+
+pub both-known : (a b r s : Bool) → a ≡ true → b ≡ true → s ≡ r → s ≡ (not (a && b) || r)
+both-known true true r s e f q = q
+both-known false b r s e f q = let z : _≡_ {A = ℕ} 0 1 = cc in absurd (omega arith)
+both-known true false r s e f q = let z : _≡_ {A = ℕ} 0 1 = cc in absurd (omega arith)
+
+-- a leaf whose data would begin past the data
+pub start-past : (F : List ℕ → List ℕ) (t d : List ℕ) (size : ℕ) (held : Bool) (k start : ℕ) → size < start → false ≡ leafFrom F t d size held k start
+unfolding leafFrom
+start-past F t d size held k start h = go (leb (storedSize t (2 * k)) longestChunk)
+  where
+    rest : Bool
+    rest = cond held (sameList (storedHash t (2 * k)) (F (leafMessage (part d start (storedSize t (2 * k)))))) (allZero (part d start (storedSize t (2 * k))))
+
+    go : (b : Bool) → false ≡ (b && (leb (start + storedSize t (2 * k)) size && rest))
+    go true = and-stop _ _ (lt-leb (start + storedSize t (2 * k)) size (omega arith))
+    go false = refl
+
+-- ---- a known leaf
+
+-- a start that is told as 2^63 is past the data, and so is the start itself
+capped-leaf : (F : List ℕ → List ℕ) (t d : List ℕ) (size : ℕ) (held : Bool) (k start : ℕ) → size < 2 ^ 63
+    → leafFrom F t d size held k (capped start) ≡ leafFrom F t d size held k start
+capped-leaf F t d size held k start h =
+    capped-either (λ x. leafFrom F t d size held k x ≡ leafFrom F t d size held k start) start (λ l. refl)
+    (λ l. sym (start-past F t d size held k (2 ^ 63) h) ∙ start-past F t d size held k start (omega arith))
+
+-- what an ending told with a capped start says of the ending
+stop-told : (j : ℕ) (e : Ending) → stopped j ≡ cappedEnding e → stopped j ≡ e
+unfolding cappedEnding
+stop-told j (stopped i) q = q
+stop-told j (reached k start) q = let z : _≡_ {A = ℕ} 0 1 = cc in absurd (omega arith)
+
+reach-told : (j s : ℕ) (e : Ending) → reached j s ≡ cappedEnding e → (start : ℕ) × (s ≡ capped start) × (reached j start ≡ e)
+unfolding cappedEnding
+reach-told j s (stopped i) q = let z : _≡_ {A = ℕ} 0 1 = cc in absurd (omega arith)
+reach-told j s (reached k start) q = (start, cc, ap (λ (x : ℕ). reached x start) cc)
+
+-- by whether an unknown entry is met
+abbrev metOr : Lowest → Lowest → Lowest → Lowest
+metOr l a b = elim l [ nowhere ↦ a | first i ↦ b ]
+
+module _ (F : List ℕ → List ℕ) (c : Copy) (k : ℕ) where
+  abbrev readBy : Lowest
+  readBy = firstUnknown (storedKnown (c .bitfield)) (reads (chunkWithin k) (c .tree) (c .n))
+
+  -- the test of a leaf at the index i
+  abbrev leafBy : ℕ → ℕ → Bool
+  leafBy start i =
+      leb (storedSize (c .tree) i) longestChunk
+      && (leb (start + storedSize (c .tree) i) (c .size)
+      && cond (storedHeld (c .bitfield) k) (sameList (storedHash (c .tree) i) (F (leafMessage (part (c .content) start (storedSize (c .tree) i)))))
+      (allZero (part (c .content) start (storedSize (c .tree) i))))
+
+  -- as the copy's definition and the register's say it
+  own-test : (start : ℕ) → leafRightFrom F c k start ≡ leafFrom F (c .tree) (c .content) (c .size) (storedHeld (c .bitfield) k) k start
+  unfolding leafRightFrom leafFrom
+  own-test start = ap (leafBy start) (index-leaf k)
+
+  pub leaf-unknown : (j i : ℕ) → first j ≡ readBy → i ≡ index 0 k → first i ≡ wrongByLeaf F c k
+  unfolding wrongByLeaf unknownToChunk
+  leaf-unknown j i e q = ap first q ∙ ap (λ (l : Lowest). metOr l (wrongFrom F c k (toChunk (unsigned c) k)) (first (index 0 k))) e
+
+  module _ (e : nowhere ≡ readBy) where
+    from-ending : wrongFrom F c k (descent (chunkWithin k) (c .tree) (c .n)) ≡ wrongByLeaf F c k
+    unfolding wrongByLeaf unknownToChunk toChunk
+    from-ending = ap (λ (l : Lowest). metOr l (wrongFrom F c k (toChunk (unsigned c) k)) (first (index 0 k))) e
+
+    pub leaf-stopped : (i : ℕ) → stopped i ≡ cappedEnding (descent (chunkWithin k) (c .tree) (c .n)) → first i ≡ wrongByLeaf F c k
+    unfolding wrongFrom
+    leaf-stopped i q = ap (wrongFrom F c k) (stop-told i (descent (chunkWithin k) (c .tree) (c .n)) q) ∙ from-ending
+
+    pub leaf-reached : (j s i : ℕ) (r : Bool) (l : Lowest) → c .size < 2 ^ 63 → reached j s ≡ cappedEnding (descent (chunkWithin k) (c .tree) (c .n))
+        → i ≡ index 0 k → r ≡ leafFrom F (c .tree) (c .content) (c .size) (storedHeld (c .bitfield) k) k s → l ≡ wrongUnless r i
+        → l ≡ wrongByLeaf F c k
+    unfolding wrongFrom
+    leaf-reached j s i r l h q qi qr ql =
+        let t = reach-told j s (descent (chunkWithin k) (c .tree) (c .n)) q in
+        let right : r ≡ leafRightFrom F c k (t .0) =
+        qr ∙ ap (leafFrom F (c .tree) (c .content) (c .size) (storedHeld (c .bitfield) k) k) (t .1)
+        ∙ capped-leaf F (c .tree) (c .content) (c .size) (storedHeld (c .bitfield) k) k (t .0) h ∙ sym (own-test (t .0)) in
+        ql ∙ ap₂ wrongUnless right qi ∙ ap (wrongFrom F c k) (t .2) ∙ from-ending
+
+-- ---- an entry, whichever it is
+
+module _ (F : List ℕ → List ℕ) (c : Copy) (i : ℕ) where
+  pub by-hole : (r : Bool) (l : Lowest) → filled (c .n) i ≡ false → r ≡ holeRight F (c .tree) i → l ≡ wrongUnless r i → l ≡ wrongBy F c i
+  unfolding wrongBy
+  by-hole r l f e q =
+      q ∙ ap (λ (b : Bool). wrongUnless b i) e
+      ∙ sym (ap (λ (b : Bool). cond b (cond (storedKnown (c .bitfield) i) (wrongByKnown F c i) (wrongByUnknown F c i)) (wrongUnless (holeRight F (c .tree) i) i)) f)
+
+  pub by-unknown : (r : Bool) (l : Lowest) → filled (c .n) i ≡ true → storedKnown (c .bitfield) i ≡ false
+      → r ≡ (holeRight F (c .tree) i && not (heldAt (c .bitfield) i)) → l ≡ wrongUnless r i → l ≡ wrongBy F c i
+  unfolding wrongBy wrongByUnknown heldLeaf heldAt
+  by-unknown r l f k e q =
+      q ∙ ap (λ (b : Bool). wrongUnless b i) e
+      ∙ sym (ap₂ (λ (b d : Bool). cond b (cond d (wrongByKnown F c i) (wrongByUnknown F c i)) (wrongUnless (holeRight F (c .tree) i) i)) f k)
+
+  module _ (f : filled (c .n) i ≡ true) (k : storedKnown (c .bitfield) i ≡ true) where
+    known-is : wrongByKnown F c i ≡ wrongBy F c i
+    unfolding wrongBy
+    known-is = sym (ap₂ (λ (b d : Bool). cond b (cond d (wrongByKnown F c i) (wrongByUnknown F c i)) (wrongUnless (holeRight F (c .tree) i) i)) f k)
+
+    pub by-leaf : (j : ℕ) (l : Lowest) → i % 2 ≡ 0 → j ≡ block i → l ≡ wrongByLeaf F c j → l ≡ wrongBy F c i
+    unfolding wrongByKnown
+    by-leaf j l h e q =
+        q ∙ ap (wrongByLeaf F c) e ∙ sym (ap (λ (d : ℕ). byDepth d (wrongByLeaf F c (block i)) (wrongByParent F c i)) (even-depth i h)) ∙ known-is
+
+    pub by-parent : (r : Bool) (l : Lowest) → (i % 2 ≡ 0 → ⊥)
+        → r ≡ (not (storedKnown (c .bitfield) (leftChild i) && storedKnown (c .bitfield) (rightChild i)) || parentRight F (c .tree) i)
+        → l ≡ wrongUnless r i → l ≡ wrongBy F c i
+    unfolding wrongByKnown wrongByParent bothKnown
+    by-parent r l h e q =
+        let d : depth i ≡ suc (depth i - 1) = omega (arith, odd-depth i h) in
+        q ∙ ap (λ (b : Bool). wrongUnless b i) e
+        ∙ sym (ap (λ (x : ℕ). byDepth x (wrongByLeaf F c (block i)) (wrongByParent F c i)) d) ∙ known-is
+
+-- ---- the walk over all entries
+
+-- of the first i entries the lowest found wrong is x
+pub record Seeking (F : List ℕ → List ℕ) (c : Copy) (count i : ℕ) (x : Lowest) : Type 0 where
+  pub end : count ≡ entries (c .n)
+  pub lowering : Lowering (run (wrongBy F c) 0 (entries (c .n))) nowhere i x
+
+module _ (F : List ℕ → List ℕ) (c : Copy) (count : ℕ) where
+  pub seeking-none : count ≡ entries (c .n) → Seeking F c count 0 nowhere
+  seeking-none e = record { end = e; lowering = lowering-none (run (wrongBy F c) 0 (entries (c .n))) nowhere }
+
+  module _ (i : ℕ) (x : Lowest) (w : Seeking F c count i x) where
+    pub seeking-entry : i < count → i < entries (c .n)
+    seeking-entry h = omega (arith, w .end)
+
+    pub seeking-next : (y z : Lowest) → i < count → y ≡ wrongBy F c i → z ≡ lowerOf x y → Seeking F c count (i + 1) z
+    seeking-next y z h e q =
+        let f = wrongBy F c in
+        let m = entries (c .n) in
+        record {
+          end = w .end;
+          lowering = subst (Lowering (run f 0 m) nowhere (i + 1)) (sym q)
+              (lowering-next (run f 0 m) nowhere i x y (w .lowering) (omega (arith, w .end, length-run f 0 m))
+              (e ∙ sym (getD-run f 0 m i nowhere (omega (arith, w .end)) ∙ ap f (zero-add i))));
+        }
+
+    pub seeking-all : count ≤ i → x ≡ wrongEntryOfCopy F c
+    unfolding wrongEntryOfCopy lowerOf
+    seeking-all h =
+        let f = wrongBy F c in
+        let m = entries (c .n) in
+        lowering-all (run f 0 m) nowhere i x (w .lowering) (omega (arith, w .end, length-run f 0 m))

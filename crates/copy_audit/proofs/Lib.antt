@@ -1,0 +1,3 @@
+-- Laws of a copy's audit.
+pub mod Judged
+pub mod Verdicts

@@ -1,0 +1,167 @@
+// The tree entries of a copy, one by one. All of these are inner: they require the files to hold the entries of n chunks and their bits.
+use copies::Found;
+use copies::Unknown;
+use counts::ByteOffset;
+use counts::ChunkNumber;
+use counts::TreeIndex;
+use lookup::Ending;
+ghost use mathlib.Core.Path.{_≡_};
+ghost use mathlib.Core.Bool.{_&&_, _||_, not};
+ghost use Prim.Native.Nat.{_<_};
+ghost use Rattle.bitfield.specs.Known.{storedKnown};
+ghost use Rattle.bitfield.specs.Release.{storedHeld};
+ghost use Rattle.tree_index.specs.Tree.{leftChild, rightChild, entries as entriesOf};
+ghost use Rattle.blake2b.specs.Hash.{nodeHash};
+ghost use Rattle.files.specs.Within.{EntryIn};
+ghost use Rattle.audit.specs.Audit.{parentRight, holeRight};
+ghost use Rattle.audit.specs.Walked.{leafFrom, FilesIn};
+ghost use Rattle.copies.specs.Copy.{copyOf};
+ghost use Rattle.copies.specs.Said.{foundOf};
+ghost use Rattle.copy_audit.specs.Audit.{wrongUnless, wrongByLeaf, wrongBy, wrongEntryOfCopy};
+ghost use Rattle.copy_audit.specs.Inner.{heldAt, AtNode, AtChunk, AtFamily};
+
+// A tree index, where a test finds its entry wrong.
+fn wrong_unless(right: bool, i: TreeIndex) -> Found
+    ensures { λ r. ⌜ foundOf r ≡ wrongUnless right (i .0) ⌝ }
+{
+    if right {
+        return Found::Nothing;
+    }
+    Found::At(i)
+}
+
+// Whether a tree index is the leaf of a chunk that is held.
+fn held_leaf(bitfield: &[u8], n: u64, i: TreeIndex) -> bool
+    requires { ⌜ AtNode (now bitfield) n (i .0) ⌝ }
+    ensures { λ r. ⌜ r ≡ heldAt (now (bitfield .entry)) (i .0) ⌝ }
+{
+    if i.0 % 2 == 0 {
+        return bitfield::is_held(bitfield, tree_index::chunk_of_leaf(i));
+    }
+    false
+}
+
+// Whether an entry that is not known is right: it is zero, and its chunk not held.
+fn unknown_right(tree: &[u8], bitfield: &[u8], n: u64, i: TreeIndex) -> bool
+    requires { ⌜ EntryIn (now tree) (i .0) × AtNode (now bitfield) n (i .0) ⌝ }
+    ensures { λ r. ⌜ r ≡ (holeRight nodeHash (now (tree .entry)) (i .0) && not (heldAt (now (bitfield .entry)) (i .0))) ⌝ }
+{
+    if !audit::hole_right(tree, i) {
+        return false;
+    }
+    !held_leaf(bitfield, n, i)
+}
+
+// Whether a parent is right as far as it can be judged: "only where it and both children are known".
+fn parent_right(tree: &[u8], bitfield: &[u8], i: TreeIndex) -> bool
+    requires { ⌜ AtFamily (now tree) (now bitfield) (i .0) ⌝ }
+    ensures { λ r.
+        ⌜
+        r ≡
+        (not (storedKnown (now (bitfield .entry)) (leftChild (i .0)) && storedKnown (now (bitfield .entry)) (rightChild (i .0)))
+        || parentRight nodeHash (now (tree .entry)) (i .0))
+        ⌝ }
+{
+    let left = tree_index::left_child(i);
+    let right = tree_index::right_child(i);
+    if !bitfield::is_known(bitfield, left) {
+        return true;
+    }
+    if !bitfield::is_known(bitfield, right) {
+        return true;
+    }
+    audit::parent_right(tree, i)
+}
+
+// Whether a leaf is right whose data begin at `start`, which may be past the data.
+fn leaf_right(
+    tree: &[u8],
+    bitfield: &[u8],
+    content: &[u8],
+    n: u64,
+    size: u64,
+    c: ChunkNumber,
+    start: ByteOffset,
+) -> bool
+    requires { ⌜ AtChunk (now tree) (now bitfield) (now content) n size (c .0) ⌝ }
+    ensures { λ r.
+        ⌜
+        r ≡
+        leafFrom nodeHash (now (tree .entry)) (now (content .entry)) size (storedHeld (now (bitfield .entry)) (c .0)) (c .0) (start .0)
+        ⌝ }
+{
+    if size < start.0 {
+        return false;
+    }
+    let held = bitfield::is_held(bitfield, c);
+    audit::leaf_right(tree, content, size, held, c, start)
+}
+
+// What is found wrong by a known leaf: "a stop counts as a wrong entry at the stop, and a leaf whose descent .. meets an unknown entry before a stop
+// is itself wrong".
+fn wrong_by_leaf(
+    tree: &[u8],
+    bitfield: &[u8],
+    content: &[u8],
+    n: u64,
+    size: u64,
+    c: ChunkNumber,
+) -> Found
+    requires { ⌜ AtChunk (now tree) (now bitfield) (now content) n size (c .0) ⌝ }
+    ensures { λ r.
+        ⌜ foundOf r ≡ wrongByLeaf nodeHash (copyOf (now (tree .entry)) (now (bitfield .entry)) (now (content .entry)) n size) (c .0) ⌝ }
+{
+    let leaf = tree_index::leaf_index(c);
+    match copy_descent::unknown_to_chunk(tree, bitfield, n, c) {
+        Unknown::At(_) => Found::At(leaf),
+        Unknown::Nothing => match copy_descent::ending_to_chunk(tree, n, c) {
+            Ending::Stopped(i) => Found::At(i),
+            Ending::Reached(_, start) => {
+                let right = leaf_right(tree, bitfield, content, n, size, c, start);
+                wrong_unless(right, leaf)
+            }
+        },
+    }
+}
+
+// What is found wrong when the audit comes to an entry: this one, or the one at which the descent to it stops.
+fn wrong_by(tree: &[u8], bitfield: &[u8], content: &[u8], n: u64, size: u64, i: TreeIndex) -> Found
+    requires { ⌜ FilesIn (now tree) (now bitfield) (now content) n size × (i .0 < entriesOf n) ⌝ }
+    ensures { λ r.
+        ⌜ foundOf r ≡ wrongBy nodeHash (copyOf (now (tree .entry)) (now (bitfield .entry)) (now (content .entry)) n size) (i .0) ⌝ }
+{
+    if !tree_index::is_filled(n, i) {
+        return wrong_unless(audit::hole_right(tree, i), i);
+    }
+    if !bitfield::is_known(bitfield, i) {
+        return wrong_unless(unknown_right(tree, bitfield, n, i), i);
+    }
+    if i.0 % 2 == 0 {
+        return wrong_by_leaf(
+            tree,
+            bitfield,
+            content,
+            n,
+            size,
+            tree_index::chunk_of_leaf(i),
+        );
+    }
+    wrong_unless(parent_right(tree, bitfield, i), i)
+}
+
+// The lowest entry that is found wrong. A descent may stop above or below the leaf that it goes to, so all entries are gone through.
+pub fn wrong_entry(tree: &[u8], bitfield: &[u8], content: &[u8], n: u64, size: u64) -> Found
+    requires { ⌜ FilesIn (now tree) (now bitfield) (now content) n size ⌝ }
+    ensures { λ r.
+        ⌜ foundOf r ≡ wrongEntryOfCopy nodeHash (copyOf (now (tree .entry)) (now (bitfield .entry)) (now (content .entry)) n size) ⌝ }
+{
+    let count = audit::entry_count(n);
+    let mut found = Found::Nothing;
+    let mut i = TreeIndex(0);
+    while i.0 < count {
+        let here = wrong_by(tree, bitfield, content, n, size, i);
+        found = copies::lower_of(found, here);
+        i = TreeIndex(i.0 + 1);
+    }
+    found
+}

@@ -1,0 +1,26 @@
+-- `copy_lookup::reads::read_answer` meets its contract. Assumes nothing.
+use mathlib.Core.Path.{sym, ap, _∙_}
+use Rattle.counts.specs.Said.{spotOf}
+use Rattle.blake2b.specs.Hash.{nodeHash}
+use Rattle.lookup.specs.Said.{verifiedOf}
+use Rattle.copies.specs.Copy.{Copy, copyOf}
+use Rattle.copy_lookup.proofs.Calls.{copy-lying, copy-nothing}
+use borrow.Author.Needs.{needs}
+use Rattle.copy_lookup.proofs.reads.read_answer.Statement.{statement}
+use Rattle.copy_lookup.proofs.reads.read_answer.Tie as tie
+
+abbrev given : (c : tie.Start) → Copy
+given c = copyOf (c .args .tree .now) (c .args .bitfield .now) (c .args .content .now) (c .args .n) (c .args .size)
+
+returns : tie.Need-returns
+returns c =
+    let k = c .enum-told .given in
+    copy-lying nodeHash (given (c .before .before .before .before .before .before)) (c .before .before .before .before .before .before .args .chunk .0) (k .0 .0 .0) (k .0 .1 .0 .0) (sym (ap verifiedOf (k .1)) ∙ c .before .before .verify .ensures) .verdict
+
+returns-2 : tie.Need-returns-2
+returns-2 c =
+    let k = c .before .refusal .given in
+    copy-nothing nodeHash (given (c .before .before .before .before .before .before .before)) (c .before .before .before .before .before .before .before .args .chunk .0) (k .0 .0 .number) (spotOf (k .0 .0 .place)) (sym (ap verifiedOf (k .1)) ∙ c .before .before .before .verify .ensures) .0
+
+pub read-answer-spec : {M : Type 1} → statement M
+read-answer-spec = tie.close (tie.spec (λ c κs. search needs) (λ c. search needs) (λ c. search needs) returns returns-2)

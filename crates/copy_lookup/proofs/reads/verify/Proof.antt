@@ -1,0 +1,24 @@
+-- `copy_lookup::reads::verify` meets its contract: the place, and then the hash of the bytes there. Assumes nothing.
+use mathlib.Core.Path.{_∙_}
+use Rattle.blake2b.specs.Hash.{nodeHash}
+use Rattle.lookup.specs.Said.{placedOf}
+use Rattle.copies.specs.Copy.{Copy, copyOf}
+use Rattle.copy_lookup.proofs.Calls.{copy-placed-in, copy-verified}
+use borrow.Author.Needs.{needs}
+use Rattle.copy_lookup.proofs.reads.verify.Statement.{statement}
+use Rattle.copy_lookup.proofs.reads.verify.Tie as tie
+
+abbrev given : (c : tie.Start) → Copy
+given c = copyOf (c .args .tree .now) (c .args .bitfield .now) (c .args .content .now) (c .args .n) (c .args .size)
+
+verify-placed-requires : tie.Need-verify-placed-requires
+verify-placed-requires c κs =
+    copy-placed-in (given (c .before .before .before .before)) (c .before .before .before .before .args .chunk .0) (placedOf (c .held-place .result)) (c .held-place .ensures)
+
+returns : tie.Need-returns
+returns c =
+    c .verify-placed .ensures
+    ∙ copy-verified nodeHash (given (c .before .before .before .before .before)) (c .before .before .before .before .before .args .chunk .0) (placedOf (c .before .held-place .result)) (c .before .held-place .ensures)
+
+pub verify-spec : {M : Type 1} → statement M
+verify-spec = tie.close (tie.spec (λ c κs. search needs) verify-placed-requires returns)

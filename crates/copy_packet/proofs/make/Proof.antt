@@ -1,0 +1,68 @@
+-- `copy_packet::make` meets its contract. Assumes nothing.
+use mathlib.Core.Path.{refl, sym, ap, _∙_}
+use Rattle.counts.specs.Said.{spotOf}
+use Rattle.blake2b.specs.Hash.{nodeHash}
+use Rattle.lookup.specs.Said.{verifiedOf}
+use Rattle.copies.specs.Copy.{Copy, copyOf}
+use Rattle.copy_lookup.proofs.AsRegister.{read-found-done}
+use Rattle.copy_lookup.proofs.Calls.{copy-lying, copy-nothing}
+use Rattle.copy_packet.proofs.Calls.{bytes-are, readable, made-none, made-from}
+use borrow.Author.Needs.{needs}
+use Rattle.copy_packet.proofs.make.Statement.{statement}
+use Rattle.copy_packet.proofs.make.Tie as tie
+
+abbrev given : (c : tie.Start) → Copy
+given c = copyOf (c .args .tree .now) (c .args .bitfield .now) (c .args .content .now) (c .args .n) (c .args .size)
+
+sub-make-read : tie.Need-sub-make-read
+sub-make-read c =
+    let s = c .before .before .before .before .before .before .before .before in
+    let k = c .before .start .given in
+    copy-lying nodeHash (given s) (s .args .chunk .0) (k .0 .0 .0) (k .0 .1 .0 .0) (sym (ap verifiedOf (k .1)) ∙ c .before .before .before .verify .ensures) .ordered
+
+part-make-read-start : tie.Need-part-make-read-start
+part-make-read-start c =
+    let s = c .before .before .before .before .before .before .before .before in
+    let k = c .before .start .given in
+    copy-lying nodeHash (given s) (s .args .chunk .0) (k .0 .0 .0) (k .0 .1 .0 .0) (sym (ap verifiedOf (k .1)) ∙ c .before .before .before .verify .ensures) .ordered
+
+part-make-read-end : tie.Need-part-make-read-end
+part-make-read-end c =
+    let s = c .before .before .before .before .before .before .before .before in
+    let k = c .before .start .given in
+    copy-lying nodeHash (given s) (s .args .chunk .0) (k .0 .0 .0) (k .0 .1 .0 .0) (sym (ap verifiedOf (k .1)) ∙ c .before .before .before .verify .ensures) .inside
+
+make-read-requires : tie.Need-make-read-requires
+make-read-requires c κs =
+    let s = c .before .before .before .before .before .before .before .before .before .before in
+    let k = c .before .before .before .start .given in
+    readable nodeHash (given s) (s .args .chunk .0) (k .0 .0 .0) (k .0 .1 .0 .0) (sym (ap verifiedOf (k .1)) ∙ c .before .before .before .before .before .verify .ensures) _ refl
+
+returns : tie.Need-returns
+returns c =
+    let s = c .before .before .before .before .before .before .before .before in
+    let k = c .before .refusal .given in
+    made-none nodeHash (given s) (s .args .chunk .0) (s .args .out .now) (k .0 .0)
+    (copy-nothing nodeHash (given s) (s .args .chunk .0) (k .0 .0 .number) (spotOf (k .0 .0 .place)) (sym (ap verifiedOf (k .1)) ∙ c .before .before .before .verify .ensures) .0)
+
+returns-2 : tie.Need-returns-2
+returns-2 c =
+    let s = c .before .before .before .before .before .before .before .before .before .before .before .before .before in
+    let k = c .before .before .before .before .before .before .start .given in
+    let e = sym (ap verifiedOf (k .1)) ∙ c .before .before .before .before .before .before .before .before .verify .ensures in
+    made-from nodeHash (given s) (s .args .chunk .0) (s .args .out .now) (read-found-done nodeHash (given s) (s .args .chunk .0) (k .0 .0 .0) (k .0 .1 .0 .0) e) _
+    (bytes-are nodeHash (given s) (s .args .chunk .0) (k .0 .0 .0) (k .0 .1 .0 .0) e _ refl) (c .before .before .make-read .result) (c .before .before .make-read .last .1 .1 .1 .1 .0)
+    (c .before .before .make-read .ensures)
+
+pub make-spec : {M : Type 1} → statement M
+make-spec =
+    tie.close
+    (tie.spec
+    (λ c κs. search needs) (λ c. search needs) (λ c. search needs)
+    sub-make-read
+    part-make-read-start
+    part-make-read-end
+    make-read-requires
+    returns
+    (λ c. search needs)
+    returns-2)

@@ -1,0 +1,3 @@
+-- The making of a packet from a copy.
+pub mod Making
+pub mod Post

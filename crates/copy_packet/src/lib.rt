@@ -1,0 +1,33 @@
+// Making a packet of a chunk of a partial copy. Everything is judged before the buffer is written.
+use counts::ChunkNumber;
+use lookup::Verified;
+use packet::Made;
+ghost use Rattle.blake2b.specs.Hash.{nodeHash};
+ghost use Rattle.copies.specs.Copy.{copyOf};
+ghost use Rattle.copy_packet.specs.Post.{CopyMadeAs};
+
+// The packet of a chunk of a copy at the front of a buffer, the rest as it was. "Making one does the read of chunk i first, with its refusals."
+pub fn make(
+    tree: &[u8],
+    bitfield: &[u8],
+    content: &[u8],
+    n: u64,
+    size: u64,
+    chunk: ChunkNumber,
+    out: &mut [u8],
+) -> Made
+    ensures { λ r.
+        ⌜
+        CopyMadeAs nodeHash (copyOf (now (tree .entry)) (now (bitfield .entry)) (now (content .entry)) n size) (chunk .0)
+        (now (out .entry)) r (now (out .exit))
+        ⌝ }
+{
+    match copy_lookup::verify(tree, bitfield, content, n, size, chunk) {
+        Verified::Refused(refusal) => Made::Refused(refusal),
+        Verified::Part(start, end) => {
+            let from = start.0 as usize;
+            let to = end.0 as usize;
+            packet::make_read(tree, n, chunk, &content[from..to], out)
+        }
+    }
+}

@@ -1,0 +1,2 @@
+-- Laws of the records of a copy.
+pub mod Chunk

@@ -1,0 +1,2 @@
+-- The records of a copy's chunks, and the paths in them.
+pub mod Records

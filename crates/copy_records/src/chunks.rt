@@ -1,0 +1,92 @@
+// The record of a chunk of a copy: the read's own refusals, then number 15 at the leaf's tree index.
+use counts::Answer;
+use counts::ChunkNumber;
+use lookup::Verified;
+use nodes::NodeRead;
+use paths::Compared;
+use records::HeaderRead;
+ghost use Rattle.blake2b.specs.Hash.{nodeHash};
+ghost use Rattle.copies.specs.Copy.{copyOf};
+ghost use Rattle.copy_records.specs.Records.{CopyHeaderAs, CopyNodeAs, CopyPathAs};
+
+// The Header that a chunk is, as a rule chunk 0: where its content bytes lie in the chunk.
+pub fn header_of(
+    tree: &[u8],
+    bitfield: &[u8],
+    content: &[u8],
+    n: u64,
+    size: u64,
+    chunk: ChunkNumber,
+) -> HeaderRead
+    ensures { λ r.
+        ⌜
+        CopyHeaderAs nodeHash (copyOf (now (tree .entry)) (now (bitfield .entry)) (now (content .entry)) n size) (chunk .0) r
+        ⌝ }
+{
+    match copy_lookup::verify(tree, bitfield, content, n, size, chunk) {
+        Verified::Refused(refusal) => HeaderRead::Refused(refusal),
+        Verified::Part(start, end) => {
+            let from = start.0 as usize;
+            let to = end.0 as usize;
+            paths::header_at(&content[from..to], chunk)
+        }
+    }
+}
+
+// The Node that a chunk is: its fields, with parts of the chunk; a Node that says nothing beside a refusal.
+pub fn node_of(
+    tree: &[u8],
+    bitfield: &[u8],
+    content: &[u8],
+    n: u64,
+    size: u64,
+    chunk: ChunkNumber,
+) -> NodeRead
+    ensures { λ r.
+        ⌜
+        CopyNodeAs nodeHash (copyOf (now (tree .entry)) (now (bitfield .entry)) (now (content .entry)) n size) (chunk .0)
+        (r .answer) (r .node)
+        ⌝ }
+{
+    match copy_lookup::verify(tree, bitfield, content, n, size, chunk) {
+        Verified::Refused(refusal) => {
+            let none = nodes::no_node();
+            let node = none.node;
+            NodeRead {
+                answer: Answer::Refused(refusal),
+                node,
+            }
+        }
+        Verified::Part(start, end) => {
+            let from = start.0 as usize;
+            let to = end.0 as usize;
+            paths::node_at(&content[from..to], chunk)
+        }
+    }
+}
+
+// Whether the Node that a chunk is has a path.
+pub fn path_of(
+    tree: &[u8],
+    bitfield: &[u8],
+    content: &[u8],
+    n: u64,
+    size: u64,
+    chunk: ChunkNumber,
+    path: &[u8],
+) -> Compared
+    ensures { λ r.
+        ⌜
+        CopyPathAs nodeHash (copyOf (now (tree .entry)) (now (bitfield .entry)) (now (content .entry)) n size) (chunk .0)
+        (now (path .entry)) r
+        ⌝ }
+{
+    match copy_lookup::verify(tree, bitfield, content, n, size, chunk) {
+        Verified::Refused(refusal) => Compared::Refused(refusal),
+        Verified::Part(start, end) => {
+            let from = start.0 as usize;
+            let to = end.0 as usize;
+            paths::path_at(&content[from..to], chunk, path)
+        }
+    }
+}

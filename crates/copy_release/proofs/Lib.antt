@@ -1,0 +1,2 @@
+-- Laws of a release on a copy.
+pub mod Calls

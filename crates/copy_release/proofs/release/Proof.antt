@@ -1,0 +1,36 @@
+-- `copy_release::release` meets its contract. Assumes nothing.
+use mathlib.Core.Path.{sym, ap, _∙_}
+use borrow.Author.Needs.{needs}
+use Rattle.counts.specs.Said.{spotOf}
+use Rattle.lookup.specs.Said.{placedOf}
+use Rattle.copies.specs.Copy.{Copy, copyOf}
+use Rattle.copy_release.proofs.Calls.{release-fits, release-not, release-done}
+use Rattle.copy_release.proofs.release.Statement.{statement}
+use Rattle.copy_release.proofs.release.Tie as tie
+
+abbrev given : (c : tie.Start) → Copy
+given c = copyOf (c .args .tree .now) (c .args .bitfield .now) (c .args .content .now) (c .args .n) (c .args .size)
+
+clear-chunk-requires : tie.Need-clear-chunk-requires
+clear-chunk-requires c κs =
+    let s = c .before .before .before .before .before .before .before .before .before .before .before in
+    let k = c .before .before .before .found2 .given in
+    release-fits (given s) (s .args .chunk .0) (k .0 .0 .0) (k .0 .1 .0) (sym (ap placedOf (k .1)) ∙ c .before .before .before .before .before .held-place .ensures)
+
+returns : tie.Need-returns
+returns c =
+    let s = c .before .before .before .before .before .before .before .before .before in
+    let k = c .before .found .given in
+    release-not (given s) (s .args .chunk .0) (k .0 .0 .number) (spotOf (k .0 .0 .place)) (sym (ap placedOf (k .1)) ∙ c .before .before .before .held-place .ensures)
+
+returns-2 : tie.Need-returns-2
+returns-2 c =
+    let s = c .before .before .before .before .before .before .before .before .before .before .before .before .before .before .before .before in
+    let k = c .before .before .before .before .before .before .before .before .found2 .given in
+    release-done (given s) (s .args .chunk .0) (k .0 .0 .0) (k .0 .1 .0) _ _ (sym (ap placedOf (k .1)) ∙ c .before .before .before .before .before .before .before .before .before .before .held-place .ensures)
+    (c .before .before .before .before .clear-chunk .ensures)
+
+pub release-spec : {M : Type 1} → statement M
+release-spec =
+    tie.close
+    (tie.spec (λ c κs. search needs) (λ c. search needs) (λ c. search needs) clear-chunk-requires (λ c. search needs) (λ c. search needs) returns (λ c. search needs) (λ c. search needs) returns-2)

@@ -1,0 +1,3 @@
+-- The release on a copy.
+pub mod Release
+pub mod Post

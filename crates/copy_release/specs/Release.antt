@@ -1,0 +1,16 @@
+-- The release on a copy.
+use Prim.Native.Nat.{ℕ}
+use Rattle.counts.specs.Verdict.{Verdict, unlessRefused}
+use Rattle.release.specs.Release.{releasedRegister}
+use Rattle.copies.specs.Copy.{Copy, Files, filesOf, unsigned, lentAsCopy}
+use Rattle.copy_lookup.specs.Lookups.{copyHeldVerdict}
+
+-- the refusals of the place of a chunk that is held
+unfoldable pub copyReleaseVerdict : Copy → ℕ → Verdict
+copyReleaseVerdict c i = copyHeldVerdict c i
+
+unfoldable pub releasedCopy : Copy → ℕ → Copy
+releasedCopy c i = lentAsCopy (releasedRegister (unsigned c) i)
+
+unfoldable pub copyAfterRelease : Copy → ℕ → Files
+copyAfterRelease c i = unlessRefused (copyReleaseVerdict c i) (filesOf (releasedCopy c i)) (filesOf c)

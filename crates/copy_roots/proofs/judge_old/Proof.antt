@@ -1,0 +1,42 @@
+-- `copy_roots::judge_old` meets its contract. Assumes nothing.
+use mathlib.Core.Path.{sym, ap, _∙_}
+use Rattle.counts.specs.Said.{said, spotOf}
+use Rattle.copies.specs.Copy.{Copy, copyOf}
+use Rattle.copy_roots.proofs.Calls.{old-refused, old-above, old-bits, old-judged}
+use borrow.Author.Needs.{needs}
+use Rattle.copy_roots.proofs.judge_old.Statement.{statement}
+use Rattle.copy_roots.proofs.judge_old.Tie as tie
+
+abbrev given : (c : tie.Start) → Copy
+given c = copyOf (c .args .tree .now) (c .args .bitfield .now) (c .args .content .now) (c .args .n) (c .args .size)
+
+roots-known-requires : tie.Need-roots-known-requires
+roots-known-requires c κs =
+    let s = c .before .before .before .before .before .before .before .before .before in
+    old-bits (given s) (s .args .m) (sym (ap said (c .before .before .before .enum-told .given .1)) ∙ c .before .before .before .before .before .judge .ensures)
+    (sym (ap said (c .enum-told2 .given .1)) ∙ c .before .before .up-to .ensures)
+
+returns : tie.Need-returns
+returns c =
+    let s = c .before .before .before .before .before .before .before in
+    let q = c .before .refusal .given in
+    old-refused (given s) (s .args .m) (q .0 .0 .number) (spotOf (q .0 .0 .place)) (sym (ap said (q .1)) ∙ c .before .before .before .judge .ensures)
+
+returns-2 : tie.Need-returns-2
+returns-2 c =
+    let s = c .before .before .before .before .before .before .before .before .before .before in
+    let q = c .before .refusal2 .given in
+    old-above (given s) (s .args .m) (sym (ap said (c .before .before .before .before .enum-told .given .1)) ∙ c .before .before .before .before .before .before .judge .ensures) (q .0 .0 .number) (spotOf (q .0 .0 .place))
+    (sym (ap said (q .1)) ∙ c .before .before .before .up-to .ensures)
+
+returns-3 : tie.Need-returns-3
+returns-3 c =
+    let s = c .before .before .before .before .before .before .before .before .before .before in
+    old-judged (given s) (s .args .m) (sym (ap said (c .before .before .before .before .enum-told .given .1)) ∙ c .before .before .before .before .before .before .judge .ensures)
+    (sym (ap said (c .before .enum-told2 .given .1)) ∙ c .before .before .before .up-to .ensures) (said (c .roots-known .result)) (c .roots-known .ensures)
+
+pub judge-old-spec : {M : Type 1} → statement M
+judge-old-spec =
+    tie.close
+    (tie.spec (λ c κs. search needs) (λ c. search needs) (λ c. search needs) (λ c κs. search needs) (λ c. search needs) (λ c. search needs) roots-known-requires
+    returns returns-2 returns-3)

@@ -1,0 +1,3 @@
+-- The root hash, root hashes of earlier years and the search on a copy.
+pub mod Roots
+pub mod Post

@@ -1,0 +1,116 @@
+// The root hash, root hashes of earlier years and the search on a partial copy. Its files are lent to be read.
+use bitfield::Found;
+use copies::Unknown;
+use counts::Answer;
+use counts::ChunkNumber;
+use search::Searched;
+use writing::Rooted;
+ghost use mathlib.Core.Path.{_≡_};
+ghost use Rattle.counts.specs.Verdict.{tree, done};
+ghost use Rattle.counts.specs.Said.{said};
+ghost use Rattle.tree_index.specs.Tree.{roots};
+ghost use Rattle.bitfield.specs.Known.{storedKnown};
+ghost use Rattle.files.specs.Within.{RootsIn};
+ghost use Rattle.audit.specs.Audit.{refusedAt};
+ghost use Rattle.audit.specs.Bytes.{BitsIn};
+ghost use Rattle.search.specs.Said.{searchedOf};
+ghost use Rattle.copies.specs.Copy.{copyOf};
+ghost use Rattle.copies.specs.Least.{firstUnknown};
+ghost use Rattle.copy_roots.specs.Roots.{copyOldVerdict, copySearch};
+ghost use Rattle.copy_roots.specs.Post.{RootPost, OldRootPost, RootedPost};
+
+// Inner: an answer, and beside it, where it is done, the root hash that the stored roots of the first m chunks give; zeros after a refusal.
+fn rooted(found: Answer, tree: &[u8], m: u64) -> Rooted
+    requires { ⌜ (said found ≡ done → RootsIn (now tree) m) ⌝ }
+    ensures { λ r. ⌜ RootedPost (said found) (now (tree .entry)) m (said (r .answer)) (r .root) ⌝ }
+{
+    match found {
+        Answer::Refused(refusal) => Rooted {
+            answer: Answer::Refused(refusal),
+            root: [0u8; 32],
+        },
+        Answer::Done => Rooted {
+            answer: Answer::Done,
+            root: files::roots::stored_root_hash(tree, m),
+        },
+    }
+}
+
+// The root hash that the stored roots of a copy give.
+pub fn root_hash(tree: &[u8], bitfield: &[u8], content: &[u8], n: u64, size: u64) -> Rooted
+    ensures { λ r.
+        ⌜
+        RootPost (copyOf (now (tree .entry)) (now (bitfield .entry)) (now (content .entry)) n size) (said (r .answer)) (r .root)
+        ⌝ }
+{
+    let found = copies::judge(tree, bitfield, content, n, size);
+    rooted(found, tree, n)
+}
+
+// Inner: 20 at the first of the roots of m chunks, from the left, that is not known.
+fn roots_known(bitfield: &[u8], m: u64) -> Answer
+    requires { ⌜ BitsIn (now bitfield) m ⌝ }
+    ensures { λ r. ⌜ said r ≡ refusedAt 20 tree (firstUnknown (storedKnown (now (bitfield .entry))) (roots m)) done ⌝ }
+{
+    match copies::unknown_root(bitfield, m) {
+        Unknown::At(i) => counts::refuse_entry(20, i),
+        Unknown::Nothing => Answer::Done,
+    }
+}
+
+// The checks of a copy, 9 for m above n, and then 20 at an unknown root of the first m chunks.
+fn judge_old(tree: &[u8], bitfield: &[u8], content: &[u8], n: u64, size: u64, m: u64) -> Answer
+    ensures { λ r.
+        ⌜
+        said r ≡ copyOldVerdict (copyOf (now (tree .entry)) (now (bitfield .entry)) (now (content .entry)) n size) m
+        ⌝ }
+{
+    match copies::judge(tree, bitfield, content, n, size) {
+        Answer::Refused(refusal) => Answer::Refused(refusal),
+        Answer::Done => match old_root::up_to(n, m) {
+            Answer::Refused(refusal) => Answer::Refused(refusal),
+            Answer::Done => roots_known(bitfield, m),
+        },
+    }
+}
+
+// The root hash of the first m chunks of a copy, from its stored entries.
+pub fn old_root_hash(
+    tree: &[u8],
+    bitfield: &[u8],
+    content: &[u8],
+    n: u64,
+    size: u64,
+    m: u64,
+) -> Rooted
+    ensures { λ r.
+        ⌜
+        OldRootPost (copyOf (now (tree .entry)) (now (bitfield .entry)) (now (content .entry)) n size) m (said (r .answer)) (r .root)
+        ⌝ }
+{
+    let found = judge_old(tree, bitfield, content, n, size, m);
+    rooted(found, tree, m)
+}
+
+// The first chunk of a copy that is not held, from a given number on.
+pub fn search(
+    tree: &[u8],
+    bitfield: &[u8],
+    content: &[u8],
+    n: u64,
+    size: u64,
+    from: ChunkNumber,
+) -> Searched
+    ensures { λ r.
+        ⌜
+        searchedOf r ≡ copySearch (copyOf (now (tree .entry)) (now (bitfield .entry)) (now (content .entry)) n size) (from .0)
+        ⌝ }
+{
+    match copies::judge(tree, bitfield, content, n, size) {
+        Answer::Refused(refusal) => Searched::Refused(refusal),
+        Answer::Done => match search::by_runs(bitfield, from.0, n) {
+            Found::At(chunk) => Searched::At(chunk),
+            Found::Nothing => Searched::Nothing,
+        },
+    }
+}

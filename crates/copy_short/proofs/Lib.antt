@@ -1,0 +1,4 @@
+-- Laws of the short lookups on a copy.
+pub mod Leaves
+pub mod Told
+pub mod Calls

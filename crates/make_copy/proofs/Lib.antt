@@ -1,0 +1,2 @@
+-- Laws of making a copy.
+pub mod Calls

@@ -1,0 +1,2 @@
+-- Making a partial copy.
+pub mod Make

@@ -1,0 +1,2 @@
+-- A piece that comes back to a register.
+pub mod Returned

@@ -1,0 +1,1 @@
+// Laws of what a taking in leaves, in proofs/: this crate has no code.

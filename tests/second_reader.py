@@ -495,7 +495,7 @@ def tables_differ(text):
         if bytes.fromhex(row) != bitfield_of(int(n))[3104:3108]:
             return f"the Index of {n} chunks"
     numbers = [row[0] for row in rows_of(text, "Number")]
-    return None if numbers == [str(number) for number in (*range(1, 19), 21, 22)] else "the numbers of what can be wrong"
+    return None if numbers == [str(number) for number in range(1, 23)] else "the numbers of what can be wrong"
 
 def drawing_differs(text):
     """The tree of ten chunks: each entry stands at its depth, from left to right in the order of the file, above both children; holes in brackets."""

@@ -2,7 +2,8 @@
 
 usage: python3 tests/tool/answers.py [ROUNDS [SEED]]
 
-In each round an archive grows by commands, and each of its files is compared with the model's images after each of them. Then copies of it are
+In each round an archive grows by commands, and each of its files is compared with the model's images after each of them. A partial copy of it is
+made and takes in packets, some of them back in the archive itself. Then both are
 damaged: bytes changed, files cut short, made longer, exchanged or taken away; and every command is tried on them, those that write too. The
 numbers n, s and the data size are taken from the files' lengths here as FORMAT.md says it, and all else from the model.
 """
@@ -14,6 +15,7 @@ import shutil
 import sys
 
 from program import FILES, KINDS, TARGET, expect, fresh, lay, run, under
+import copy_model
 import needs as needs_model
 import record_model as records
 import sleep_model as model
@@ -27,30 +29,43 @@ class Unreadable(Exception):
 
 
 def counted(images):
-    """A register of four files, whose lengths give n, s and the data size."""
+    """A register of four files, whose lengths give n, s and the data size; without signatures a partial copy."""
     tree, signatures, bitfield, data = images
-    for image, entry in ((tree, 40), (signatures, 64), (bitfield, 3328)):
+    for image, entry in ((tree, 40), (b' ' * 32 if signatures is None else signatures, 64), (bitfield, 3328)):
         if len(image) < 32 or (len(image) - 32) % entry:
             raise Unreadable
-    entries, s = (len(tree) - 32) // 40, (len(signatures) - 32) // 64
+    entries = (len(tree) - 32) // 40
     if entries and entries % 2 == 0:
         raise Unreadable
     n = (entries + 1) // 2
     if (len(bitfield) - 32) // 3328 > model.bitfield_entries(n):
         raise Unreadable
-    return model.Register(*map(bytearray, images), n, s, len(data))
+    if signatures is None:
+        return copy_model.Copy(*map(bytearray, (tree, bitfield, data)), n, len(data))
+    return model.Register(*map(bytearray, images), n, (len(signatures) - 32) // 64, len(data))
+
+
+def is_copy(r):
+    return isinstance(r, copy_model.Copy)
+
+
+def whole(*registers):
+    """What is not for copies."""
+    if any(map(is_copy, registers)):
+        raise Several([None])
 
 
 def registers_in(folder):
     """Both registers of a folder."""
     found = under(folder)
-    if found is None or any(found.get(name) is None for name in FILES):
+    if found is None or any(found.get(name) is None for name in FILES if not name.endswith('.signatures')):
         raise Unreadable
-    return [counted([found[name + '.' + kind] for kind in KINDS]) for name in NAMES]
+    return [counted([found.get(name + '.' + kind) for kind in KINDS]) for name in NAMES]
 
 
 def with_room(r, count, length, signatures=0):
-    """A copy with room for so many chunks and bytes more, and for signatures."""
+    """The same with room for so many chunks and bytes more, and for signatures."""
+    whole(r)
     r = copy.deepcopy(r)
     sizes = model.used_sizes(r.n + count, r.s + signatures + max(0, count - 1), r.size + length)
     for kind, size in zip(KINDS, sizes):
@@ -61,7 +76,8 @@ def with_room(r, count, length, signatures=0):
 def as_files(registers):
     """The files of an archive: each image as long as its used size."""
     return {name + '.' + kind: bytes(getattr(r, kind)[:size])
-            for name, r in zip(NAMES, registers) for kind, size in zip(KINDS, model.used_sizes(r.n, r.s, r.size))}
+            for name, r in zip(NAMES, registers) for kind, size in zip(KINDS, model.used_sizes(r.n, r.s or 0, r.size))
+            if not (is_copy(r) and kind == 'signatures')}
 
 
 class Refused(Exception):
@@ -105,7 +121,7 @@ class Tried:
         if after is None:
             expect(now == before, 'changed something', *shown)
         else:
-            expect({name: now[name] for name in FILES} == as_files(after), 'other files', *shown)
+            expect({name: now[name] for name in FILES if name in now} == as_files(after), 'other files', *shown)
             expect(set(now) == set(before), 'files came or went', *shown)
         name = (words[0], status)
         Tried.counts[name] = Tried.counts.get(name, 0) + 1
@@ -120,14 +136,18 @@ class Tried:
         def expected(*registers):
             lines = b''
             for name, r in zip(NAMES, registers):
-                given(model.root_hash(r))
-                lines += b'%s: %s\n' % (name.encode(), shown_counts(r))
+                answer, unknown = model.root_hash(r), b''
+                if is_copy(r) and answer[:2] == ('refused', 20):
+                    unknown = b', and not all its roots are known'
+                else:
+                    given(answer)
+                lines += b'%s: %s%s\n' % (name.encode(), shown_counts(r), unknown)
             return lines
         self.command(['status', self.folder], expected)
 
     def audit(self):
         def expected(*registers):
-            answers = [model.audit(r) for r in registers]
+            answers = [copy_model.audit_copy(r) if is_copy(r) else model.audit(r) for r in registers]
             refusals = [answer[1:] for answer in answers if answer[0] == 'refused']
             if refusals:
                 raise Several(refusals)
@@ -207,8 +227,9 @@ class Tried:
 
     def compare(self, other):
         def expected(*registers):
-            lines, refusals, differ = b'', [], False
-            for name, one, two in zip(NAMES, registers, registers_in(other)):
+            lines, refusals, differ, others = b'', [], False, registers_in(other)
+            whole(*registers, *others)
+            for name, one, two in zip(NAMES, registers, others):
                 answer = model.compare(one, two)
                 refusals += [answer[1:3]] if answer[0] == 'refused' else []
                 differ |= answer[0] != 'equal'
@@ -221,6 +242,7 @@ class Tried:
     def needs(self):
         lengths = [self.rng.choice([0, 1, 119, 120, 65536, 65537]) if self.rng.random() < 0.1 else self.rng.randrange(3000) for _ in range(self.rng.randrange(1, 5))]
         def expected(metadata, content):
+            whole(content)
             given(model.root_hash(content))
             numbers = given(needs_model.needs(content.n, content.size, lengths))
             lines = b''.join(b'content.%s %d bytes\n' % (kind.encode(), size) for kind, size in zip(KINDS, numbers[:4]))
@@ -229,8 +251,8 @@ class Tried:
 
     def owed(self):
         def expected(*registers):
-            roots = [(name, given(model.root_hash(r))) for name, r in zip(NAMES, registers) ]
-            return b''.join(b'%s %s\n' % (name.encode(), root.hex().encode()) for (name, root), r in zip(roots, registers) if r.s < r.n)
+            roots = [(r, name, given(model.root_hash(r))) for name, r in zip(NAMES, registers) if not is_copy(r)]
+            return b''.join(b'%s %s\n' % (name.encode(), root.hex().encode()) for r, name, root in roots if r.s < r.n)
         self.command(['sign', self.folder], expected)
 
     # ---- writing ----
@@ -260,7 +282,8 @@ class Tried:
         words = [word for name in which for word in ('--' + name, self.inputs.file(signatures[name]))]
         def expected(*registers):
             for r in registers:
-                given(model.root_hash(r))
+                if not is_copy(r):
+                    given(model.root_hash(r))
             after = []
             for name, r in zip(NAMES, registers):
                 if name in signatures:
@@ -280,11 +303,37 @@ class Tried:
         self.command(['release', self.folder, *map(str, chunks)], expected, writes=True)
 
 
+    def take(self, office):
+        """A packet of another archive is taken in, now and then a damaged one, as another chunk or under another root hash."""
+        name, chunk = self.rng.choice(NAMES), self.rng.randrange(12)
+        try:
+            r = registers_in(office)[NAMES.index(name)]
+        except Unreadable:
+            return
+        buffer = bytearray(70000)
+        made = model.make_packet(r, chunk, buffer)
+        packet, root = bytes(buffer[:made[1]]) if made[0] == 'done' else b'', model.root_hash(r)[1]
+        if packet and self.rng.random() < 0.1:
+            at = self.rng.randrange(len(packet))
+            packet = packet[:at] + bytes([packet[at] ^ 1 << self.rng.randrange(8)]) + packet[at + 1:]
+        chunk += self.rng.random() < 0.05
+        own = not isinstance(root, bytes) or self.rng.random() < 0.2
+        words = ['packet', 'take', self.folder, self.inputs.file(packet), '--number', str(chunk)] + (['--metadata'] if name == 'metadata' else [])
+        def expected(*registers):
+            registers = [copy.deepcopy(r) for r in registers]
+            c = registers[NAMES.index(name)]
+            given(copy_model.take_in(copy_model.lent_as_copy(c), packet, chunk, given(model.root_hash(c)) if own else root))
+            return b'', registers
+        self.command(words + ([] if own else ['--root', root.hex()]), expected, writes=True)
+
+
 class Several(Exception):
     """args: a list of refusals, or of None where the status alone is known."""
 
 
 def shown_counts(r):
+    if is_copy(r):
+        return b'a partial copy of %d chunks, %d bytes' % (r.n, r.size)
     return b'%d chunks, %d bytes, %d signatures%s' % (r.n, r.size, r.s, b', one is owed' if r.s < r.n else b'')
 
 
@@ -372,7 +421,7 @@ def damage(rng, folder, other):
         content += bytes(rng.choice([1, 40, 64, 80, 3328, rng.randrange(200)]))
     elif kind == 'exchanged':
         path = os.path.join(folder, rng.choice(FILES))
-        shutil.copy(os.path.join(other, rng.choice(FILES)), path)
+        shutil.copy(os.path.join(other, rng.choice(sorted(set(os.listdir(other)) & set(FILES)))), path)
         return
     elif kind == 'gone':
         os.remove(path)
@@ -381,6 +430,48 @@ def damage(rng, folder, other):
         content = b''
     with open(path, 'wb') as file:
         file.write(content)
+
+
+def made(folder, words, counts):
+    """A folder of copies, for these counts and sizes; of no numbers an empty register."""
+    shutil.rmtree(folder, ignore_errors=True)
+    expect(run('copy', folder, *words).status == 0, 'no copy is made', words)
+    registers = []
+    for count in counts:
+        if count is None:
+            registers.append(model.register_of([]))
+        else:
+            registers.append(copy_model.Copy(*map(bytearray, copy_model.copy_sizes(*count)), *count))
+            given(copy_model.make_copy(registers[-1]) + (None,))
+    expect(under(folder) == as_files(registers), 'a new copy is another', words)
+
+
+def copies(rng, inputs, archive, spoilt):
+    """A copy of an archive, which takes in packets; damaged; and packets taken in by the archive itself."""
+    part = os.path.join(ROOM, 'part')
+    if rng.random() < 0.3:
+        made(part, ['--content', '13,23'], [None, (13, 23)])
+        made(part, ['--content', '1,5000', '--metadata', '0,0'], [(0, 0), (1, 5000)])
+    made(part, ['--of', archive], [(r.n, r.size) for r in registers_in(archive)])
+    copied = Tried(rng, part, inputs)
+    for _ in range(rng.randrange(20)):
+        copied.take(archive)
+        getattr(copied, rng.choice(READING + ['release']))()
+    for name in READING + WRITING:
+        getattr(copied, name)()
+    copied.compare(archive)
+    for _ in range(2):
+        lay(spoilt, under(part))
+        damage(rng, spoilt, rng.choice([archive, part]))
+        tried = Tried(rng, spoilt, inputs)
+        for name in rng.sample(READING, 5) + WRITING:
+            getattr(tried, name)()
+        tried.take(archive)
+    lay(spoilt, under(archive))
+    back = Tried(rng, spoilt, inputs)
+    for _ in range(4):
+        back.release()
+        back.take(archive)
 
 
 def main(rounds, seed):
@@ -401,6 +492,7 @@ def main(rounds, seed):
         for name in READING:
             getattr(grown, name)()
         grown.compare(rng.choice([archive, before]))
+        copies(rng, inputs, archive, spoilt)
         for _ in range(4):
             lay(spoilt, under(archive))
             for _ in range(rng.choice([1, 1, 2])):

@@ -23,6 +23,7 @@ ROOM = os.path.join(TARGET, 'tests', 'tool', 'faults')
 FOLDER = os.path.join(ROOM, 'archives')  # all steps under it count
 ARCHIVE = os.path.join(FOLDER, 'coats')
 INPUTS = os.path.join(ROOM, 'inputs')
+OFFICE = os.path.join(ROOM, 'office', 'coats')
 LOG = os.path.join(ROOM, 'log')
 
 
@@ -352,7 +353,36 @@ def commands(rng):
     state = command('release of several', ['release', ARCHIVE, '11', '3', '5', '10'], state)
     state = command('add behind released', adding(pieces[::-1]), state)
     command('sign behind released', signing, state)
+    whole, roots = office(pieces, signature)
+    command('copy in a folder', ['copy', ARCHIVE, '--of', OFFICE], {'coats': None})
+    state = command('copy', ['copy', ARCHIVE, '--of', OFFICE], {})
+    taking = lambda chunk, *words: ['packet', 'take', ARCHIVE, packet_of('content', chunk), '--number', str(chunk), *words]
+    state = command('taking in', taking(4, '--root', roots['content']), state)
+    state = command('taking in another', taking(8), state)
+    record = ['packet', 'take', ARCHIVE, packet_of('metadata', 0), '--number', '0', '--metadata', '--root', roots['metadata']]
+    state = command('taking in a record', record, state)
+    state = command('release in a copy', ['release', ARCHIVE, '8'], state)
+    command('taking in again', taking(8), state)
+    state = command('release to come back', ['release', ARCHIVE, '7', '5'], whole)
+    command('coming back', taking(7), state)
     return made
+
+
+def packet_of(register, chunk):
+    return os.path.join(INPUTS, 'packet of %s %d' % (register, chunk))
+
+
+def office(pieces, signature):
+    """Another archive, with packets of its chunks and its root hashes; it is given as a state of the archives' folder."""
+    fresh(os.path.dirname(OFFICE))
+    done('new', OFFICE)
+    done('add', OFFICE, *[word for k, piece in enumerate(pieces) for word in ('--as', '/coat/%d' % k, piece)])
+    done('sign', OFFICE, '--metadata', signature, '--content', signature)
+    for register, flags in (('content', []), ('metadata', ['--metadata'])):
+        for chunk in range(9):
+            done('packet', 'make', OFFICE, str(chunk), '-o', packet_of(register, chunk), *flags)
+    roots = dict(line.split() for line in done('root', OFFICE).out.decode().splitlines())
+    return dict({'coats': None}, **{'coats/' + name: found for name, found in under(OFFICE).items()}), roots
 
 
 def main(count, seed):

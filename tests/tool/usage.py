@@ -53,6 +53,11 @@ def wrong_words():
     wrong(2, '64 hexadecimal digits', 'packet', 'check', 'sleeve', '--chunks', '1', '--number', '0', '--root', 'abc')
     wrong(2, '--chunks, --number and --root are needed', 'packet', 'check', 'sleeve')
     wrong(2, '--key is needed', 'label', 'coats')
+    wrong(2, '--of ARCHIVE is needed', 'copy', 'part')
+    wrong(2, '--of ARCHIVE is needed', 'copy', 'part', '--of', 'coats', '--content', '1,2')
+    wrong(2, '--of ARCHIVE is needed', 'copy', 'part', '--metadata', '1,2')
+    wrong(2, '--content needs two numbers', 'copy', 'part', '--content', '13')
+    wrong(2, '--number are needed', 'packet', 'take', 'coats', 'sleeve')
     wrong(2, 'standard input', 'group', 'sleeve')
 
 
@@ -67,6 +72,8 @@ def wrong_files():
     wrong(2, 'give it a name by --as', 'add', 'coats', '../usage/sleeve')
     wrong(2, 'give it a name by --as', 'add', 'coats', '--in', '/coat', '..')
     wrong(2, 'standard input needs a name', 'add', 'coats', '-')
+    wrong(2, 'there is an archive already', 'copy', 'coats', '--content', '1,2')
+    wrong(2, 'nofile: no such file or directory', 'packet', 'take', 'coats', 'nofile', '--number', '0')
     wrong(2, '64 bytes are needed, and it has more', 'sign', 'coats', '--content', 'sleeve')
     wrong(2, '32 bytes are needed, and it has 3', 'new', 'dresses', '--content-key', 'short')
     wrong(2, 'ended with exit status: 3', 'sign', 'owing', '--with', 'exit 3')
@@ -91,13 +98,40 @@ def refused():
     wrong(1, 'refused with 12', 'packet', 'check', 'sleeve', '--chunks', '3', '--number', '0', '--root', 64 * '0')
     wrong(1, 'refused with 18: a piece that is needed is not held here; at tree index 2, the leaf of chunk 1', 'get', 'gone', '1')
     wrong(1, 'refused with 18', 'release', 'gone', '0', '1')
+    wrong(1, 'refused with 12', 'packet', 'take', 'gone', 'sleeve', '--number', '0')
+    wrong(1, 'refused with 2', 'copy', 'part', '--content', '1048577,5')
+
+
+def partial_copies():
+    """A copy by numbers, of 2 GiB too, takes little room; what is not for copies; packets by the office and the cutting room; a piece comes back."""
+    done('copy', 'large', '--content', '1048576,%d' % (2 << 30), cwd=ROOM)
+    about = os.stat(os.path.join(ROOM, 'large', 'content.data'))
+    expect(about.st_size == 2 << 30 and about.st_blocks < 1000, 'another size, or room is taken', about)
+    expect(done('status', 'large', cwd=ROOM).out.endswith(b'not all its roots are known\n'), 'another status')
+    shutil.rmtree(os.path.join(ROOM, 'large'))
+    done('copy', 'part', '--of', 'coats', cwd=ROOM)
+    root = dict(line.split() for line in done('root', 'coats', cwd=ROOM).out.decode().splitlines())
+    done('packet', 'make', 'coats', '1', '-o', 'packet1', cwd=ROOM)
+    wrong(1, '--root is needed: the archive\'s own root hash: refused with 20', 'packet', 'take', 'part', 'packet1', '--number', '1')
+    wrong(1, 'packet1: refused with 13', 'packet', 'take', 'part', 'packet1', '--number', '1', '--root', 64 * '0')
+    done('packet', 'take', 'part', 'packet1', '--number', '1', '--root', root['content'], cwd=ROOM)
+    expect(done('get', 'part', '1', cwd=ROOM).out == done('get', 'coats', '1', cwd=ROOM).out, 'another piece')
+    wrong(1, 'refused with 18', 'get', 'part', '0')
+    for words in (['add', 'part', 'sleeve'], ['sign', 'part', '--content', 'signature'], ['compare', 'part', 'coats'], ['compare', 'coats', 'part'],
+                  ['needs', 'part', '--lengths', '5']):
+        wrong(1, 'a partial copy, which has no signatures file', *words)
+    expect(b'no signature is owed' in done('sign', 'part', cwd=ROOM).err, 'something is owed')
+    done('release', 'part', '1', cwd=ROOM)
+    done('packet', 'take', 'part', 'packet1', '--number', '1', cwd=ROOM)
+    expect(done('audit', 'part', cwd=ROOM).out.count(b'accepted, a partial copy of') == 2, 'not accepted')
+    shutil.rmtree(os.path.join(ROOM, 'part'))
 
 
 def helps():
     """The help names every command, on lines that a terminal has; a command's own help is its part of it."""
     page = done('--help').out.decode()
     expect(max(map(len, page.splitlines())) <= 78, 'a long line in the help')
-    for name in ('new', 'add', 'sign', 'list', 'get', 'status', 'audit', 'compare', 'root', 'label', 'needs', 'release', 'missing', 'packet', 'group', 'ungroup'):
+    for name in ('new', 'copy', 'add', 'sign', 'list', 'get', 'status', 'audit', 'compare', 'root', 'label', 'needs', 'release', 'missing', 'packet', 'group', 'ungroup'):
         own = done(name, '--help').out.decode()
         heads = [line for line in own.splitlines() if line.startswith('  sleep-archive ')]
         expect(heads and own in page + '\n' and done(name, '-h').out.decode() == own, 'no help on ' + name, own)
@@ -385,6 +419,7 @@ def main():
     wrong_words()
     wrong_files()
     refused()
+    partial_copies()
     helps()
     results()
     smaller()
@@ -397,7 +432,7 @@ def main():
     many_zeros()
     scattered()
     large()
-    print('usage: wrong words, wrong files and refusals told, and nothing changed; the help, results in files, names of any bytes, filters, locks, folders that '
+    print('usage: wrong words, wrong files and refusals told, and nothing changed; the help, results in files, names of any bytes, partial copies, filters, locks, folders that '
           'are moved, a medium that can\'t be written, many zeros, many places, 64 GiB')
 
 

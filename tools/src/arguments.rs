@@ -71,6 +71,16 @@ impl Arguments {
         self.option(name).map(|word| number(word, name)).transpose()
     }
 
+    /// Two numbers that an option gives, with a comma between them.
+    pub fn pair(&self, name: &str) -> Done<Option<(u64, u64)>> {
+        let Some(word) = self.option(name) else { return Ok(None) };
+        let numbers = word.to_str().unwrap_or_default().split(',').map(|one| number(OsStr::new(one), name)).collect::<Done<Vec<_>>>()?;
+        match numbers[..] {
+            [first, second] => Ok(Some((first, second))),
+            _ => usage(format!("{name} needs two numbers with a comma between them")),
+        }
+    }
+
     /// The 32 bytes that an option gives in hex.
     pub fn root(&self, name: &str) -> Done<Option<[u8; 32]>> {
         let Some(word) = self.option(name) else { return Ok(None) };

@@ -1,7 +1,8 @@
 //! An archive's folder: its files, its lock, and the counts that follow from the lengths of the files.
 use crate::image::Image;
 use crate::journal;
-use crate::sleep_register::{Register, Store};
+use crate::kept::{kinds, only_whole, Kept, Lent};
+use crate::sleep_register::{CopyStore, Store};
 use crate::system;
 use crate::words::{at_file, said, tell, Done, Trouble};
 use std::fs::{File, Metadata, OpenOptions};
@@ -27,10 +28,10 @@ pub const FILES: [&str; 10] = [
 pub const METADATA_KEY: usize = 8;
 pub const CONTENT_KEY: usize = 9;
 
-const TREE: usize = 0;
-const SIGNATURES: usize = 1;
-const BITFIELD: usize = 2;
-const DATA: usize = 3;
+pub const TREE: usize = 0;
+pub const SIGNATURES: usize = 1;
+pub const BITFIELD: usize = 2;
+pub const DATA: usize = 3;
 
 const HEADER: u64 = 32;
 const ENTRY: u64 = 40;
@@ -70,11 +71,11 @@ pub fn used_sizes(n: u64, s: u64, size: u64) -> [u64; 4] {
     [HEADER + ENTRY * entries, HEADER + SIGNATURE * s, HEADER + BITFIELD_ENTRY * n.div_ceil(CHUNKS_PER_ENTRY), size]
 }
 
-/// What the lengths of a register's files say.
+/// What the lengths of a register's files say. A partial copy has no signatures file and no s.
 #[derive(Clone, Copy, Debug, PartialEq, Eq)]
 pub struct Counts {
     pub n: u64,
-    pub s: u64,
+    pub s: Option<u64>,
     pub size: u64,
     lengths: [u64; 4],
 }
@@ -205,15 +206,17 @@ impl Folder {
     pub fn count(&self, which: Which) -> Done<Counts> {
         let first = which.first_file();
         let mut lengths = [0; 4];
-        for kind in [TREE, SIGNATURES, BITFIELD, DATA] {
+        for kind in [TREE, BITFIELD, DATA] {
             lengths[kind] = self.needed(first + kind)?.1;
         }
+        let signed = self.opened(first + SIGNATURES)?;
+        lengths[SIGNATURES] = signed.as_ref().map_or(0, |(_, length)| *length);
         let entries = self.entries(first + TREE, lengths[TREE], ENTRY)?;
         if entries > 0 && entries % 2 == 0 {
             return Err(self.wrong_length(first + TREE, lengths[TREE]));
         }
         let n = entries.div_ceil(2);
-        let s = self.entries(first + SIGNATURES, lengths[SIGNATURES], SIGNATURE)?;
+        let s = signed.map(|(_, length)| self.entries(first + SIGNATURES, length, SIGNATURE)).transpose()?;
         let kept = self.entries(first + BITFIELD, lengths[BITFIELD], BITFIELD_ENTRY)?;
         if kept > n.div_ceil(CHUNKS_PER_ENTRY) {
             return Err(self.wrong_length(first + BITFIELD, lengths[BITFIELD]));
@@ -239,38 +242,54 @@ impl Folder {
     /// A register to be read.
     pub fn to_read(&self, which: Which) -> Done<Images> {
         let counts = self.count(which)?;
-        let images = self.images(which, |kind, file| Image::to_read(file, counts.lengths[kind]))?;
-        Ok(Images(store(images, counts)))
+        let images = self.images(which, counts, |kind, file| Image::to_read(file, counts.lengths[kind]))?;
+        Ok(Images(kept(images, counts)))
     }
 
-    /// A register to be written, with room up to these lengths.
-    pub fn to_write(&self, which: Which, counts: Counts, room: [u64; 4]) -> Done<Store<Image>> {
-        let images = self.images(which, |kind, file| Image::to_write(Some(file), counts.lengths[kind], room[kind]))?;
-        Ok(store(images, counts))
+    /// A register to be written, which does not grow.
+    pub fn to_write(&self, which: Which) -> Done<Kept> {
+        let counts = self.count(which)?;
+        let images = self.images(which, counts, |kind, file| Image::to_write(Some(file), counts.lengths[kind], 0))?;
+        Ok(kept(images, counts))
     }
 
-    fn images(&self, which: Which, place: impl Fn(usize, File) -> io::Result<Image>) -> Done<[Image; 4]> {
+    /// A whole register to be written, with room up to these lengths.
+    pub fn to_grow(&self, which: Which, counts: Counts, room: [u64; 4]) -> Done<Store<Image>> {
+        let images = self.images(which, counts, |kind, file| Image::to_write(Some(file), counts.lengths[kind], room[kind]))?;
+        match kept(images, counts) {
+            Kept::Whole(store) => Ok(store),
+            Kept::Copy(_) => Err(only_whole(&format!("{}: {}", self.path.display(), which.name()))),
+        }
+    }
+
+    fn images(&self, which: Which, counts: Counts, place: impl Fn(usize, File) -> io::Result<Image>) -> Done<Vec<Image>> {
         let mut images = Vec::new();
-        for kind in [TREE, SIGNATURES, BITFIELD, DATA] {
+        for kind in kinds(counts.s.is_some()) {
             let number = which.first_file() + kind;
             let (file, _) = self.needed(number)?;
-            images.push(place(kind, file).map_err(|error| at_file(&self.file(number), error))?);
+            images.push(place(*kind, file).map_err(|error| at_file(&self.file(number), error))?);
         }
-        Ok(images.try_into().unwrap_or_else(|_| unreachable!("four images")))
+        Ok(images)
     }
 }
 
-fn store(images: [Image; 4], counts: Counts) -> Store<Image> {
-    let [tree, signatures, bitfield, data] = images;
-    Store { tree, signatures, bitfield, data, n: counts.n, s: counts.s, size: counts.size }
+/// The images of a register's files, in their order.
+fn kept(images: Vec<Image>, counts: Counts) -> Kept {
+    let Counts { n, s, size, .. } = counts;
+    let mut images = images.into_iter();
+    let mut next = || images.next().expect("an image for each file");
+    match s {
+        Some(s) => Kept::Whole(Store { tree: next(), signatures: next(), bitfield: next(), data: next(), n, s, size }),
+        None => Kept::Copy(CopyStore { tree: next(), bitfield: next(), data: next(), n, size }),
+    }
 }
 
 /// A register that is read only.
-pub struct Images(Store<Image>);
+pub struct Images(Kept);
 
 impl Images {
-    pub fn register(&self) -> Register<'_> {
-        self.0.register()
+    pub fn lent(&self) -> Lent<'_> {
+        self.0.lent()
     }
 }
 
@@ -280,7 +299,14 @@ pub fn unmade() -> io::Result<Store<Image>> {
     Ok(Store { tree: room(HEADER)?, signatures: room(HEADER)?, bitfield: room(HEADER)?, data: room(0)?, n: 0, s: 0, size: 0 })
 }
 
-/// The four images of a register, in the order of its files.
-pub fn images_of(store: &Store<Image>) -> [&Image; 4] {
-    [&store.tree, &store.signatures, &store.bitfield, &store.data]
+/// A copy of zeros in memory alone, with room for so many chunks and bytes.
+pub fn unmade_copy(n: u64, size: u64) -> io::Result<CopyStore<Image>> {
+    let [tree, _, bitfield, data] = used_sizes(n, 0, size);
+    Ok(CopyStore {
+        tree: Image::to_write(None, 0, tree)?,
+        bitfield: Image::to_write(None, 0, bitfield)?,
+        data: Image::of_zeros(data)?,
+        n,
+        size,
+    })
 }

@@ -100,6 +100,13 @@ impl Image {
         Ok(image)
     }
 
+    /// Zeros that a call may write as zeros, and as nothing else: a large part is one run of memory in many places.
+    pub fn of_zeros(length: u64) -> io::Result<Image> {
+        let image = Image::placed(None, 0, length)?;
+        system::place_zeros(image.start, image.mapped)?;
+        Ok(image)
+    }
+
     fn placed(file: Option<File>, old: u64, length: u64) -> io::Result<Image> {
         set_handlers();
         let too_long = |_| io::Error::other("the file is too long for this machine");

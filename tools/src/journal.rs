@@ -6,9 +6,10 @@
 //! Its bytes, all numbers big-endian: 16 bytes `MAGIC`; 8 bytes, the length of the journal; 1 byte, the count of files; for each file 1 byte, its
 //! number in `FILES`, 8 bytes, its new length, and 4 bytes, the count of its ranges; for each range 1 byte, 0 for bytes and 1 for zeros, 8
 //! bytes, its offset, 8 bytes, its length, and the bytes, but for zeros; at the end 32 bytes, BLAKE2b of all that comes before.
-use crate::folder::{images_of, used_sizes, Folder, Which, FILES};
-use crate::image::{Image, Range};
-use crate::sleep_register::{hash_parts, Store};
+use crate::folder::{Folder, Which, FILES};
+use crate::image::Range;
+use crate::kept::Filed;
+use crate::sleep_register::hash_parts;
 use crate::system;
 use crate::words::{at_file, said, Done, Trouble};
 use std::fs::{remove_file, rename, File, OpenOptions};
@@ -37,9 +38,9 @@ pub struct Change<'a> {
 }
 
 /// All changes of a register's files since it was opened.
-pub fn changes<'a>(folder: &Folder, which: Which, store: &'a Store<Image>) -> Done<Vec<Change<'a>>> {
+pub fn changes<'a>(folder: &Folder, which: Which, files: Vec<Filed<'a>>) -> Done<Vec<Change<'a>>> {
     let mut changes = Vec::new();
-    for (kind, (image, length)) in images_of(store).into_iter().zip(used_sizes(store.n, store.s, store.size)).enumerate() {
+    for (kind, image, length) in files {
         let number = which.first_file() + kind;
         let ranges = image.changes(length).map_err(|error| at_file(&folder.file(number), error))?;
         let ranges = ranges.into_iter().flat_map(apart).collect::<Vec<_>>();

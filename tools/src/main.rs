@@ -4,6 +4,7 @@ mod folder;
 mod image;
 mod inputs;
 mod journal;
+mod kept;
 mod names;
 mod progress;
 mod reading;
@@ -27,6 +28,7 @@ struct Command {
 
 const COMMANDS: &[Command] = &[
     Command { name: "new", rules: &[word("--metadata-key"), word("--content-key")], run: writing::new },
+    Command { name: "copy", rules: &[word("--of"), word("--metadata"), word("--content")], run: writing::copy },
     Command { name: "add", rules: &[word("--as"), word("--in")], run: names::add },
     Command { name: "list", rules: &[flag("--all")], run: names::list },
     Command { name: "sign", rules: &[word("--metadata"), word("--content"), word("--with")], run: writing::sign },

@@ -3,9 +3,10 @@ use crate::arguments::{number, Arguments, Typed};
 use crate::folder::{used_sizes, Folder, Use, Which, CONTENT_KEY};
 use crate::inputs::{self, say};
 use crate::journal::{changes, commit};
+use crate::kept::Kept;
 use crate::progress;
-use crate::reading::{bytes_of, needs_of, only, Archive};
-use crate::sleep_register::{write_header, write_node, Node, Refusal, Register, Stat, NODE_ROOM};
+use crate::reading::{needs_of, only, Archive};
+use crate::sleep_register::{write_header, write_node, Node, Refusal, Stat, NODE_ROOM};
 use crate::words::{at_file, hex, printable, refused, usage, Done, Trouble};
 use std::collections::HashSet;
 use std::ffi::{OsStr, OsString};
@@ -131,14 +132,14 @@ fn added(folder: &Folder, pieces: &[Piece], modes: &[u32], set: &Set) -> Done<([
     let append = |which: Which, set: &Set| {
         let counts = folder.count(which)?;
         let n = counts.n + set.lengths.len() as u64;
-        let mut store = folder.to_write(which, counts, used_sizes(n, n, counts.size + set.bytes.len() as u64))?;
+        let mut store = folder.to_grow(which, counts, used_sizes(n, n, counts.size + set.bytes.len() as u64))?;
         let root = store.append_list(&set.lengths, &set.bytes).map_err(|reason| refused(&blamed(which, reason), reason))?;
-        Ok((store, root))
+        Ok((Kept::Whole(store), root))
     };
     let (content, content_root) = append(Which::Content, set)?;
     let (metadata, metadata_root) = append(Which::Metadata, &records)?;
-    let mut all = changes(folder, Which::Metadata, &metadata)?;
-    all.extend(changes(folder, Which::Content, &content)?);
+    let mut all = changes(folder, Which::Metadata, metadata.files())?;
+    all.extend(changes(folder, Which::Content, content.files())?);
     commit(folder, &all)?;
     Ok((metadata_root, content_root))
 }
@@ -195,7 +196,7 @@ pub fn needs(arguments: &Arguments) -> Done<()> {
     }
     let archive = Archive::open(path)?;
     let (metadata, content) = (archive.register(Which::Metadata), archive.register(Which::Content));
-    let records = records(&archive.folder, metadata.n == 0, &pieces, &modes, &lengths, (content.n, content.size))?;
+    let records = records(&archive.folder, metadata.n() == 0, &pieces, &modes, &lengths, (content.n(), content.size()))?;
     needs_of(&archive, Which::Metadata, &records.lengths)?;
     needs_of(&archive, Which::Content, &lengths)
 }
@@ -220,11 +221,11 @@ pub fn list(arguments: &Arguments) -> Done<()> {
     let archive = Archive::open(only(&arguments.words(), "an archive")?)?;
     let (metadata, missing) = (archive.register(Which::Metadata), not_held(&archive)?);
     let trouble = |reason| refused(&archive.named(Which::Metadata), reason);
-    if metadata.n > 0 {
+    if metadata.n() > 0 {
         metadata.header_of(0).map_err(trouble)?;
     }
     let (mut seen, mut lines) = (HashSet::new(), Vec::new());
-    for chunk in (1..metadata.n).rev() {
+    for chunk in (1..metadata.n()).rev() {
         let node = metadata.node_of(chunk).map_err(trouble)?;
         if arguments.has("--all") || seen.insert(node.path) {
             let stat = node.stat.unwrap_or_default();
@@ -233,7 +234,7 @@ pub fn list(arguments: &Arguments) -> Done<()> {
     }
     let mut out = Vec::new();
     let held = |chunk: u64| {
-        if chunk >= archive.register(Which::Content).n {
+        if chunk >= archive.register(Which::Content).n() {
             "-"
         } else if missing.binary_search(&chunk).is_ok() {
             "no"
@@ -251,9 +252,9 @@ pub fn list(arguments: &Arguments) -> Done<()> {
 
 /// The content chunk that a name stands for.
 pub fn chunk_named(archive: &Archive, name: &[u8]) -> Done<u64> {
-    let metadata: Register = archive.register(Which::Metadata);
+    let metadata = archive.register(Which::Metadata);
     let trouble = |reason| refused(&archive.named(Which::Metadata), reason);
-    let found = progress::during("finding the name", bytes_of(&metadata), || metadata.find(name)).map_err(trouble)?;
+    let found = progress::during("finding the name", metadata.bytes(), || metadata.find(name)).map_err(trouble)?;
     let Some(record) = found else { return Err(Trouble::Refused(format!("{}: there is no such name", shown(name)))) };
     let stat = metadata.node_of(record).map_err(trouble)?.stat.unwrap_or_default();
     let Some(chunk) = stat.offset else { return Err(Trouble::Refused(format!("{}: its record names no chunk", shown(name)))) };

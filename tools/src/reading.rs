@@ -2,12 +2,16 @@
 use crate::arguments::{number, Arguments};
 use crate::folder::{Folder, Images, Use, Which, BOTH};
 use crate::inputs::{self, say};
+use crate::kept::Lent;
 use crate::progress;
 use crate::sleep_register::{self as proved, Comparison, Needs, Register, PACKET_EXTRA};
 use crate::words::{hex, refusal, refused, usage, Done, Trouble};
 use std::ffi::OsStr;
 use std::fmt::Write;
 use std::path::Path;
+
+/// The refusal of an entry that a copy does not know.
+const UNKNOWN: u64 = 20;
 
 /// An archive that is locked for reading.
 pub struct Archive {
@@ -26,10 +30,10 @@ impl Archive {
         Ok(Archive { folder, metadata, content })
     }
 
-    pub fn register(&self, which: Which) -> Register<'_> {
+    pub fn register(&self, which: Which) -> Lent<'_> {
         match which {
-            Which::Metadata => self.metadata.register(),
-            Which::Content => self.content.register(),
+            Which::Metadata => self.metadata.lent(),
+            Which::Content => self.content.lent(),
         }
     }
 
@@ -62,18 +66,17 @@ fn archive_and_registers<'a>(arguments: &'a Arguments) -> Done<(&'a OsStr, Vec<W
     }
 }
 
-/// Bytes that a call on a register may look at.
-pub fn bytes_of(register: &Register) -> u64 {
-    (register.tree.len() + register.bitfield.len() + register.data.len()) as u64
-}
-
-fn counts(register: &Register) -> String {
-    let Register { n, s, size, .. } = register;
-    let mut line = format!("{n} chunks, {size} bytes, {s} signatures");
-    if s < n {
-        write!(line, ", one is owed").unwrap();
+fn counts(register: &Lent) -> String {
+    match register {
+        Lent::Whole(Register { n, s, size, .. }) => {
+            let mut line = format!("{n} chunks, {size} bytes, {s} signatures");
+            if s < n {
+                write!(line, ", one is owed").unwrap();
+            }
+            line
+        }
+        Lent::Copy(copied) => format!("a partial copy of {} chunks, {} bytes", copied.n, copied.size),
     }
-    line
 }
 
 /// `status`: what each register has, after the first checks.
@@ -81,8 +84,11 @@ pub fn status(arguments: &Arguments) -> Done<()> {
     let archive = Archive::open(only(&arguments.words(), "an archive")?)?;
     for which in BOTH {
         let register = archive.register(which);
-        register.root_hash().map_err(|reason| refused(&archive.named(which), reason))?;
-        say(&format!("{}: {}", which.name(), counts(&register)))?;
+        let unknown = match (register, register.root_hash()) {
+            (Lent::Copy(_), Err(reason)) if reason.number == UNKNOWN => ", and not all its roots are known",
+            (_, checked) => checked.map(|_| "").map_err(|reason| refused(&archive.named(which), reason))?,
+        };
+        say(&format!("{}: {}{unknown}", which.name(), counts(&register)))?;
     }
     Ok(())
 }
@@ -94,7 +100,7 @@ pub fn audit(arguments: &Arguments) -> Done<()> {
     let mut refusals = Vec::new();
     for which in registers {
         let register = archive.register(which);
-        match progress::during(&format!("audit of {}", which.name()), bytes_of(&register), || register.audit()) {
+        match progress::during(&format!("audit of {}", which.name()), register.bytes(), || register.audit()) {
             Ok(()) => say(&format!("{}: accepted, {}", which.name(), counts(&register)))?,
             Err(reason) => {
                 say(&format!("{}: {}", which.name(), refusal(reason)))?;
@@ -112,10 +118,13 @@ pub fn audit(arguments: &Arguments) -> Done<()> {
 pub fn compare(arguments: &Arguments) -> Done<()> {
     let [first, second] = arguments.words()[..] else { return usage("two archives are needed") };
     let (first, second) = (Archive::open(first)?, Archive::open(second)?);
+    let whole = |archive: &'_ Archive, which| archive.register(which).whole(&archive.named(which)).map(|_| ());
+    BOTH.iter().try_for_each(|which| whole(&first, *which).and_then(|()| whole(&second, *which)))?;
     let mut equal = true;
     for which in BOTH {
         let (one, other) = (first.register(which), second.register(which));
-        let bytes = bytes_of(&one) + bytes_of(&other);
+        let bytes = one.bytes() + other.bytes();
+        let (one, other) = (one.whole(&first.named(which))?, other.whole(&second.named(which))?);
         let outcome = progress::during(&format!("comparing {}", which.name()), bytes, || one.compare(&other));
         equal &= outcome == Comparison::Equal;
         say(&format!("{}: {}", which.name(), outcome_words(outcome)))?;
@@ -218,7 +227,7 @@ pub fn missing(arguments: &Arguments) -> Done<()> {
 
 /// Prints what a register will need for chunks of these lengths.
 pub fn needs_of(archive: &Archive, which: Which, lengths: &[u64]) -> Done<()> {
-    let register = archive.register(which);
+    let register = archive.register(which).whole(&archive.named(which))?;
     register.root_hash().map_err(|reason| refused(&archive.named(which), reason))?;
     let needs = proved::needs(register.n, register.size, lengths).map_err(|reason| refused(&archive.named(which), reason))?;
     let Needs { tree, signatures, bitfield, data, leaves, parents, root, runs } = needs;
@@ -229,15 +238,16 @@ pub fn needs_of(archive: &Archive, which: Which, lengths: &[u64]) -> Done<()> {
     say(&format!("{name}: {runs} compression runs: {leaves} for leaves, {parents} for parents, {root} for the root hash"))
 }
 
-/// `packet`: made of an archive's chunk; checked, or two compared, without an archive.
+/// `packet`: made of an archive's chunk; taken in by another archive; checked, or two compared, without an archive.
 pub fn packet(arguments: &Arguments) -> Done<()> {
     let words = arguments.words();
-    let Some((kind, words)) = words.split_first() else { return usage("packet make, packet check or packet compare") };
+    let Some((kind, words)) = words.split_first() else { return usage("packet make, packet take, packet check or packet compare") };
     match kind.as_encoded_bytes() {
         b"make" => make_packet(arguments, words),
+        b"take" => crate::writing::take_packet(arguments, words),
         b"check" => check_packet(arguments, words),
         b"compare" => compare_packets(arguments, words),
-        _ => usage("packet make, packet check or packet compare"),
+        _ => usage("packet make, packet take, packet check or packet compare"),
     }
 }
 
@@ -262,7 +272,7 @@ fn against(arguments: &Arguments) -> Done<(u64, u64, [u8; 32])> {
 }
 
 /// A packet of a file; a longer one than any is cut, and refused as no packet.
-fn packet_in(file: &OsStr) -> Done<Vec<u8>> {
+pub fn packet_in(file: &OsStr) -> Done<Vec<u8>> {
     Ok(inputs::at_most(file, inputs::LONGEST + PACKET_EXTRA + 1)?.0)
 }
 

@@ -2,7 +2,7 @@
 use std::ffi::{c_char, CString};
 use std::fs::File;
 use std::io;
-use std::os::fd::AsRawFd;
+use std::os::fd::{AsRawFd, FromRawFd};
 use std::os::unix::ffi::OsStrExt;
 use std::path::Path;
 use std::sync::OnceLock;
@@ -10,6 +10,7 @@ use std::sync::OnceLock;
 const NO_ACCESS: i32 = 0;
 const READ: i32 = 1;
 const WRITE: i32 = 2;
+const SHARED: i32 = 0x01;
 const PRIVATE: i32 = 0x02;
 const FIXED: i32 = 0x10;
 const ANONYMOUS: i32 = 0x20;
@@ -57,6 +58,7 @@ extern "C" {
     fn mprotect(address: *mut u8, length: usize, protection: i32) -> i32;
     fn flock(file: i32, operation: i32) -> i32;
     fn fallocate(file: i32, mode: i32, offset: i64, length: i64) -> i32;
+    fn memfd_create(name: *const c_char, flags: u32) -> i32;
     fn access(path: *const c_char, mode: i32) -> i32;
     fn sysconf(name: i32) -> i64;
     fn sigaction(signal: i32, action: *const Action, before: *mut Action) -> i32;
@@ -96,6 +98,26 @@ pub fn place_file(address: *mut u8, length: usize, file: &File) -> io::Result<()
 /// Zeros at addresses of ours, to be read and written; memory is taken as they are written.
 pub fn place_room(address: *mut u8, length: usize) -> io::Result<()> {
     mapping(address, length, READ | WRITE, PRIVATE | ANONYMOUS | FIXED | NO_RESERVE, -1).map(|_| ())
+}
+
+/// The memory that all of many zeros share.
+const ZEROS_SHARED: usize = 1 << 24;
+
+/// Zeros at addresses of ours, where nothing but zeros will be written: of many, all share one run of memory.
+pub fn place_zeros(address: *mut u8, length: usize) -> io::Result<()> {
+    if length <= ZEROS_SHARED {
+        return Ok(());
+    }
+    let handle = unsafe { memfd_create(c"zeros".as_ptr(), 0) };
+    if handle < 0 {
+        return Err(io::Error::last_os_error());
+    }
+    let memory = unsafe { File::from_raw_fd(handle) };
+    memory.set_len(ZEROS_SHARED as u64)?;
+    for from in (0..length).step_by(ZEROS_SHARED) {
+        mapping(address.wrapping_add(from), ZEROS_SHARED.min(length - from), READ | WRITE, SHARED | FIXED, memory.as_raw_fd())?;
+    }
+    Ok(())
 }
 
 pub fn give_back(address: *mut u8, length: usize) {

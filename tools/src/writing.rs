@@ -1,10 +1,12 @@
 //! The commands that change archives. Each changes private memory by proved calls, and hands what differs to the journal.
 use crate::arguments::Arguments;
-use crate::folder::{unmade, used_sizes, Folder, Use, Which, CONTENT_KEY, METADATA_KEY};
+use crate::folder::{unmade, unmade_copy, used_sizes, Folder, Use, Which, CONTENT_KEY, METADATA_KEY};
 use crate::image::Range;
 use crate::inputs::{self, say};
 use crate::journal::{changes, commit, Change};
-use crate::reading::{chunk_meant, only, Archive};
+use crate::kept::{Kept, Lent};
+use crate::progress;
+use crate::reading::{chunk_meant, only, packet_in, Archive};
 use crate::words::{at_file, hex, refused, said, tell, usage, Done, Trouble};
 use std::ffi::OsStr;
 use std::fs::File;
@@ -13,18 +15,48 @@ use std::io::{Read, Write};
 use std::path::Path;
 use std::process::{Command, Stdio};
 
+/// The most chunks of a register.
+const MOST_CHUNKS: u64 = 1 << 20;
+
 /// `new`: a folder with two empty registers.
 pub fn new(arguments: &Arguments) -> Done<()> {
     let path = Path::new(only(&arguments.words(), "a folder")?);
     let key = |name| arguments.option(name).map(|file| inputs::exactly::<32>(Path::new(file))).transpose();
     let keys = [(METADATA_KEY, key("--metadata-key")?), (CONTENT_KEY, key("--content-key")?)];
+    made(path, |folder| {
+        let (metadata, content) = (started(path)?, started(path)?);
+        let mut all = changes(folder, Which::Metadata, metadata.files())?;
+        all.extend(changes(folder, Which::Content, content.files())?);
+        for (number, key) in &keys {
+            if let Some(bytes) = key {
+                all.push(Change { number: *number, length: 32, ranges: vec![Range { offset: 0, bytes }], file: None });
+            }
+        }
+        commit(folder, &all)
+    })
+}
+
+/// Makes a folder, and in it what makes an archive of it.
+fn made(path: &Path, fill: impl Fn(&Folder) -> Done<()>) -> Done<()> {
     let made = make_folder(path)?;
-    let result = fill(path, keys);
+    let result = Folder::open(path, Use::Writing).and_then(|folder| {
+        if folder.is_used()? {
+            return Err(Trouble::File(format!("{}: there is an archive already", path.display())));
+        }
+        fill(&folder)
+    });
     if made && result.is_err() {
         // Only an empty folder goes away: one with a journal in it stays, and the next command sees to it.
         let _ = std::fs::remove_dir(path);
     }
     result
+}
+
+/// An empty register.
+fn started(path: &Path) -> Done<Kept> {
+    let mut store = unmade().map_err(|error| at_file(path, error))?;
+    store.start().map_err(|reason| refused(&path.display().to_string(), reason))?;
+    Ok(Kept::Whole(store))
 }
 
 /// Makes a folder unless there is one. Its entry is synced in either case: a run that made it may have ended before that.
@@ -42,25 +74,57 @@ fn make_folder(path: &Path) -> Done<bool> {
     }
 }
 
-fn fill(path: &Path, keys: [(usize, Option<[u8; 32]>); 2]) -> Done<()> {
-    let folder = Folder::open(path, Use::Writing)?;
-    if folder.is_used()? {
-        return Err(Trouble::File(format!("{}: there is an archive already", path.display())));
-    }
-    let start = || {
-        let mut store = unmade().map_err(|error| at_file(path, error))?;
-        store.start().map_err(|reason| refused(&path.display().to_string(), reason))?;
-        Ok(store)
+/// `copy`: a folder with partial copies, of which nothing is known yet. Without numbers of its own the metadata register is an empty one.
+pub fn copy(arguments: &Arguments) -> Done<()> {
+    let path = Path::new(only(&arguments.words(), "a folder")?);
+    let counts = match (arguments.option("--of"), arguments.pair("--metadata")?, arguments.pair("--content")?) {
+        (Some(archive), None, None) => counts_of(&Archive::open(archive)?)?,
+        (None, metadata, Some(content)) => [metadata, Some(content)],
+        _ => return usage("--of ARCHIVE is needed, or --content N,SIZE and for the records --metadata N,SIZE"),
     };
-    let (metadata, content) = (start()?, start()?);
-    let mut all = changes(&folder, Which::Metadata, &metadata)?;
-    all.extend(changes(&folder, Which::Content, &content)?);
-    for (number, key) in &keys {
-        if let Some(bytes) = key {
-            all.push(Change { number: *number, length: 32, ranges: vec![Range { offset: 0, bytes }], file: None });
-        }
-    }
-    commit(&folder, &all)
+    made(path, |folder| {
+        let (metadata, content) = (copied(path, counts[0])?, copied(path, counts[1])?);
+        let mut all = changes(folder, Which::Metadata, metadata.files())?;
+        all.extend(changes(folder, Which::Content, content.files())?);
+        commit(folder, &all)
+    })
+}
+
+/// The counts and the data sizes of both registers, after their first checks.
+fn counts_of(archive: &Archive) -> Done<[Option<(u64, u64)>; 2]> {
+    let count = |which: Which| {
+        let register = archive.register(which);
+        register.root_hash().map_err(|reason| refused(&archive.named(which), reason))?;
+        Ok(Some((register.n(), register.size())))
+    };
+    Ok([count(Which::Metadata)?, count(Which::Content)?])
+}
+
+fn copied(path: &Path, counts: Option<(u64, u64)>) -> Done<Kept> {
+    let Some((n, size)) = counts else { return started(path) };
+    // The call clears every byte, so no more is mapped than it takes; more chunks than it takes it refuses by their number alone.
+    let mut store = unmade_copy(if n > MOST_CHUNKS { 0 } else { n }, size).map_err(|error| at_file(path, error))?;
+    store.n = n;
+    progress::during("making the copy", size, || store.make()).map_err(|reason| refused(&path.display().to_string(), reason))?;
+    Ok(Kept::Copy(store))
+}
+
+/// `packet take`: the packet of a chunk is taken in, under a root hash, or where none is given under the archive's own.
+pub fn take_packet(arguments: &Arguments, words: &[&OsStr]) -> Done<()> {
+    let ([path, file], Some(chunk)) = (words, arguments.number("--number")?) else {
+        return usage("an archive, a packet's file and --number are needed");
+    };
+    let packet = packet_in(file)?;
+    let which = if arguments.has("--metadata") { Which::Metadata } else { Which::Content };
+    let archive = Archive::of(Folder::open(Path::new(path), Use::Writing)?)?;
+    let folder = &archive.folder;
+    let mut register = folder.to_write(which)?;
+    let root = match arguments.root("--root")? {
+        Some(root) => root,
+        None => register.lent().root_hash().map_err(|reason| refused("--root is needed: the archive's own root hash", reason))?,
+    };
+    register.take_in(&packet, chunk, &root).map_err(|reason| refused(&file.to_string_lossy(), reason))?;
+    commit(folder, &changes(folder, which, register.files())?)
 }
 
 /// Root hashes whose signatures are owed.
@@ -68,7 +132,7 @@ fn owed(folder: &Folder) -> Done<Vec<(Which, [u8; 32])>> {
     let (metadata, content) = (folder.to_read(Which::Metadata)?, folder.to_read(Which::Content)?);
     let mut owed = Vec::new();
     for (which, images) in [(Which::Metadata, metadata), (Which::Content, content)] {
-        let register = images.register();
+        let Lent::Whole(register) = images.lent() else { continue };
         let root = register.root_hash().map_err(|reason| refused(which.name(), reason))?;
         if register.s < register.n {
             owed.push((which, root));
@@ -143,13 +207,13 @@ fn store(path: &Path, signatures: &[(Which, [u8; 64])], signed: &[(Which, [u8; 3
     let mut stores = Vec::new();
     for (which, signature) in signatures {
         let counts = folder.count(*which)?;
-        let mut store = folder.to_write(*which, counts, used_sizes(counts.n, counts.s + 1, counts.size))?;
+        let mut store = folder.to_grow(*which, counts, used_sizes(counts.n, counts.s.unwrap_or(0) + 1, counts.size))?;
         store.store_signature(signature).map_err(|reason| refused(which.name(), reason))?;
-        stores.push((*which, store));
+        stores.push((*which, Kept::Whole(store)));
     }
     let mut all = Vec::new();
     for (which, store) in &stores {
-        all.extend(changes(&folder, *which, store)?);
+        all.extend(changes(&folder, *which, store.files())?);
     }
     commit(&folder, &all)
 }
@@ -163,9 +227,9 @@ pub fn release(arguments: &Arguments) -> Done<()> {
     let archive = Archive::of(Folder::open(Path::new(path), Use::Writing)?)?;
     let chunks = chunks.iter().map(|word| chunk_meant(&archive, word)).collect::<Done<Vec<_>>>()?;
     let folder = &archive.folder;
-    let mut content = folder.to_write(Which::Content, folder.count(Which::Content)?, [0; 4])?;
+    let mut content = folder.to_write(Which::Content)?;
     for chunk in chunks {
         content.release(chunk).map_err(|reason| refused(&format!("chunk {chunk} of the content"), reason))?;
     }
-    commit(folder, &changes(folder, Which::Content, &content)?)
+    commit(folder, &changes(folder, Which::Content, content.files())?)
 }

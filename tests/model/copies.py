@@ -9,7 +9,7 @@ copy's bytes where others stand.
 import copy
 import itertools
 
-from copy_model import Copy, audit_copy, copy_sizes, lent_as_copy, make_copy, take_in
+from copy_model import Copy, copy_sizes, make_copy, take_in
 from record_model import Node, header_bytes, node_bytes
 from released import register
 from samples import BITFIELD, DATA, FIRST, LAST, ROOT_AT, SECOND, TEXT, TREE, bytes_of, sampled

@@ -154,7 +154,7 @@ extern "C" {
 #define SLEEP_LONGEST_PERMISSION 16u
 
 /* What a packet has beside its chunk's bytes, at most: a buffer of the chunk's length and this many bytes never lacks room for it
- * (proved: PacketStaysShort, crates/packet/specs/Answers.antt). */
+ * (proved: PacketStaysShort, crates/packet/specs/Theorems.antt). */
 #define SLEEP_PACKET_EXTRA 1526u
 
 /* The most stack that a call takes, in bytes. A lookup goes down the tree by recursion, some 100 bytes for each level and at most 20 levels.
@@ -413,7 +413,7 @@ sleep_answer sleep_release(const uint8_t *tree, size_t tree_length, const uint8_
 sleep_answer sleep_search(SLEEP_REGISTER_READ, uint64_t from, uint64_t out[2]) SLEEP_NOT_NULL;
 
 /* The short way: what the simplest program does with the files, slower where the register is longer. On every register that sleep_audit accepts the three
- * calls give what sleep_place, sleep_byte and sleep_search give, refusals included (proved: ShortWayForAll, crates/short_way/specs/Answers.antt).
+ * calls give what sleep_place, sleep_byte and sleep_search give, refusals included (proved: ShortAgreesForAll, crates/short_lookup/specs/Theorems.antt).
  *
  * Where a chunk lies, by the leaf lengths alone, added up from chunk 0 on. Refusals: 2 to 6, 9, 10 at the first leaf above 65,536 among those of the
  * chunks 0 to chunk. On a register that no audit accepted out may run past data, and may be another than sleep_place's. */
@@ -510,7 +510,7 @@ sleep_answer sleep_make_copy(SLEEP_COPY_WRITTEN) SLEEP_NOT_NULL;
 /* Takes in the packet of a chunk, after it was checked against the root hash as sleep_check_packet does: writes the chunk's leaf, its siblings, the
  * parents on the way and the roots with their tree bits, and the chunk's bytes where they belong, sets its data bit and makes the Index of its bitfield
  * entry anew. Two packets that are both taken in, one right after the other, are taken in the other way round too, and leave the same images (proved:
- * CommuteForAll, crates/packets_commute/specs/Commute.antt). What it costs grows with the chunk and with the packet's path, not with n. Refusals: 2, 4, 5, 6 of the
+ * CommuteForAll, crates/theorem_packets_commute/specs/Commute.antt). What it costs grows with the chunk and with the packet's path, not with n. Refusals: 2, 4, 5, 6 of the
  * copy unless a root is unknown, 9, 12, 13, 6 of the packet, 19. */
 sleep_answer sleep_take_in(SLEEP_COPY_WRITTEN, const uint8_t *packet, size_t packet_length, uint64_t chunk, const uint8_t root[32]) SLEEP_NOT_NULL;
 
@@ -543,7 +543,7 @@ sleep_answer sleep_copy_release(const uint8_t *tree, size_t tree_length, uint8_t
 sleep_answer sleep_copy_search(SLEEP_COPY_READ, uint64_t from, uint64_t out[2]) SLEEP_NOT_NULL;
 
 /* The short way. On every copy that sleep_copy_audit accepts, and of which every entry but the holes is known, the three give what sleep_copy_place,
- * sleep_copy_byte and sleep_copy_search give (proved: CopyShortWayForAll, crates/copies_agree/specs/Agree.antt). Refusals of the two lookups: 2, 4, 5,
+ * sleep_copy_byte and sleep_copy_search give (proved: CopyShortAgreesForAll, crates/theorem_copies_agree/specs/Theorems.antt). Refusals of the two lookups: 2, 4, 5,
  * 20 at a root, 6, 9, then of each leaf that they come to 20, and 10; of the search: 2, 4, 5, 20, 6. */
 sleep_answer sleep_copy_short_place(SLEEP_COPY_READ, uint64_t chunk, uint64_t out[2]) SLEEP_NOT_NULL;
 sleep_answer sleep_copy_short_byte(SLEEP_COPY_READ, uint64_t offset, uint64_t out[2]) SLEEP_NOT_NULL;

@@ -247,7 +247,7 @@ def row_packet(chunk, siblings, others):
 
 
 def weak_rows():
-    """The rows of packet_walk/specs/Weak, on which the checker runs the definition."""
+    """The rows of packet_compare/specs/WeakHash, on which the checker runs the definition."""
     leaf, parent, upper, top = ('collision', ('tree', 0)), ('collision', ('tree', 1)), ('collision', ('tree', 3)), ('collision', 'at the roots')
     for n, i, first, second, root, expected in (
             (1, 0, (b'\1', [], []), (b'\5', [], []), 3, leaf),

@@ -10,29 +10,29 @@ use borrow.Author.Tests.{eq-eqb, ltb-true, ltb-false}
 use lib.Dec.{eqb, ltb}
 use lib.ListN.{length, getD, take, length-append, length-replicate}
 use lib.Seq.{take-at, take-take, take-all, getD-take}
-use Rattle.sequences.specs.Lists.{run, joined, Bytes, zeros, allZero}
-use Rattle.sequences.proofs.Lists.{length-joined, bytes-zeros}
+use Rattle.byte_strings.specs.Lists.{run, joined, Bytes, zeros, allZero}
+use Rattle.byte_strings.proofs.Lists.{length-joined, bytes-zeros}
 use Rattle.tree_index.specs.Tree.{index, filled, entries}
 use Rattle.tree_index.proofs.Index.{by-coordinates}
 use Rattle.tree_index.proofs.Filled.{filled-end, filled-left, filled-right}
 use Rattle.bitfield.specs.Image.{entriesOf}
 use Rattle.bitfield.specs.Release.{storedHeld}
-use Rattle.files.specs.Headers.{treeHeader, signaturesHeader, bitfieldHeader}
-use Rattle.files.specs.Sizes.{mostChunks, longestChunk, usedTree, usedSignatures, usedBitfield}
-use Rattle.files.specs.Messages.{HashFunction, leafMessage}
-use Rattle.files.specs.Nodes.{Entry, hole, entryBytes, leaf, parentOf, node, treeEntries}
-use Rattle.files.specs.Slots.{Slot, held, released, isHeld, slotBytes, contents, heldIn, Within}
-use Rattle.files.specs.Images.{dataSize, dataImage, bitfieldImage, signaturesImage, treeImage, leaves}
-use Rattle.files.specs.Stored.{storedHash, storedSize, storedChunk}
-use Rattle.files.specs.Belongs.{Register, Lent, Belongs}
-use Rattle.files.proofs.Spans.{span, chunk-inside, joined-length}
-use Rattle.files.proofs.Slots.{slotAt, contents-length, contents-at, held-at, held-behind, leaves-length, leaf-held}
-use Rattle.files.proofs.Nodes.{nodeAt-index, entryAt-hole}
-use Rattle.files.proofs.OfImage.{treeHeader-length, bitfieldHeader-length, signaturesHeader-length, bitfieldImage-length, treeImage-length, overs, stored-entry, stored-node-hash, stored-node-size, stored-leaf-size, stored-start, stored-chunk, stored-total}
-pub use Rattle.files.proofs.Held.{front-long}
-use Rattle.files.proofs.Held.{stored-held}
-use Rattle.files.proofs.ToImage.{hole-zeros}
-use Rattle.files.proofs.ImageBytes.{treeImage-bytes, signaturesImage-bytes, bitfieldImage-bytes, dataImage-bytes}
+use Rattle.file_format.specs.Headers.{treeHeader, signaturesHeader, bitfieldHeader}
+use Rattle.file_format.specs.Sizes.{mostChunks, longestChunk, usedTree, usedSignatures, usedBitfield}
+use Rattle.file_format.specs.Messages.{HashFunction, leafMessage}
+use Rattle.file_format.specs.Entries.{Entry, hole, entryBytes, leaf, parentOf, node, treeEntries}
+use Rattle.file_format.specs.Slots.{Slot, held, released, isHeld, slotBytes, contents, heldIn, Within}
+use Rattle.file_format.specs.Images.{dataSize, dataImage, bitfieldImage, signaturesImage, treeImage, leaves}
+use Rattle.file_format.specs.Stored.{storedHash, storedSize, storedChunk}
+use Rattle.file_format.specs.Belongs.{Register, Lent, Belongs}
+use Rattle.file_format.proofs.Spans.{span, chunk-inside, joined-length}
+use Rattle.file_format.proofs.Slots.{slotAt, contents-length, contents-at, held-at, held-behind, leaves-length, leaf-held}
+use Rattle.file_format.proofs.Nodes.{nodeAt-index, entryAt-hole}
+use Rattle.file_format.proofs.OfImage.{treeHeader-length, bitfieldHeader-length, signaturesHeader-length, bitfieldImage-length, treeImage-length, overs, stored-entry, stored-node-hash, stored-node-size, stored-leaf-size, stored-start, stored-chunk, stored-total}
+pub use Rattle.file_format.proofs.Held.{front-long}
+use Rattle.file_format.proofs.Held.{stored-held}
+use Rattle.file_format.proofs.ToImage.{hole-zeros}
+use Rattle.file_format.proofs.ImageBytes.{treeImage-bytes, signaturesImage-bytes, bitfieldImage-bytes, dataImage-bytes}
 use Rattle.checks.specs.Checks.{signedRight}
 use Rattle.checks.proofs.Passed.{Passed}
 use Rattle.audit.specs.Audit.{entryRight, heldBits, Accepted}

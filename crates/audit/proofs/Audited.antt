@@ -10,19 +10,19 @@ use native.Mathlib.Omega.{arith}
 use borrow.Author.Tests.{leb-true, eqb-true, le-leb, eq-eqb}
 use lib.ListN.{length, getD, length-replicate}
 use lib.Dec.{leb, eqb}
-use Rattle.counts.specs.Verdict.{Spot, Verdict, tree, bitfield, done}
-use Rattle.sequences.specs.Lists.{part, sameList, allZero, zeros}
-use Rattle.sequences.proofs.Lists.{same-eq}
+use Rattle.refusals.specs.Verdict.{Spot, Verdict, tree, bitfield, done}
+use Rattle.byte_strings.specs.Lists.{part, sameList, allZero, zeros}
+use Rattle.byte_strings.proofs.Lists.{same-eq}
 use Rattle.tree_index.specs.Tree.{index, depth, block, leftChild, rightChild, filled, entries}
 use Rattle.tree_index.proofs.Index.{depth-index, block-index, leftChild-index, rightChild-index}
 use Rattle.bitfield.specs.Release.{storedHeld}
 use Rattle.bitfield.proofs.Bits.{cases}
-use Rattle.files.specs.Sizes.{longestChunk, entryPlace, usedBitfield}
-use Rattle.files.specs.Messages.{leafMessage, parentMessage}
-use Rattle.files.specs.Images.{bitfieldImage}
-use Rattle.files.specs.Stored.{storedHash, storedSize, storedStart, storedChunk}
-use Rattle.files.specs.Belongs.{Register}
-use Rattle.files.proofs.Nodes.{byDepth}
+use Rattle.file_format.specs.Sizes.{longestChunk, entryPlace, usedBitfield}
+use Rattle.file_format.specs.Messages.{leafMessage, parentMessage}
+use Rattle.file_format.specs.Images.{bitfieldImage}
+use Rattle.file_format.specs.Stored.{storedHash, storedSize, storedStart, storedChunk}
+use Rattle.file_format.specs.Belongs.{Register}
+use Rattle.file_format.proofs.Nodes.{byDepth}
 use Rattle.checks.proofs.Passed.{Passed, passes, passed, same-of}
 use Rattle.audit.specs.Audit.{Lowest, nowhere, first, lowest, leafRight, parentRight, holeRight, entryRight, wrongEntry, heldBits, byteRight, wrongByte, refusedAt, imagesVerdict, audit, Accepted}
 

@@ -12,9 +12,9 @@ use borrow.Author.Tests.{eq-eqb, ne-eqb, eqb-true}
 use lib.ListN.{length, getD, take, drop, List·getD-append}
 use lib.Seq.{ext-getD}
 use lib.Dec.{eqb}
-use Rattle.counts.specs.Verdict.{Verdict, bitfield, done, refused}
-use Rattle.sequences.specs.Lists.{part, run, joined}
-use Rattle.sequences.proofs.Lists.{getD-behind, getD-part, length-part, part-joined}
+use Rattle.refusals.specs.Verdict.{Verdict, bitfield, done, refused}
+use Rattle.byte_strings.specs.Lists.{part, run, joined}
+use Rattle.byte_strings.proofs.Lists.{getD-behind, getD-part, length-part, part-joined}
 use Rattle.tree_index.specs.Tree.{filled, entries}
 use Rattle.tree_index.proofs.Filled.{filled-below}
 use Rattle.bitfield.specs.Bits.{byteOf}
@@ -24,12 +24,12 @@ use Rattle.bitfield.specs.Known.{storedKnown}
 use Rattle.bitfield.specs.Image.{dataBytes, treeBytes, entry, entryCount, entriesOf}
 use Rattle.bitfield.proofs.Bits.{getD-bytesOf}
 use Rattle.bitfield.proofs.Image.{length-data, length-tree, length-entry}
-use Rattle.files.specs.Sizes.{usedBitfield}
-use Rattle.files.specs.Headers.{bitfieldHeader}
-use Rattle.files.specs.Images.{bitfieldImage}
-use Rattle.files.proofs.OfImage.{bitfieldHeader-length}
+use Rattle.file_format.specs.Sizes.{usedBitfield}
+use Rattle.file_format.specs.Headers.{bitfieldHeader}
+use Rattle.file_format.specs.Images.{bitfieldImage}
+use Rattle.file_format.proofs.OfImage.{bitfieldHeader-length}
 use Rattle.audit.specs.Audit.{Lowest, lowest, heldBits, byteRight, refusedAt}
-use Rattle.audit.specs.Bytes.{treeBits, entryWith, byteRightBy, BitsIn, AtBits}
+use Rattle.audit.specs.BitfieldEntries.{treeBits, entryWith, byteRightBy, BitsIn, AtBits}
 use Rattle.audit.proofs.Search.{lowest-on, lowest-off, lowest-end, lowest-agree, andThen, search-parts}
 
 -- ---- the bytes of an entry

@@ -9,9 +9,9 @@ use native.Mathlib.Nat.{add-zero, zero-add}
 use native.Mathlib.Omega.{arith}
 use borrow.Author.Tests.{le-leb, lt-leb, eq-eqb, ne-eqb, ltb-true, lt-ltb}
 use lib.ListN.{length, take, drop}
-use Rattle.counts.specs.Verdict.{Verdict, tree, done, refused}
-use Rattle.sequences.specs.Lists.{part, run, total, sameList, allZero, zeros}
-use Rattle.sequences.proofs.Lists.{length-part}
+use Rattle.refusals.specs.Verdict.{Verdict, tree, done, refused}
+use Rattle.byte_strings.specs.Lists.{part, run, total, sameList, allZero, zeros}
+use Rattle.byte_strings.proofs.Lists.{length-part}
 use Rattle.tree_index.specs.Tree.{index, depth, block, leftChild, rightChild, filled, entries}
 use Rattle.tree_index.proofs.Index.{index-leaf, depth-index, by-coordinates}
 use Rattle.tree_index.proofs.Filled.{filled-leaf, filled-below, children-below}
@@ -20,15 +20,15 @@ use Rattle.bitfield.specs.Image.{entryCount}
 use Rattle.bitfield.specs.Append.{bitsPlace}
 use Rattle.bitfield.specs.Release.{storedHeld}
 use Rattle.bitfield.proofs.Levels.{same-or}
-use Rattle.files.specs.Sizes.{longestChunk, entryPlace, usedBitfield}
-use Rattle.files.specs.Messages.{leafMessage, parentMessage}
-use Rattle.files.specs.Stored.{storedHash, storedSize, storedStart, storedChunk}
-use Rattle.files.specs.Within.{EntryIn, RootsIn}
-use Rattle.files.proofs.Spans.{total-run-add}
-use Rattle.files.proofs.OfImage.{entry-inside}
+use Rattle.file_format.specs.Sizes.{longestChunk, entryPlace, usedBitfield}
+use Rattle.file_format.specs.Messages.{leafMessage, parentMessage}
+use Rattle.file_format.specs.Stored.{storedHash, storedSize, storedStart, storedChunk}
+use Rattle.file_format.specs.Inner.{EntryIn, RootsIn}
+use Rattle.file_format.proofs.Spans.{total-run-add}
+use Rattle.file_format.proofs.OfImage.{entry-inside}
 use Rattle.checks.proofs.Steps.{and-stop, and-pass}
 use Rattle.audit.specs.Audit.{Lowest, lowest, leafRight, parentRight, holeRight, entryRight, refusedAt}
-use Rattle.audit.specs.Walked.{leavesBefore, leafFrom, FilesIn, Started, AtEntry, AtLeaf, AtParent}
+use Rattle.audit.specs.TreeWalk.{leavesBefore, leafFrom, FilesIn, Started, AtEntry, AtLeaf, AtParent}
 use Rattle.audit.proofs.Audited.{zero-same, leaf-right, even-entry, odd-entry, entryRight-hole}
 use Rattle.audit.proofs.Search.{lowest-on, lowest-off, lowest-end}
 

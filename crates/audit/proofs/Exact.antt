@@ -11,27 +11,27 @@ use borrow.Author.Tests.{eqb-true, eq-eqb}
 use lib.Dec.{eqb}
 use lib.ListN.{length, getD, take, drop, length-append}
 use lib.Seq.{take-add, take-at, drop-at, ext-getD}
-use Rattle.sequences.specs.Lists.{part, run, joined}
-use Rattle.sequences.proofs.Lists.{length-part, length-run, getD-run, parts-joined}
+use Rattle.byte_strings.specs.Lists.{part, run, joined}
+use Rattle.byte_strings.proofs.Lists.{length-part, length-run, getD-run, parts-joined}
 use Rattle.tree_index.specs.Tree.{index, filled}
 use Rattle.tree_index.proofs.Filled.{end-filled}
 use Rattle.bitfield.specs.Release.{storedHeld}
 use Rattle.bitfield.proofs.Bits.{cases}
-use Rattle.files.specs.Headers.{signaturesHeader}
-use Rattle.files.specs.Sizes.{usedSignatures}
-use Rattle.files.specs.Stored.{storedChunk}
-use Rattle.files.specs.Messages.{HashFunction}
-use Rattle.files.specs.Images.{signaturesImage, leaves}
-use Rattle.files.specs.Nodes.{Entry, node}
-use Rattle.files.specs.Slots.{Slot, held, released, isHeld, slotEntry, contents, heldIn, Within}
-use Rattle.files.specs.Belongs.{Register, Lent, Belongs}
-use Rattle.files.proofs.Slots.{slotAt, held-at, held-slot, leaf-at}
-use Rattle.files.proofs.Nodes.{nodeAt-index}
-use Rattle.files.proofs.OfImage.{signaturesHeader-length, stored-chunk, stored-node-hash, stored-node-size}
-use Rattle.files.proofs.Held.{stored-held}
+use Rattle.file_format.specs.Headers.{signaturesHeader}
+use Rattle.file_format.specs.Sizes.{usedSignatures}
+use Rattle.file_format.specs.Stored.{storedChunk}
+use Rattle.file_format.specs.Messages.{HashFunction}
+use Rattle.file_format.specs.Images.{signaturesImage, leaves}
+use Rattle.file_format.specs.Entries.{Entry, node}
+use Rattle.file_format.specs.Slots.{Slot, held, released, isHeld, slotEntry, contents, heldIn, Within}
+use Rattle.file_format.specs.Belongs.{Register, Lent, Belongs}
+use Rattle.file_format.proofs.Slots.{slotAt, held-at, held-slot, leaf-at}
+use Rattle.file_format.proofs.Nodes.{nodeAt-index}
+use Rattle.file_format.proofs.OfImage.{signaturesHeader-length, stored-chunk, stored-node-hash, stored-node-size}
+use Rattle.file_format.proofs.Held.{stored-held}
 use Rattle.checks.specs.Checks.{signedRight}
 use Rattle.audit.specs.Audit.{Accepted}
-use Rattle.audit.specs.Exact.{Imaged, AuditExact, AuditExactForAll}
+use Rattle.audit.specs.Theorems.{Imaged, AuditExact, AuditExactForAll}
 use Rattle.audit.proofs.Accepts.{front-long, front-header, belongs-accepted}
 use Rattle.audit.proofs.Only.{pick, storedLeaf, cutAt, cut, accepted-belongs}
 

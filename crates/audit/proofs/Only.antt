@@ -11,28 +11,28 @@ use borrow.Author.Tests.{ltb-true, ltb-false}
 use lib.Dec.{ltb}
 use lib.ListN.{length, getD, take, List·getD-append, List·getD-eq-default}
 use lib.Seq.{take-add, length-take-le, getD-take, ext-getD}
-use Rattle.sequences.specs.Lists.{part, run, joined, total, Bytes, zeros, allZero}
-use Rattle.sequences.specs.Numbers.{be}
-use Rattle.sequences.proofs.Lists.{length-part, part-add, length-run, getD-run, run-suc, run-ext, joined-run-suc, bytes-part}
-use Rattle.sequences.proofs.Numbers.{be-number}
+use Rattle.byte_strings.specs.Lists.{part, run, joined, total, Bytes, zeros, allZero}
+use Rattle.byte_strings.specs.Numbers.{be}
+use Rattle.byte_strings.proofs.Lists.{length-part, part-add, length-run, getD-run, run-suc, run-ext, joined-run-suc, bytes-part}
+use Rattle.byte_strings.proofs.Numbers.{be-number}
 use Rattle.tree_index.specs.Tree.{index, filled, entries}
 use Rattle.tree_index.proofs.Index.{by-coordinates}
 use Rattle.tree_index.proofs.Filled.{filled-below, filled-end, end-filled, filled-left, filled-right}
 use Rattle.bitfield.specs.Image.{entriesOf}
 use Rattle.bitfield.specs.Release.{storedHeld}
-use Rattle.files.specs.Headers.{bitfieldHeader}
-use Rattle.files.specs.Sizes.{mostChunks, longestChunk, entryPlace, usedTree, usedBitfield}
-use Rattle.files.specs.Messages.{HashFunction, leafMessage}
-use Rattle.files.specs.Nodes.{Entry, hole, entryBytes, leaf, parentOf, node, nodeAt, entryAt}
-use Rattle.files.specs.Slots.{Slot, held, released, isHeld, slotBytes, slotEntry, contents, heldIn, Handed, Within}
-use Rattle.files.specs.Images.{dataSize, dataImage, bitfieldImage, treeImage, leaves}
-use Rattle.files.specs.Stored.{storedRootSizes, storedHash, storedSize, storedStart, storedChunk}
-use Rattle.files.specs.Belongs.{Register, Lent, Belongs}
-use Rattle.files.proofs.Spans.{span, span-all, total-append, cover}
-use Rattle.files.proofs.Slots.{slotAt, contents-length, contents-at, held-at, leaves-length, leaf-at}
-use Rattle.files.proofs.Nodes.{node-size, nodeAt-index, entryAt-filled, entryAt-hole}
-use Rattle.files.proofs.OfImage.{bitfieldHeader-length, bitfieldImage-length, entry-inside, overs}
-use Rattle.files.proofs.ToImage.{hole-zeros, tree-of-entries}
+use Rattle.file_format.specs.Headers.{bitfieldHeader}
+use Rattle.file_format.specs.Sizes.{mostChunks, longestChunk, entryPlace, usedTree, usedBitfield}
+use Rattle.file_format.specs.Messages.{HashFunction, leafMessage}
+use Rattle.file_format.specs.Entries.{Entry, hole, entryBytes, leaf, parentOf, node, nodeAt, entryAt}
+use Rattle.file_format.specs.Slots.{Slot, held, released, isHeld, slotBytes, slotEntry, contents, heldIn, Handed, Within}
+use Rattle.file_format.specs.Images.{dataSize, dataImage, bitfieldImage, treeImage, leaves}
+use Rattle.file_format.specs.Stored.{storedRootSizes, storedHash, storedSize, storedStart, storedChunk}
+use Rattle.file_format.specs.Belongs.{Register, Lent, Belongs}
+use Rattle.file_format.proofs.Spans.{span, span-all, total-append, cover}
+use Rattle.file_format.proofs.Slots.{slotAt, contents-length, contents-at, held-at, leaves-length, leaf-at}
+use Rattle.file_format.proofs.Nodes.{node-size, nodeAt-index, entryAt-filled, entryAt-hole}
+use Rattle.file_format.proofs.OfImage.{bitfieldHeader-length, bitfieldImage-length, entry-inside, overs}
+use Rattle.file_format.proofs.ToImage.{hole-zeros, tree-of-entries}
 use Rattle.audit.specs.Audit.{heldBits, Accepted}
 use Rattle.audit.proofs.Audited.{LeafRight, Audited, all-zero, accepted-audited, leaf-says, parent-says, hole-says}
 use Rattle.audit.proofs.Accepts.{Signed, image-ext, held-bits}

@@ -6,15 +6,15 @@ use mathlib.Core.Bool.{Bool, true, false, cond}
 use mathlib.Core.List.{List, [], _∷_}
 use native.Mathlib.Nat.{add-zero, zero-add, suc-add}
 use native.Mathlib.Omega.{arith}
-use Rattle.counts.specs.Verdict.{Spot, Verdict, none, done, refused}
-use Rattle.counts.specs.Said.{said}
-use Rattle.counts.specs.declared.Refusal.{Refusal}
-use Rattle.counts.specs.declared.Answer.{Answer}
-use Rattle.counts.specs.declared.Answer.the-variants.{Refused}
+use Rattle.refusals.specs.Verdict.{Spot, Verdict, none, done, refused}
+use Rattle.refusals.specs.Meaning.{said}
+use Rattle.refusals.specs.declared.Refusal.{Refusal}
+use Rattle.refusals.specs.declared.Answer.{Answer}
+use Rattle.refusals.specs.declared.Answer.the-variants.{Refused}
 use Rattle.checks.specs.Checks.{Check, judged}
-use Rattle.sequences.specs.Lowest.{Lowest, nowhere, first, lowest}
-use Rattle.sequences.proofs.Lowest.{step}
-pub use Rattle.sequences.proofs.Lowest.{lowest-on, lowest-off, lowest-end, lowest-agree}
+use Rattle.byte_strings.specs.Lowest.{Lowest, nowhere, first, lowest}
+use Rattle.byte_strings.proofs.Lowest.{step}
+pub use Rattle.byte_strings.proofs.Lowest.{lowest-on, lowest-off, lowest-end, lowest-agree}
 use Rattle.audit.specs.Audit.{refusedAt}
 
 -- ---- verdicts one after the other

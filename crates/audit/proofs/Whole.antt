@@ -3,19 +3,19 @@
 use Prim.Native.Nat.{ℕ, _-_}
 use mathlib.Core.Path.{_≡_, refl, sym, ap, _∙_}
 use mathlib.Core.List.{List, []}
-use Rattle.counts.specs.Verdict.{Verdict, tree, bitfield, done}
-use Rattle.counts.specs.Said.{said}
-use Rattle.counts.specs.declared.Refusal.{Refusal}
-use Rattle.counts.specs.declared.Answer.{Answer}
-use Rattle.counts.specs.declared.Answer.the-variants.{Refused}
+use Rattle.refusals.specs.Verdict.{Verdict, tree, bitfield, done}
+use Rattle.refusals.specs.Meaning.{said}
+use Rattle.refusals.specs.declared.Refusal.{Refusal}
+use Rattle.refusals.specs.declared.Answer.{Answer}
+use Rattle.refusals.specs.declared.Answer.the-variants.{Refused}
 use Rattle.tree_index.specs.Tree.{entries}
-use Rattle.files.specs.Sizes.{usedBitfield}
-use Rattle.files.specs.Belongs.{Register}
+use Rattle.file_format.specs.Sizes.{usedBitfield}
+use Rattle.file_format.specs.Belongs.{Register}
 use Rattle.checks.specs.Checks.{judged, registerChecks}
-use Rattle.checks.specs.Given.{registerOf}
+use Rattle.checks.specs.Lent.{registerOf}
 use Rattle.checks.proofs.Passed.{Passed, passed}
 use Rattle.audit.specs.Audit.{lowest, entryRight, wrongEntry, byteRight, wrongByte, refusedAt, imagesVerdict}
-use Rattle.audit.specs.Walked.{FilesIn}
+use Rattle.audit.specs.TreeWalk.{FilesIn}
 use Rattle.audit.proofs.Search.{andThen, stops, judged-then, refused-then}
 
 -- ---- the checks 2 to 6, and what comes next

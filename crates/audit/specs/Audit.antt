@@ -5,17 +5,17 @@ use mathlib.Core.Bool.{Bool, true, false, cond, _&&_}
 use mathlib.Core.List.{List, [], _∷_}
 use lib.ListN.{length, getD}
 use lib.Dec.{leb, ltb, eqb}
-use Rattle.counts.specs.Verdict.{Spot, Verdict, tree, bitfield, done, refused}
-use Rattle.sequences.specs.Lists.{part, sameList, allZero, zeros}
-pub use Rattle.sequences.specs.Lowest.{Lowest, nowhere, first}
-unfoldable pub use Rattle.sequences.specs.Lowest.{lowest}
+use Rattle.refusals.specs.Verdict.{Spot, Verdict, tree, bitfield, done, refused}
+use Rattle.byte_strings.specs.Lists.{part, sameList, allZero, zeros}
+pub use Rattle.byte_strings.specs.Lowest.{Lowest, nowhere, first}
+unfoldable pub use Rattle.byte_strings.specs.Lowest.{lowest}
 use Rattle.tree_index.specs.Tree.{depth, block, leftChild, rightChild, filled, entries}
 use Rattle.bitfield.specs.Release.{storedHeld}
-use Rattle.files.specs.Sizes.{longestChunk, entryPlace, usedBitfield}
-use Rattle.files.specs.Messages.{leafMessage, parentMessage}
-use Rattle.files.specs.Images.{bitfieldImage}
-use Rattle.files.specs.Stored.{storedHash, storedSize, storedStart, storedChunk}
-use Rattle.files.specs.Belongs.{Register}
+use Rattle.file_format.specs.Sizes.{longestChunk, entryPlace, usedBitfield}
+use Rattle.file_format.specs.Messages.{leafMessage, parentMessage}
+use Rattle.file_format.specs.Images.{bitfieldImage}
+use Rattle.file_format.specs.Stored.{storedHash, storedSize, storedStart, storedChunk}
+use Rattle.file_format.specs.Belongs.{Register}
 use Rattle.checks.specs.Checks.{judged, registerChecks}
 
 module _ (F : List ℕ → List ℕ) where

@@ -1,5 +1,5 @@
 -- The audit, over any hash function F.
 pub mod Audit
-pub mod Exact
-pub mod Walked
-pub mod Bytes
+pub mod Theorems
+pub mod TreeWalk
+pub mod BitfieldEntries

@@ -1,17 +1,17 @@
 // The bitfield file, byte by byte against its image. All of these are inner.
-use counts::Answer;
-use counts::ByteOffset;
-use counts::ChunkNumber;
-use counts::TreeIndex;
+use number_types::ByteOffset;
+use number_types::ChunkNumber;
+use number_types::TreeIndex;
+use refusals::Answer;
 ghost use mathlib.Core.Path.{_≡_};
 ghost use Prim.Native.Nat.{_+_, _*_, _-_, _≤_, _<_};
 ghost use lib.ListN.{length, getD};
-ghost use Rattle.counts.specs.Verdict.{bitfield as atByte, done};
-ghost use Rattle.counts.specs.Said.{said};
+ghost use Rattle.refusals.specs.Verdict.{bitfield as atByte, done};
+ghost use Rattle.refusals.specs.Meaning.{said};
 ghost use Rattle.bitfield.specs.Bits.{bit, byteOf};
-ghost use Rattle.files.specs.Sizes.{usedBitfield};
+ghost use Rattle.file_format.specs.Sizes.{usedBitfield};
 ghost use Rattle.audit.specs.Audit.{lowest, heldBits, refusedAt};
-ghost use Rattle.audit.specs.Bytes.{eight, treeBits, entryWith, byteRightBy, BitsIn, AtBits};
+ghost use Rattle.audit.specs.BitfieldEntries.{eight, treeBits, entryWith, byteRightBy, BitsIn, AtBits};
 
 fn bit_of(b: bool) -> u8
     ensures { λ r. ⌜ (r ≡ bit b) × (r ≤ 1) ⌝ }
@@ -151,7 +151,7 @@ fn wrong_in_entry(xs: &[u8], n: u64, e: u64, partly: bool) -> Answer
     while j < 3328 {
         let place = (at.0 + j) as usize;
         if xs[place] != expected_byte(xs, n, e, j, &index, partly) {
-            return counts::refuse_byte(11, ByteOffset(at.0 + j));
+            return refusals::refuse_byte(11, ByteOffset(at.0 + j));
         }
         j += 1;
     }

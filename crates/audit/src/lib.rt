@@ -3,7 +3,7 @@ mod bits;
 mod tree;
 
 pub use bits::wrong_byte;
-use counts::Answer;
+use refusals::Answer;
 pub use tree::entry_count;
 pub use tree::hole_right;
 pub use tree::leaf_right;
@@ -11,11 +11,11 @@ pub use tree::parent_right;
 pub use tree::start_behind;
 ghost use mathlib.Core.Path.{_≡_};
 ghost use mathlib.Core.List.{[]};
-ghost use Rattle.counts.specs.Said.{said};
+ghost use Rattle.refusals.specs.Meaning.{said};
 ghost use Rattle.blake2b.specs.Hash.{nodeHash};
-ghost use Rattle.checks.specs.Given.{registerOf};
+ghost use Rattle.checks.specs.Lent.{registerOf};
 ghost use Rattle.audit.specs.Audit as spec;
-ghost use Rattle.audit.specs.Walked.{FilesIn};
+ghost use Rattle.audit.specs.TreeWalk.{FilesIn};
 
 // Inner: 10 at the lowest wrong tree entry, then 11 at the lowest wrong byte of the bitfield file. It requires what the checks 2 to 6
 // give, and looks at no signature.

@@ -1,20 +1,20 @@
 // The tree file: "a leaf .. is wrong if it is over 65,536, runs past the data or has another hash; a parent if it doesn't follow
 // from its stored children, sums taken in whole numbers; a hole if it isn't zero." The leaf of a released chunk has any hash, and zeros for
 // its data. All of these are inner.
-use counts::Answer;
-use counts::ByteOffset;
-use counts::ChunkNumber;
-use counts::TreeIndex;
+use number_types::ByteOffset;
+use number_types::ChunkNumber;
+use number_types::TreeIndex;
+use refusals::Answer;
 ghost use mathlib.Core.Path.{_≡_};
 ghost use Prim.Native.Nat.{_+_, _≤_};
-ghost use Rattle.counts.specs.Verdict.{tree as atTree, done};
-ghost use Rattle.counts.specs.Said.{said};
+ghost use Rattle.refusals.specs.Verdict.{tree as atTree, done};
+ghost use Rattle.refusals.specs.Meaning.{said};
 ghost use Rattle.tree_index.specs.Tree.{entries as entriesOf};
 ghost use Rattle.blake2b.specs.Hash.{nodeHash};
-ghost use Rattle.files.specs.Stored.{storedStart};
-ghost use Rattle.files.specs.Within.{EntryIn};
+ghost use Rattle.file_format.specs.Stored.{storedStart};
+ghost use Rattle.file_format.specs.Inner.{EntryIn};
 ghost use Rattle.audit.specs.Audit.{lowest, parentRight, holeRight, entryRight, refusedAt};
-ghost use Rattle.audit.specs.Walked.{leavesBefore, leafFrom, FilesIn, Started, AtEntry, AtLeaf, AtParent};
+ghost use Rattle.audit.specs.TreeWalk.{leavesBefore, leafFrom, FilesIn, Started, AtEntry, AtLeaf, AtParent};
 
 // Inner: how many entries the tree file of n chunks has.
 pub fn entry_count(n: u64) -> u64
@@ -33,7 +33,7 @@ pub fn start_behind(tree: &[u8], i: TreeIndex, start: ByteOffset) -> ByteOffset
     ensures { λ r. ⌜ r .0 ≡ storedStart (now (tree .entry)) (leavesBefore (i .0 + 1)) ⌝ }
 {
     if i.0 % 2 == 0 {
-        return ByteOffset(start.0 + files::entries::stored_size(tree, i));
+        return ByteOffset(start.0 + file_format::entries::stored_size(tree, i));
     }
     start
 }
@@ -52,7 +52,7 @@ pub fn leaf_right(
     ensures { λ r. ⌜ r ≡ leafFrom nodeHash (now (tree .entry)) (now (content .entry)) size held (c .0) (start .0) ⌝ }
 {
     let i = tree_index::leaf_index(c);
-    let length = files::entries::stored_size(tree, i);
+    let length = file_format::entries::stored_size(tree, i);
     if 65536 < length {
         return false;
     }
@@ -62,11 +62,11 @@ pub fn leaf_right(
     let from = start.0 as usize;
     let end = from + (length as usize);
     if !held {
-        return sequences::is_zero(&content[from..end]);
+        return byte_strings::is_zero(&content[from..end]);
     }
-    let expected = files::hashes::leaf_hash(&content[from..end]);
-    let stored = files::entries::stored_hash(tree, i);
-    sequences::same(&stored, &expected)
+    let expected = file_format::hashes::leaf_hash(&content[from..end]);
+    let stored = file_format::entries::stored_hash(tree, i);
+    byte_strings::same(&stored, &expected)
 }
 
 // Inner: whether a parent is right. No sum is taken that could wrap.
@@ -76,20 +76,20 @@ pub fn parent_right(tree: &[u8], i: TreeIndex) -> bool
 {
     let left = tree_index::left_child(i);
     let right = tree_index::right_child(i);
-    let here = files::entries::stored_size(tree, i);
-    let first = files::entries::stored_size(tree, left);
+    let here = file_format::entries::stored_size(tree, i);
+    let first = file_format::entries::stored_size(tree, left);
     if here < first {
         return false;
     }
-    let second = files::entries::stored_size(tree, right);
+    let second = file_format::entries::stored_size(tree, right);
     if here - first != second {
         return false;
     }
-    let a = files::entries::stored_hash(tree, left);
-    let b = files::entries::stored_hash(tree, right);
-    let expected = files::hashes::parent_hash(here, &a, &b);
-    let stored = files::entries::stored_hash(tree, i);
-    sequences::same(&stored, &expected)
+    let a = file_format::entries::stored_hash(tree, left);
+    let b = file_format::entries::stored_hash(tree, right);
+    let expected = file_format::hashes::parent_hash(here, &a, &b);
+    let stored = file_format::entries::stored_hash(tree, i);
+    byte_strings::same(&stored, &expected)
 }
 
 // Inner: whether a hole is right.
@@ -97,9 +97,9 @@ pub fn hole_right(tree: &[u8], i: TreeIndex) -> bool
     requires { ⌜ EntryIn (now tree) (i .0) ⌝ }
     ensures { λ r. ⌜ r ≡ holeRight nodeHash (now (tree .entry)) (i .0) ⌝ }
 {
-    let from = files::entries::entry_place(i);
+    let from = file_format::entries::entry_place(i);
     let end = from + 40;
-    sequences::is_zero(&tree[from..end])
+    byte_strings::is_zero(&tree[from..end])
 }
 
 // Whether an entry is right, whichever it is.
@@ -144,7 +144,7 @@ pub fn wrong_entry(tree: &[u8], bitfield: &[u8], content: &[u8], n: u64, size: u
     let mut start = ByteOffset(0);
     while i.0 < count {
         if !entry_right(tree, bitfield, content, n, size, i, start) {
-            return counts::refuse_entry(10, i);
+            return refusals::refuse_entry(10, i);
         }
         let next = start_behind(tree, i, start);
         start = next;

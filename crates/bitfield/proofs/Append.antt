@@ -13,8 +13,8 @@ use lib.Pow.{pow-pos}
 use lib.ListN.{length, take, drop, length-replicate}
 use lib.Seq.{length-take-le, take-add}
 use borrow.Author.Tests.{eqb-true, eqb-false, lt-ltb, le-ltb, ltb-true, ltb-false}
-use Rattle.sequences.specs.Lists.{part, put, zeros, run, joined, among}
-use Rattle.sequences.proofs.Lists.{run-suc, run-ext, around, joined-run-suc}
+use Rattle.byte_strings.specs.Lists.{part, put, zeros, run, joined, among}
+use Rattle.byte_strings.proofs.Lists.{run-suc, run-ext, around, joined-run-suc}
 use Rattle.tree_index.specs.Tree.{index, completed, filledBy, filled}
 use Rattle.tree_index.proofs.Appended.{filled-suc}
 use Rattle.bitfield.specs.Bits.{withDigit, setBit}

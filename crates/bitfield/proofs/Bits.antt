@@ -12,8 +12,8 @@ use lib.Seq.{set-append-left}
 use lib.Bits.{bitOr}
 use lib.Pow.{pow-pos}
 use borrow.Author.Tests.{eqb-true, eqb-false, eq-eqb, ne-eqb, ltb-true, ltb-false}
-use Rattle.sequences.specs.Lists.{part, Bytes}
-use Rattle.sequences.proofs.Lists.{getD-behind, getD-part}
+use Rattle.byte_strings.specs.Lists.{part, Bytes}
+use Rattle.byte_strings.proofs.Lists.{getD-behind, getD-part}
 use Rattle.bitfield.specs.Bits.{bit, byteOf, bytesOf, digit, bitAt, changeBit, withDigit, withoutDigit}
 
 -- the bit number r of a byte, the first the highest

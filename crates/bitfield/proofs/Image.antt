@@ -7,8 +7,8 @@ use native.Mathlib.Nat.{add-zero, zero-add, add-assoc, mul-comm, suc-mul, mul-le
 use native.Mathlib.Omega.{arith}
 use lib.ListN.{length, take, drop, length-append, replicate-append-replicate}
 use lib.Seq.{take-append-le, drop-append-le, drop-length}
-use Rattle.sequences.specs.Lists.{part, put, run, joined, Bytes, zeros}
-use Rattle.sequences.proofs.Lists.{take-behind, drop-behind, joined-run-add, length-joined, run-ext, bytes-append, bytes-joined, part-behind, part-left, part-part, part-joined, part-front}
+use Rattle.byte_strings.specs.Lists.{part, put, run, joined, Bytes, zeros}
+use Rattle.byte_strings.proofs.Lists.{take-behind, drop-behind, joined-run-add, length-joined, run-ext, bytes-append, bytes-joined, part-behind, part-left, part-part, part-joined, part-front}
 use Rattle.tree_index.specs.Tree.{filled, depth, block, trailingOnes}
 use Rattle.bitfield.specs.Bits.{bytesOf, byteOf, changeBit}
 use Rattle.bitfield.specs.Index.{indexBytes, indexByte, node, tuples, tuple, combined, combine, four}

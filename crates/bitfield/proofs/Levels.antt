@@ -12,8 +12,8 @@ use lib.Arith.{digits-div, digits-mod, lt-of-le-ne}
 use lib.ListN.{length, getD, set, length-set, length-append}
 use lib.Seq.{set-at, ext-getD, getD-set-same, getD-set-other}
 use borrow.Author.Tests.{eqb-true, eqb-false, eq-eqb, ne-eqb, lt-ltb, le-ltb, ltb-true, ltb-false}
-use Rattle.sequences.specs.Lists.{run, joined, zeros, Bytes}
-use Rattle.sequences.proofs.Lists.{joined-run-suc, length-joined, length-run, getD-run, run-getD, run-ext, bytes-append, bytes-run}
+use Rattle.byte_strings.specs.Lists.{run, joined, zeros, Bytes}
+use Rattle.byte_strings.proofs.Lists.{joined-run-suc, length-joined, length-run, getD-run, run-getD, run-ext, bytes-append, bytes-run}
 use Rattle.tree_index.specs.Tree.{depth, block, trailingOnes}
 use Rattle.bitfield.specs.Index.{uniform, four, tuple, tuples, combine, combined, indexBytes, indexByte, node}
 use Rattle.bitfield.proofs.Bits.{cases}

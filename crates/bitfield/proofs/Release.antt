@@ -7,8 +7,8 @@ use Prim.Native.Nat.{ℕ, _+_, _*_, _/_, _%_, _<_, _≤_}
 use native.Mathlib.Omega.{arith}
 use lib.ListN.{length, take, drop}
 use lib.Seq.{length-take-le}
-use Rattle.sequences.specs.Lists.{part, put, run, joined}
-use Rattle.sequences.proofs.Lists.{around, run-ext}
+use Rattle.byte_strings.specs.Lists.{part, put, run, joined}
+use Rattle.byte_strings.proofs.Lists.{around, run-ext}
 use Rattle.tree_index.specs.Tree.{filled}
 use Rattle.bitfield.specs.Bits.{bitAt, withoutDigit, clearBit}
 use Rattle.bitfield.specs.Index.{indexBytes}

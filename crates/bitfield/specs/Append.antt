@@ -2,7 +2,7 @@
 -- (zeroed first if it is new)".
 use Prim.Native.Nat.{ℕ, zero, suc, _+_, _*_, _/_, _%_}
 use mathlib.Core.List.{List, [], _∷_}
-use Rattle.sequences.specs.Lists.{part, put, zeros}
+use Rattle.byte_strings.specs.Lists.{part, put, zeros}
 use Rattle.tree_index.specs.Tree.{filledBy}
 use Rattle.bitfield.specs.Bits.{setBit}
 use Rattle.bitfield.specs.Index.{indexBytes}

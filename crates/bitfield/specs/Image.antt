@@ -3,7 +3,7 @@ use Prim.Native.Nat.{ℕ, zero, suc, _+_, _*_, _/_}
 use mathlib.Core.Bool.{Bool}
 use mathlib.Core.List.{List, _++_}
 use lib.Dec.{ltb}
-use Rattle.sequences.specs.Lists.{run, joined}
+use Rattle.byte_strings.specs.Lists.{run, joined}
 use Rattle.tree_index.specs.Tree.{filled}
 use Rattle.bitfield.specs.Bits.{bytesOf}
 use Rattle.bitfield.specs.Index.{indexBytes}

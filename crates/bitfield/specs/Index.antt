@@ -4,7 +4,7 @@ use mathlib.Core.Bool.{Bool, true, false, _&&_}
 use mathlib.Core.List.{List, [], _∷_, _++_}
 use lib.ListN.{getD}
 use lib.Dec.{eqb}
-use Rattle.sequences.specs.Lists.{run}
+use Rattle.byte_strings.specs.Lists.{run}
 use Rattle.tree_index.specs.Tree.{depth, block}
 
 -- 11 (3) where all is ones, 00 (0) where all is zeros, else 10 (2)

@@ -5,7 +5,7 @@ use mathlib.Core.Bool.{Bool, true, false, _&&_}
 use mathlib.Core.List.{List, [], _∷_}
 use lib.ListN.{getD}
 use lib.Dec.{eqb, ltb}
-use Rattle.sequences.specs.Lists.{run, joined}
+use Rattle.byte_strings.specs.Lists.{run, joined}
 use Rattle.bitfield.specs.Index.{tuples, combined}
 
 -- a byte of four tuples and a place for the level above, k times

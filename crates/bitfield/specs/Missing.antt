@@ -1,5 +1,5 @@
 -- What a search for a chunk that is not held answers.
-use Rattle.sequences.specs.Lowest.{Lowest, nowhere, first}
+use Rattle.byte_strings.specs.Lowest.{Lowest, nowhere, first}
 use Rattle.bitfield.specs.declared.Found.{Found}
 use Rattle.bitfield.specs.declared.Found.the-variants.{At, Nothing}
 

@@ -1,12 +1,12 @@
 // The bitfield file: its bits, and the Index regenerated from its data bytes.
 pub mod index;
 
-use counts::ChunkNumber;
-use counts::TreeIndex;
+use number_types::ChunkNumber;
+use number_types::TreeIndex;
 ghost use mathlib.Core.Path.{_≡_};
 ghost use Prim.Native.Nat.{_+_, _-_, _/_, _%_, _^_, _<_, _≤_};
 ghost use lib.ListN.{length};
-ghost use Rattle.sequences.specs.Lowest.{lowest};
+ghost use Rattle.byte_strings.specs.Lowest.{lowest};
 ghost use Rattle.bitfield.specs.Bits.{bitAt, setBit, clearBit};
 ghost use Rattle.bitfield.specs.Append.{bitsPlace, zeroedIfNew, setDataBit, setTreeBit, setTreeBits, regenerated, withBits, appended};
 ghost use Rattle.bitfield.specs.Image.{entryCount};
@@ -114,7 +114,7 @@ fn zero_if_new(xs: &mut [u8], c: ChunkNumber)
 {
     if data_bit(c) == 0 {
         let at = entry_place(entry_of_chunk(c));
-        sequences::clear(xs, at, 3328);
+        byte_strings::clear(xs, at, 3328);
     }
 }
 
@@ -126,7 +126,7 @@ fn regenerate(xs: &mut [u8], e: usize)
     let at = entry_place(e);
     let end = at + 1024;
     let bytes = index::index_of(&xs[at..end]);
-    sequences::copy_to(xs, at + 3072, &bytes);
+    byte_strings::copy_to(xs, at + 3072, &bytes);
 }
 
 // The tree bits that a chunk fills: its leaf's and those of the parents that it completes. The bit of a node may lie in an earlier entry

@@ -8,8 +8,8 @@ use native.Mathlib.Nat.{add-zero, zero-add, add-assoc}
 use native.Mathlib.Omega.{arith}
 use lib.ListN.{length, getD}
 use lib.Seq.{getD-append-add}
-use Rattle.compression.specs.Compression.{F}
-use Rattle.blake2b.specs.Pieces.{Piece, onward, absorbed}
+use Rattle.blake2b_compression.specs.Compression.{F}
+use Rattle.blake2b.specs.Inner.{Piece, onward, absorbed}
 use Rattle.blake2b.specs.Hash.{wordAt, block, blocks}
 
 -- a word is made of the eight bytes from its place on, and of nothing else

@@ -10,7 +10,7 @@ use native.Mathlib.Omega.{arith}
 use lib.ListN.{length, getD, set, length-set, List·getD-eq-default, List·getD-append}
 use lib.Seq.{getD-set-same, getD-set-other, getD-append-add}
 use borrow.Author.Count.{below-more}
-use Rattle.blake2b.specs.Pieces.{Blank, Filled, Piece}
+use Rattle.blake2b.specs.Inner.{Blank, Filled, Piece}
 
 -- j bytes of s from place p on have gone into b from place `from` on
 pub record Going (b : List ℕ) (from : ℕ) (s : List ℕ) (p j : ℕ) (out : List ℕ) : Type 0 where

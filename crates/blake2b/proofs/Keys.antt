@@ -7,9 +7,9 @@ use Prim.Native.Nat.{ℕ, zero, suc, _+_, _-_, _*_, _/_, _≤_, _<_, min, max}
 use native.Mathlib.Nat.{zero-add}
 use native.Mathlib.Omega.{arith}
 use lib.ListN.{length, getD, replicate, length-append, length-replicate, List·getD-append}
-use Rattle.compression.specs.Compression.{F}
+use Rattle.blake2b_compression.specs.Compression.{F}
 use Rattle.blake2b.specs.Hash.{block, blocks, keyBlock, input, initial, after, final}
-use Rattle.blake2b.specs.Pieces.{keyed, keyCount, onward, absorbed}
+use Rattle.blake2b.specs.Inner.{keyed, keyCount, onward, absorbed}
 use Rattle.blake2b.proofs.Blocks.{block-same, block-body}
 
 -- zeros behind a list change none of its bytes, which are zeros past its end

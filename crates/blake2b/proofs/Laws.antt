@@ -8,7 +8,7 @@ use native.Mathlib.Omega.{arith}
 use lib.Dec.{lit<}
 use lib.ListN.{length, getD, take, length-append}
 use lib.Seq.{length-take-le}
-use Rattle.compression.specs.Compression.{F}
+use Rattle.blake2b_compression.specs.Compression.{F}
 use Rattle.blake2b.specs.Hash.{input, final, lowBytes, bytes, blake2b, nodeHash}
 
 -- the state that F gives has eight words

@@ -9,7 +9,7 @@ use native.Mathlib.Omega.{arith}
 use lib.Pow.{shr-shr}
 use lib.ListN.{length, getD, set, take, replicate}
 use lib.Seq.{set-at, take-suc, length-take-le, paste, paste-suc}
-use Rattle.compression.proofs.Whole.{eight-words}
+use Rattle.blake2b_compression.proofs.Whole.{eight-words}
 use Rattle.blake2b.specs.Hash.{input, final, lowBytes, bytes, blake2b}
 use Rattle.blake2b.proofs.Laws.{lowBytes-length}
 

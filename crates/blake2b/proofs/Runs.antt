@@ -5,7 +5,7 @@ use mathlib.Core.Bool.{true, false}
 use mathlib.Core.List.{List, [], _∷_, _++_}
 use native.Mathlib.Omega.{arith}
 use lib.ListN.{length, length-append}
-use Rattle.compression.specs.Compression.{F}
+use Rattle.blake2b_compression.specs.Compression.{F}
 use Rattle.blake2b.specs.Hash.{block, blocks, keyBlock, input, initial, after, final}
 use Rattle.blake2b.specs.Runs.{Run, inner, runsOf, through, runs, RunsOfTheHash}
 

@@ -4,9 +4,9 @@ use mathlib.Core.Bool.{true, false}
 use mathlib.Core.List.{List, [], _∷_, _++_}
 use lib.ListN.{length, set, take, replicate}
 use lib.Bits.{bitXor}
-use Rattle.compression.specs.Constants.{IV}
-use Rattle.compression.specs.Mixing.{at}
-use Rattle.compression.specs.Compression.{F}
+use Rattle.blake2b_compression.specs.Constants.{IV}
+use Rattle.blake2b_compression.specs.Mixing.{at}
+use Rattle.blake2b_compression.specs.Compression.{F}
 
 -- section 2.4: the word whose bytes stand from place p on, the lowest first; past the end of the message they are the zeros that pad it
 unfoldable pub wordAt : List ℕ → ℕ → ℕ

@@ -3,9 +3,9 @@ use mathlib.Core.Path.{_≡_}
 use mathlib.Core.List.{List}
 use Prim.Native.Nat.{ℕ}
 use lib.ListN.{length, replicate}
-use Rattle.counts.specs.Verdict.{refused, none}
-use Rattle.counts.specs.Said.{said}
-use Rattle.blake2b.specs.Call.{verdict, digest}
+use Rattle.refusals.specs.Verdict.{refused, none}
+use Rattle.refusals.specs.Meaning.{said}
+use Rattle.blake2b.specs.Digest.{verdict, digest}
 use Rattle.blake2b.specs.declared.Hashed.{Hashed}
 
 -- the answer and the 64 bytes of a hash of the message d under a key with output length nn

@@ -4,7 +4,7 @@ use mathlib.Core.Path.{_≡_}
 use mathlib.Core.Bool.{Bool, true, false}
 use mathlib.Core.List.{List, [], _∷_, _++_}
 use lib.ListN.{length}
-use Rattle.compression.specs.Compression.{F}
+use Rattle.blake2b_compression.specs.Compression.{F}
 use Rattle.blake2b.specs.Hash.{block, blocks, input, initial, final}
 
 -- what goes into a run beside the state: a block, the bytes taken by then, and the final flag

@@ -2,14 +2,14 @@
 use Prim.Native.Nat.{ℕ}
 use mathlib.Core.Path.{_≡_, ap, ap₂, _∙_}
 use mathlib.Core.List.{List}
-use Rattle.counts.specs.Verdict.{Verdict, unlessRefused}
+use Rattle.refusals.specs.Verdict.{Verdict, unlessRefused}
 use Rattle.blake2b.specs.Hash.{nodeHash}
-use Rattle.packet.specs.Made.{madeVerdict, madeBytes}
+use Rattle.packet.specs.Post.{madeVerdict, madeBytes}
 use Rattle.packet.specs.declared.making.Made.{Made}
-use Rattle.copies.specs.Copy.{Copy}
+use Rattle.copy_checks.specs.Copy.{Copy}
 use Rattle.copy_packet.specs.Post.{CopyMadeAs}
-use Rattle.c_answers.specs.Encoding.{encoded}
-use Rattle.c_answers.specs.declared.answers.SleepAnswer.{SleepAnswer}
+use Rattle.c_encoding.specs.Encoding.{encoded}
+use Rattle.c_encoding.specs.declared.answers.SleepAnswer.{SleepAnswer}
 use Rattle.c_api.specs.Partial.{CopyMakes}
 
 -- a packet made of a copy's chunk, from what its maker answers

@@ -2,27 +2,27 @@
 use Prim.Native.Nat.{ℕ}
 use mathlib.Core.Path.{_≡_, sym, ap, ap₂, _∙_}
 use mathlib.Core.List.{List, [], _∷_}
-use Rattle.counts.specs.Verdict.{Verdict, done, unlessRefused}
-use Rattle.counts.specs.Said.{said, refusalOf}
-use Rattle.counts.specs.declared.Answer.the-variants.{Done, Refused}
-use Rattle.counts.specs.declared.Refusal.{Refusal}
+use Rattle.refusals.specs.Verdict.{Verdict, done, unlessRefused}
+use Rattle.refusals.specs.Meaning.{said, refusalOf}
+use Rattle.refusals.specs.declared.Answer.the-variants.{Done, Refused}
+use Rattle.refusals.specs.declared.Refusal.{Refusal}
 use Rattle.blake2b.specs.Hash.{nodeHash}
-use Rattle.files.specs.Belongs.{Register}
+use Rattle.file_format.specs.Belongs.{Register}
 use Rattle.lookup.specs.Lookup.{Found, found, foundUnless}
-use Rattle.lookup.specs.Said.{refusedAs}
+use Rattle.lookup.specs.Meaning.{refusedAs}
 use Rattle.packet.specs.Check.{chunkLength, packetVerdict}
-use Rattle.packet.specs.Made.{MadeAs, madeVerdict, madeBytes}
+use Rattle.packet.specs.Post.{MadeAs, madeVerdict, madeBytes}
 use Rattle.packet.specs.declared.making.Made.{Made}
-use Rattle.needs.specs.Needs.{needOf, needVerdict, nothing, needGiven}
-use Rattle.needs.specs.Post.{numbersOf, NeedPost}
-use Rattle.needs.specs.declared.Needed.{Needed}
-use Rattle.compare.specs.Answered.{compared}
+use Rattle.append_needs.specs.Needs.{needOf, needVerdict, nothing, needGiven}
+use Rattle.append_needs.specs.Post.{numbersOf, NeedPost}
+use Rattle.append_needs.specs.declared.Needed.{Needed}
+use Rattle.compare.specs.Meaning.{compared}
 use Rattle.compare.specs.declared.Compared.{Compared}
-use Rattle.packet_walk.specs.Answered.{walkOf}
-use Rattle.packet_walk.specs.declared.Walked.{Walked}
-use Rattle.c_answers.specs.Encoding.{encoded}
+use Rattle.packet_compare.specs.Meaning.{walkOf}
+use Rattle.packet_compare.specs.declared.Walked.{Walked}
+use Rattle.c_encoding.specs.Encoding.{encoded}
 use Rattle.c_api.specs.Encoding.{packetPart, Makes, needNumbers, Needs, encodedComparison, encodedWalk}
-use Rattle.c_answers.specs.declared.answers.SleepAnswer.{SleepAnswer}
+use Rattle.c_encoding.specs.declared.answers.SleepAnswer.{SleepAnswer}
 
 -- a packet, from the case that its check's answer is
 module _ (p : List ℕ) (n c : ℕ) (root : List ℕ) where

@@ -3,26 +3,26 @@ use Prim.Native.Nat.{ℕ}
 use mathlib.Core.Path.{_≡_, refl, sym, ap, ap₂, _∙_, subst}
 use mathlib.Core.List.{List, [], _∷_}
 use lib.ListN.{length}
-use Rattle.counts.specs.Verdict.{Verdict, done, refused, unlessRefused}
-use Rattle.counts.specs.Said.{refusalOf}
-use Rattle.counts.specs.declared.Refusal.{Refusal}
-use Rattle.counts.specs.declared.ChunkNumber.{ChunkNumber}
-use Rattle.fields.specs.declared.rows.Part.{Part}
-use Rattle.records.specs.Calls.{WrittenAs, writeVerdict, lengthUnless, writtenVerdict, writtenLength}
-use Rattle.records.specs.declared.answers.Written.{Written}
-use Rattle.records.specs.declared.answers.Written.the-variants.{Refused, Length}
-use Rattle.records.specs.declared.headers.HeaderRead.{HeaderRead}
-use Rattle.records.specs.declared.headers.HeaderRead.the-variants.{Refused as NoHeader, Content}
-use Rattle.nodes.specs.Calls.{NodeWrittenAs}
-use Rattle.nodes.specs.declared.reading.Node.{Node}
-use Rattle.paths.specs.Finding.{foundOf}
-use Rattle.paths.specs.declared.finding.Found.{Found}
-use Rattle.paths.specs.declared.finding.Found.the-variants.{Refused as NotFound, At, Nowhere}
-use Rattle.flat_records.specs.Flat.{nodeIn}
-use Rattle.flat_records.specs.declared.FlatNode.{FlatNode}
-use Rattle.c_answers.specs.Encoding.{encoded}
+use Rattle.refusals.specs.Verdict.{Verdict, done, refused, unlessRefused}
+use Rattle.refusals.specs.Meaning.{refusalOf}
+use Rattle.refusals.specs.declared.Refusal.{Refusal}
+use Rattle.number_types.specs.declared.ChunkNumber.{ChunkNumber}
+use Rattle.record_fields.specs.declared.rows.Part.{Part}
+use Rattle.record_format.specs.Post.{WrittenAs, writeVerdict, lengthUnless, writtenVerdict, writtenLength}
+use Rattle.record_format.specs.declared.answers.Written.{Written}
+use Rattle.record_format.specs.declared.answers.Written.the-variants.{Refused, Length}
+use Rattle.record_format.specs.declared.headers.HeaderRead.{HeaderRead}
+use Rattle.record_format.specs.declared.headers.HeaderRead.the-variants.{Refused as NoHeader, Content}
+use Rattle.record_node.specs.Post.{NodeWrittenAs}
+use Rattle.record_node.specs.declared.reading.Node.{Node}
+use Rattle.record_find.specs.Finding.{foundOf}
+use Rattle.record_find.specs.declared.finding.Found.{Found}
+use Rattle.record_find.specs.declared.finding.Found.the-variants.{Refused as NotFound, At, Nowhere}
+use Rattle.c_records.specs.Flat.{nodeIn}
+use Rattle.c_records.specs.declared.FlatNode.{FlatNode}
+use Rattle.c_encoding.specs.Encoding.{encoded}
 use Rattle.c_api.specs.Metadata.{Told, Writes, WritesNode, encodedHeader, headerNumbers, encodedFound}
-use Rattle.c_answers.specs.declared.answers.SleepAnswer.{SleepAnswer}
+use Rattle.c_encoding.specs.declared.answers.SleepAnswer.{SleepAnswer}
 use Rattle.c_api.specs.declared.metadata.SleepFound.{SleepFound}
 
 -- ---- writing

@@ -2,20 +2,20 @@
 use Prim.Native.Nat.{ℕ}
 use mathlib.Core.Path.{_≡_, sym, ap, ap₂, _∙_, subst}
 use mathlib.Core.List.{List}
-use Rattle.counts.specs.Said.{said}
-use Rattle.counts.specs.declared.Answer.{Answer}
+use Rattle.refusals.specs.Meaning.{said}
+use Rattle.refusals.specs.declared.Answer.{Answer}
 use Rattle.blake2b.specs.Hash.{nodeHash}
-use Rattle.files.specs.Belongs.{Register}
+use Rattle.file_format.specs.Belongs.{Register}
 use Rattle.lookup.specs.Read.{Name, named}
-use Rattle.lookup.specs.Said.{nameOf, readFound}
+use Rattle.lookup.specs.Meaning.{nameOf, readFound}
 use Rattle.lookup.specs.declared.reading.Name.{Name as CodeName}
-use Rattle.stations.specs.Table.{Read, Turn, nobody, turn, next}
-use Rattle.stations.specs.Words.{tableOf}
-use Rattle.stations.specs.Calls.{Entered, Left}
-use Rattle.serving.specs.Serving.{numberOf, namedBy}
-use Rattle.c_answers.specs.Encoding.{encoded, verdictOf, numbersUnless, Gives, asPart}
+use Rattle.station_table.specs.Table.{Read, Turn, nobody, turn, next}
+use Rattle.station_table.specs.Words.{tableOf}
+use Rattle.station_table.specs.Post.{Entered, Left}
+use Rattle.station_serving.specs.Serving.{numberOf, namedBy}
+use Rattle.c_encoding.specs.Encoding.{encoded, verdictOf, numbersUnless, Gives, asPart}
 use Rattle.c_api.specs.Waiting.{Enters, Hands, encodedNobody, encodedServing, numbersServed}
-use Rattle.c_answers.specs.declared.answers.SleepAnswer.{SleepAnswer}
+use Rattle.c_encoding.specs.declared.answers.SleepAnswer.{SleepAnswer}
 use Rattle.c_api.specs.declared.waiting.SleepServing.{SleepServing}
 
 -- an entry, from the register that a number names

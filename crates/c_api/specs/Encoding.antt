@@ -2,18 +2,18 @@
 use Prim.Native.Nat.{ℕ, _+_}
 use mathlib.Core.Path.{_≡_}
 use mathlib.Core.List.{List, [], _∷_}
-use Rattle.counts.specs.Verdict.{done, refused, unlessRefused}
+use Rattle.refusals.specs.Verdict.{done, refused, unlessRefused}
 use Rattle.blake2b.specs.Hash.{nodeHash}
-use Rattle.files.specs.Belongs.{Register}
-use Rattle.needs.specs.Needs.{Need, needOf, needVerdict}
+use Rattle.file_format.specs.Belongs.{Register}
+use Rattle.append_needs.specs.Needs.{Need, needOf, needVerdict}
 use Rattle.lookup.specs.Lookup.{Found, foundUnless}
 use Rattle.packet.specs.Packet.{makeVerdict, madeLength, afterMake}
 use Rattle.packet.specs.Check.{chunkLength, packetVerdict}
 use Rattle.compare.specs.Walk.{Comparison, rootsDiffer, equal}
 use Rattle.compare.specs.Walk as Compare
-use Rattle.packet_walk.specs.Walk.{Walk, sameChunk, neither, atRoots, atIndex, firstRefused, secondRefused}
-use Rattle.c_answers.specs.Encoding.{encoded}
-use Rattle.c_answers.specs.declared.answers.SleepAnswer.{SleepAnswer}
+use Rattle.packet_compare.specs.Walk.{Walk, sameChunk, neither, atRoots, atIndex, firstRefused, secondRefused}
+use Rattle.c_encoding.specs.Encoding.{encoded}
+use Rattle.c_encoding.specs.declared.answers.SleepAnswer.{SleepAnswer}
 use Rattle.c_api.specs.declared.comparing.SleepComparison.{SleepComparison}
 
 -- the chunk's part of a packet that passes the check: `packetChunk` (packet, Check) is this part

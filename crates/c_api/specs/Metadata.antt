@@ -4,22 +4,22 @@ use mathlib.Core.Path.{_≡_}
 use mathlib.Core.Bool.{Bool}
 use mathlib.Core.List.{List, [], _∷_}
 use lib.ListN.{length}
-use Rattle.counts.specs.Verdict.{Verdict, done, refused, unlessRefused}
-use Rattle.counts.specs.Said.{said}
-use Rattle.counts.specs.declared.Answer.{Answer}
-use Rattle.records.specs.Records.{HeaderWithin, headerBytes, nodeBytes}
-use Rattle.records.specs.Calls.{Decides, writeVerdict, frontUnless, writtenVerdict, writtenLength, headerOf}
-use Rattle.records.specs.declared.answers.Written.{Written}
-use Rattle.records.specs.declared.headers.HeaderRead.{HeaderRead}
-use Rattle.records.specs.declared.headers.HeaderRead.the-variants.{Refused as NoHeader, Content}
-use Rattle.nodes.specs.Calls.{NodeFits, nodeOf}
-use Rattle.nodes.specs.declared.reading.Node.{Node}
-use Rattle.flat_records.specs.Flat.{flatNode, nodeIn}
-use Rattle.flat_records.specs.declared.FlatNode.{FlatNode}
-use Rattle.paths.specs.Chunks.{headerVerdict}
-use Rattle.paths.specs.Finding.{Outcome, failed, at, nowhere}
-use Rattle.c_answers.specs.Encoding.{encoded}
-use Rattle.c_answers.specs.declared.answers.SleepAnswer.{SleepAnswer}
+use Rattle.refusals.specs.Verdict.{Verdict, done, refused, unlessRefused}
+use Rattle.refusals.specs.Meaning.{said}
+use Rattle.refusals.specs.declared.Answer.{Answer}
+use Rattle.record_format.specs.Records.{HeaderWithin, headerBytes, nodeBytes}
+use Rattle.record_format.specs.Post.{Decides, writeVerdict, frontUnless, writtenVerdict, writtenLength, headerOf}
+use Rattle.record_format.specs.declared.answers.Written.{Written}
+use Rattle.record_format.specs.declared.headers.HeaderRead.{HeaderRead}
+use Rattle.record_format.specs.declared.headers.HeaderRead.the-variants.{Refused as NoHeader, Content}
+use Rattle.record_node.specs.Post.{NodeFits, nodeOf}
+use Rattle.record_node.specs.declared.reading.Node.{Node}
+use Rattle.c_records.specs.Flat.{flatNode, nodeIn}
+use Rattle.c_records.specs.declared.FlatNode.{FlatNode}
+use Rattle.record_find.specs.ChunkRecords.{headerVerdict}
+use Rattle.record_find.specs.Finding.{Outcome, failed, at, nowhere}
+use Rattle.c_encoding.specs.Encoding.{encoded}
+use Rattle.c_encoding.specs.declared.answers.SleepAnswer.{SleepAnswer}
 use Rattle.c_api.specs.declared.metadata.SleepNodeRead.{SleepNodeRead}
 use Rattle.c_api.specs.declared.metadata.SleepFound.{SleepFound}
 

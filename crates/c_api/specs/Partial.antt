@@ -2,12 +2,12 @@
 use Prim.Native.Nat.{ℕ}
 use mathlib.Core.Path.{_≡_}
 use mathlib.Core.List.{List}
-use Rattle.counts.specs.Verdict.{unlessRefused}
+use Rattle.refusals.specs.Verdict.{unlessRefused}
 use Rattle.blake2b.specs.Hash.{nodeHash}
-use Rattle.copies.specs.Copy.{Copy}
+use Rattle.copy_checks.specs.Copy.{Copy}
 use Rattle.copy_packet.specs.Making.{copyMakeVerdict, copyMadeLength, copyAfterMake}
-use Rattle.c_answers.specs.Encoding.{encoded}
-use Rattle.c_answers.specs.declared.answers.SleepAnswer.{SleepAnswer}
+use Rattle.c_encoding.specs.Encoding.{encoded}
+use Rattle.c_encoding.specs.declared.answers.SleepAnswer.{SleepAnswer}
 
 -- making the packet of chunk i of a copy: the answer, the buffer lent for it and the number lent for its length
 pub record CopyMakes (c : Copy) (i : ℕ) (out : List ℕ) (long : ℕ) (answer : SleepAnswer) (outAfter : List ℕ) (longAfter : ℕ) : Type 0 where

@@ -2,17 +2,17 @@
 use Prim.Native.Nat.{ℕ}
 use mathlib.Core.Path.{_≡_}
 use mathlib.Core.List.{List}
-use Rattle.counts.specs.Verdict.{done, unlessRefused}
+use Rattle.refusals.specs.Verdict.{done, unlessRefused}
 use Rattle.blake2b.specs.Hash.{nodeHash}
-use Rattle.files.specs.Belongs.{Register}
+use Rattle.file_format.specs.Belongs.{Register}
 use Rattle.lookup.specs.Lookup.{Found}
 use Rattle.lookup.specs.Read.{named}
-use Rattle.lookup.specs.Said.{readFound}
-use Rattle.stations.specs.Table.{Read, Turn, nobody, turn, enterVerdict, entered, next, served}
-use Rattle.stations.specs.Words.{storedAt, leftAt, tableOf}
-use Rattle.serving.specs.Serving.{numberOf, namedBy}
-use Rattle.c_answers.specs.Encoding.{encoded, verdictOf, numbersUnless, asPart}
-use Rattle.c_answers.specs.declared.answers.SleepAnswer.{SleepAnswer}
+use Rattle.lookup.specs.Meaning.{readFound}
+use Rattle.station_table.specs.Table.{Read, Turn, nobody, turn, enterVerdict, entered, next, served}
+use Rattle.station_table.specs.Words.{storedAt, leftAt, tableOf}
+use Rattle.station_serving.specs.Serving.{numberOf, namedBy}
+use Rattle.c_encoding.specs.Encoding.{encoded, verdictOf, numbersUnless, asPart}
+use Rattle.c_encoding.specs.declared.answers.SleepAnswer.{SleepAnswer}
 use Rattle.c_api.specs.declared.waiting.SleepServing.{SleepServing}
 
 -- entering a read of station s: the answer, and the table's numbers before and after

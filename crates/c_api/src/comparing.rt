@@ -1,18 +1,18 @@
 // The comparing walk on two registers, and the walk along two packets. Both write nothing.
-use c_answers::SleepAnswer;
+use c_encoding::SleepAnswer;
 use compare::Compared;
-use counts::Answer;
-use counts::ChunkNumber;
-use packet_walk::Walked;
+use number_types::ChunkNumber;
+use packet_compare::Walked;
+use refusals::Answer;
 ghost use mathlib.Core.Path.{_≡_};
-ghost use Rattle.counts.specs.Verdict.{done};
+ghost use Rattle.refusals.specs.Verdict.{done};
 ghost use Rattle.blake2b.specs.Hash.{nodeHash};
-ghost use Rattle.checks.specs.Given.{registerOf};
+ghost use Rattle.checks.specs.Lent.{registerOf};
 ghost use Rattle.compare.specs.Walk as Walk;
-ghost use Rattle.compare.specs.Answered.{compared as Answered·compared};
-ghost use Rattle.packet_walk.specs.Walk.{comparePackets};
-ghost use Rattle.packet_walk.specs.Answered.{walkOf};
-ghost use Rattle.c_answers.specs.Encoding.{encoded};
+ghost use Rattle.compare.specs.Meaning.{compared as Answered·compared};
+ghost use Rattle.packet_compare.specs.Walk.{comparePackets};
+ghost use Rattle.packet_compare.specs.Meaning.{walkOf};
+ghost use Rattle.c_encoding.specs.Encoding.{encoded};
 ghost use Rattle.c_api.specs.Encoding.{outcomeWith, encodedComparison, encodedWalk};
 
 // `outcome` is 0 for equal (of packets: the same chunk), 1 for roots differ, 2 for a collision at the roots, 3 for one at the tree index `answer.place`, 4 where the
@@ -27,7 +27,7 @@ pub struct SleepComparison {
 fn plain(outcome: u64) -> SleepComparison
     ensures { λ r. ⌜ r ≡ outcomeWith outcome (encoded done) ⌝ }
 {
-    let answer = c_answers::encode(Answer::Done);
+    let answer = c_encoding::encode(Answer::Done);
     SleepComparison { outcome, answer }
 }
 
@@ -48,11 +48,11 @@ fn encode_comparison(compared: Compared) -> SleepComparison
             SleepComparison { outcome: 3, answer }
         }
         Compared::FirstRefused(refusal) => {
-            let answer = c_answers::refused(refusal);
+            let answer = c_encoding::refused(refusal);
             SleepComparison { outcome: 4, answer }
         }
         Compared::SecondRefused(refusal) => {
-            let answer = c_answers::refused(refusal);
+            let answer = c_encoding::refused(refusal);
             SleepComparison { outcome: 5, answer }
         }
     }
@@ -117,11 +117,11 @@ fn encode_walk(walked: Walked) -> SleepComparison
             SleepComparison { outcome: 3, answer }
         }
         Walked::FirstRefused(refusal) => {
-            let answer = c_answers::refused(refusal);
+            let answer = c_encoding::refused(refusal);
             SleepComparison { outcome: 4, answer }
         }
         Walked::SecondRefused(refusal) => {
-            let answer = c_answers::refused(refusal);
+            let answer = c_encoding::refused(refusal);
             SleepComparison { outcome: 5, answer }
         }
     }
@@ -138,5 +138,5 @@ pub extern "C" fn sleep_compare_packets(
 ) -> SleepComparison
     ensures { λ r. ⌜ r ≡ encodedWalk (comparePackets nodeHash (now (first .entry)) (now (second .entry)) n chunk (now (root .entry))) ⌝ }
 {
-    encode_walk(packet_walk::compare_packets(first, second, n, ChunkNumber(chunk), root))
+    encode_walk(packet_compare::compare_packets(first, second, n, ChunkNumber(chunk), root))
 }

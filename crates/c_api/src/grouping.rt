@@ -1,10 +1,10 @@
 // Coordinates grouped before storing, and back. No register is lent.
-use c_answers::SleepAnswer;
+use c_encoding::SleepAnswer;
 ghost use mathlib.Core.Path.{_≡_};
 ghost use lib.ListN.{length};
 ghost use Rattle.coordinates.specs.Grouping.{grouped, ungrouped};
-ghost use Rattle.coordinates.specs.Calls.{verdict, after};
-ghost use Rattle.c_answers.specs.Encoding.{encoded};
+ghost use Rattle.coordinates.specs.Post.{verdict, after};
+ghost use Rattle.c_encoding.specs.Encoding.{encoded};
 
 // `bytes` grouped, at the front of `out`, the rest as it was.
 #[no_mangle]
@@ -12,7 +12,7 @@ pub extern "C" fn sleep_group(bytes: &[u8], out: &mut [u8]) -> SleepAnswer
     ensures answers { λ r. ⌜ r ≡ encoded (verdict (length (now (bytes .entry))) (length (now (out .entry)))) ⌝ }
     ensures buffer { λ _. ⌜ now (out .exit) ≡ after grouped (now (bytes .entry)) (now (out .entry)) ⌝ }
 {
-    c_answers::encode(coordinates::group(bytes, out))
+    c_encoding::encode(coordinates::group(bytes, out))
 }
 
 // Grouped `bytes` as they were before, at the front of `out`, the rest as it was.
@@ -21,5 +21,5 @@ pub extern "C" fn sleep_ungroup(bytes: &[u8], out: &mut [u8]) -> SleepAnswer
     ensures answers { λ r. ⌜ r ≡ encoded (verdict (length (now (bytes .entry))) (length (now (out .entry)))) ⌝ }
     ensures buffer { λ _. ⌜ now (out .exit) ≡ after ungrouped (now (bytes .entry)) (now (out .entry)) ⌝ }
 {
-    c_answers::encode(coordinates::ungroup(bytes, out))
+    c_encoding::encode(coordinates::ungroup(bytes, out))
 }

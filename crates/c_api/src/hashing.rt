@@ -2,11 +2,11 @@
 ghost use mathlib.Core.Path.{_≡_};
 ghost use mathlib.Core.List.{_++_};
 ghost use lib.ListN.{length as List·length};
-ghost use Rattle.counts.specs.Verdict.{unlessRefused};
+ghost use Rattle.refusals.specs.Verdict.{unlessRefused};
 ghost use Rattle.blake2b.specs.Hash.{blake2b as Hash·blake2b};
-ghost use Rattle.blake2b.specs.Call.{verdict, digest as Call·digest};
-ghost use Rattle.label.specs.Label.{labelVerdict, labelBytes};
-ghost use Rattle.c_answers.specs.Number.{numberOf};
+ghost use Rattle.blake2b.specs.Digest.{verdict, digest as Call·digest};
+ghost use Rattle.blake2b_label.specs.Label.{labelVerdict, labelBytes};
+ghost use Rattle.c_encoding.specs.Number.{numberOf};
 
 // BLAKE2b with `length` bytes of output under a key: these and then zeros in `digest`, 64 bytes in all. It answers 0 or the number of its
 // refusal, which has no place. After a refusal `digest` is as it was.
@@ -18,7 +18,7 @@ pub extern "C" fn sleep_hash(length: u64, key: &[u8], message: &[u8], digest: &m
     let hashed = blake2b::hash(length as usize, key, message);
     let bytes = hashed.digest;
     let answer = hashed.answer;
-    c_answers::give_digest(answer, bytes, digest)
+    c_encoding::give_digest(answer, bytes, digest)
 }
 
 // The same with 32 bytes of output, of a message that lies in two parts: with the empty key the hash of leaves, parents and roots.
@@ -45,9 +45,9 @@ pub extern "C" fn sleep_label(root: &[u8; 32], key: &[u8], out: &mut [u8; 32]) -
     ensures { λ r. ⌜ r ≡ numberOf (labelVerdict (now (key .entry))) ⌝ }
     ensures { λ _. ⌜ now (out .exit) ≡ unlessRefused (labelVerdict (now (key .entry))) (labelBytes (now (key .entry)) (now (root .entry))) (now (out .entry)) ⌝ }
 {
-    let labelled = label::label(root, key);
+    let labelled = blake2b_label::label(root, key);
     let bytes = labelled.bytes;
     let answer = labelled.answer;
-    let told = c_answers::give_hash(answer, bytes, out);
+    let told = c_encoding::give_hash(answer, bytes, out);
     told.number
 }

@@ -1,6 +1,6 @@
 // What a job will need. No register is lent.
-use c_answers::SleepAnswer;
-use counts::Answer;
+use c_encoding::SleepAnswer;
+use refusals::Answer;
 ghost use Rattle.c_api.specs.Encoding.{Needs};
 
 // What chunks of these `lengths` behind `n` others, with `size` data bytes, will need: the sizes of tree, signatures, bitfield and data
@@ -10,10 +10,10 @@ ghost use Rattle.c_api.specs.Encoding.{Needs};
 pub extern "C" fn sleep_needs(n: u64, size: u64, lengths: &[u64], out: &mut [u64; 8]) -> SleepAnswer
     ensures { λ r. ⌜ Needs n size (now (lengths .entry)) (now (out .entry)) r (now (out .exit)) ⌝ }
 {
-    let needed = needs::needs(n, size, lengths);
+    let needed = append_needs::needs(n, size, lengths);
     let answer = needed.answer;
     match answer {
-        Answer::Refused(refusal) => c_answers::refused(refusal),
+        Answer::Refused(refusal) => c_encoding::refused(refusal),
         Answer::Done => {
             *out = [
                 needed.tree,
@@ -25,7 +25,7 @@ pub extern "C" fn sleep_needs(n: u64, size: u64, lengths: &[u64], out: &mut [u64
                 needed.root,
                 needed.runs,
             ];
-            c_answers::encode(Answer::Done)
+            c_encoding::encode(Answer::Done)
         }
     }
 }

@@ -1,13 +1,13 @@
 // The lookups, the verified read and the search. Each gives two numbers, in `out`, which is as it was after a refusal.
-use c_answers::SleepAnswer;
-use counts::ByteOffset;
-use counts::ChunkNumber;
+use c_encoding::SleepAnswer;
+use number_types::ByteOffset;
+use number_types::ChunkNumber;
 ghost use Rattle.blake2b.specs.Hash.{nodeHash};
-ghost use Rattle.checks.specs.Given.{registerOf};
+ghost use Rattle.checks.specs.Lent.{registerOf};
 ghost use Rattle.lookup.specs.Lookup.{placeOf, byteAt};
-ghost use Rattle.lookup.specs.Said.{readFound};
+ghost use Rattle.lookup.specs.Meaning.{readFound};
 ghost use Rattle.search.specs.Search.{searchFor};
-ghost use Rattle.c_answers.specs.Encoding.{Gives, asPart, asFound};
+ghost use Rattle.c_encoding.specs.Encoding.{Gives, asPart, asFound};
 
 // Where the bytes of a chunk begin in `content`, and how many they are.
 #[no_mangle]
@@ -39,7 +39,7 @@ pub extern "C" fn sleep_place(
         size,
         ChunkNumber(chunk),
     );
-    c_answers::give_place(found, out)
+    c_encoding::give_place(found, out)
 }
 
 // The chunk whose bytes contain an offset, and the offset less its start; never an empty chunk. At the data size n and 0, also in an empty
@@ -73,7 +73,7 @@ pub extern "C" fn sleep_byte(
         size,
         ByteOffset(offset),
     );
-    c_answers::give_byte(found, out)
+    c_encoding::give_byte(found, out)
 }
 
 // A verified read: where the bytes of a chunk begin in `content` and how many they are, after its leaf hash was compared. The caller names
@@ -107,7 +107,7 @@ pub extern "C" fn sleep_read(
         size,
         ChunkNumber(chunk),
     );
-    c_answers::give_part(found, out)
+    c_encoding::give_part(found, out)
 }
 
 // The first chunk from a given number on, below n, that is not held: 1 and its number, or 0 and 0 where there is none.
@@ -140,5 +140,5 @@ pub extern "C" fn sleep_search(
         size,
         ChunkNumber(from),
     );
-    c_answers::give_search(found, out)
+    c_encoding::give_search(found, out)
 }

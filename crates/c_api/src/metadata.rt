@@ -1,20 +1,20 @@
 // The records of a metadata register, and the paths in them. The fields of a Node are numbers alone, whose parts lie in the bytes lent or, of a
 // chunk of a register, in the bytes of the chunk.
-use c_answers::SleepAnswer;
-use counts::Answer;
-use counts::ChunkNumber;
-use flat_records::FlatNode;
-use nodes::NodeRead;
-use paths::Found;
-use records::HeaderRead;
-use records::Written;
+use c_encoding::SleepAnswer;
+use c_records::FlatNode;
+use number_types::ChunkNumber;
+use record_find::Found;
+use record_format::HeaderRead;
+use record_format::Written;
+use record_node::NodeRead;
+use refusals::Answer;
 ghost use mathlib.Core.Path.{_≡_};
 ghost use Rattle.blake2b.specs.Hash.{nodeHash};
-ghost use Rattle.checks.specs.Given.{registerOf};
-ghost use Rattle.records.specs.Calls.{HeaderReadAs};
-ghost use Rattle.nodes.specs.Calls.{NodeReadAs};
-ghost use Rattle.paths.specs.Chunks.{HeaderAs, NodeAs};
-ghost use Rattle.paths.specs.Finding.{foundOf, FindAs};
+ghost use Rattle.checks.specs.Lent.{registerOf};
+ghost use Rattle.record_format.specs.Post.{HeaderReadAs};
+ghost use Rattle.record_node.specs.Post.{NodeReadAs};
+ghost use Rattle.record_find.specs.ChunkRecords.{HeaderAs, NodeAs};
+ghost use Rattle.record_find.specs.Finding.{foundOf, FindAs};
 ghost use Rattle.c_api.specs.Metadata.{WritesHeader, WritesNode, Told, GivesHeader, encodedHeader, headerNumbers, GivesNode, encodedNode, encodedFound, FindsAs};
 
 // What reading a Node answers, and its fields, which are all 0 after a refusal.
@@ -37,10 +37,10 @@ fn give_length(written: Written, length: &mut u64) -> SleepAnswer
     ensures { λ r. ⌜ Told written (now (length .entry)) r (now (length .exit)) ⌝ }
 {
     match written {
-        Written::Refused(refusal) => c_answers::refused(refusal),
+        Written::Refused(refusal) => c_encoding::refused(refusal),
         Written::Length(bytes) => {
             *length = bytes;
-            c_answers::encode(Answer::Done)
+            c_encoding::encode(Answer::Done)
         }
     }
 }
@@ -57,7 +57,7 @@ pub extern "C" fn sleep_write_header(
         WritesHeader (now (content .entry)) (now (out .entry)) (now (length .entry)) r (now (out .exit)) (now (length .exit))
         ⌝ }
 {
-    give_length(records::write_header(content, out), length)
+    give_length(record_format::write_header(content, out), length)
 }
 
 // The Node with these fields, whose parts lie in `bytes`, at the front of `out`, and how many bytes it has, in `length`.
@@ -73,8 +73,8 @@ pub extern "C" fn sleep_write_node(
         WritesNode (now (bytes .entry)) node (now (out .entry)) (now (length .entry)) r (now (out .exit)) (now (length .exit))
         ⌝ }
 {
-    let fields = flat_records::node_in(node);
-    give_length(nodes::write_node(bytes, fields, out), length)
+    let fields = c_records::node_in(node);
+    give_length(record_node::write_node(bytes, fields, out), length)
 }
 
 // What reading a Header answers; where its content bytes lie, as two numbers, unless it is refused.
@@ -83,10 +83,10 @@ pub fn give_header(read: HeaderRead, out: &mut [u64; 2]) -> SleepAnswer
     ensures gives { λ _. ⌜ now (out .exit) ≡ headerNumbers read (now (out .entry)) ⌝ }
 {
     match read {
-        HeaderRead::Refused(refusal) => c_answers::refused(refusal),
+        HeaderRead::Refused(refusal) => c_encoding::refused(refusal),
         HeaderRead::Content(part) => {
             *out = [part.at as u64, part.len as u64];
-            c_answers::encode(Answer::Done)
+            c_encoding::encode(Answer::Done)
         }
     }
 }
@@ -96,7 +96,7 @@ pub fn give_header(read: HeaderRead, out: &mut [u64; 2]) -> SleepAnswer
 pub extern "C" fn sleep_read_header(bytes: &[u8], out: &mut [u64; 2]) -> SleepAnswer
     ensures { λ r. ⌜ GivesHeader (HeaderReadAs (now (bytes .entry))) (now (out .entry)) r (now (out .exit)) ⌝ }
 {
-    give_header(records::read_header(bytes), out)
+    give_header(record_format::read_header(bytes), out)
 }
 
 // What reading a Node answers, with its fields as numbers.
@@ -105,8 +105,8 @@ pub fn flat(read: NodeRead) -> SleepNodeRead
 {
     let said = read.answer;
     let node = read.node;
-    let answer = c_answers::encode(said);
-    let fields = flat_records::flat_node(node);
+    let answer = c_encoding::encode(said);
+    let fields = c_records::flat_node(node);
     SleepNodeRead {
         answer,
         node: fields,
@@ -118,7 +118,7 @@ pub fn flat(read: NodeRead) -> SleepNodeRead
 pub extern "C" fn sleep_read_node(bytes: &[u8]) -> SleepNodeRead
     ensures { λ r. ⌜ GivesNode (NodeReadAs (now (bytes .entry))) r ⌝ }
 {
-    flat(nodes::read_node(bytes))
+    flat(record_node::read_node(bytes))
 }
 
 // Where the content bytes of the Header lie that a chunk is, in the chunk.
@@ -141,7 +141,7 @@ pub extern "C" fn sleep_header_of(
         (now (out .entry)) r (now (out .exit))
         ⌝ }
 {
-    let read = paths::header_of(
+    let read = record_find::header_of(
         tree,
         signatures,
         bitfield,
@@ -173,7 +173,7 @@ pub extern "C" fn sleep_node_of(
         r
         ⌝ }
 {
-    flat(paths::node_of(
+    flat(record_find::node_of(
         tree,
         signatures,
         bitfield,
@@ -191,7 +191,7 @@ pub fn found_as(found: Found) -> SleepFound
 {
     match found {
         Found::Refused(refusal) => {
-            let answer = c_answers::refused(refusal);
+            let answer = c_encoding::refused(refusal);
             SleepFound {
                 found: 0,
                 chunk: 0,
@@ -199,7 +199,7 @@ pub fn found_as(found: Found) -> SleepFound
             }
         }
         Found::At(chunk) => {
-            let answer = c_answers::encode(Answer::Done);
+            let answer = c_encoding::encode(Answer::Done);
             SleepFound {
                 found: 1,
                 chunk: chunk.0,
@@ -207,7 +207,7 @@ pub fn found_as(found: Found) -> SleepFound
             }
         }
         Found::Nowhere => {
-            let answer = c_answers::encode(Answer::Done);
+            let answer = c_encoding::encode(Answer::Done);
             SleepFound {
                 found: 0,
                 chunk: 0,
@@ -236,5 +236,5 @@ pub extern "C" fn sleep_find(
         r
         ⌝ }
 {
-    found_as(paths::find(tree, signatures, bitfield, content, n, s, size, path))
+    found_as(record_find::find(tree, signatures, bitfield, content, n, s, size, path))
 }

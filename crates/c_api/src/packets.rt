@@ -1,9 +1,9 @@
 // Packets: made from a register, and checked against a root hash by whoever has no register.
-use c_answers::SleepAnswer;
-use counts::Answer;
-use counts::ChunkNumber;
-ghost use Rattle.checks.specs.Given.{registerOf};
-ghost use Rattle.c_answers.specs.Encoding.{Gives};
+use c_encoding::SleepAnswer;
+use number_types::ChunkNumber;
+use refusals::Answer;
+ghost use Rattle.checks.specs.Lent.{registerOf};
+ghost use Rattle.c_encoding.specs.Encoding.{Gives};
 ghost use Rattle.c_api.specs.Encoding.{Makes, packetPart};
 
 // The packet of a chunk at the front of `out`, the rest as it was, and the packet's length in `length`. Both are as they were after a
@@ -39,7 +39,7 @@ pub extern "C" fn sleep_make_packet(
         ChunkNumber(chunk),
         out,
     );
-    c_answers::give_length(made, length)
+    c_encoding::give_length(made, length)
 }
 
 // The chunk's part of a packet that passes the check: where it begins in `packet` and how many bytes it has, in `out`, which is as it was
@@ -61,11 +61,11 @@ pub extern "C" fn sleep_check_packet(
 {
     let answer = packet::check_answer(packet, n, ChunkNumber(chunk), root);
     match answer {
-        Answer::Refused(refusal) => c_answers::refused(refusal),
+        Answer::Refused(refusal) => c_encoding::refused(refusal),
         Answer::Done => {
-            let length = sequences::read_be32(packet, 0);
+            let length = byte_strings::read_be32(packet, 0);
             *out = [4, length];
-            c_answers::encode(Answer::Done)
+            c_encoding::encode(Answer::Done)
         }
     }
 }

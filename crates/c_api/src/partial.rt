@@ -1,17 +1,17 @@
 // Partial copies: made, filled by packets, and their root hashes. A copy is lent as its three images `tree`, `bitfield` and `content` (the
 // data), and told the chunk count `n` and the data size `size`; it has no signatures.
-use c_answers::SleepAnswer;
-use counts::ChunkNumber;
+use c_encoding::SleepAnswer;
+use number_types::ChunkNumber;
 ghost use mathlib.Core.Path.{_≡_};
-ghost use Rattle.counts.specs.Verdict.{unlessRefused};
+ghost use Rattle.refusals.specs.Verdict.{unlessRefused};
 ghost use Rattle.blake2b.specs.Hash.{nodeHash};
-ghost use Rattle.copies.specs.Copy.{copyOf, filesLent};
-ghost use Rattle.make_copy.specs.Make.{makeVerdict, afterMaking};
-ghost use Rattle.take_in.specs.TakeIn.{takeVerdict, afterTaking};
+ghost use Rattle.copy_checks.specs.Copy.{copyOf, filesLent};
+ghost use Rattle.copy_make.specs.Make.{makeVerdict, afterMaking};
+ghost use Rattle.copy_take_in.specs.TakeIn.{takeVerdict, afterTaking};
 ghost use Rattle.copy_audit.specs.Audit.{auditCopy};
 ghost use Rattle.copy_release.specs.Release.{copyReleaseVerdict, copyAfterRelease};
-ghost use Rattle.copy_roots.specs.Roots.{copyRootVerdict, copyRootAnswer, copyOldVerdict, copyOldRoot};
-ghost use Rattle.c_answers.specs.Encoding.{encoded};
+ghost use Rattle.copy_roots.specs.Roots.{copyRootVerdict, copyRootAnswer, copyPrefixVerdict, copyPrefixRoot};
+ghost use Rattle.c_encoding.specs.Encoding.{encoded};
 ghost use Rattle.c_api.specs.Partial.{CopyMakes};
 
 // A copy of which nothing is known yet, in three buffers.
@@ -26,7 +26,7 @@ pub extern "C" fn sleep_make_copy(
     ensures answers { λ r. ⌜ r ≡ encoded (makeVerdict (copyOf (now (tree .entry)) (now (bitfield .entry)) (now (content .entry)) n size)) ⌝ }
     ensures buffers { λ _. ⌜ filesLent (now (tree .exit)) (now (bitfield .exit)) (now (content .exit)) ≡ afterMaking (copyOf (now (tree .entry)) (now (bitfield .entry)) (now (content .entry)) n size) ⌝ }
 {
-    c_answers::encode(make_copy::make_copy(tree, bitfield, content, n, size))
+    c_encoding::encode(copy_make::make_copy(tree, bitfield, content, n, size))
 }
 
 // A packet of a chunk is taken in, under a root hash: the entries that it leads to or gives, and the chunk's bytes.
@@ -44,7 +44,7 @@ pub extern "C" fn sleep_take_in(
     ensures answers { λ r. ⌜ r ≡ encoded (takeVerdict nodeHash (copyOf (now (tree .entry)) (now (bitfield .entry)) (now (content .entry)) n size) (now (packet .entry)) chunk (now (root .entry))) ⌝ }
     ensures buffers { λ _. ⌜ filesLent (now (tree .exit)) (now (bitfield .exit)) (now (content .exit)) ≡ afterTaking nodeHash (copyOf (now (tree .entry)) (now (bitfield .entry)) (now (content .entry)) n size) (now (packet .entry)) chunk (now (root .entry)) ⌝ }
 {
-    c_answers::encode(take_in::take_in(
+    c_encoding::encode(copy_take_in::take_in(
         tree,
         bitfield,
         content,
@@ -67,7 +67,7 @@ pub extern "C" fn sleep_copy_audit(
 ) -> SleepAnswer
     ensures { λ r. ⌜ r ≡ encoded (auditCopy nodeHash (copyOf (now (tree .entry)) (now (bitfield .entry)) (now (content .entry)) n size)) ⌝ }
 {
-    c_answers::encode(copy_audit::audit(tree, bitfield, content, n, size))
+    c_encoding::encode(copy_audit::audit(tree, bitfield, content, n, size))
 }
 
 // A chunk that is held makes room: its data bit is cleared, and its bytes become zeros. Its entries stay known.
@@ -83,7 +83,7 @@ pub extern "C" fn sleep_copy_release(
     ensures answers { λ r. ⌜ r ≡ encoded (copyReleaseVerdict (copyOf (now (tree .entry)) (now (bitfield .entry)) (now (content .entry)) n size) chunk) ⌝ }
     ensures buffers { λ _. ⌜ filesLent (now (tree .exit)) (now (bitfield .exit)) (now (content .exit)) ≡ copyAfterRelease (copyOf (now (tree .entry)) (now (bitfield .entry)) (now (content .entry)) n size) chunk ⌝ }
 {
-    c_answers::encode(copy_release::release(tree, bitfield, content, n, size, ChunkNumber(chunk)))
+    c_encoding::encode(copy_release::release(tree, bitfield, content, n, size, ChunkNumber(chunk)))
 }
 
 // The root hash that the stored roots give, in `root`.
@@ -102,7 +102,7 @@ pub extern "C" fn sleep_copy_root_hash(
     let rooted = copy_roots::root_hash(tree, bitfield, content, n, size);
     let hash = rooted.root;
     let answer = rooted.answer;
-    c_answers::give_hash(answer, hash, root)
+    c_encoding::give_hash(answer, hash, root)
 }
 
 // The root hash of the first `m` chunks, from the stored entries, in `root`.
@@ -116,13 +116,13 @@ pub extern "C" fn sleep_copy_old_root(
     m: u64,
     root: &mut [u8; 32],
 ) -> SleepAnswer
-    ensures answers { λ r. ⌜ r ≡ encoded (copyOldVerdict (copyOf (now (tree .entry)) (now (bitfield .entry)) (now (content .entry)) n size) m) ⌝ }
-    ensures gives { λ _. ⌜ now (root .exit) ≡ unlessRefused (copyOldVerdict (copyOf (now (tree .entry)) (now (bitfield .entry)) (now (content .entry)) n size) m) (copyOldRoot nodeHash (copyOf (now (tree .entry)) (now (bitfield .entry)) (now (content .entry)) n size) m) (now (root .entry)) ⌝ }
+    ensures answers { λ r. ⌜ r ≡ encoded (copyPrefixVerdict (copyOf (now (tree .entry)) (now (bitfield .entry)) (now (content .entry)) n size) m) ⌝ }
+    ensures gives { λ _. ⌜ now (root .exit) ≡ unlessRefused (copyPrefixVerdict (copyOf (now (tree .entry)) (now (bitfield .entry)) (now (content .entry)) n size) m) (copyPrefixRoot nodeHash (copyOf (now (tree .entry)) (now (bitfield .entry)) (now (content .entry)) n size) m) (now (root .entry)) ⌝ }
 {
-    let rooted = copy_roots::old_root_hash(tree, bitfield, content, n, size, m);
+    let rooted = copy_roots::prefix_root_hash(tree, bitfield, content, n, size, m);
     let hash = rooted.root;
     let answer = rooted.answer;
-    c_answers::give_hash(answer, hash, root)
+    c_encoding::give_hash(answer, hash, root)
 }
 
 // The packet of a chunk at the front of `out`, the rest as it was, and the packet's length in `length`. Both are as they were after a
@@ -146,5 +146,5 @@ pub extern "C" fn sleep_copy_make_packet(
         ⌝ }
 {
     let made = copy_packet::make(tree, bitfield, content, n, size, ChunkNumber(chunk), out);
-    c_answers::give_length(made, length)
+    c_encoding::give_length(made, length)
 }

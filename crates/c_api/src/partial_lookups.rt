@@ -1,14 +1,14 @@
 // The lookups, the verified read and the searches on a partial copy. Each gives two numbers, in `out`, which is as it was after a refusal.
-use c_answers::SleepAnswer;
-use counts::ByteOffset;
-use counts::ChunkNumber;
+use c_encoding::SleepAnswer;
+use number_types::ByteOffset;
+use number_types::ChunkNumber;
 ghost use Rattle.blake2b.specs.Hash.{nodeHash};
-ghost use Rattle.copies.specs.Copy.{copyOf};
+ghost use Rattle.copy_checks.specs.Copy.{copyOf};
 ghost use Rattle.copy_lookup.specs.Lookups.{copyPlaceOf, copyByteAt};
 ghost use Rattle.copy_lookup.specs.Reading.{copyReadFound};
 ghost use Rattle.copy_roots.specs.Roots.{copySearch};
-ghost use Rattle.copy_short.specs.Short.{copyShortPlaceOf, copyShortByteAt, copyShortSearch};
-ghost use Rattle.c_answers.specs.Encoding.{Gives, asPart, asFound};
+ghost use Rattle.copy_short_lookup.specs.Short.{copyShortPlaceOf, copyShortByteAt, copyShortSearch};
+ghost use Rattle.c_encoding.specs.Encoding.{Gives, asPart, asFound};
 
 // Where the bytes of a chunk begin in `content`, and how many they are; of any chunk that is there, held or not.
 #[no_mangle]
@@ -29,7 +29,7 @@ pub extern "C" fn sleep_copy_place(
         ⌝ }
 {
     let found = copy_lookup::place(tree, bitfield, content, n, size, ChunkNumber(chunk));
-    c_answers::give_place(found, out)
+    c_encoding::give_place(found, out)
 }
 
 // The chunk whose bytes contain an offset, and the offset less its start; never an empty chunk. At the data size n and 0.
@@ -51,7 +51,7 @@ pub extern "C" fn sleep_copy_byte(
         ⌝ }
 {
     let found = copy_lookup::locate(tree, bitfield, content, n, size, ByteOffset(offset));
-    c_answers::give_byte(found, out)
+    c_encoding::give_byte(found, out)
 }
 
 // A verified read: where the bytes of a chunk begin in `content` and how many they are, after its leaf hash was compared.
@@ -73,7 +73,7 @@ pub extern "C" fn sleep_copy_read(
         ⌝ }
 {
     let found = copy_lookup::verify(tree, bitfield, content, n, size, ChunkNumber(chunk));
-    c_answers::give_part(found, out)
+    c_encoding::give_part(found, out)
 }
 
 // The first chunk from a given number on, below n, that is not held: 1 and its number, or 0 and 0 where there is none.
@@ -95,7 +95,7 @@ pub extern "C" fn sleep_copy_search(
         ⌝ }
 {
     let found = copy_roots::search(tree, bitfield, content, n, size, ChunkNumber(from));
-    c_answers::give_search(found, out)
+    c_encoding::give_search(found, out)
 }
 
 // The short way: where the bytes of a chunk begin, by the leaf lengths alone, added up from chunk 0 on.
@@ -116,8 +116,8 @@ pub extern "C" fn sleep_copy_short_place(
         (now (out .entry)) r (now (out .exit))
         ⌝ }
 {
-    let found = copy_short::place(tree, bitfield, content, n, size, ChunkNumber(chunk));
-    c_answers::give_place(found, out)
+    let found = copy_short_lookup::place(tree, bitfield, content, n, size, ChunkNumber(chunk));
+    c_encoding::give_place(found, out)
 }
 
 // The chunk whose bytes contain an offset, and the offset less its start, by the leaf lengths alone. At the data size n and 0.
@@ -138,8 +138,8 @@ pub extern "C" fn sleep_copy_short_byte(
         (now (out .entry)) r (now (out .exit))
         ⌝ }
 {
-    let found = copy_short::locate(tree, bitfield, content, n, size, ByteOffset(offset));
-    c_answers::give_byte(found, out)
+    let found = copy_short_lookup::locate(tree, bitfield, content, n, size, ByteOffset(offset));
+    c_encoding::give_byte(found, out)
 }
 
 // The first chunk from a given number on, below n, whose data bit is 0: 1 and its number, or 0 and 0 where there is none.
@@ -160,6 +160,6 @@ pub extern "C" fn sleep_copy_short_search(
         (now (out .entry)) r (now (out .exit))
         ⌝ }
 {
-    let found = copy_short::search(tree, bitfield, content, n, size, ChunkNumber(from));
-    c_answers::give_search(found, out)
+    let found = copy_short_lookup::search(tree, bitfield, content, n, size, ChunkNumber(from));
+    c_encoding::give_search(found, out)
 }

@@ -1,10 +1,10 @@
 // The records of a partial copy's chunks, and the paths in them.
 use super::metadata::SleepFound;
 use super::metadata::SleepNodeRead;
-use c_answers::SleepAnswer;
-use counts::ChunkNumber;
+use c_encoding::SleepAnswer;
+use number_types::ChunkNumber;
 ghost use Rattle.blake2b.specs.Hash.{nodeHash};
-ghost use Rattle.copies.specs.Copy.{copyOf};
+ghost use Rattle.copy_checks.specs.Copy.{copyOf};
 ghost use Rattle.copy_records.specs.Records.{CopyHeaderAs, CopyNodeAs, CopyFindAs};
 ghost use Rattle.c_api.specs.Metadata.{GivesHeader, GivesNode, FindsAs};
 

@@ -1,21 +1,21 @@
 // The calls that start, write and audit a register, and its root hashes. A register is lent as its four images `tree`, `signatures`,
 // `bitfield` and `content` (the data), and told the chunk count `n`, the signature count `s` and the data size `size`.
-use c_answers::SleepAnswer;
-use counts::ChunkNumber;
+use c_encoding::SleepAnswer;
+use number_types::ChunkNumber;
 ghost use mathlib.Core.Path.{_≡_};
-ghost use Rattle.counts.specs.Verdict.{unlessRefused};
+ghost use Rattle.refusals.specs.Verdict.{unlessRefused};
 ghost use Rattle.blake2b.specs.Hash.{nodeHash};
-ghost use Rattle.checks.specs.Given.{registerOf};
+ghost use Rattle.checks.specs.Lent.{registerOf};
 ghost use Rattle.audit.specs.Audit as Audit;
 ghost use Rattle.writing.specs.Start.{startVerdict, afterStart};
 ghost use Rattle.writing.specs.Append.{appendVerdict, appendRoot, afterAppend};
 ghost use Rattle.writing.specs.Sign.{signVerdict, afterSign};
-ghost use Rattle.list_append.specs.Append.{listVerdict, listRoot, afterList};
+ghost use Rattle.append_list.specs.Append.{listVerdict, listRoot, afterList};
 ghost use Rattle.release.specs.Release.{releaseVerdict, afterRelease};
 ghost use Rattle.writing.specs.RootHash.{rootVerdict, rootAnswer};
 ghost use Rattle.writing.specs.Post.{lent};
-ghost use Rattle.old_root.specs.OldRoot.{oldVerdict, oldRoot};
-ghost use Rattle.c_answers.specs.Encoding.{encoded};
+ghost use Rattle.prefix_root.specs.PrefixRoot.{prefixVerdict, prefixRoot};
+ghost use Rattle.c_encoding.specs.Encoding.{encoded};
 
 // A register without chunks in four buffers.
 #[no_mangle]
@@ -28,7 +28,7 @@ pub extern "C" fn sleep_start(
     ensures answers { λ r. ⌜ r ≡ encoded (startVerdict (lent (now (tree .entry)) (now (signatures .entry)) (now (bitfield .entry)) (now (content .entry)))) ⌝ }
     ensures buffers { λ _. ⌜ lent (now (tree .exit)) (now (signatures .exit)) (now (bitfield .exit)) (now (content .exit)) ≡ afterStart (lent (now (tree .entry)) (now (signatures .entry)) (now (bitfield .entry)) (now (content .entry))) ⌝ }
 {
-    c_answers::encode(writing::start(tree, signatures, bitfield, content))
+    c_encoding::encode(writing::start(tree, signatures, bitfield, content))
 }
 
 // One more chunk, whose predecessor's signature is stored; the new root hash in `root`.
@@ -51,7 +51,7 @@ pub extern "C" fn sleep_append(
     let appended = writing::append(tree, signatures, bitfield, content, n, s, size, chunk);
     let hash = appended.root;
     let answer = appended.answer;
-    c_answers::give_hash(answer, hash, root)
+    c_encoding::give_hash(answer, hash, root)
 }
 
 // All chunks of a list, lent as their lengths and their bytes one behind the other, or none; the new root hash in `root`.
@@ -72,7 +72,7 @@ pub extern "C" fn sleep_append_list(
     ensures gives { λ _. ⌜ now (root .exit) ≡ unlessRefused (listVerdict (registerOf (now (tree .entry)) (now (signatures .entry)) (now (bitfield .entry)) (now (content .entry)) n s size) (now (lengths .entry)) (now (bytes .entry))) (listRoot nodeHash (registerOf (now (tree .entry)) (now (signatures .entry)) (now (bitfield .entry)) (now (content .entry)) n s size) (now (lengths .entry)) (now (bytes .entry))) (now (root .entry)) ⌝ }
     ensures buffers { λ _. ⌜ lent (now (tree .exit)) (now (signatures .exit)) (now (bitfield .exit)) (now (content .exit)) ≡ afterList nodeHash (registerOf (now (tree .entry)) (now (signatures .entry)) (now (bitfield .entry)) (now (content .entry)) n s size) (now (lengths .entry)) (now (bytes .entry)) ⌝ }
 {
-    let appended = list_append::append_list(
+    let appended = append_list::append_list(
         tree,
         signatures,
         bitfield,
@@ -85,7 +85,7 @@ pub extern "C" fn sleep_append_list(
     );
     let hash = appended.root;
     let answer = appended.answer;
-    c_answers::give_hash(answer, hash, root)
+    c_encoding::give_hash(answer, hash, root)
 }
 
 // What an append of the chunk would answer on a copy of the images; its root hash in `root`.
@@ -104,10 +104,10 @@ pub extern "C" fn sleep_preview(
     ensures answers { λ r. ⌜ r ≡ encoded (appendVerdict (registerOf (now (tree .entry)) (now (signatures .entry)) (now (bitfield .entry)) (now (content .entry)) n s size) (now (chunk .entry))) ⌝ }
     ensures gives { λ _. ⌜ now (root .exit) ≡ unlessRefused (appendVerdict (registerOf (now (tree .entry)) (now (signatures .entry)) (now (bitfield .entry)) (now (content .entry)) n s size) (now (chunk .entry))) (appendRoot nodeHash (registerOf (now (tree .entry)) (now (signatures .entry)) (now (bitfield .entry)) (now (content .entry)) n s size) (now (chunk .entry))) (now (root .entry)) ⌝ }
 {
-    let previewed = preview::preview(tree, signatures, bitfield, content, n, s, size, chunk);
+    let previewed = append_preview::preview(tree, signatures, bitfield, content, n, s, size, chunk);
     let hash = previewed.root;
     let answer = previewed.answer;
-    c_answers::give_hash(answer, hash, root)
+    c_encoding::give_hash(answer, hash, root)
 }
 
 // The signature of the newest chunk, which is owed where `s` is `n` - 1.
@@ -125,7 +125,7 @@ pub extern "C" fn sleep_store_signature(
     ensures answers { λ r. ⌜ r ≡ encoded (signVerdict (registerOf (now (tree .entry)) (now (signatures .entry)) (now (bitfield .entry)) (now (content .entry)) n s size)) ⌝ }
     ensures buffers { λ _. ⌜ lent (now (tree .exit)) (now (signatures .exit)) (now (bitfield .exit)) (now (content .exit)) ≡ afterSign (registerOf (now (tree .entry)) (now (signatures .entry)) (now (bitfield .entry)) (now (content .entry)) n s size) (now (signature .entry)) ⌝ }
 {
-    c_answers::encode(writing::store_signature(
+    c_encoding::encode(writing::store_signature(
         tree,
         signatures,
         bitfield,
@@ -152,7 +152,7 @@ pub extern "C" fn sleep_release(
     ensures answers { λ r. ⌜ r ≡ encoded (releaseVerdict (registerOf (now (tree .entry)) (now (signatures .entry)) (now (bitfield .entry)) (now (content .entry)) n s size) chunk) ⌝ }
     ensures buffers { λ _. ⌜ lent (now (tree .exit)) (now (signatures .exit)) (now (bitfield .exit)) (now (content .exit)) ≡ afterRelease (registerOf (now (tree .entry)) (now (signatures .entry)) (now (bitfield .entry)) (now (content .entry)) n s size) chunk ⌝ }
 {
-    c_answers::encode(release::release(
+    c_encoding::encode(release::release(
         tree,
         signatures,
         bitfield,
@@ -182,7 +182,7 @@ pub extern "C" fn sleep_root_hash(
     let rooted = writing::root_hash(tree, signatures, bitfield, content, n, s, size);
     let hash = rooted.root;
     let answer = rooted.answer;
-    c_answers::give_hash(answer, hash, root)
+    c_encoding::give_hash(answer, hash, root)
 }
 
 // The root hash of the first `m` chunks, from the stored entries, in `root`.
@@ -198,13 +198,13 @@ pub extern "C" fn sleep_old_root(
     m: u64,
     root: &mut [u8; 32],
 ) -> SleepAnswer
-    ensures answers { λ r. ⌜ r ≡ encoded (oldVerdict (registerOf (now (tree .entry)) (now (signatures .entry)) (now (bitfield .entry)) (now (content .entry)) n s size) m) ⌝ }
-    ensures gives { λ _. ⌜ now (root .exit) ≡ unlessRefused (oldVerdict (registerOf (now (tree .entry)) (now (signatures .entry)) (now (bitfield .entry)) (now (content .entry)) n s size) m) (oldRoot nodeHash (registerOf (now (tree .entry)) (now (signatures .entry)) (now (bitfield .entry)) (now (content .entry)) n s size) m) (now (root .entry)) ⌝ }
+    ensures answers { λ r. ⌜ r ≡ encoded (prefixVerdict (registerOf (now (tree .entry)) (now (signatures .entry)) (now (bitfield .entry)) (now (content .entry)) n s size) m) ⌝ }
+    ensures gives { λ _. ⌜ now (root .exit) ≡ unlessRefused (prefixVerdict (registerOf (now (tree .entry)) (now (signatures .entry)) (now (bitfield .entry)) (now (content .entry)) n s size) m) (prefixRoot nodeHash (registerOf (now (tree .entry)) (now (signatures .entry)) (now (bitfield .entry)) (now (content .entry)) n s size) m) (now (root .entry)) ⌝ }
 {
-    let rooted = old_root::old_root(tree, signatures, bitfield, content, n, s, size, m);
+    let rooted = prefix_root::prefix_root(tree, signatures, bitfield, content, n, s, size, m);
     let hash = rooted.root;
     let answer = rooted.answer;
-    c_answers::give_hash(answer, hash, root)
+    c_encoding::give_hash(answer, hash, root)
 }
 
 // Whether the used bytes of all four images are those of some chunks, held or released, and some signatures.
@@ -220,5 +220,5 @@ pub extern "C" fn sleep_audit(
 ) -> SleepAnswer
     ensures { λ r. ⌜ r ≡ encoded (Audit.audit nodeHash (registerOf (now (tree .entry)) (now (signatures .entry)) (now (bitfield .entry)) (now (content .entry)) n s size)) ⌝ }
 {
-    c_answers::encode(audit::audit(tree, signatures, bitfield, content, n, s, size))
+    c_encoding::encode(audit::audit(tree, signatures, bitfield, content, n, s, size))
 }

@@ -1,11 +1,11 @@
 // The short way: the lookups that add up leaf lengths from chunk 0, and the search that reads data bits in order. Each gives two numbers, in `out`, which
 // is as it was after a refusal.
-use c_answers::SleepAnswer;
-use counts::ByteOffset;
-use counts::ChunkNumber;
-ghost use Rattle.checks.specs.Given.{registerOf};
-ghost use Rattle.short_way.specs.ShortWay.{shortPlaceOf, shortByteAt, shortSearchFor};
-ghost use Rattle.c_answers.specs.Encoding.{Gives, asFound};
+use c_encoding::SleepAnswer;
+use number_types::ByteOffset;
+use number_types::ChunkNumber;
+ghost use Rattle.checks.specs.Lent.{registerOf};
+ghost use Rattle.short_lookup.specs.ShortLookup.{shortPlaceOf, shortByteAt, shortSearchFor};
+ghost use Rattle.c_encoding.specs.Encoding.{Gives, asFound};
 
 // Where the bytes of a chunk begin in `content`, and how many they are.
 #[no_mangle]
@@ -27,7 +27,7 @@ pub extern "C" fn sleep_short_place(
         (now (out .entry)) r (now (out .exit))
         ⌝ }
 {
-    let found = short_way::place(
+    let found = short_lookup::place(
         tree,
         signatures,
         bitfield,
@@ -37,7 +37,7 @@ pub extern "C" fn sleep_short_place(
         size,
         ChunkNumber(chunk),
     );
-    c_answers::give_place(found, out)
+    c_encoding::give_place(found, out)
 }
 
 // The chunk whose bytes contain an offset, and the offset less its start; never an empty chunk. At the data size n and 0.
@@ -60,7 +60,7 @@ pub extern "C" fn sleep_short_byte(
         (now (out .entry)) r (now (out .exit))
         ⌝ }
 {
-    let found = short_way::locate(
+    let found = short_lookup::locate(
         tree,
         signatures,
         bitfield,
@@ -70,7 +70,7 @@ pub extern "C" fn sleep_short_byte(
         size,
         ByteOffset(offset),
     );
-    c_answers::give_byte(found, out)
+    c_encoding::give_byte(found, out)
 }
 
 // The first chunk from a given number on, below n, whose data bit is 0: 1 and its number, or 0 and 0 where there is none.
@@ -93,7 +93,7 @@ pub extern "C" fn sleep_short_search(
         (now (out .entry)) r (now (out .exit))
         ⌝ }
 {
-    let found = short_way::search(
+    let found = short_lookup::search(
         tree,
         signatures,
         bitfield,
@@ -103,5 +103,5 @@ pub extern "C" fn sleep_short_search(
         size,
         ChunkNumber(from),
     );
-    c_answers::give_search(found, out)
+    c_encoding::give_search(found, out)
 }

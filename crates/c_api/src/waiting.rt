@@ -1,19 +1,19 @@
 // Reads of sixteen stations that wait for their turn, in a table of 161 numbers that the caller lends. Of a serving's registers, what
 // belongs to the metadata register begins with m, to the content register with c.
-use c_answers::SleepAnswer;
-use counts::Answer;
-use counts::ChunkNumber;
+use c_encoding::SleepAnswer;
 use lookup::Name;
-use stations::Turn;
+use number_types::ChunkNumber;
+use refusals::Answer;
+use station_table::Turn;
 ghost use mathlib.Core.Path.{_≡_};
-ghost use Rattle.counts.specs.Verdict.{done};
+ghost use Rattle.refusals.specs.Verdict.{done};
 ghost use Rattle.blake2b.specs.Hash.{nodeHash};
-ghost use Rattle.checks.specs.Given.{registerOf};
+ghost use Rattle.checks.specs.Lent.{registerOf};
 ghost use Rattle.lookup.specs.Read.{named};
-ghost use Rattle.lookup.specs.Said.{nameOf, readFound};
-ghost use Rattle.stations.specs.Calls.{Begun};
-ghost use Rattle.serving.specs.Serving.{numberOf, namedBy};
-ghost use Rattle.c_answers.specs.Encoding.{encoded, Gives, asPart};
+ghost use Rattle.lookup.specs.Meaning.{nameOf, readFound};
+ghost use Rattle.station_table.specs.Post.{Begun};
+ghost use Rattle.station_serving.specs.Serving.{numberOf, namedBy};
+ghost use Rattle.c_encoding.specs.Encoding.{encoded, Gives, asPart};
 ghost use Rattle.c_api.specs.Waiting.{encodedNobody, Enters, Hands};
 
 // `served` is 0 where no read waits, and then all numbers are 0; else 1, with the station that is served, the name of the register
@@ -33,9 +33,9 @@ pub extern "C" fn sleep_fresh(table: &mut [u64; 161]) -> SleepAnswer
     ensures answers { λ r. ⌜ r ≡ encoded done ⌝ }
     ensures begins { λ _. ⌜ Begun (now (table .exit)) ⌝ }
 {
-    let begun = stations::fresh();
+    let begun = station_table::fresh();
     *table = begun;
-    c_answers::encode(Answer::Done)
+    c_encoding::encode(Answer::Done)
 }
 
 // A read that waits from now on behind those of its station. The name 0 is the metadata register's, any other number the content register's.
@@ -51,8 +51,8 @@ pub extern "C" fn sleep_enter(
         Enters station (record { register = numberOf (namedBy name); chunk = chunk }) (now (table .entry)) r (now (table .exit))
         ⌝ }
 {
-    let named = serving::named_by(name);
-    c_answers::encode(serving::enter(table, station, named, ChunkNumber(chunk)))
+    let named = station_serving::named_by(name);
+    c_encoding::encode(station_serving::enter(table, station, named, ChunkNumber(chunk)))
 }
 
 // A verified read of the register that is named.
@@ -116,7 +116,7 @@ fn read_named(
 fn nobody() -> SleepServing
     ensures { λ r. ⌜ r ≡ encodedNobody ⌝ }
 {
-    let answer = c_answers::encode(Answer::Done);
+    let answer = c_encoding::encode(Answer::Done);
     SleepServing {
         served: 0,
         station: 0,
@@ -155,12 +155,12 @@ pub extern "C" fn sleep_serve(
         (now (table .entry)) (now (out .entry)) r (now (table .exit)) (now (out .exit))
         ⌝ }
 {
-    let turn = stations::next(table);
-    stations::leave(table);
+    let turn = station_table::next(table);
+    station_table::leave(table);
     match turn {
         Turn::Nobody => nobody(),
         Turn::Of(station, register, chunk) => {
-            let name = serving::named_by(register);
+            let name = station_serving::named_by(register);
             let number = chunk.0;
             let answer = read_named(
                 name,
@@ -184,7 +184,7 @@ pub extern "C" fn sleep_serve(
             SleepServing {
                 served: 1,
                 station,
-                name: serving::number_of(name),
+                name: station_serving::number_of(name),
                 chunk: number,
                 answer,
             }

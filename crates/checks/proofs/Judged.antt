@@ -4,7 +4,7 @@ use mathlib.Core.Bool.{Bool, true, false, cond, _&&_}
 use mathlib.Core.List.{List, [], _∷_, _++_}
 use Prim.Native.Nat.{ℕ}
 use native.Mathlib.Omega.{arith}
-use Rattle.counts.specs.Verdict.{Verdict, Spot, none, done, refused}
+use Rattle.refusals.specs.Verdict.{Verdict, Spot, none, done, refused}
 use Rattle.checks.specs.Checks.{Check, judged}
 
 -- every check of a list is passed

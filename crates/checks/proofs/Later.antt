@@ -1,12 +1,12 @@
 -- The checks 3 to 6 number by number. Assumes nothing.
 use mathlib.Core.Path.{_≡_, refl, ap}
 use mathlib.Core.Bool.{Bool, true, false, cond, _&&_}
-use Rattle.counts.specs.Verdict.{Verdict, none, refused}
-use Rattle.files.specs.Headers.{treeHeader, signaturesHeader, bitfieldHeader}
-use Rattle.files.specs.Sizes.{usedTree, usedSignatures, usedBitfield}
-use Rattle.files.specs.Belongs.{Register}
+use Rattle.refusals.specs.Verdict.{Verdict, none, refused}
+use Rattle.file_format.specs.Headers.{treeHeader, signaturesHeader, bitfieldHeader}
+use Rattle.file_format.specs.Sizes.{usedTree, usedSignatures, usedBitfield}
+use Rattle.file_format.specs.Belongs.{Register}
 use Rattle.checks.specs.Checks.{judged, signedRight, holds, headed, addsUp, laterChecks}
-use Rattle.checks.specs.Given.{longRight, headsRight}
+use Rattle.checks.specs.Lent.{longRight, headsRight}
 
 -- 3, 4, 5 and 6 as four tests
 abbrev pub ladder : Bool → Bool → Bool → Bool → Verdict → Verdict

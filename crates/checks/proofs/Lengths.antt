@@ -9,7 +9,7 @@ use borrow.Author.Tests.{leb-true, le-leb, lt-leb}
 use lib.Dec.{leb}
 use lib.ListN.{length, getD, drop, drop-of-length-le}
 use lib.Seq.{drop-cons}
-use Rattle.files.specs.Sizes.{longestChunk}
+use Rattle.file_format.specs.Sizes.{longestChunk}
 use Rattle.checks.specs.Lengths.{allShort}
 use Rattle.checks.proofs.Judged.{both-right}
 

@@ -6,13 +6,13 @@ use mathlib.Core.Bool.{true}
 use mathlib.Core.List.{List}
 use borrow.Author.Tests.{leb-true, le-leb, eq-eqb, eqb-true}
 use lib.ListN.{length, take}
-use Rattle.counts.specs.Verdict.{Verdict, done}
-use Rattle.sequences.specs.Lists.{sameList, total}
-use Rattle.sequences.proofs.Lists.{same-refl, same-eq}
-use Rattle.files.specs.Headers.{treeHeader, signaturesHeader, bitfieldHeader}
-use Rattle.files.specs.Sizes.{mostChunks, usedTree, usedSignatures, usedBitfield}
-use Rattle.files.specs.Stored.{storedRootSizes}
-use Rattle.files.specs.Belongs.{Register}
+use Rattle.refusals.specs.Verdict.{Verdict, done}
+use Rattle.byte_strings.specs.Lists.{sameList, total}
+use Rattle.byte_strings.proofs.Lists.{same-refl, same-eq}
+use Rattle.file_format.specs.Headers.{treeHeader, signaturesHeader, bitfieldHeader}
+use Rattle.file_format.specs.Sizes.{mostChunks, usedTree, usedSignatures, usedBitfield}
+use Rattle.file_format.specs.Stored.{storedRootSizes}
+use Rattle.file_format.specs.Belongs.{Register}
 use Rattle.checks.specs.Checks.{judged, signedRight, addsUp, laterChecks, registerChecks}
 -- where every check of a list is passed the verdict is what comes next, and only then it can be done
 pub use Rattle.checks.proofs.Judged.{AllRight, judged-right as all-pass, judged-done as all-must}

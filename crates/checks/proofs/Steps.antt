@@ -7,13 +7,13 @@ use native.Mathlib.Omega.{arith}
 use lib.ListN.{length, take}
 use lib.Dec.{eqb}
 use borrow.Author.Tests.{leb-true, le-leb, lt-leb, eqb-true, eq-eqb, ne-eqb}
-use Rattle.counts.specs.Verdict.{Verdict, none, done, refused}
-use Rattle.sequences.specs.Lists.{sameList, total}
-use Rattle.files.specs.Sizes.{mostChunks, usedTree, usedSignatures, usedBitfield}
-use Rattle.files.specs.Stored.{storedRootSizes}
-use Rattle.files.specs.Belongs.{Register}
+use Rattle.refusals.specs.Verdict.{Verdict, none, done, refused}
+use Rattle.byte_strings.specs.Lists.{sameList, total}
+use Rattle.file_format.specs.Sizes.{mostChunks, usedTree, usedSignatures, usedBitfield}
+use Rattle.file_format.specs.Stored.{storedRootSizes}
+use Rattle.file_format.specs.Belongs.{Register}
 use Rattle.checks.specs.Checks.{judged, signedRight, holds, headed, addsUp, laterChecks, registerChecks}
-use Rattle.checks.specs.Given.{longRight, headsRight}
+use Rattle.checks.specs.Lent.{longRight, headsRight}
 use Rattle.checks.proofs.Judged.{both-right}
 use Rattle.checks.proofs.Later.{ladder, by-number}
 

@@ -4,12 +4,12 @@ use mathlib.Core.Bool.{Bool, cond, _||_}
 use mathlib.Core.List.{List, [], _∷_}
 use lib.ListN.{length, take}
 use lib.Dec.{leb, eqb}
-use Rattle.counts.specs.Verdict.{Verdict, none, refused}
-use Rattle.sequences.specs.Lists.{sameList, total}
-use Rattle.files.specs.Headers.{treeHeader, signaturesHeader, bitfieldHeader}
-use Rattle.files.specs.Sizes.{mostChunks, usedTree, usedSignatures, usedBitfield}
-use Rattle.files.specs.Stored.{storedRootSizes}
-use Rattle.files.specs.Belongs.{Register}
+use Rattle.refusals.specs.Verdict.{Verdict, none, refused}
+use Rattle.byte_strings.specs.Lists.{sameList, total}
+use Rattle.file_format.specs.Headers.{treeHeader, signaturesHeader, bitfieldHeader}
+use Rattle.file_format.specs.Sizes.{mostChunks, usedTree, usedSignatures, usedBitfield}
+use Rattle.file_format.specs.Stored.{storedRootSizes}
+use Rattle.file_format.specs.Belongs.{Register}
 
 -- a numbered check, and whether what the call is given passes it
 pub record Check : Type 0 where

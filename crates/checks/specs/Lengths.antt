@@ -3,7 +3,7 @@ use Prim.Native.Nat.{ℕ}
 use mathlib.Core.Bool.{Bool, true, _&&_}
 use mathlib.Core.List.{List, [], _∷_}
 use lib.Dec.{leb}
-use Rattle.files.specs.Sizes.{longestChunk}
+use Rattle.file_format.specs.Sizes.{longestChunk}
 
 -- "16 a list above 256"
 abbrev pub mostListed : ℕ

@@ -1,4 +1,4 @@
 -- The numbered checks of a call on a register, and of a list of chunks.
 pub mod Checks
-pub mod Given
+pub mod Lent
 pub mod Lengths

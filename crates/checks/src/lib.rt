@@ -1,13 +1,13 @@
 // The checks 2 to 6 of a call on a register: "Checks apply to what the call is given, in this order; images as tree, signatures,
 // bitfield, data." They only read, so that a refused call has changed nothing. And what 7 asks of a list of chunks.
-use counts::Answer;
+use refusals::Answer;
 ghost use mathlib.Core.Path.{_≡_};
 ghost use Prim.Native.Nat.{_≤_};
 ghost use lib.ListN.{length};
-ghost use Rattle.counts.specs.Verdict.{done};
-ghost use Rattle.counts.specs.Said.{said};
+ghost use Rattle.refusals.specs.Verdict.{done};
+ghost use Rattle.refusals.specs.Meaning.{said};
 ghost use Rattle.checks.specs.Checks.{signedRight, judged, laterChecks, registerChecks};
-ghost use Rattle.checks.specs.Given.{registerOf, longRight, headsRight};
+ghost use Rattle.checks.specs.Lent.{registerOf, longRight, headsRight};
 ghost use Rattle.checks.specs.Lengths.{allShort};
 
 // "3. s is neither n nor n − 1, or is not 0 when n is 0." No sum wraps, whatever n and s are.
@@ -41,13 +41,13 @@ fn long_right(
         (registerOf (now (tree .entry)) (now (signatures .entry)) (now (bitfield .entry)) (now (content .entry)) n s size)
         ⌝ }
 {
-    if tree.len() < files::sizes::used_tree(n) {
+    if tree.len() < file_format::sizes::used_tree(n) {
         return false;
     }
-    if signatures.len() < files::sizes::used_signatures(s) {
+    if signatures.len() < file_format::sizes::used_signatures(s) {
         return false;
     }
-    if bitfield.len() < files::sizes::used_bitfield(n) {
+    if bitfield.len() < file_format::sizes::used_bitfield(n) {
         return false;
     }
     size <= (content.len() as u64)
@@ -58,16 +58,16 @@ fn heads_right(tree: &[u8], signatures: &[u8], bitfield: &[u8]) -> bool
     requires { ⌜ (32 ≤ length (now tree)) × (32 ≤ length (now signatures)) × (32 ≤ length (now bitfield)) ⌝ }
     ensures { λ r. ⌜ r ≡ headsRight (now (tree .entry)) (now (signatures .entry)) (now (bitfield .entry)) ⌝ }
 {
-    let first = files::headers::tree_header();
-    if !files::headers::has_header(tree, &first) {
+    let first = file_format::headers::tree_header();
+    if !file_format::headers::has_header(tree, &first) {
         return false;
     }
-    let second = files::headers::signatures_header();
-    if !files::headers::has_header(signatures, &second) {
+    let second = file_format::headers::signatures_header();
+    if !file_format::headers::has_header(signatures, &second) {
         return false;
     }
-    let third = files::headers::bitfield_header();
-    files::headers::has_header(bitfield, &third)
+    let third = file_format::headers::bitfield_header();
+    file_format::headers::has_header(bitfield, &third)
 }
 
 // Inner: the checks 3 to 6, of a register that passes 2. An append has a check 2 of its own before them.
@@ -91,16 +91,16 @@ pub fn judge_later(
         ⌝ }
 {
     if !signed_right(n, s) {
-        return counts::refuse(3);
+        return refusals::refuse(3);
     }
     if !long_right(tree, signatures, bitfield, content, n, s, size) {
-        return counts::refuse(4);
+        return refusals::refuse(4);
     }
     if !heads_right(tree, signatures, bitfield) {
-        return counts::refuse(5);
+        return refusals::refuse(5);
     }
-    if !files::roots::adds_up(tree, n, size) {
-        return counts::refuse(6);
+    if !file_format::roots::adds_up(tree, n, size) {
+        return refusals::refuse(6);
     }
     Answer::Done
 }
@@ -125,7 +125,7 @@ pub fn judge(
         ⌝ }
 {
     if 1048576 < n {
-        return counts::refuse(2);
+        return refusals::refuse(2);
     }
     judge_later(tree, signatures, bitfield, content, n, s, size)
 }

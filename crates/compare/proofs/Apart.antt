@@ -4,9 +4,9 @@ use Prim.Native.Nat.{ℕ, _<_, _^_}
 use mathlib.Core.Path.{_≡_, sym, ap, _∙_}
 use mathlib.Core.List.{List, _++_, tail-eq-of-cons-eq}
 use lib.ListN.{length, length-append}
-use Rattle.sequences.specs.Numbers.{be, number}
-use Rattle.sequences.proofs.Numbers.{length-be, number-be}
-use Rattle.files.specs.Messages.{leafMessage, parentMessage, rootItem}
+use Rattle.byte_strings.specs.Numbers.{be, number}
+use Rattle.byte_strings.proofs.Numbers.{length-be, number-be}
+use Rattle.file_format.specs.Messages.{leafMessage, parentMessage, rootItem}
 use Rattle.compare.proofs.Local.{split-append}
 
 -- the bytes of a number are told apart from those of every other that fits

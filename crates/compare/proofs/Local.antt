@@ -8,8 +8,8 @@ use mathlib.Core.List.{List, [], _∷_, _++_, map, head-eq-of-cons-eq, tail-eq-o
 use native.Mathlib.Nat.{suc-inj, suc-ne-zero}
 use native.Mathlib.Omega.{arith}
 use lib.ListN.{length, getD}
-use Rattle.sequences.specs.Lists.{sameList}
-use Rattle.sequences.proofs.Lists.{same-eq}
+use Rattle.byte_strings.specs.Lists.{sameList}
+use Rattle.byte_strings.proofs.Lists.{same-eq}
 use Rattle.checks.proofs.Passed.{same-of}
 
 -- ---- tests

@@ -7,15 +7,15 @@ use mathlib.Core.List.{List, [], _∷_, map, tail-eq-of-cons-eq}
 use native.Mathlib.Omega.{arith}
 use lib.ListN.{length, getD, length-append}
 use lib.Dec.{lit<}
-use Rattle.sequences.specs.Lists.{joined}
-use Rattle.sequences.proofs.Lists.{length-run, length-part}
+use Rattle.byte_strings.specs.Lists.{joined}
+use Rattle.byte_strings.proofs.Lists.{length-run, length-part}
 use Rattle.tree_index.specs.Tree.{filled, entries, roots}
 use Rattle.tree_index.proofs.Filled.{filled-below}
 use Rattle.tree_index.proofs.Roots.{root-filled}
 use Rattle.tree_index.proofs.Cover.{inBlock, roots-cover}
-use Rattle.files.specs.Messages.{rootItem, rootMessage}
-use Rattle.files.specs.Stored.{storedHash, storedSize, storedRootMessage}
-use Rattle.files.specs.Within.{EntryIn, RootsIn}
+use Rattle.file_format.specs.Messages.{rootItem, rootMessage}
+use Rattle.file_format.specs.Stored.{storedHash, storedSize, storedRootMessage}
+use Rattle.file_format.specs.Inner.{EntryIn, RootsIn}
 use Rattle.audit.proofs.Entries.{entry-in}
 use Rattle.compare.proofs.Local.{split-append, Every}
 use Rattle.compare.proofs.Apart.{be-injective, item-injective, length-item}

@@ -9,22 +9,22 @@ use native.Mathlib.Omega.{arith}
 use borrow.Author.Tests.{eq-eqb, ne-eqb, eqb-true}
 use lib.ListN.{length, take, drop}
 use lib.Dec.{eqb}
-use Rattle.sequences.specs.Lists.{part, sameList, Bytes}
-use Rattle.sequences.specs.Numbers.{be}
-use Rattle.sequences.proofs.Lists.{length-part, same-eq}
-use Rattle.sequences.proofs.Numbers.{eight-lt}
+use Rattle.byte_strings.specs.Lists.{part, sameList, Bytes}
+use Rattle.byte_strings.specs.Numbers.{be}
+use Rattle.byte_strings.proofs.Lists.{length-part, same-eq}
+use Rattle.byte_strings.proofs.Numbers.{eight-lt}
 use Rattle.tree_index.specs.Tree.{index, depth, block, leftChild, rightChild, filled, entries, roots}
 use Rattle.tree_index.proofs.Index.{index-leaf}
-use Rattle.files.specs.Sizes.{entryPlace}
-use Rattle.files.specs.Messages.{leafMessage, parentMessage}
-use Rattle.files.specs.Stored.{storedHash, storedSize, storedStart, storedChunk, storedMessage, storedRootMessage}
-use Rattle.files.specs.Within.{EntryIn, RootsIn}
-use Rattle.files.proofs.Nodes.{byDepth}
-use Rattle.files.proofs.OfImage.{stored-leaf}
+use Rattle.file_format.specs.Sizes.{entryPlace}
+use Rattle.file_format.specs.Messages.{leafMessage, parentMessage}
+use Rattle.file_format.specs.Stored.{storedHash, storedSize, storedStart, storedChunk, storedMessage, storedRootMessage}
+use Rattle.file_format.specs.Inner.{EntryIn, RootsIn}
+use Rattle.file_format.proofs.Nodes.{byDepth}
+use Rattle.file_format.proofs.OfImage.{stored-leaf}
 use Rattle.checks.proofs.Judged.{both-right}
 use Rattle.checks.proofs.Passed.{same-of}
 use Rattle.checks.proofs.Steps.{and-stop, and-pass}
-use Rattle.audit.specs.Walked.{leavesBefore, Started, AtParent}
+use Rattle.audit.specs.TreeWalk.{leavesBefore, Started, AtParent}
 use Rattle.audit.proofs.Entries.{entry-in, odd-depth, parent-in}
 use Rattle.compare.specs.Walk.{collides}
 use Rattle.compare.specs.Inner.{Walkable, ReadAt, ChunkIn, sameParent, collidesAt}

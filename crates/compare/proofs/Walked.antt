@@ -7,21 +7,21 @@ use mathlib.Core.List.{List}
 use native.Mathlib.Nat.{mul-one}
 use native.Mathlib.Omega.{arith}
 use lib.ListN.{length}
-use Rattle.counts.specs.Verdict.{Verdict, done}
-use Rattle.counts.specs.Said.{said, spotOf}
-use Rattle.counts.specs.declared.Refusal.{Refusal}
-use Rattle.counts.specs.declared.Answer.{Answer}
-use Rattle.counts.specs.declared.Answer.the-variants.{Done, Refused}
-use Rattle.sequences.specs.Lists.{run, total, sameList}
-use Rattle.sequences.proofs.Lists.{same-eq}
+use Rattle.refusals.specs.Verdict.{Verdict, done}
+use Rattle.refusals.specs.Meaning.{said, spotOf}
+use Rattle.refusals.specs.declared.Refusal.{Refusal}
+use Rattle.refusals.specs.declared.Answer.{Answer}
+use Rattle.refusals.specs.declared.Answer.the-variants.{Done, Refused}
+use Rattle.byte_strings.specs.Lists.{run, total, sameList}
+use Rattle.byte_strings.proofs.Lists.{same-eq}
 use Rattle.tree_index.specs.Tree.{index, depth, filled, entries}
 use Rattle.tree_index.proofs.Index.{index-leaf}
 use Rattle.tree_index.proofs.Filled.{filled-below, end-filled}
-use Rattle.files.specs.Stored.{storedHash, storedSize, storedStart, storedMessage, storedRootMessage}
-use Rattle.files.specs.Belongs.{Register}
-use Rattle.files.specs.Within.{RootsIn}
+use Rattle.file_format.specs.Stored.{storedHash, storedSize, storedStart, storedMessage, storedRootMessage}
+use Rattle.file_format.specs.Belongs.{Register}
+use Rattle.file_format.specs.Inner.{RootsIn}
 use Rattle.audit.specs.Audit.{Lowest, nowhere, first, lowest, Accepted}
-use Rattle.audit.specs.Walked.{leavesBefore}
+use Rattle.audit.specs.TreeWalk.{leavesBefore}
 use Rattle.audit.proofs.Audited.{Audited, accepted-audited, leaf-says, odd-entry, parent-right}
 use Rattle.audit.proofs.Search.{lowest-on, lowest-off, lowest-end}
 use Rattle.compare.specs.Walk.{Comparison, firstRefused, secondRefused, rootsDiffer, atRoots, atIndex, equal, found, walk, unlessRefused, wholeVerdict, compare}

@@ -7,31 +7,31 @@ use mathlib.Core.List.{List, []}
 use native.Mathlib.Nat.{zero-add}
 use native.Mathlib.Omega.{arith}
 use lib.ListN.{length}
-use Rattle.counts.specs.Verdict.{Spot, Verdict, tree, done, refused}
-use Rattle.counts.specs.Said.{said}
-use Rattle.counts.specs.declared.Refusal.{Refusal}
-use Rattle.counts.specs.declared.Answer.{Answer}
-use Rattle.counts.specs.declared.Answer.the-variants.{Refused}
-use Rattle.sequences.specs.Lowest.{Lowest, nowhere, first, lowest}
-use Rattle.sequences.proofs.Lowest.{step, lowest-agree}
+use Rattle.refusals.specs.Verdict.{Spot, Verdict, tree, done, refused}
+use Rattle.refusals.specs.Meaning.{said}
+use Rattle.refusals.specs.declared.Refusal.{Refusal}
+use Rattle.refusals.specs.declared.Answer.{Answer}
+use Rattle.refusals.specs.declared.Answer.the-variants.{Refused}
+use Rattle.byte_strings.specs.Lowest.{Lowest, nowhere, first, lowest}
+use Rattle.byte_strings.proofs.Lowest.{step, lowest-agree}
 use Rattle.tree_index.specs.Tree.{index}
 use Rattle.bitfield.specs.Image.{entryCount}
 use Rattle.bitfield.specs.Append.{bitsPlace}
 use Rattle.bitfield.specs.Release.{storedHeld}
-use Rattle.files.specs.Sizes.{usedBitfield}
-use Rattle.files.specs.Slots.{Slot, heldIn}
-use Rattle.files.specs.Belongs.{Register, Belongs}
-use Rattle.files.proofs.Nodes.{AllHeld}
-use Rattle.files.proofs.Held.{stored-held}
+use Rattle.file_format.specs.Sizes.{usedBitfield}
+use Rattle.file_format.specs.Slots.{Slot, heldIn}
+use Rattle.file_format.specs.Belongs.{Register, Belongs}
+use Rattle.file_format.proofs.Nodes.{AllHeld}
+use Rattle.file_format.proofs.Held.{stored-held}
 use Rattle.checks.specs.Checks.{judged, registerChecks}
-use Rattle.checks.specs.Given.{registerOf}
+use Rattle.checks.specs.Lent.{registerOf}
 use Rattle.checks.proofs.Passed.{passes, passed}
 use Rattle.audit.specs.Audit.{refusedAt, imagesVerdict, audit, Accepted}
-use Rattle.audit.specs.Walked.{FilesIn}
+use Rattle.audit.specs.TreeWalk.{FilesIn}
 use Rattle.audit.proofs.Audited.{nowhere-right, right-nowhere, at-must}
 use Rattle.audit.proofs.Whole.{checks-refuse, checks-pass, files-in, images-of}
 use Rattle.compare.specs.Walk.{missing, wholeVerdict}
-use Rattle.compare.specs.Answers.{Whole, NeedsWholeForAll}
+use Rattle.compare.specs.Theorems.{Whole, NeedsWholeForAll}
 
 -- a number that a search found is one of those that it went through
 pub first-below : (right : ℕ → Bool) (i k j : ℕ) → first j ≡ lowest right i k → j < i + k

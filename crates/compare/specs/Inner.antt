@@ -5,11 +5,11 @@ use mathlib.Core.Bool.{Bool, true, _&&_}
 use mathlib.Core.List.{List}
 use lib.ListN.{length}
 use lib.Dec.{eqb}
-use Rattle.sequences.specs.Lists.{sameList}
+use Rattle.byte_strings.specs.Lists.{sameList}
 use Rattle.tree_index.specs.Tree.{depth, leftChild, rightChild, filled, entries}
-use Rattle.files.specs.Stored.{storedHash, storedSize, storedStart, storedMessage}
-use Rattle.files.specs.Within.{EntryIn, RootsIn}
-use Rattle.audit.specs.Walked.{leavesBefore}
+use Rattle.file_format.specs.Stored.{storedHash, storedSize, storedStart, storedMessage}
+use Rattle.file_format.specs.Inner.{EntryIn, RootsIn}
+use Rattle.audit.specs.TreeWalk.{leavesBefore}
 use Rattle.compare.specs.Walk.{collides}
 
 -- what an audited register has, as far as the walk needs it

@@ -1,5 +1,5 @@
 -- The comparing walk, over any hash function F.
 pub mod Walk
-pub mod Answered
+pub mod Meaning
 pub mod Inner
-pub mod Answers
+pub mod Theorems

@@ -2,12 +2,12 @@
 use Prim.Native.Nat.{ℕ, zero, suc}
 use mathlib.Core.Bool.{Bool, true, false, cond, not, _&&_, _||_}
 use mathlib.Core.List.{List}
-use Rattle.counts.specs.Verdict.{Spot, Verdict, tree, done, refused}
-use Rattle.sequences.specs.Lists.{sameList}
+use Rattle.refusals.specs.Verdict.{Spot, Verdict, tree, done, refused}
+use Rattle.byte_strings.specs.Lists.{sameList}
 use Rattle.tree_index.specs.Tree.{index, filled, entries}
 use Rattle.bitfield.specs.Release.{storedHeld}
-use Rattle.files.specs.Stored.{storedHash, storedMessage, storedRootMessage}
-use Rattle.files.specs.Belongs.{Register}
+use Rattle.file_format.specs.Stored.{storedHash, storedMessage, storedRootMessage}
+use Rattle.file_format.specs.Belongs.{Register}
 use Rattle.checks.specs.Checks.{judged, registerChecks}
 use Rattle.audit.specs.Audit.{Lowest, nowhere, first, lowest, refusedAt, imagesVerdict}
 

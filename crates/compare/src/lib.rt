@@ -2,21 +2,21 @@
 mod messages;
 
 use bitfield::Found;
-use counts::Answer;
-use counts::ByteOffset;
-use counts::ChunkNumber;
-use counts::Refusal;
-use counts::TreeIndex;
+use number_types::ByteOffset;
+use number_types::ChunkNumber;
+use number_types::TreeIndex;
+use refusals::Answer;
+use refusals::Refusal;
 ghost use mathlib.Core.Path.{_≡_};
 ghost use mathlib.Core.Bool.{not};
-ghost use Rattle.counts.specs.Said.{said};
+ghost use Rattle.refusals.specs.Meaning.{said};
 ghost use Rattle.tree_index.specs.Tree.{filled, entries};
 ghost use Rattle.blake2b.specs.Hash.{nodeHash};
-ghost use Rattle.files.specs.Stored.{storedHash, storedMessage, storedRootMessage};
-ghost use Rattle.checks.specs.Given.{registerOf};
+ghost use Rattle.file_format.specs.Stored.{storedHash, storedMessage, storedRootMessage};
+ghost use Rattle.checks.specs.Lent.{registerOf};
 ghost use Rattle.audit.specs.Audit.{lowest};
 ghost use Rattle.compare.specs.Walk as spec;
-ghost use Rattle.compare.specs.Answered.{compared};
+ghost use Rattle.compare.specs.Meaning.{compared};
 ghost use Rattle.compare.specs.Inner.{Walkable, collidesAt};
 
 // What the walk answers: a refusal and which register it is of, "roots differ", a collision at the roots or at a tree index, or "equal".
@@ -79,9 +79,9 @@ fn walk(tree: &[u8], content: &[u8], n: u64, tree2: &[u8], content2: &[u8], n2: 
         (entries n)
         ⌝ }
 {
-    let hash = files::roots::stored_root_hash(tree, n);
-    let hash2 = files::roots::stored_root_hash(tree2, n2);
-    if !sequences::same(&hash, &hash2) {
+    let hash = file_format::roots::stored_root_hash(tree, n);
+    let hash2 = file_format::roots::stored_root_hash(tree2, n2);
+    if !byte_strings::same(&hash, &hash2) {
         return Compared::RootsDiffer;
     }
     if !messages::same_roots(tree, n, tree2, n2) {
@@ -114,7 +114,7 @@ fn judge_whole(
     };
     let missing = bitfield::first_missing(bitfield, ChunkNumber(0), n);
     if let Found::At(c) = missing {
-        return counts::refuse_entry(18, tree_index::leaf_index(c));
+        return refusals::refuse_entry(18, tree_index::leaf_index(c));
     }
     audit::images(tree, bitfield, content, n, size)
 }

@@ -1,13 +1,13 @@
 // Messages compared from the lent bytes, none of them copied but those of the roots. All of these are inner.
-use counts::ByteOffset;
-use counts::TreeIndex;
+use number_types::ByteOffset;
+use number_types::TreeIndex;
 ghost use mathlib.Core.Path.{_≡_};
 ghost use mathlib.Core.Bool.{true};
-ghost use Rattle.sequences.specs.Lists.{sameList, part};
-ghost use Rattle.files.specs.Stored.{storedHash, storedSize, storedMessage, storedRootMessage};
-ghost use Rattle.files.specs.Within.{EntryIn, RootsIn};
+ghost use Rattle.byte_strings.specs.Lists.{sameList, part};
+ghost use Rattle.file_format.specs.Stored.{storedHash, storedSize, storedMessage, storedRootMessage};
+ghost use Rattle.file_format.specs.Inner.{EntryIn, RootsIn};
 ghost use Rattle.tree_index.specs.Tree.{filled};
-ghost use Rattle.audit.specs.Walked.{AtParent};
+ghost use Rattle.audit.specs.TreeWalk.{AtParent};
 ghost use Rattle.compare.specs.Inner.{ReadAt, ChunkIn, sameParent, collidesAt};
 
 // Whether two chunks are the same, where they lie.
@@ -29,13 +29,13 @@ fn same_chunk(
         (part (now (content2 .entry)) (start2 .0) (storedSize (now (tree2 .entry)) (i .0)))
         ⌝ }
 {
-    let size = files::entries::stored_size(tree, i);
-    let size2 = files::entries::stored_size(tree2, i);
+    let size = file_format::entries::stored_size(tree, i);
+    let size2 = file_format::entries::stored_size(tree2, i);
     let from = start.0 as usize;
     let end = from + (size as usize);
     let from2 = start2.0 as usize;
     let end2 = from2 + (size2 as usize);
-    sequences::same(&content[from..end], &content2[from2..end2])
+    byte_strings::same(&content[from..end], &content2[from2..end2])
 }
 
 // Whether two hashes stored at an index are the same.
@@ -43,9 +43,9 @@ fn same_hash(tree: &[u8], tree2: &[u8], i: TreeIndex) -> bool
     requires { ⌜ EntryIn (now tree) (i .0) × EntryIn (now tree2) (i .0) ⌝ }
     ensures { λ r. ⌜ r ≡ sameList (storedHash (now (tree .entry)) (i .0)) (storedHash (now (tree2 .entry)) (i .0)) ⌝ }
 {
-    let hash = files::entries::stored_hash(tree, i);
-    let hash2 = files::entries::stored_hash(tree2, i);
-    sequences::same(&hash, &hash2)
+    let hash = file_format::entries::stored_hash(tree, i);
+    let hash2 = file_format::entries::stored_hash(tree2, i);
+    byte_strings::same(&hash, &hash2)
 }
 
 // Whether two parents have one length and the same child hashes.
@@ -53,7 +53,7 @@ fn same_parent(tree: &[u8], tree2: &[u8], i: TreeIndex) -> bool
     requires { ⌜ AtParent (now tree) (i .0) × AtParent (now tree2) (i .0) ⌝ }
     ensures { λ r. ⌜ r ≡ sameParent (now (tree .entry)) (now (tree2 .entry)) (i .0) ⌝ }
 {
-    if files::entries::stored_size(tree, i) != files::entries::stored_size(tree2, i) {
+    if file_format::entries::stored_size(tree, i) != file_format::entries::stored_size(tree2, i) {
         return false;
     }
     if !same_hash(tree, tree2, tree_index::left_child(i)) {
@@ -130,9 +130,9 @@ pub fn same_roots(tree: &[u8], n: u64, tree2: &[u8], n2: u64) -> bool
     requires { ⌜ RootsIn (now tree) n × RootsIn (now tree2) n2 ⌝ }
     ensures { λ r. ⌜ r ≡ sameList (storedRootMessage (now (tree .entry)) n) (storedRootMessage (now (tree2 .entry)) n2) ⌝ }
 {
-    let message = files::roots::stored_root_message(tree, n);
-    let message2 = files::roots::stored_root_message(tree2, n2);
+    let message = file_format::roots::stored_root_message(tree, n);
+    let message2 = file_format::roots::stored_root_message(tree2, n2);
     let end = 1 + 48 * tree_index::root_count(n);
     let end2 = 1 + 48 * tree_index::root_count(n2);
-    sequences::same(&message[0..end], &message2[0..end2])
+    byte_strings::same(&message[0..end], &message2[0..end2])
 }

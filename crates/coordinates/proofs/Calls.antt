@@ -9,16 +9,16 @@ use lib.Dec.{leb}
 use lib.ListN.{length, take, drop, length-drop}
 use lib.Seq.{take-at, take-all}
 use borrow.Author.Tests.{le-leb, lt-leb, leb-true}
-use Rattle.counts.specs.Verdict.{Verdict, none, done, refused}
-use Rattle.counts.specs.Said.{said, refusalOf}
-use Rattle.counts.specs.declared.Refusal.{Refusal}
-use Rattle.counts.specs.declared.Answer.{Answer}
-use Rattle.sequences.specs.Lists.{put, Bytes}
-use Rattle.sequences.proofs.Lists.{put-append}
-use Rattle.coordinates.specs.Calls.{longest, verdict, frontUnless, after, Written}
+use Rattle.refusals.specs.Verdict.{Verdict, none, done, refused}
+use Rattle.refusals.specs.Meaning.{said, refusalOf}
+use Rattle.refusals.specs.declared.Refusal.{Refusal}
+use Rattle.refusals.specs.declared.Answer.{Answer}
+use Rattle.byte_strings.specs.Lists.{put, Bytes}
+use Rattle.byte_strings.proofs.Lists.{put-append}
+use Rattle.coordinates.specs.Post.{longest, verdict, frontUnless, after, Written}
 use Rattle.coordinates.specs.Grouping.{count, remaining}
 use Rattle.coordinates.specs.Inner.{Worded}
-use Rattle.coordinates.specs.Inverse.{CallsUndo}
+use Rattle.coordinates.specs.Theorems.{CallsUndo}
 
 pub verdict-7 : (long room : ℕ) → longest < long → verdict long room ≡ refused 7 none
 unfolding verdict

@@ -7,12 +7,12 @@ use native.Mathlib.Nat.{zero-add, mul-comm}
 use lib.Arith.{digits-lt}
 use lib.ListN.{length, getD, take, drop, length-append, length-drop, take-append-drop, List·getD-append}
 use lib.Seq.{drop-at}
-use Rattle.sequences.specs.Lists.{Bytes, part, run, joined}
-use Rattle.sequences.specs.Numbers.{be, number}
-use Rattle.sequences.proofs.Lists.{length-part, getD-part, part-left, length-run, getD-run, run-ext, run-getD, part-joined, parts-joined, bytes-append, bytes-drop, bytes-part, bytes-run, bytes-joined}
-use Rattle.sequences.proofs.Numbers.{length-be, bytes-be, number-be, be-number}
+use Rattle.byte_strings.specs.Lists.{Bytes, part, run, joined}
+use Rattle.byte_strings.specs.Numbers.{be, number}
+use Rattle.byte_strings.proofs.Lists.{length-part, getD-part, part-left, length-run, getD-run, run-ext, run-getD, part-joined, parts-joined, bytes-append, bytes-drop, bytes-part, bytes-run, bytes-joined}
+use Rattle.byte_strings.proofs.Numbers.{length-be, bytes-be, number-be, be-number}
 use Rattle.coordinates.specs.Grouping.{count, word, words, difference, plane, planes, remaining, grouped, gathered, restored, ungrouped}
-use Rattle.coordinates.specs.Inverse.{EachUndoesTheOther}
+use Rattle.coordinates.specs.Theorems.{EachUndoesTheOther}
 use Rattle.coordinates.proofs.Words.{words-inside, all-inside, length-words, word-lt, gathered-lt, difference-lt, restored-lt}
 use Rattle.coordinates.proofs.Planes.{length-plane, length-planes, planes-joined}
 use Rattle.coordinates.proofs.Calls.{calls-undo}

@@ -10,9 +10,9 @@ use lib.Arith.{digits-div, digits-mod, digits-lt}
 use lib.ListN.{length, getD, set, take, drop, length-set, take-append-drop}
 use lib.Seq.{length-take-le, getD-set-same, getD-set-other, drop-set-lt}
 use borrow.Author.Tests.{eqb-true, eqb-false}
-use Rattle.sequences.specs.Lists.{part, put, run, joined}
-use Rattle.sequences.specs.Numbers.{be}
-use Rattle.sequences.proofs.Lists.{length-run, run-ext, run-from, part-run, length-joined, parts-joined}
+use Rattle.byte_strings.specs.Lists.{part, put, run, joined}
+use Rattle.byte_strings.specs.Numbers.{be}
+use Rattle.byte_strings.proofs.Lists.{length-run, run-ext, run-from, part-run, length-joined, parts-joined}
 use Rattle.coordinates.specs.Grouping.{count, difference, plane, planes, remaining, grouped}
 
 -- after t stores, four to each place of the planes, byte k of place j is `f k j` wherever it is among them; behind the planes all is as it was

@@ -6,10 +6,10 @@ use native.Mathlib.Omega.{arith}
 use native.Mathlib.Nat.{zero-add, mul-comm}
 use native.Mathlib.Numerals.{add-one}
 use lib.ListN.{length, getD}
-use Rattle.sequences.specs.Lists.{Bytes, part, put, run, joined}
-use Rattle.sequences.specs.Numbers.{be, number}
-use Rattle.sequences.proofs.Lists.{length-run, length-joined, joined-run-suc, put-nil, put-append, bytes-run}
-use Rattle.sequences.proofs.Numbers.{length-be, four-lt, number-lt}
+use Rattle.byte_strings.specs.Lists.{Bytes, part, put, run, joined}
+use Rattle.byte_strings.specs.Numbers.{be, number}
+use Rattle.byte_strings.proofs.Lists.{length-run, length-joined, joined-run-suc, put-nil, put-append, bytes-run}
+use Rattle.byte_strings.proofs.Numbers.{length-be, four-lt, number-lt}
 use Rattle.coordinates.specs.Grouping.{count, word, words, difference, remaining, gathered, restored, ungrouped}
 
 -- the word before word i, as a loop keeps it: 0 before the first

@@ -2,8 +2,8 @@
 use Prim.Native.Nat.{ℕ, zero, suc, _+_, _-_, _*_, _/_, _%_, _^_}
 use mathlib.Core.List.{List, _++_}
 use lib.ListN.{length, getD, drop}
-use Rattle.sequences.specs.Lists.{part, run, joined}
-use Rattle.sequences.specs.Numbers.{be, number}
+use Rattle.byte_strings.specs.Lists.{part, run, joined}
+use Rattle.byte_strings.specs.Numbers.{be, number}
 
 -- how many whole words there are, and word i
 unfoldable pub count : List ℕ → ℕ

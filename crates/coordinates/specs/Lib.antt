@@ -1,5 +1,5 @@
 -- Coordinates grouped before storing, and back.
 pub mod Grouping
 pub mod Inner
-pub mod Calls
-pub mod Inverse
+pub mod Post
+pub mod Theorems

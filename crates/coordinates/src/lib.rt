@@ -1,13 +1,13 @@
 // Coordinates grouped before storing: words of 4 big-endian bytes become differences from the word before, and then all first bytes stand
 // together, all second bytes, and so on. `ungroup` is the way back. Both are judged before the buffer is written.
-use counts::Answer;
+use refusals::Answer;
 ghost use mathlib.Core.Path.{_≡_};
 ghost use Prim.Native.Nat.{_*_, _≤_, _<_};
 ghost use lib.ListN.{length};
-ghost use Rattle.counts.specs.Said.{said};
-ghost use Rattle.sequences.specs.Lists.{put};
+ghost use Rattle.refusals.specs.Meaning.{said};
+ghost use Rattle.byte_strings.specs.Lists.{put};
 ghost use Rattle.coordinates.specs.Grouping.{words, difference, planes, grouped, gathered, restored, ungrouped};
-ghost use Rattle.coordinates.specs.Calls.{verdict, Written};
+ghost use Rattle.coordinates.specs.Post.{verdict, Written};
 ghost use Rattle.coordinates.specs.Inner.{Worded};
 
 // Number 7, then number 14, of bytes of a length and a buffer's room.
@@ -15,10 +15,10 @@ fn judge(long: usize, room: usize) -> Answer
     ensures { λ r. ⌜ said r ≡ verdict long room ⌝ }
 {
     if 65536 < long {
-        return counts::refuse(7);
+        return refusals::refuse(7);
     }
     if room < long {
-        return counts::refuse(14);
+        return refusals::refuse(14);
     }
     Answer::Done
 }
@@ -31,9 +31,9 @@ fn write_planes(bytes: &[u8], n: usize, out: &mut [u8])
     let mut before: u32 = 0;
     let mut i: usize = 0;
     while i < n {
-        let word = sequences::read_be32(bytes, 4 * i) as u32;
+        let word = byte_strings::read_be32(bytes, 4 * i) as u32;
         let difference = std::num::wrapping_sub_u32(word, before);
-        let d = sequences::be32(difference);
+        let d = byte_strings::be32(difference);
         out[i] = d[0];
         out[n + i] = d[1];
         out[2 * n + i] = d[2];
@@ -49,7 +49,7 @@ fn gather(bytes: &[u8], n: usize, i: usize) -> u32
     ensures { λ r. ⌜ r ≡ gathered (now (bytes .entry)) i ⌝ }
 {
     let d = [bytes[i], bytes[n + i], bytes[2 * n + i], bytes[3 * n + i]];
-    sequences::read_be32(&d, 0) as u32
+    byte_strings::read_be32(&d, 0) as u32
 }
 
 // Inner: the words that the differences in the four planes add up to, at the front of a buffer that has room for them.
@@ -61,8 +61,8 @@ fn write_words(bytes: &[u8], n: usize, out: &mut [u8])
     let mut i: usize = 0;
     while i < n {
         let next = std::num::wrapping_add_u32(word, gather(bytes, n, i));
-        let d = sequences::be32(next);
-        sequences::copy_to(out, 4 * i, &d);
+        let d = byte_strings::be32(next);
+        byte_strings::copy_to(out, 4 * i, &d);
         word = next;
         i += 1;
     }
@@ -78,7 +78,7 @@ pub fn group(bytes: &[u8], out: &mut [u8]) -> Answer
             let n = bytes.len() / 4;
             let end = 4 * n;
             write_planes(bytes, n, out);
-            sequences::copy_to(out, end, &bytes[end..]);
+            byte_strings::copy_to(out, end, &bytes[end..]);
             Answer::Done
         }
     }
@@ -94,7 +94,7 @@ pub fn ungroup(bytes: &[u8], out: &mut [u8]) -> Answer
             let n = bytes.len() / 4;
             let end = 4 * n;
             write_words(bytes, n, out);
-            sequences::copy_to(out, end, &bytes[end..]);
+            byte_strings::copy_to(out, end, &bytes[end..]);
             Answer::Done
         }
     }

@@ -8,9 +8,9 @@ use native.Mathlib.Omega.{arith}
 use lib.Dec.{leb}
 use lib.ListN.{length, getD}
 use borrow.Author.Tests.{lt-leb}
-use Rattle.sequences.specs.Lists.{part, run, sameList, allZero}
-use Rattle.sequences.proofs.Lists.{length-run, getD-run}
-use Rattle.sequences.specs.Lowest.{Lowest, nowhere, first}
+use Rattle.byte_strings.specs.Lists.{part, run, sameList, allZero}
+use Rattle.byte_strings.proofs.Lists.{length-run, getD-run}
+use Rattle.byte_strings.specs.Lowest.{Lowest, nowhere, first}
 use Rattle.tree_index.specs.Tree.{index, depth, block, leftChild, rightChild, filled, entries}
 use Rattle.tree_index.proofs.Index.{index-leaf}
 use Rattle.tree_index.proofs.Words.{leaf-block}
@@ -19,22 +19,22 @@ use Rattle.bitfield.specs.Image.{entryCount}
 use Rattle.bitfield.specs.Append.{bitsPlace}
 use Rattle.bitfield.specs.Release.{storedHeld}
 use Rattle.bitfield.specs.Known.{storedKnown}
-use Rattle.files.specs.Sizes.{longestChunk, usedBitfield}
-use Rattle.files.specs.Messages.{leafMessage}
-use Rattle.files.specs.Stored.{storedHash, storedSize}
-use Rattle.files.specs.Within.{EntryIn}
-use Rattle.files.proofs.Nodes.{byDepth}
+use Rattle.file_format.specs.Sizes.{longestChunk, usedBitfield}
+use Rattle.file_format.specs.Messages.{leafMessage}
+use Rattle.file_format.specs.Stored.{storedHash, storedSize}
+use Rattle.file_format.specs.Inner.{EntryIn}
+use Rattle.file_format.proofs.Nodes.{byDepth}
 use Rattle.checks.proofs.Steps.{and-stop, and-pass}
 use Rattle.audit.specs.Audit.{parentRight, holeRight}
-use Rattle.audit.specs.Bytes.{BitsIn}
-use Rattle.audit.specs.Walked.{leafFrom, FilesIn, AtLeaf}
+use Rattle.audit.specs.BitfieldEntries.{BitsIn}
+use Rattle.audit.specs.TreeWalk.{leafFrom, FilesIn, AtLeaf}
 use Rattle.audit.proofs.Bytes.{tree-bit}
 use Rattle.audit.proofs.Entries.{entry-in, even-depth, odd-depth, parent-in}
 use Rattle.lookup.specs.Descent.{Ending, stopped, reached, chunkWithin, descent}
 use Rattle.lookup.specs.Lookup.{toChunk}
-use Rattle.copies.specs.Copy.{Copy, unsigned}
-use Rattle.copies.specs.Least.{firstUnknown, lowerOf, leastOf}
-use Rattle.copies.proofs.Least.{Lowering, lowering-none, lowering-next, lowering-all}
+use Rattle.copy_checks.specs.Copy.{Copy, unsigned}
+use Rattle.copy_checks.specs.Least.{firstUnknown, lowerOf, leastOf}
+use Rattle.copy_checks.proofs.Least.{Lowering, lowering-none, lowering-next, lowering-all}
 use Rattle.copy_descent.specs.Reads.{reads, unknownToChunk}
 use Rattle.copy_descent.specs.Capped.{capped, cappedEnding}
 use Rattle.copy_descent.proofs.Capped.{capped-either}

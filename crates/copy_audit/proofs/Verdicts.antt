@@ -3,15 +3,15 @@ use Prim.Native.Nat.{ℕ, _-_}
 use mathlib.Core.Path.{_≡_, refl, sym, ap, _∙_}
 use mathlib.Core.Bool.{Bool, true}
 use mathlib.Core.List.{List}
-use Rattle.counts.specs.Verdict.{Spot, Verdict, tree, bitfield, done, refused}
-use Rattle.sequences.specs.Lowest.{Lowest, nowhere, first, lowest}
-use Rattle.files.specs.Sizes.{usedBitfield}
+use Rattle.refusals.specs.Verdict.{Spot, Verdict, tree, bitfield, done, refused}
+use Rattle.byte_strings.specs.Lowest.{Lowest, nowhere, first, lowest}
+use Rattle.file_format.specs.Sizes.{usedBitfield}
 use Rattle.audit.specs.Audit.{refusedAt}
-use Rattle.audit.specs.Bytes.{treeBits, byteRightBy}
-use Rattle.audit.specs.Walked.{FilesIn}
-use Rattle.copies.specs.Copy.{Copy}
-use Rattle.copies.specs.Checks.{partlyJudged}
-use Rattle.copies.proofs.Steps.{bits-in, roots-in, partly-passed, partly-passes, partly-refused-by}
+use Rattle.audit.specs.BitfieldEntries.{treeBits, byteRightBy}
+use Rattle.audit.specs.TreeWalk.{FilesIn}
+use Rattle.copy_checks.specs.Copy.{Copy}
+use Rattle.copy_checks.specs.Checks.{partlyJudged}
+use Rattle.copy_checks.proofs.Steps.{bits-in, roots-in, partly-passed, partly-passes, partly-refused-by}
 use Rattle.copy_audit.specs.Audit.{wrongEntryOfCopy, knownBits, copyBitfieldImage, copyByteRight, wrongByteOfCopy, auditCopy}
 
 -- the bytes of the bitfield file, judged by the register's function

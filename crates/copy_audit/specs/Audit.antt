@@ -6,23 +6,23 @@ use mathlib.Core.Bool.{Bool, true, false, cond, not, _&&_, _||_}
 use mathlib.Core.List.{List, _++_}
 use lib.ListN.{getD}
 use lib.Dec.{leb, eqb}
-use Rattle.counts.specs.Verdict.{Verdict, tree, bitfield, done}
-use Rattle.sequences.specs.Lists.{part, run, joined, sameList, allZero}
-use Rattle.sequences.specs.Lowest.{Lowest, nowhere, first, lowest}
+use Rattle.refusals.specs.Verdict.{Verdict, tree, bitfield, done}
+use Rattle.byte_strings.specs.Lists.{part, run, joined, sameList, allZero}
+use Rattle.byte_strings.specs.Lowest.{Lowest, nowhere, first, lowest}
 use Rattle.tree_index.specs.Tree.{index, depth, block, leftChild, rightChild, filled, entries}
 use Rattle.bitfield.specs.Release.{storedHeld}
 use Rattle.bitfield.specs.Known.{storedKnown}
 use Rattle.bitfield.specs.Image.{entry, entryCount}
-use Rattle.files.specs.Headers.{bitfieldHeader}
-use Rattle.files.specs.Sizes.{longestChunk, usedBitfield}
-use Rattle.files.specs.Messages.{leafMessage}
-use Rattle.files.specs.Stored.{storedHash, storedSize}
+use Rattle.file_format.specs.Headers.{bitfieldHeader}
+use Rattle.file_format.specs.Sizes.{longestChunk, usedBitfield}
+use Rattle.file_format.specs.Messages.{leafMessage}
+use Rattle.file_format.specs.Stored.{storedHash, storedSize}
 use Rattle.audit.specs.Audit.{parentRight, holeRight, heldBits, refusedAt}
 use Rattle.lookup.specs.Descent.{Ending, stopped, reached}
 use Rattle.lookup.specs.Lookup.{toChunk}
-use Rattle.copies.specs.Copy.{Copy, known, unsigned}
-use Rattle.copies.specs.Least.{leastOf}
-use Rattle.copies.specs.Checks.{partlyJudged}
+use Rattle.copy_checks.specs.Copy.{Copy, known, unsigned}
+use Rattle.copy_checks.specs.Least.{leastOf}
+use Rattle.copy_checks.specs.Checks.{partlyJudged}
 use Rattle.copy_descent.specs.Reads.{unknownToChunk}
 
 -- a wrong entry is the one at i where a test finds it so

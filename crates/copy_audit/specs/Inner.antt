@@ -6,8 +6,8 @@ use lib.ListN.{length}
 use Rattle.tree_index.specs.Tree.{depth, block, leftChild, rightChild, entries}
 use Rattle.bitfield.specs.Append.{bitsPlace}
 use Rattle.bitfield.specs.Release.{storedHeld}
-use Rattle.audit.specs.Bytes.{BitsIn}
-use Rattle.audit.specs.Walked.{FilesIn, AtParent}
+use Rattle.audit.specs.BitfieldEntries.{BitsIn}
+use Rattle.audit.specs.TreeWalk.{FilesIn, AtParent}
 
 -- whether the index i is the leaf of a chunk whose data bit is 1
 unfoldable pub heldAt : List ℕ → ℕ → Bool

@@ -1,10 +1,10 @@
 // The tree entries of a copy, one by one. All of these are inner: they require the files to hold the entries of n chunks and their bits.
-use copies::Found;
-use copies::Unknown;
-use counts::ByteOffset;
-use counts::ChunkNumber;
-use counts::TreeIndex;
+use copy_checks::Found;
+use copy_checks::Unknown;
 use lookup::Ending;
+use number_types::ByteOffset;
+use number_types::ChunkNumber;
+use number_types::TreeIndex;
 ghost use mathlib.Core.Path.{_≡_};
 ghost use mathlib.Core.Bool.{_&&_, _||_, not};
 ghost use Prim.Native.Nat.{_<_};
@@ -12,11 +12,11 @@ ghost use Rattle.bitfield.specs.Known.{storedKnown};
 ghost use Rattle.bitfield.specs.Release.{storedHeld};
 ghost use Rattle.tree_index.specs.Tree.{leftChild, rightChild, entries as entriesOf};
 ghost use Rattle.blake2b.specs.Hash.{nodeHash};
-ghost use Rattle.files.specs.Within.{EntryIn};
+ghost use Rattle.file_format.specs.Inner.{EntryIn};
 ghost use Rattle.audit.specs.Audit.{parentRight, holeRight};
-ghost use Rattle.audit.specs.Walked.{leafFrom, FilesIn};
-ghost use Rattle.copies.specs.Copy.{copyOf};
-ghost use Rattle.copies.specs.Said.{foundOf};
+ghost use Rattle.audit.specs.TreeWalk.{leafFrom, FilesIn};
+ghost use Rattle.copy_checks.specs.Copy.{copyOf};
+ghost use Rattle.copy_checks.specs.Meaning.{foundOf};
 ghost use Rattle.copy_audit.specs.Audit.{wrongUnless, wrongByLeaf, wrongBy, wrongEntryOfCopy};
 ghost use Rattle.copy_audit.specs.Inner.{heldAt, AtNode, AtChunk, AtFamily};
 
@@ -160,7 +160,7 @@ pub fn wrong_entry(tree: &[u8], bitfield: &[u8], content: &[u8], n: u64, size: u
     let mut i = TreeIndex(0);
     while i.0 < count {
         let here = wrong_by(tree, bitfield, content, n, size, i);
-        found = copies::lower_of(found, here);
+        found = copy_checks::lower_of(found, here);
         i = TreeIndex(i.0 + 1);
     }
     found

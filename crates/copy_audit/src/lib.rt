@@ -2,12 +2,12 @@
 // of the known entries each is judged by what else is known. It only reads.
 mod entries;
 
-use copies::Found;
-use counts::Answer;
+use copy_checks::Found;
+use refusals::Answer;
 ghost use mathlib.Core.Path.{_≡_};
-ghost use Rattle.counts.specs.Said.{said};
+ghost use Rattle.refusals.specs.Meaning.{said};
 ghost use Rattle.blake2b.specs.Hash.{nodeHash};
-ghost use Rattle.copies.specs.Copy.{copyOf};
+ghost use Rattle.copy_checks.specs.Copy.{copyOf};
 ghost use Rattle.copy_audit.specs.Audit.{auditCopy};
 
 // The checks 2, 4, 5 and 6, which is passed over while a root is unknown, then 10 at the lowest wrong tree entry, then 11 at the lowest wrong byte of
@@ -15,10 +15,10 @@ ghost use Rattle.copy_audit.specs.Audit.{auditCopy};
 pub fn audit(tree: &[u8], bitfield: &[u8], content: &[u8], n: u64, size: u64) -> Answer
     ensures { λ r. ⌜ said r ≡ auditCopy nodeHash (copyOf (now (tree .entry)) (now (bitfield .entry)) (now (content .entry)) n size) ⌝ }
 {
-    match copies::judge_partly(tree, bitfield, content, n, size) {
+    match copy_checks::judge_partly(tree, bitfield, content, n, size) {
         Answer::Refused(refusal) => Answer::Refused(refusal),
         Answer::Done => match entries::wrong_entry(tree, bitfield, content, n, size) {
-            Found::At(i) => counts::refuse_entry(10, i),
+            Found::At(i) => refusals::refuse_entry(10, i),
             Found::Nothing => audit::wrong_byte(bitfield, n, true),
         },
     }

@@ -9,21 +9,21 @@ use native.Mathlib.Numerals.{add-one}
 use native.Mathlib.Omega.{arith}
 use lib.ListN.{length, getD, drop, drop-of-length-le}
 use lib.Seq.{drop-cons}
-use Rattle.sequences.specs.Lists.{total}
-use Rattle.sequences.specs.Lowest.{Lowest, nowhere, first}
+use Rattle.byte_strings.specs.Lists.{total}
+use Rattle.byte_strings.specs.Lowest.{Lowest, nowhere, first}
 use Rattle.tree_index.specs.Tree.{depth, block, roots, filled}
 use Rattle.tree_index.proofs.Roots.{root-filled}
 use Rattle.bitfield.specs.Known.{storedKnown}
-use Rattle.files.specs.Stored.{storedSize, storedRootSizes}
-use Rattle.files.specs.Within.{EntryIn}
+use Rattle.file_format.specs.Stored.{storedSize, storedRootSizes}
+use Rattle.file_format.specs.Inner.{EntryIn}
 use Rattle.lookup.specs.Descent.{chunkWithin}
-use Rattle.lookup.specs.Steps.{withinOf}
+use Rattle.lookup.specs.Inner.{withinOf}
 use Rattle.lookup.specs.declared.descent.Sought.{Sought}
 use Rattle.lookup.specs.declared.descent.Sought.the-variants.{Chunk, Byte}
 use Rattle.lookup.proofs.Visits.{filled-entry}
-use Rattle.copies.specs.Least.{firstUnknown}
+use Rattle.copy_checks.specs.Least.{firstUnknown}
 use Rattle.copy_descent.specs.Reads.{readsBelow, readsFrom, reads}
-use Rattle.copy_descent.specs.Steps.{Standing, Fits, behindOf, RootsFit, Reading}
+use Rattle.copy_descent.specs.Inner.{Standing, Fits, behindOf, RootsFit, Reading}
 use Rattle.copy_descent.proofs.Firsts.{first-known, first-unknown}
 use Rattle.copy_descent.proofs.Below.{chunk-below}
 

@@ -13,13 +13,13 @@ use Rattle.tree_index.specs.Tree.{index, depth, block, leftChild, rightChild, f
 use Rattle.tree_index.proofs.Index.{depth-index, block-index}
 use Rattle.tree_index.proofs.Filled.{filled-left, filled-right}
 use Rattle.bitfield.specs.Append.{bitsPlace}
-use Rattle.files.specs.Stored.{storedSize}
+use Rattle.file_format.specs.Stored.{storedSize}
 use Rattle.lookup.specs.Descent.{chunkWithin}
-use Rattle.lookup.specs.Steps.{StandsAt, Turned, Onward}
+use Rattle.lookup.specs.Inner.{StandsAt, Turned, Onward}
 use Rattle.lookup.proofs.Visits.{filled-entry, filled-stands, by-parents}
-use Rattle.copies.proofs.Roots.{tree-bit}
+use Rattle.copy_checks.proofs.Roots.{tree-bit}
 use Rattle.copy_descent.specs.Reads.{readsBelow}
-use Rattle.copy_descent.specs.Steps.{childrenRead, ReadIn, ChildrenIn, Standing}
+use Rattle.copy_descent.specs.Inner.{childrenRead, ReadIn, ChildrenIn, Standing}
 
 -- ---- where the search may stand
 

@@ -13,11 +13,11 @@ use lib.ListN.{length, getD, drop, drop-of-length-le}
 use lib.Seq.{drop-cons}
 use Rattle.tree_index.specs.Tree.{index, depth, block, roots, filled}
 use Rattle.tree_index.proofs.Roots.{root-filled}
-use Rattle.files.specs.Sizes.{longestChunk}
-use Rattle.files.specs.Stored.{storedSize}
-use Rattle.files.specs.Within.{EntryIn, RootsIn}
+use Rattle.file_format.specs.Sizes.{longestChunk}
+use Rattle.file_format.specs.Stored.{storedSize}
+use Rattle.file_format.specs.Inner.{EntryIn, RootsIn}
 use Rattle.lookup.specs.Descent.{Ending, stopped, reached, chunkWithin, descend, fromRoots, descent}
-use Rattle.lookup.specs.Steps.{StandsAt}
+use Rattle.lookup.specs.Inner.{StandsAt}
 use Rattle.lookup.proofs.Visits.{filled-entry, filled-stands}
 use Rattle.copy_descent.specs.Capped.{capped, cappedEnding, movedBy}
 

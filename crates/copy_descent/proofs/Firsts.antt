@@ -5,8 +5,8 @@ use mathlib.Core.Path.{_≡_, refl, sym, ap, _∙_}
 use mathlib.Core.Bool.{Bool, true, false, cond}
 use mathlib.Core.List.{List, [], _∷_, _++_}
 use native.Mathlib.Omega.{arith}
-use Rattle.sequences.specs.Lowest.{Lowest, nowhere, first}
-use Rattle.copies.specs.Least.{firstUnknown}
+use Rattle.byte_strings.specs.Lowest.{Lowest, nowhere, first}
+use Rattle.copy_checks.specs.Least.{firstUnknown}
 
 module _ (known : ℕ → Bool) where
   -- one that is in the first part is the first of both

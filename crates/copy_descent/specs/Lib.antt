@@ -1,4 +1,4 @@
 -- The entries that a descent reads.
 pub mod Reads
-pub mod Steps
+pub mod Inner
 pub mod Capped

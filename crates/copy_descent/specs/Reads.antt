@@ -5,15 +5,15 @@ use Prim.Native.Nat.{ℕ, zero, suc, _+_, _*_}
 use mathlib.Core.Bool.{Bool, true, false}
 use mathlib.Core.List.{List, [], _∷_}
 use lib.Dec.{eqb}
-use Rattle.counts.specs.Verdict.{Verdict, tree}
-use Rattle.sequences.specs.Lowest.{Lowest}
+use Rattle.refusals.specs.Verdict.{Verdict, tree}
+use Rattle.byte_strings.specs.Lowest.{Lowest}
 use Rattle.tree_index.specs.Tree.{index, depth, block, roots}
-use Rattle.files.specs.Stored.{storedSize}
+use Rattle.file_format.specs.Stored.{storedSize}
 use Rattle.audit.specs.Audit.{refusedAt}
 use Rattle.lookup.specs.Descent.{chunkWithin, byteWithin}
 use Rattle.lookup.specs.Lookup.{stopRefused, toChunk, toByte}
-use Rattle.copies.specs.Copy.{Copy, known, unsigned}
-use Rattle.copies.specs.Least.{firstUnknown}
+use Rattle.copy_checks.specs.Copy.{Copy, known, unsigned}
+use Rattle.copy_checks.specs.Least.{firstUnknown}
 
 module _ (within : ℕ → ℕ → ℕ → ℕ → Bool) (t : List ℕ) where
   -- below the block k of 2^d chunks: of each parent that is visited the left child and then the right one, whose lengths are added before the sum is judged

@@ -1,14 +1,14 @@
 // Where the descent to a chunk ends in a copy whose roots need not add up to its data size: the audit of a copy passes over 6 while a root is unknown.
-use counts::ByteOffset;
-use counts::ChunkNumber;
-use counts::TreeIndex;
 use lookup::Ending;
 use lookup::Sought;
+use number_types::ByteOffset;
+use number_types::ChunkNumber;
+use number_types::TreeIndex;
 ghost use mathlib.Core.Path.{_≡_};
 ghost use Prim.Native.Nat.{_+_, _^_, _≤_};
-ghost use Rattle.files.specs.Within.{RootsIn};
+ghost use Rattle.file_format.specs.Inner.{RootsIn};
 ghost use Rattle.lookup.specs.Descent.{chunkWithin, descent};
-ghost use Rattle.lookup.specs.Steps.{endingOf};
+ghost use Rattle.lookup.specs.Inner.{endingOf};
 ghost use Rattle.copy_descent.specs.Capped.{capped, cappedEnding, movedBy};
 
 // Inner: the end of so many bytes behind a start, at most 2^63.
@@ -46,7 +46,7 @@ pub fn ending_to_chunk(tree: &[u8], n: u64, chunk: ChunkNumber) -> Ending
     let mut j: usize = 0;
     while j < count {
         let i = roots[j];
-        let size = files::entries::stored_size(tree, i);
+        let size = file_format::entries::stored_size(tree, i);
         if !tree_index::ends_before(i, chunk) {
             let ending = lookup::descend(tree, Sought::Chunk(chunk), i, ByteOffset(0));
             return moved(ending, start);

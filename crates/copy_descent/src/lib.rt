@@ -2,24 +2,24 @@
 // require the files to hold the entries of n chunks and their bits.
 mod endings;
 
-use copies::Unknown;
-use counts::ByteOffset;
-use counts::ChunkNumber;
-use counts::TreeIndex;
+use copy_checks::Unknown;
 pub use endings::ending_to_chunk;
 use lookup::Sought;
 use lookup::Step;
+use number_types::ByteOffset;
+use number_types::ChunkNumber;
+use number_types::TreeIndex;
 ghost use mathlib.Core.Path.{_≡_};
 ghost use mathlib.Core.List.{[]};
 ghost use Rattle.tree_index.specs.Tree.{depth, block};
 ghost use Rattle.bitfield.specs.Known.{storedKnown};
 ghost use Rattle.lookup.specs.Descent.{chunkWithin};
-ghost use Rattle.lookup.specs.Steps.{withinOf};
-ghost use Rattle.copies.specs.Copy.{copyOf};
-ghost use Rattle.copies.specs.Least.{firstUnknown};
-ghost use Rattle.copies.specs.Said.{unknownOf};
+ghost use Rattle.lookup.specs.Inner.{withinOf};
+ghost use Rattle.copy_checks.specs.Copy.{copyOf};
+ghost use Rattle.copy_checks.specs.Least.{firstUnknown};
+ghost use Rattle.copy_checks.specs.Meaning.{unknownOf};
 ghost use Rattle.copy_descent.specs.Reads.{readsBelow, reads, unknownToByte};
-ghost use Rattle.copy_descent.specs.Steps.{ChildrenIn, childrenRead, Standing, ReadIn, Fits, behindOf, Reading, ByteReading};
+ghost use Rattle.copy_descent.specs.Inner.{ChildrenIn, childrenRead, Standing, ReadIn, Fits, behindOf, Reading, ByteReading};
 
 // Inner: the first unknown of a node's children, the left before the right; a leaf has none.
 fn unknown_child(bitfield: &[u8], i: TreeIndex) -> Unknown
@@ -93,7 +93,7 @@ pub fn unknown_to(tree: &[u8], bitfield: &[u8], n: u64, sought: Sought) -> Unkno
         if !bitfield::is_known(bitfield, i) {
             return Unknown::At(i);
         }
-        let size = files::entries::stored_size(tree, i);
+        let size = file_format::entries::stored_size(tree, i);
         if lookup::is_within(sought, i, start, size) {
             return unknown_below(tree, bitfield, sought, i, start);
         }

@@ -6,21 +6,21 @@ use mathlib.Core.Bool.{Bool, true, false, cond}
 use mathlib.Core.List.{List, [], _∷_}
 use native.Mathlib.Omega.{arith}
 use lib.Dec.{ltb}
-use Rattle.counts.specs.Verdict.{Spot, Verdict, tree, done, refused}
-use Rattle.sequences.specs.Lists.{sameList}
+use Rattle.refusals.specs.Verdict.{Spot, Verdict, tree, done, refused}
+use Rattle.byte_strings.specs.Lists.{sameList}
 use Rattle.tree_index.specs.Tree.{index}
 use Rattle.bitfield.specs.Release.{storedHeld}
-use Rattle.files.specs.Messages.{leafMessage}
-use Rattle.files.specs.Stored.{storedHash, storedSize}
+use Rattle.file_format.specs.Messages.{leafMessage}
+use Rattle.file_format.specs.Stored.{storedHash, storedSize}
 use Rattle.checks.specs.Checks.{Check, judged, registerChecks}
 use Rattle.checks.proofs.Judged.{judged-right, judged-done, judged-append}
 use Rattle.checks.proofs.Passed.{passes}
 use Rattle.lookup.specs.Lookup.{Found, found, foundUnless, startOf, stopRefused, toChunk, heldVerdict, heldPlaceOf}
 use Rattle.lookup.specs.Read.{chunkBytes, andThen, readVerdict}
-use Rattle.lookup.specs.Said.{readFound}
-use Rattle.copies.specs.Copy.{Copy, unsigned}
-use Rattle.copies.proofs.Steps.{Knowing, root-must, copy-passed}
-use Rattle.copies.proofs.Signed.{signed, signed-passes}
+use Rattle.lookup.specs.Meaning.{readFound}
+use Rattle.copy_checks.specs.Copy.{Copy, unsigned}
+use Rattle.copy_checks.proofs.Steps.{Knowing, root-must, copy-passed}
+use Rattle.copy_checks.proofs.Signed.{signed, signed-passes}
 use Rattle.copy_descent.specs.Reads.{unknownToChunk, chunkStop}
 use Rattle.copy_lookup.specs.Lookups.{copyHeldVerdict, copyHeldPlaceOf}
 use Rattle.copy_lookup.specs.Reading.{copyReadVerdict, copyReadFound}

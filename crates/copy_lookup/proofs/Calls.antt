@@ -8,31 +8,31 @@ use native.Mathlib.Omega.{arith}
 use borrow.Author.Tests.{lt-ltb, le-ltb, le-leb, lt-leb}
 use lib.Dec.{leb, ltb}
 use lib.ListN.{length, take, drop}
-use Rattle.counts.specs.Verdict.{Spot, Verdict, none, tree, done, refused}
-use Rattle.sequences.specs.Lists.{part}
-use Rattle.sequences.specs.Lowest.{Lowest, nowhere, first}
+use Rattle.refusals.specs.Verdict.{Spot, Verdict, none, tree, done, refused}
+use Rattle.byte_strings.specs.Lists.{part}
+use Rattle.byte_strings.specs.Lowest.{Lowest, nowhere, first}
 use Rattle.tree_index.specs.Tree.{index}
 use Rattle.bitfield.specs.Release.{storedHeld}
-use Rattle.files.specs.Stored.{storedSize}
+use Rattle.file_format.specs.Stored.{storedSize}
 use Rattle.checks.specs.Checks.{judged}
 use Rattle.checks.proofs.Passed.{passes}
 use Rattle.audit.specs.Audit.{refusedAt}
-use Rattle.audit.specs.Bytes.{BitsIn}
+use Rattle.audit.specs.BitfieldEntries.{BitsIn}
 use Rattle.lookup.specs.Descent.{Ending, chunkWithin, descent}
 use Rattle.lookup.specs.Lookup.{Found, refusal, found, foundUnless, stopRefused, chunkOf, startOf, toChunk, byteEnding, toByte}
-use Rattle.lookup.specs.Steps.{SearchedFor, SearchedHeld, placeIn, heldPlaceIn, byteIn}
+use Rattle.lookup.specs.Inner.{SearchedFor, SearchedHeld, placeIn, heldPlaceIn, byteIn}
 use Rattle.lookup.specs.Read.{chunkBytes, partUnless, readVerdict, readPart}
-use Rattle.lookup.specs.Said.{PlacedIn, hashJudged, readFound}
+use Rattle.lookup.specs.Meaning.{PlacedIn, hashJudged, readFound}
 use Rattle.lookup.proofs.Calls.{searched, found-refused, placed-in, hash-behind, lying}
-use Rattle.copies.specs.Copy.{Copy, copyOf, unsigned}
-use Rattle.copies.specs.Checks.{copyJudged}
-use Rattle.copies.proofs.Steps.{Knowing, copy-passed, copy-passes, copy-refused-by}
-use Rattle.copies.proofs.Signed.{signed, signed-passes}
+use Rattle.copy_checks.specs.Copy.{Copy, copyOf, unsigned}
+use Rattle.copy_checks.specs.Checks.{copyJudged}
+use Rattle.copy_checks.proofs.Steps.{Knowing, copy-passed, copy-passes, copy-refused-by}
+use Rattle.copy_checks.proofs.Signed.{signed, signed-passes}
 use Rattle.copy_descent.specs.Reads.{unknownToChunk, readsToByte, unknownToByte, chunkStop, byteStop}
-use Rattle.copy_descent.specs.Steps.{ReadIn, ByteReading}
+use Rattle.copy_descent.specs.Inner.{ReadIn, ByteReading}
 use Rattle.copy_lookup.specs.Lookups.{copyPlaceVerdict, copyHeldVerdict, copyByteVerdict, copyPlaceOf, copyHeldPlaceOf, copyByteAt}
 use Rattle.copy_lookup.specs.Reading.{copyReadVerdict, copyReadPart, copyReadFound}
-use Rattle.copy_lookup.specs.Steps.{CopySearched, isThere, unknownIf, unknownByteIf, placeInCopy, heldPlaceInCopy, byteInCopy}
+use Rattle.copy_lookup.specs.Inner.{CopySearched, isThere, unknownIf, unknownByteIf, placeInCopy, heldPlaceInCopy, byteInCopy}
 use Rattle.copy_lookup.proofs.AsRegister.{held-place-as, read-as, read-found-done, read-found-as}
 
 -- ---- what the inner functions require

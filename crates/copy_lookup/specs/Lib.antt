@@ -1,4 +1,4 @@
 -- The place lookup, the byte lookup and the read on a copy.
 pub mod Lookups
 pub mod Reading
-pub mod Steps
+pub mod Inner

@@ -3,14 +3,14 @@ use Prim.Native.Nat.{ℕ, _-_}
 use mathlib.Core.Bool.{cond}
 use mathlib.Core.List.{List, [], _∷_}
 use lib.Dec.{leb, ltb}
-use Rattle.counts.specs.Verdict.{Verdict, tree, refused}
+use Rattle.refusals.specs.Verdict.{Verdict, tree, refused}
 use Rattle.tree_index.specs.Tree.{index}
 use Rattle.bitfield.specs.Release.{storedHeld}
-use Rattle.files.specs.Stored.{storedSize}
+use Rattle.file_format.specs.Stored.{storedSize}
 use Rattle.checks.specs.Checks.{judged}
 use Rattle.lookup.specs.Lookup.{Found, foundUnless, chunkOf, startOf, toChunk, toByte}
-use Rattle.copies.specs.Copy.{Copy, unsigned}
-use Rattle.copies.specs.Checks.{copyJudged}
+use Rattle.copy_checks.specs.Copy.{Copy, unsigned}
+use Rattle.copy_checks.specs.Checks.{copyJudged}
 use Rattle.copy_descent.specs.Reads.{chunkStop, byteStop}
 
 -- "9. The chunk number is not below n"

@@ -1,21 +1,21 @@
 // The place lookup on a copy, of any chunk and of one that is held, and the byte lookup: a register's behind the checks of a copy, with 20 where a
 // descent would read an unknown entry. 20 is judged behind 9 and 18 and before anything is walked.
-use copies::Unknown;
-use counts::Answer;
-use counts::ByteOffset;
-use counts::ChunkNumber;
-use counts::Place;
-use counts::Refusal;
+use copy_checks::Unknown;
 use lookup::Located;
 use lookup::Placed;
+use number_types::ByteOffset;
+use number_types::ChunkNumber;
+use refusals::Answer;
+use refusals::Place;
+use refusals::Refusal;
 ghost use mathlib.Core.Path.{_≡_};
-ghost use Rattle.audit.specs.Bytes.{BitsIn};
-ghost use Rattle.lookup.specs.Steps.{SearchedHeld};
-ghost use Rattle.lookup.specs.Said.{placedOf, locatedOf};
-ghost use Rattle.copies.specs.Copy.{copyOf};
-ghost use Rattle.copies.specs.Said.{unknownOf};
+ghost use Rattle.audit.specs.BitfieldEntries.{BitsIn};
+ghost use Rattle.lookup.specs.Inner.{SearchedHeld};
+ghost use Rattle.lookup.specs.Meaning.{placedOf, locatedOf};
+ghost use Rattle.copy_checks.specs.Copy.{copyOf};
+ghost use Rattle.copy_checks.specs.Meaning.{unknownOf};
 ghost use Rattle.copy_lookup.specs.Lookups.{copyPlaceOf, copyHeldPlaceOf, copyByteAt};
-ghost use Rattle.copy_lookup.specs.Steps.{CopySearched, isThere, unknownIf, unknownByteIf, placeInCopy, heldPlaceInCopy, byteInCopy};
+ghost use Rattle.copy_lookup.specs.Inner.{CopySearched, isThere, unknownIf, unknownByteIf, placeInCopy, heldPlaceInCopy, byteInCopy};
 
 // Inner: whether a chunk is there and held: what 9 and 18 let pass.
 fn is_there(bitfield: &[u8], n: u64, chunk: ChunkNumber) -> bool
@@ -68,7 +68,7 @@ pub fn place(
         copyPlaceOf (copyOf (now (tree .entry)) (now (bitfield .entry)) (now (content .entry)) n size) (chunk .0)
         ⌝ }
 {
-    match copies::judge(tree, bitfield, content, n, size) {
+    match copy_checks::judge(tree, bitfield, content, n, size) {
         Answer::Refused(refusal) => Placed::Refused(refusal),
         Answer::Done => place_in(tree, bitfield, n, chunk),
     }
@@ -104,7 +104,7 @@ pub fn held_place(
         copyHeldPlaceOf (copyOf (now (tree .entry)) (now (bitfield .entry)) (now (content .entry)) n size) (chunk .0)
         ⌝ }
 {
-    match copies::judge(tree, bitfield, content, n, size) {
+    match copy_checks::judge(tree, bitfield, content, n, size) {
         Answer::Refused(refusal) => Placed::Refused(refusal),
         Answer::Done => held_place_in(tree, bitfield, n, chunk),
     }
@@ -150,7 +150,7 @@ pub fn locate(
         copyByteAt (copyOf (now (tree .entry)) (now (bitfield .entry)) (now (content .entry)) n size) (offset .0)
         ⌝ }
 {
-    match copies::judge(tree, bitfield, content, n, size) {
+    match copy_checks::judge(tree, bitfield, content, n, size) {
         Answer::Refused(refusal) => Located::Refused(refusal),
         Answer::Done => locate_in(tree, bitfield, n, size, offset),
     }

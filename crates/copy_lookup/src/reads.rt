@@ -1,12 +1,12 @@
 // The verified read on a copy.
-use counts::Answer;
-use counts::ChunkNumber;
 use lookup::Verified;
+use number_types::ChunkNumber;
+use refusals::Answer;
 ghost use mathlib.Core.Path.{_≡_};
-ghost use Rattle.counts.specs.Said.{said};
+ghost use Rattle.refusals.specs.Meaning.{said};
 ghost use Rattle.blake2b.specs.Hash.{nodeHash};
-ghost use Rattle.lookup.specs.Said.{verifiedOf};
-ghost use Rattle.copies.specs.Copy.{copyOf};
+ghost use Rattle.lookup.specs.Meaning.{verifiedOf};
+ghost use Rattle.copy_checks.specs.Copy.{copyOf};
 ghost use Rattle.copy_lookup.specs.Reading.{copyReadVerdict, copyReadPart, copyReadFound};
 
 // The checks of a read: the place of the chunk, which must be held, and then its leaf hash.

@@ -3,21 +3,21 @@ use Prim.Native.Nat.{ℕ, _-_}
 use mathlib.Core.Path.{_≡_, sym, ap, _∙_}
 use mathlib.Core.List.{List}
 use lib.ListN.{length, take, drop}
-use Rattle.counts.specs.Verdict.{Verdict, done}
-use Rattle.counts.specs.Said.{refusalOf}
-use Rattle.counts.specs.declared.Refusal.{Refusal}
+use Rattle.refusals.specs.Verdict.{Verdict, done}
+use Rattle.refusals.specs.Meaning.{refusalOf}
+use Rattle.refusals.specs.declared.Refusal.{Refusal}
 use Rattle.checks.specs.Checks.{holds}
 use Rattle.lookup.specs.Lookup.{found, toChunk}
 use Rattle.lookup.specs.Read.{chunkBytes, andThen}
 use Rattle.lookup.proofs.Calls.{Lying, lying}
 use Rattle.packet.specs.Packet.{packetOf, roomOr14, outUnless, lengthUnless, makeVerdict, madeLength, afterMake}
-use Rattle.packet.specs.Made.{MadeOf}
+use Rattle.packet.specs.Post.{MadeOf}
 use Rattle.packet.specs.declared.making.Made.{Made}
 use Rattle.packet.specs.declared.making.Made.the-variants.{Refused}
-use Rattle.packet.specs.Parts.{Readable}
+use Rattle.packet.specs.Inner.{Readable}
 use Rattle.packet.proofs.Makes.{readable as register-readable, read-bytes, made-from as register-made}
-use Rattle.copies.specs.Copy.{Copy, unsigned}
-use Rattle.copies.proofs.Signed.{signed}
+use Rattle.copy_checks.specs.Copy.{Copy, unsigned}
+use Rattle.copy_checks.proofs.Signed.{signed}
 use Rattle.copy_lookup.specs.Reading.{copyReadVerdict, copyReadFound}
 use Rattle.copy_lookup.proofs.AsRegister.{read-as, read-found-as}
 use Rattle.copy_packet.specs.Making.{copyMakeVerdict, copyAfterMake, copyMadeLength}

@@ -2,11 +2,11 @@
 use Prim.Native.Nat.{ℕ}
 use mathlib.Core.List.{List}
 use lib.ListN.{length}
-use Rattle.counts.specs.Verdict.{Verdict}
+use Rattle.refusals.specs.Verdict.{Verdict}
 use Rattle.checks.specs.Checks.{holds}
 use Rattle.lookup.specs.Read.{andThen}
 use Rattle.packet.specs.Packet.{packetOf, roomOr14, outUnless, lengthUnless}
-use Rattle.copies.specs.Copy.{Copy, unsigned}
+use Rattle.copy_checks.specs.Copy.{Copy, unsigned}
 use Rattle.copy_lookup.specs.Reading.{copyReadVerdict}
 
 module _ (F : List ℕ → List ℕ) where

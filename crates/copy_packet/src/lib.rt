@@ -1,9 +1,9 @@
 // Making a packet of a chunk of a partial copy. Everything is judged before the buffer is written.
-use counts::ChunkNumber;
 use lookup::Verified;
+use number_types::ChunkNumber;
 use packet::Made;
 ghost use Rattle.blake2b.specs.Hash.{nodeHash};
-ghost use Rattle.copies.specs.Copy.{copyOf};
+ghost use Rattle.copy_checks.specs.Copy.{copyOf};
 ghost use Rattle.copy_packet.specs.Post.{CopyMadeAs};
 
 // The packet of a chunk of a copy at the front of a buffer, the rest as it was. "Making one does the read of chunk i first, with its refusals."

@@ -2,12 +2,12 @@
 use Prim.Native.Nat.{ℕ, _<_}
 use mathlib.Core.Path.{_≡_, sym, subst}
 use mathlib.Core.List.{List}
-use Rattle.counts.specs.Verdict.{Spot, Verdict, done, refused}
+use Rattle.refusals.specs.Verdict.{Spot, Verdict, done, refused}
 use Rattle.lookup.specs.Lookup.{found}
-use Rattle.paths.specs.Chunks.{ReadThen}
-use Rattle.paths.proofs.Chunk.{small}
-use Rattle.copies.specs.Copy.{Copy}
-use Rattle.copies.proofs.Signed.{signed}
+use Rattle.record_find.specs.ChunkRecords.{ReadThen}
+use Rattle.record_find.proofs.Chunk.{small}
+use Rattle.copy_checks.specs.Copy.{Copy}
+use Rattle.copy_checks.proofs.Signed.{signed}
 use Rattle.copy_lookup.specs.Reading.{copyReadVerdict, copyReadFound}
 use Rattle.copy_lookup.proofs.AsRegister.{read-found-as}
 use Rattle.copy_lookup.proofs.Calls.{copy-lying}

@@ -1,17 +1,17 @@
 -- The record of a chunk of a copy: its read's refusals, 20 among them, then 15 at its leaf's tree index; and a path sought among the records of a copy.
 use Prim.Native.Nat.{ℕ}
 use mathlib.Core.List.{List}
-use Rattle.counts.specs.Verdict.{Verdict, done}
-use Rattle.counts.specs.Said.{said}
-use Rattle.counts.specs.declared.Answer.{Answer}
+use Rattle.refusals.specs.Verdict.{Verdict, done}
+use Rattle.refusals.specs.Meaning.{said}
+use Rattle.refusals.specs.declared.Answer.{Answer}
 use Rattle.tree_index.specs.Tree.{index}
-use Rattle.records.specs.declared.headers.HeaderRead.{HeaderRead}
-use Rattle.nodes.specs.declared.reading.Node.{Node as CodeNode}
-use Rattle.paths.specs.Chunks.{ReadThen, headerVerdict, comparedVerdict, HeaderJudged, NodeSaid, BesideNode, PathJudged}
-use Rattle.paths.specs.Finding.{Outcome, FindsBy, CheckedBy}
-use Rattle.paths.specs.declared.chunks.Compared.{Compared}
-use Rattle.copies.specs.Copy.{Copy}
-use Rattle.copies.specs.Checks.{copyJudged}
+use Rattle.record_format.specs.declared.headers.HeaderRead.{HeaderRead}
+use Rattle.record_node.specs.declared.reading.Node.{Node as CodeNode}
+use Rattle.record_find.specs.ChunkRecords.{ReadThen, headerVerdict, comparedVerdict, HeaderJudged, NodeSaid, BesideNode, PathJudged}
+use Rattle.record_find.specs.Finding.{Outcome, FindsBy, CheckedBy}
+use Rattle.record_find.specs.declared.chunks.Compared.{Compared}
+use Rattle.copy_checks.specs.Copy.{Copy}
+use Rattle.copy_checks.specs.Checks.{copyJudged}
 use Rattle.copy_lookup.specs.Reading.{copyReadVerdict, copyReadPart}
 
 -- "It refuses with 15, after that chunk's own read, a chunk that is no such record, the place being its leaf's tree index"

@@ -1,12 +1,12 @@
 // The record of a chunk of a copy: the read's own refusals, then number 15 at the leaf's tree index.
-use counts::Answer;
-use counts::ChunkNumber;
 use lookup::Verified;
-use nodes::NodeRead;
-use paths::Compared;
-use records::HeaderRead;
+use number_types::ChunkNumber;
+use record_find::Compared;
+use record_format::HeaderRead;
+use record_node::NodeRead;
+use refusals::Answer;
 ghost use Rattle.blake2b.specs.Hash.{nodeHash};
-ghost use Rattle.copies.specs.Copy.{copyOf};
+ghost use Rattle.copy_checks.specs.Copy.{copyOf};
 ghost use Rattle.copy_records.specs.Records.{CopyHeaderAs, CopyNodeAs, CopyPathAs};
 
 // The Header that a chunk is, as a rule chunk 0: where its content bytes lie in the chunk.
@@ -28,7 +28,7 @@ pub fn header_of(
         Verified::Part(start, end) => {
             let from = start.0 as usize;
             let to = end.0 as usize;
-            paths::header_at(&content[from..to], chunk)
+            record_find::header_at(&content[from..to], chunk)
         }
     }
 }
@@ -50,7 +50,7 @@ pub fn node_of(
 {
     match copy_lookup::verify(tree, bitfield, content, n, size, chunk) {
         Verified::Refused(refusal) => {
-            let none = nodes::no_node();
+            let none = record_node::no_node();
             let node = none.node;
             NodeRead {
                 answer: Answer::Refused(refusal),
@@ -60,7 +60,7 @@ pub fn node_of(
         Verified::Part(start, end) => {
             let from = start.0 as usize;
             let to = end.0 as usize;
-            paths::node_at(&content[from..to], chunk)
+            record_find::node_at(&content[from..to], chunk)
         }
     }
 }
@@ -86,7 +86,7 @@ pub fn path_of(
         Verified::Part(start, end) => {
             let from = start.0 as usize;
             let to = end.0 as usize;
-            paths::path_at(&content[from..to], chunk, path)
+            record_find::path_at(&content[from..to], chunk, path)
         }
     }
 }

@@ -1,13 +1,13 @@
 // A path sought among the records of a copy.
-use counts::Answer;
-use counts::ChunkNumber;
-use paths::Compared;
-use paths::Found;
-use records::HeaderRead;
+use number_types::ChunkNumber;
+use record_find::Compared;
+use record_find::Found;
+use record_format::HeaderRead;
+use refusals::Answer;
 ghost use Prim.Native.Nat.{_-_};
 ghost use Rattle.blake2b.specs.Hash.{nodeHash};
-ghost use Rattle.paths.specs.Finding.{foundOf};
-ghost use Rattle.copies.specs.Copy.{copyOf};
+ghost use Rattle.record_find.specs.Finding.{foundOf};
+ghost use Rattle.copy_checks.specs.Copy.{copyOf};
 ghost use Rattle.copy_records.specs.Records.{CopyFinds, CopyFindAs};
 
 // The chunks from the latest down to chunk 1.
@@ -43,7 +43,7 @@ pub fn find(tree: &[u8], bitfield: &[u8], content: &[u8], n: u64, size: u64, pat
         (foundOf r)
         ⌝ }
 {
-    match copies::judge(tree, bitfield, content, n, size) {
+    match copy_checks::judge(tree, bitfield, content, n, size) {
         Answer::Refused(refusal) => Found::Refused(refusal),
         Answer::Done => {
             if n == 0 {

@@ -1,9 +1,9 @@
 // The parts of a record of a copy as parts of its data: nothing after a refusal, whose number `header_of` and `node_of` tell.
-use counts::ChunkNumber;
+use number_types::ChunkNumber;
 use record_parts::Field;
 ghost use Rattle.blake2b.specs.Hash.{nodeHash};
 ghost use Rattle.record_parts.specs.Parts.{HeaderHanded, NodeHanded};
-ghost use Rattle.copies.specs.Copy.{copyOf};
+ghost use Rattle.copy_checks.specs.Copy.{copyOf};
 ghost use Rattle.copy_lookup.specs.Reading.{copyReadPart};
 
 // A part of the Node that a chunk of a copy is.

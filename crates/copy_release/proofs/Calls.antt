@@ -2,17 +2,17 @@
 use Prim.Native.Nat.{ℕ}
 use mathlib.Core.Path.{_≡_, sym, ap, ap₂, _∙_}
 use mathlib.Core.List.{List}
-use Rattle.counts.specs.Verdict.{Spot, Verdict, done, refused, unlessRefused}
-use Rattle.sequences.specs.Lists.{put, zeros}
+use Rattle.refusals.specs.Verdict.{Spot, Verdict, done, refused, unlessRefused}
+use Rattle.byte_strings.specs.Lists.{put, zeros}
 use Rattle.tree_index.specs.Tree.{index}
-use Rattle.files.specs.Stored.{storedSize}
+use Rattle.file_format.specs.Stored.{storedSize}
 use Rattle.lookup.specs.Lookup.{refusal, found, startOf, toChunk}
 use Rattle.lookup.proofs.Calls.{placing, found-refused}
 use Rattle.release.specs.Release.{releasedRegister}
 use Rattle.release.specs.Post.{Clears, Cleared}
 use Rattle.release.proofs.Calls.{release-fits as register-fits}
-use Rattle.copies.specs.Copy.{Copy, filesOf, filesLent, unsigned}
-use Rattle.copies.proofs.Signed.{signed}
+use Rattle.copy_checks.specs.Copy.{Copy, filesOf, filesLent, unsigned}
+use Rattle.copy_checks.proofs.Signed.{signed}
 use Rattle.copy_lookup.specs.Lookups.{copyHeldVerdict, copyHeldPlaceOf}
 use Rattle.copy_lookup.proofs.AsRegister.{held-place-done, held-place-as}
 use Rattle.copy_release.specs.Release.{copyReleaseVerdict, releasedCopy, copyAfterRelease}

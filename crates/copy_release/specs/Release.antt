@@ -1,8 +1,8 @@
 -- The release on a copy.
 use Prim.Native.Nat.{ℕ}
-use Rattle.counts.specs.Verdict.{Verdict, unlessRefused}
+use Rattle.refusals.specs.Verdict.{Verdict, unlessRefused}
 use Rattle.release.specs.Release.{releasedRegister}
-use Rattle.copies.specs.Copy.{Copy, Files, filesOf, unsigned, lentAsCopy}
+use Rattle.copy_checks.specs.Copy.{Copy, Files, filesOf, unsigned, lentAsCopy}
 use Rattle.copy_lookup.specs.Lookups.{copyHeldVerdict}
 
 -- the refusals of the place of a chunk that is held

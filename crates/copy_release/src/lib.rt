@@ -1,9 +1,9 @@
 // Releasing a chunk of a partial copy. Everything is judged before a byte is written.
-use counts::Answer;
-use counts::ChunkNumber;
 use lookup::Placed;
-ghost use Rattle.counts.specs.Said.{said};
-ghost use Rattle.copies.specs.Copy.{copyOf, filesLent};
+use number_types::ChunkNumber;
+use refusals::Answer;
+ghost use Rattle.refusals.specs.Meaning.{said};
+ghost use Rattle.copy_checks.specs.Copy.{copyOf, filesLent};
 ghost use Rattle.copy_release.specs.Post.{ReleasePost};
 
 // A chunk of a copy that is held makes room: it is held no longer, and its bytes are zeros.

@@ -4,28 +4,28 @@ use mathlib.Core.Path.{_≡_, sym, ap, _∙_}
 use mathlib.Core.List.{List}
 use native.Mathlib.Omega.{arith}
 use borrow.Author.Tests.{le-leb}
-use Rattle.counts.specs.Verdict.{Spot, Verdict, tree, done, refused}
-use Rattle.sequences.specs.Lowest.{Lowest}
+use Rattle.refusals.specs.Verdict.{Spot, Verdict, tree, done, refused}
+use Rattle.byte_strings.specs.Lowest.{Lowest}
 use Rattle.tree_index.specs.Tree.{roots, entries}
 use Rattle.blake2b.specs.Hash.{nodeHash}
 use Rattle.bitfield.specs.Image.{entryCount}
-use Rattle.files.specs.Sizes.{mostChunks, usedTree, usedBitfield}
-use Rattle.files.specs.Within.{RootsIn}
+use Rattle.file_format.specs.Sizes.{mostChunks, usedTree, usedBitfield}
+use Rattle.file_format.specs.Inner.{RootsIn}
 use Rattle.checks.specs.Checks.{judged}
 use Rattle.checks.proofs.Judged.{judged-right, judged-done, judged-refused}
 use Rattle.audit.specs.Audit.{refusedAt}
-use Rattle.audit.specs.Bytes.{BitsIn}
-use Rattle.old_root.specs.OldRoot.{ownChecks, ownVerdict}
-use Rattle.old_root.proofs.Calls.{own-passed}
+use Rattle.audit.specs.BitfieldEntries.{BitsIn}
+use Rattle.prefix_root.specs.PrefixRoot.{ownChecks, ownVerdict}
+use Rattle.prefix_root.proofs.Calls.{own-passed}
 use Rattle.search.specs.Search.{firstMissing, refusal, answer, soughtUnless}
 use Rattle.search.specs.Inner.{DataIn}
 use Rattle.search.proofs.Steps.{data-in}
-use Rattle.copies.specs.Copy.{Copy, known}
-use Rattle.copies.specs.Least.{firstUnknown}
-use Rattle.copies.specs.Checks.{copyJudged}
-use Rattle.copies.proofs.Steps.{Knowing, copy-passed, copy-passes, copy-refused-by, roots-in}
-use Rattle.copy_roots.specs.Roots.{copyRootVerdict, copyOldVerdict, rootUnless, copyRootAnswer, copyOldRoot, copySearch}
-use Rattle.copy_roots.specs.Post.{RootPost, OldRootPost, RootedPost}
+use Rattle.copy_checks.specs.Copy.{Copy, known}
+use Rattle.copy_checks.specs.Least.{firstUnknown}
+use Rattle.copy_checks.specs.Checks.{copyJudged}
+use Rattle.copy_checks.proofs.Steps.{Knowing, copy-passed, copy-passes, copy-refused-by, roots-in}
+use Rattle.copy_roots.specs.Roots.{copyRootVerdict, copyPrefixVerdict, rootUnless, copyRootAnswer, copyPrefixRoot, copySearch}
+use Rattle.copy_roots.specs.Post.{RootPost, PrefixRootPost, RootedPost}
 
 -- ---- the root hash
 
@@ -45,16 +45,16 @@ module _ (c : Copy) (m : ℕ) where
   abbrev next : Verdict
   next = refusedAt 20 tree (firstUnknown (known c) (roots m)) done
 
-  pub old-refused : (k : ℕ) (at : Spot) → refused k at ≡ copyJudged c done → refused k at ≡ copyOldVerdict c m
-  unfolding copyOldVerdict
+  pub old-refused : (k : ℕ) (at : Spot) → refused k at ≡ copyJudged c done → refused k at ≡ copyPrefixVerdict c m
+  unfolding copyPrefixVerdict
   old-refused k at e = sym (copy-refused-by c (judged (ownChecks (c .n) m) next) k at (sym e))
 
   module _ (e : done ≡ copyJudged c done) where
     knows : Knowing c
     knows = copy-passed c done (sym e) .0
 
-    pub old-above : (k : ℕ) (at : Spot) → refused k at ≡ ownVerdict (c .n) m → refused k at ≡ copyOldVerdict c m
-    unfolding copyOldVerdict ownVerdict
+    pub old-above : (k : ℕ) (at : Spot) → refused k at ≡ ownVerdict (c .n) m → refused k at ≡ copyPrefixVerdict c m
+    unfolding copyPrefixVerdict ownVerdict
     old-above k at f =
         sym (copy-passes c (judged (ownChecks (c .n) m) next) knows ∙ judged-refused (ownChecks (c .n) m) next k at (sym f))
 
@@ -66,15 +66,15 @@ module _ (c : Copy) (m : ℕ) where
           let p = knows .lent in
           record { count = omega (arith, p .count); inside = omega (arith, p .bitfield) }
 
-      pub old-judged : (v : Verdict) → v ≡ next → v ≡ copyOldVerdict c m
-      unfolding copyOldVerdict
+      pub old-judged : (v : Verdict) → v ≡ next → v ≡ copyPrefixVerdict c m
+      unfolding copyPrefixVerdict
       old-judged v g =
           let u : m ≤ c .n = own-passed (c .n) m (sym f) in
           g
           ∙ sym (copy-passes c (judged (ownChecks (c .n) m) next) knows ∙ judged-right (ownChecks (c .n) m) next (le-leb m (c .n) u, tt))
 
-  pub old-fits : copyOldVerdict c m ≡ done → RootsIn (c .tree) m
-  unfolding copyOldVerdict ownVerdict usedTree entries
+  pub old-fits : copyPrefixVerdict c m ≡ done → RootsIn (c .tree) m
+  unfolding copyPrefixVerdict ownVerdict usedTree entries
   old-fits e =
       let a = copy-passed c (judged (ownChecks (c .n) m) next) e in
       let p = a .0 .lent in
@@ -82,8 +82,8 @@ module _ (c : Copy) (m : ℕ) where
       let u : m ≤ c .n = own-passed (c .n) m (judged-right (ownChecks (c .n) m) done (b .0)) in
       record { count = omega (arith, p .count); inside = omega (arith, p .tree) }
 
-  pub old-post : (a v : Verdict) (h : List ℕ) → a ≡ copyOldVerdict c m → RootedPost a (c .tree) m v h → OldRootPost c m v h
-  unfolding copyOldRoot
+  pub old-post : (a v : Verdict) (h : List ℕ) → a ≡ copyPrefixVerdict c m → RootedPost a (c .tree) m v h → PrefixRootPost c m v h
+  unfolding copyPrefixRoot
   old-post a v h e w =
       record { answer = w .answer ∙ e; root = w .root ∙ ap (λ (x : Verdict). rootUnless nodeHash x (c .tree) m) e }
 

@@ -1,25 +1,25 @@
 -- The root hash, root hashes of earlier years and the search on a copy.
 use Prim.Native.Nat.{ℕ}
 use mathlib.Core.List.{List}
-use Rattle.counts.specs.Verdict.{Verdict, tree, done, unlessRefused}
-use Rattle.sequences.specs.Lists.{zeros}
+use Rattle.refusals.specs.Verdict.{Verdict, tree, done, unlessRefused}
+use Rattle.byte_strings.specs.Lists.{zeros}
 use Rattle.tree_index.specs.Tree.{roots}
-use Rattle.files.specs.Stored.{storedRootMessage}
+use Rattle.file_format.specs.Stored.{storedRootMessage}
 use Rattle.checks.specs.Checks.{judged}
 use Rattle.audit.specs.Audit.{refusedAt}
-use Rattle.old_root.specs.OldRoot.{ownChecks}
+use Rattle.prefix_root.specs.PrefixRoot.{ownChecks}
 use Rattle.search.specs.Search.{Sought, firstMissing, soughtUnless}
-use Rattle.copies.specs.Copy.{Copy, known}
-use Rattle.copies.specs.Least.{firstUnknown}
-use Rattle.copies.specs.Checks.{copyJudged}
+use Rattle.copy_checks.specs.Copy.{Copy, known}
+use Rattle.copy_checks.specs.Least.{firstUnknown}
+use Rattle.copy_checks.specs.Checks.{copyJudged}
 
 -- the root hash: every root is known
 unfoldable pub copyRootVerdict : Copy → Verdict
 copyRootVerdict c = copyJudged c done
 
 -- the root hash of the first m chunks: 9 for m above n, and then 20 at the first of their roots, from the left, that is not known
-unfoldable pub copyOldVerdict : Copy → ℕ → Verdict
-copyOldVerdict c m = copyJudged c (judged (ownChecks (c .n) m) (refusedAt 20 tree (firstUnknown (known c) (roots m)) done))
+unfoldable pub copyPrefixVerdict : Copy → ℕ → Verdict
+copyPrefixVerdict c m = copyJudged c (judged (ownChecks (c .n) m) (refusedAt 20 tree (firstUnknown (known c) (roots m)) done))
 
 module _ (F : List ℕ → List ℕ) where
   -- the hash of the root message that the stored roots of the first m chunks of a tree file give; zeros after a refusal
@@ -29,8 +29,8 @@ module _ (F : List ℕ → List ℕ) where
   unfoldable pub copyRootAnswer : Copy → List ℕ
   copyRootAnswer c = rootUnless (copyRootVerdict c) (c .tree) (c .n)
 
-  unfoldable pub copyOldRoot : Copy → ℕ → List ℕ
-  copyOldRoot c m = rootUnless (copyOldVerdict c m) (c .tree) m
+  unfoldable pub copyPrefixRoot : Copy → ℕ → List ℕ
+  copyPrefixRoot c m = rootUnless (copyPrefixVerdict c m) (c .tree) m
 
 -- the search reads data bits and the Index alone; "20 at a root" is judged all the same, since 6 reads the roots
 unfoldable pub copySearch : Copy → ℕ → Sought

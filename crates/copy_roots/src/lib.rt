@@ -1,23 +1,23 @@
 // The root hash, root hashes of earlier years and the search on a partial copy. Its files are lent to be read.
 use bitfield::Found;
-use copies::Unknown;
-use counts::Answer;
-use counts::ChunkNumber;
+use copy_checks::Unknown;
+use number_types::ChunkNumber;
+use refusals::Answer;
 use search::Searched;
 use writing::Rooted;
 ghost use mathlib.Core.Path.{_≡_};
-ghost use Rattle.counts.specs.Verdict.{tree, done};
-ghost use Rattle.counts.specs.Said.{said};
+ghost use Rattle.refusals.specs.Verdict.{tree, done};
+ghost use Rattle.refusals.specs.Meaning.{said};
 ghost use Rattle.tree_index.specs.Tree.{roots};
 ghost use Rattle.bitfield.specs.Known.{storedKnown};
-ghost use Rattle.files.specs.Within.{RootsIn};
+ghost use Rattle.file_format.specs.Inner.{RootsIn};
 ghost use Rattle.audit.specs.Audit.{refusedAt};
-ghost use Rattle.audit.specs.Bytes.{BitsIn};
-ghost use Rattle.search.specs.Said.{searchedOf};
-ghost use Rattle.copies.specs.Copy.{copyOf};
-ghost use Rattle.copies.specs.Least.{firstUnknown};
-ghost use Rattle.copy_roots.specs.Roots.{copyOldVerdict, copySearch};
-ghost use Rattle.copy_roots.specs.Post.{RootPost, OldRootPost, RootedPost};
+ghost use Rattle.audit.specs.BitfieldEntries.{BitsIn};
+ghost use Rattle.search.specs.Meaning.{searchedOf};
+ghost use Rattle.copy_checks.specs.Copy.{copyOf};
+ghost use Rattle.copy_checks.specs.Least.{firstUnknown};
+ghost use Rattle.copy_roots.specs.Roots.{copyPrefixVerdict, copySearch};
+ghost use Rattle.copy_roots.specs.Post.{RootPost, PrefixRootPost, RootedPost};
 
 // Inner: an answer, and beside it, where it is done, the root hash that the stored roots of the first m chunks give; zeros after a refusal.
 fn rooted(found: Answer, tree: &[u8], m: u64) -> Rooted
@@ -31,7 +31,7 @@ fn rooted(found: Answer, tree: &[u8], m: u64) -> Rooted
         },
         Answer::Done => Rooted {
             answer: Answer::Done,
-            root: files::roots::stored_root_hash(tree, m),
+            root: file_format::roots::stored_root_hash(tree, m),
         },
     }
 }
@@ -43,7 +43,7 @@ pub fn root_hash(tree: &[u8], bitfield: &[u8], content: &[u8], n: u64, size: u64
         RootPost (copyOf (now (tree .entry)) (now (bitfield .entry)) (now (content .entry)) n size) (said (r .answer)) (r .root)
         ⌝ }
 {
-    let found = copies::judge(tree, bitfield, content, n, size);
+    let found = copy_checks::judge(tree, bitfield, content, n, size);
     rooted(found, tree, n)
 }
 
@@ -52,8 +52,8 @@ fn roots_known(bitfield: &[u8], m: u64) -> Answer
     requires { ⌜ BitsIn (now bitfield) m ⌝ }
     ensures { λ r. ⌜ said r ≡ refusedAt 20 tree (firstUnknown (storedKnown (now (bitfield .entry))) (roots m)) done ⌝ }
 {
-    match copies::unknown_root(bitfield, m) {
-        Unknown::At(i) => counts::refuse_entry(20, i),
+    match copy_checks::unknown_root(bitfield, m) {
+        Unknown::At(i) => refusals::refuse_entry(20, i),
         Unknown::Nothing => Answer::Done,
     }
 }
@@ -62,12 +62,12 @@ fn roots_known(bitfield: &[u8], m: u64) -> Answer
 fn judge_old(tree: &[u8], bitfield: &[u8], content: &[u8], n: u64, size: u64, m: u64) -> Answer
     ensures { λ r.
         ⌜
-        said r ≡ copyOldVerdict (copyOf (now (tree .entry)) (now (bitfield .entry)) (now (content .entry)) n size) m
+        said r ≡ copyPrefixVerdict (copyOf (now (tree .entry)) (now (bitfield .entry)) (now (content .entry)) n size) m
         ⌝ }
 {
-    match copies::judge(tree, bitfield, content, n, size) {
+    match copy_checks::judge(tree, bitfield, content, n, size) {
         Answer::Refused(refusal) => Answer::Refused(refusal),
-        Answer::Done => match old_root::up_to(n, m) {
+        Answer::Done => match prefix_root::up_to(n, m) {
             Answer::Refused(refusal) => Answer::Refused(refusal),
             Answer::Done => roots_known(bitfield, m),
         },
@@ -75,7 +75,7 @@ fn judge_old(tree: &[u8], bitfield: &[u8], content: &[u8], n: u64, size: u64, m:
 }
 
 // The root hash of the first m chunks of a copy, from its stored entries.
-pub fn old_root_hash(
+pub fn prefix_root_hash(
     tree: &[u8],
     bitfield: &[u8],
     content: &[u8],
@@ -85,7 +85,7 @@ pub fn old_root_hash(
 ) -> Rooted
     ensures { λ r.
         ⌜
-        OldRootPost (copyOf (now (tree .entry)) (now (bitfield .entry)) (now (content .entry)) n size) m (said (r .answer)) (r .root)
+        PrefixRootPost (copyOf (now (tree .entry)) (now (bitfield .entry)) (now (content .entry)) n size) m (said (r .answer)) (r .root)
         ⌝ }
 {
     let found = judge_old(tree, bitfield, content, n, size, m);
@@ -106,7 +106,7 @@ pub fn search(
         searchedOf r ≡ copySearch (copyOf (now (tree .entry)) (now (bitfield .entry)) (now (content .entry)) n size) (from .0)
         ⌝ }
 {
-    match copies::judge(tree, bitfield, content, n, size) {
+    match copy_checks::judge(tree, bitfield, content, n, size) {
         Answer::Refused(refusal) => Searched::Refused(refusal),
         Answer::Done => match search::by_runs(bitfield, from.0, n) {
             Found::At(chunk) => Searched::At(chunk),

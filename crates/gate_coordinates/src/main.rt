@@ -138,7 +138,7 @@ fn ungroup_group(bytes: &[u8], out: &mut [u8], back: &mut [u8]) {
 fn same_line(bytes: &[u8], back: &[u8]) {
     let count = bytes.len();
     if count <= back.len() {
-        if sequences::same(bytes, &back[0..count]) {
+        if byte_strings::same(bytes, &back[0..count]) {
             gate_printing::text(b" the same\n");
             return;
         }

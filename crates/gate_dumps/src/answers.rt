@@ -1,10 +1,10 @@
 // What the audit, the lookups and a read answer on the page's registers, as they are and with one byte changed.
-use counts::ByteOffset;
-use counts::ChunkNumber;
 use gate_samples::Told;
 use lookup::Located;
 use lookup::Name;
 use lookup::Placed;
+use number_types::ByteOffset;
+use number_types::ChunkNumber;
 ghost use Prim.Native.Nat.{_≤_};
 
 pub fn all() {

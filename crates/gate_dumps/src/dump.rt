@@ -61,20 +61,26 @@ pub fn root_line(tree: &[u8], signatures: &[u8], bitfield: &[u8], data: &[u8], t
 fn images(tree: &[u8], signatures: &[u8], bitfield: &[u8], n: u64, s: u64)
     requires { ⌜ (n ≤ 13) × (s ≤ 13) ⌝ }
 {
-    file(b"tree ", tree, 32, 40, files::sizes::used_tree(n) as u64);
+    file(
+        b"tree ",
+        tree,
+        32,
+        40,
+        file_format::sizes::used_tree(n) as u64,
+    );
     file(
         b"signatures ",
         signatures,
         32,
         64,
-        files::sizes::used_signatures(s) as u64,
+        file_format::sizes::used_signatures(s) as u64,
     );
     file(
         b"bitfield ",
         bitfield,
         32,
         32,
-        files::sizes::used_bitfield(n) as u64,
+        file_format::sizes::used_bitfield(n) as u64,
     );
 }
 
@@ -103,7 +109,7 @@ fn line(name: &[u8], image: &[u8], at: usize, width: usize)
     requires { ⌜ (width ≤ 64) × (at ≤ length (now image)) ⌝ }
 {
     let part = from(image, at, width);
-    if !sequences::is_zero(part) {
+    if !byte_strings::is_zero(part) {
         gate_printing::text(name);
         gate_printing::number(at as u64);
         gate_printing::text(b" ");

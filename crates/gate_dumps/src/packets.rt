@@ -1,6 +1,6 @@
 // Packets, a line for each part, and what their checks answer.
-use counts::ChunkNumber;
 use gate_samples::Told;
+use number_types::ChunkNumber;
 
 pub fn all() {
     let mut tree = [0u8; 2048];

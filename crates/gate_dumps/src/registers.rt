@@ -90,7 +90,7 @@ fn text(bytes: &[u8]) -> Chunk
     ensures { λ r. ⌜ r .count ≤ 248 ⌝ }
 {
     let mut whole = [0u8; 248];
-    sequences::copy_to(&mut whole, 0, bytes);
+    byte_strings::copy_to(&mut whole, 0, bytes);
     Chunk {
         bytes: whole,
         count: bytes.len(),

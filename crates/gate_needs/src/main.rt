@@ -1,7 +1,7 @@
 // Prints what jobs will need, for comparison with the text in stdout: lists of 0, 1, 40 and 256 lengths at counts about powers of two, the
 // fullest register with an empty list, each refusal, and each two of them at once.
-use counts::Answer;
-use needs::Needed;
+use append_needs::Needed;
+use refusals::Answer;
 
 fn main() {
     lists(0);
@@ -118,7 +118,7 @@ fn row(n: u64, size: u64, lengths: &[u64]) {
     told(b" size=", size);
     told(b" k=", lengths.len() as u64);
     gate_printing::text(b":");
-    answer(needs::needs(n, size, lengths));
+    answer(append_needs::needs(n, size, lengths));
     gate_printing::text(b"\n");
 }
 

@@ -34,17 +34,17 @@ fn digit(value: u8) -> u8
 }
 
 // A refusal: its number, and its place if it has one.
-pub fn refusal(r: counts::Refusal) {
+pub fn refusal(r: refusals::Refusal) {
     text(b"refused ");
     number(r.number);
     let place = r.place;
     match place {
-        counts::Place::Nowhere => {}
-        counts::Place::Tree(i) => {
+        refusals::Place::Nowhere => {}
+        refusals::Place::Tree(i) => {
             text(b" tree ");
             number(i.0);
         }
-        counts::Place::Bitfield(b) => {
+        refusals::Place::Bitfield(b) => {
             text(b" bitfield ");
             number(b.0);
         }
@@ -52,9 +52,9 @@ pub fn refusal(r: counts::Refusal) {
 }
 
 // An answer that gives nothing but its being done.
-pub fn answer(a: counts::Answer) {
+pub fn answer(a: refusals::Answer) {
     match a {
-        counts::Answer::Done => text(b"done"),
-        counts::Answer::Refused(r) => refusal(r),
+        refusals::Answer::Done => text(b"done"),
+        refusals::Answer::Refused(r) => refusal(r),
     }
 }

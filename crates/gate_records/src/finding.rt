@@ -3,11 +3,11 @@ use super::given::Told;
 use super::given::behind;
 use super::given::first;
 use super::given::number;
-use counts::Answer;
-use counts::ChunkNumber;
-use paths::Found;
+use number_types::ChunkNumber;
+use record_find::Found;
+use record_format::HeaderRead;
 use record_parts::Field;
-use records::HeaderRead;
+use refusals::Answer;
 
 // A path sought: it stands behind the numbers.
 pub fn found(
@@ -25,7 +25,7 @@ pub fn found(
     let n = number(step, 4);
     let s = number(step, 5);
     let size = number(step, 6);
-    match paths::find(t, g, b, d, n, s, size, behind(step, 7)) {
+    match record_find::find(t, g, b, d, n, s, size, behind(step, 7)) {
         Found::Refused(refusal) => gate_printing::refusal(refusal),
         Found::At(chunk) => gate_printing::number(chunk.0),
         Found::Nowhere => gate_printing::text(b"none"),
@@ -60,7 +60,7 @@ pub fn record(
 }
 
 fn header(t: &[u8], g: &[u8], b: &[u8], d: &[u8], n: u64, s: u64, size: u64, chunk: ChunkNumber) {
-    match paths::header_of(t, g, b, d, n, s, size, chunk) {
+    match record_find::header_of(t, g, b, d, n, s, size, chunk) {
         HeaderRead::Refused(refusal) => gate_printing::refusal(refusal),
         HeaderRead::Content(_) => gate_printing::text(b"content"),
     }
@@ -69,7 +69,7 @@ fn header(t: &[u8], g: &[u8], b: &[u8], d: &[u8], n: u64, s: u64, size: u64, chu
 }
 
 fn node(t: &[u8], g: &[u8], b: &[u8], d: &[u8], n: u64, s: u64, size: u64, chunk: ChunkNumber) {
-    let read = paths::node_of(t, g, b, d, n, s, size, chunk);
+    let read = record_find::node_of(t, g, b, d, n, s, size, chunk);
     let answer = read.answer;
     let fields = read.node;
     match answer {

@@ -1,12 +1,12 @@
 // What a step gives: numbers, and the bytes behind them.
-use fields::Bytes;
-use fields::Number;
-use fields::Part;
-use nodes::Node;
-use nodes::Value;
-use nodes::Writer;
-use nodes::Writers;
-use records::Stat;
+use record_fields::Bytes;
+use record_fields::Number;
+use record_fields::Part;
+use record_format::Stat;
+use record_node::Node;
+use record_node::Value;
+use record_node::Writer;
+use record_node::Writers;
 ghost use Prim.Native.Nat.{_<_};
 
 // What is told of the register that is made.
@@ -26,7 +26,7 @@ pub fn number(step: &[u8], k: usize) -> u64
     if step.len() < 8 * k + 8 {
         return 0;
     }
-    sequences::read_be64(step, 8 * k)
+    byte_strings::read_be64(step, 8 * k)
 }
 
 // The bytes behind k numbers.

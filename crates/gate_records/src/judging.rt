@@ -2,9 +2,9 @@
 use super::given::Told;
 use super::given::behind;
 use super::given::number;
-use counts::Answer;
-use records::HeaderRead;
-use records::Written;
+use record_format::HeaderRead;
+use record_format::Written;
+use refusals::Answer;
 ghost use Prim.Native.Nat.{_≤_};
 
 pub fn taken(step: &[u8], told: Told, kind: u8) -> Told {
@@ -38,7 +38,7 @@ fn write_node(step: &[u8]) {
 }
 
 fn node_into(step: &[u8], out: &mut [u8]) {
-    let written = nodes::write_node(behind(step, 68), super::given::node(step), out);
+    let written = record_node::write_node(behind(step, 68), super::given::node(step), out);
     wrote(written, out);
 }
 
@@ -49,7 +49,7 @@ fn write_header(step: &[u8]) {
 }
 
 fn header_into(step: &[u8], out: &mut [u8]) {
-    let written = records::write_header(behind(step, 1), out);
+    let written = record_format::write_header(behind(step, 1), out);
     wrote(written, out);
 }
 
@@ -67,7 +67,7 @@ fn wrote(written: Written, out: &[u8]) {
 }
 
 fn read_node(bytes: &[u8]) {
-    let read = nodes::read_node(bytes);
+    let read = record_node::read_node(bytes);
     let answer = read.answer;
     let node = read.node;
     match answer {
@@ -77,7 +77,7 @@ fn read_node(bytes: &[u8]) {
 }
 
 fn read_header(bytes: &[u8]) {
-    match records::read_header(bytes) {
+    match record_format::read_header(bytes) {
         HeaderRead::Refused(refusal) => gate_printing::refusal(refusal),
         HeaderRead::Content(_) => {
             gate_printing::text(b"content ");
@@ -89,12 +89,12 @@ fn read_header(bytes: &[u8]) {
 // 1 where bytes are a Header (kind 0) or a Node, 0 where they are none.
 fn judge(kind: u64, bytes: &[u8]) {
     if kind == 0 {
-        match records::read_header(bytes) {
+        match record_format::read_header(bytes) {
             HeaderRead::Refused(_) => gate_printing::text(b"0"),
             HeaderRead::Content(_) => gate_printing::text(b"1"),
         }
     } else {
-        let read = nodes::read_node(bytes);
+        let read = record_node::read_node(bytes);
         let answer = read.answer;
         match answer {
             Answer::Refused(_) => gate_printing::text(b"0"),
@@ -117,7 +117,7 @@ fn beginnings(kind: u64, record: &[u8]) {
 fn spoilt(kind: u64, bits: u64, record: &[u8]) {
     let mut copy = [0u8; 512];
     if record.len() <= 512 {
-        sequences::copy_to(&mut copy, 0, record);
+        byte_strings::copy_to(&mut copy, 0, record);
         turned(kind, bits, &mut copy[0..record.len()]);
     }
 }

@@ -2,11 +2,11 @@
 use super::parts::Both;
 use super::reading::Line;
 use super::words;
-use counts::ByteOffset;
-use counts::ChunkNumber;
 use gate_samples::Told;
 use lookup::Located;
 use lookup::Placed;
+use number_types::ByteOffset;
+use number_types::ChunkNumber;
 use packet::Made;
 use search::Searched;
 
@@ -177,7 +177,7 @@ fn root(tree: &[u8], signatures: &[u8], bitfield: &[u8], data: &[u8], told: Told
 // The root hash of the first chunks.
 fn old(tree: &[u8], signatures: &[u8], bitfield: &[u8], data: &[u8], line: Line, told: Told) {
     let x = line.numbers;
-    let r = old_root::old_root(
+    let r = prefix_root::prefix_root(
         tree,
         signatures,
         bitfield,
@@ -203,7 +203,7 @@ fn previewed(
     told: Told,
 ) {
     let x = line.numbers;
-    let r = preview::preview(
+    let r = append_preview::preview(
         tree,
         signatures,
         bitfield,

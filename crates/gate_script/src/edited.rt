@@ -64,9 +64,9 @@ fn flip(bytes: &mut [u8], mask: u8) {
 }
 
 fn put(bytes: &mut [u8], number: u64) {
-    let eight = sequences::be64(number);
+    let eight = byte_strings::be64(number);
     if 8 <= bytes.len() {
-        sequences::copy_to(bytes, 0, &eight);
+        byte_strings::copy_to(bytes, 0, &eight);
     }
 }
 

@@ -2,8 +2,8 @@
 use super::parts;
 use super::reading::Line;
 use super::words;
-use counts::ChunkNumber;
-use packet_walk::Walked;
+use number_types::ChunkNumber;
+use packet_compare::Walked;
 
 pub fn by(text: &[u8], line: Line) {
     let x = line.numbers;
@@ -33,7 +33,7 @@ pub fn root_at(text: &[u8], at: u64) -> [u8; 32] {
 
 fn copied(root: &mut [u8; 32], bytes: &[u8]) {
     if bytes.len() == 32 {
-        sequences::copy_to(root, 0, bytes);
+        byte_strings::copy_to(root, 0, bytes);
     }
 }
 
@@ -71,7 +71,7 @@ pub fn check(packet: &[u8], n: u64, chunk: u64, root: &[u8; 32]) {
 }
 
 fn walk(first: &[u8], second: &[u8], n: u64, chunk: u64, root: &[u8; 32]) {
-    match packet_walk::compare_packets(first, second, n, ChunkNumber(chunk), root) {
+    match packet_compare::compare_packets(first, second, n, ChunkNumber(chunk), root) {
         Walked::SameChunk => gate_printing::text(b"same chunk"),
         Walked::AtRoots => gate_printing::text(b"collision at the roots"),
         Walked::AtIndex(index) => super::pairs::collision(index),

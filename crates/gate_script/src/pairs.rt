@@ -4,11 +4,11 @@ use super::parts::Both;
 use super::reading::Line;
 use super::words;
 use compare::Compared;
-use counts::ChunkNumber;
-use counts::Refusal;
-use counts::TreeIndex;
 use gate_samples::Told;
 use lookup::Name;
+use number_types::ChunkNumber;
+use number_types::TreeIndex;
+use refusals::Refusal;
 
 // The first register, and the arrays that the second is a part of.
 pub fn by<'a>(

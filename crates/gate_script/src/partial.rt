@@ -2,10 +2,10 @@
 use super::parts;
 use super::reading::Line;
 use super::words;
-use counts::ChunkNumber;
 use gate_samples::Told;
-use paths::Found;
-use records::HeaderRead;
+use number_types::ChunkNumber;
+use record_find::Found;
+use record_format::HeaderRead;
 
 // Those that may write.
 pub fn write(
@@ -18,7 +18,7 @@ pub fn write(
 ) {
     let word = line.word;
     if word == words::MAKE {
-        gate_printing::answer(make_copy::make_copy(tree, bitfield, data, told.n, told.size));
+        gate_printing::answer(copy_make::make_copy(tree, bitfield, data, told.n, told.size));
     } else {
         if word == words::TAKE {
             take(tree, bitfield, data, text, line, told);
@@ -39,7 +39,7 @@ fn take(
 ) {
     let x = line.numbers;
     let root = super::packets::root_at(text, x[4]);
-    gate_printing::answer(take_in::take_in(
+    gate_printing::answer(copy_take_in::take_in(
         tree,
         bitfield,
         data,
@@ -128,7 +128,7 @@ fn roots(tree: &[u8], bitfield: &[u8], data: &[u8], line: Line, told: Told) {
     }
     if word == words::COPY_OLD {
         let x = line.numbers;
-        let r = copy_roots::old_root_hash(tree, bitfield, data, told.n, told.size, x[1]);
+        let r = copy_roots::prefix_root_hash(tree, bitfield, data, told.n, told.size, x[1]);
         let answer = r.answer;
         let root = r.root;
         super::written::rooted(answer, root);

@@ -1,9 +1,9 @@
 // The quick way, a stroke, and the short way, of each of some numbers.
 use super::reading::Line;
 use super::words;
-use counts::ByteOffset;
-use counts::ChunkNumber;
 use gate_samples::Told;
+use number_types::ByteOffset;
+use number_types::ChunkNumber;
 
 pub fn by(tree: &[u8], signatures: &[u8], bitfield: &[u8], data: &[u8], line: Line, told: Told) {
     let word = line.word;
@@ -48,7 +48,7 @@ fn one(
 fn place(tree: &[u8], signatures: &[u8], bitfield: &[u8], data: &[u8], told: Told, chunk: u64) {
     super::asked::place(tree, signatures, bitfield, data, told, chunk);
     gate_printing::text(b"|");
-    super::asked::say_place(short_way::place(
+    super::asked::say_place(short_lookup::place(
         tree,
         signatures,
         bitfield,
@@ -64,7 +64,7 @@ fn place(tree: &[u8], signatures: &[u8], bitfield: &[u8], data: &[u8], told: Tol
 fn byte(tree: &[u8], signatures: &[u8], bitfield: &[u8], data: &[u8], told: Told, offset: u64) {
     super::asked::byte(tree, signatures, bitfield, data, told, offset);
     gate_printing::text(b"|");
-    super::asked::say_byte(short_way::locate(
+    super::asked::say_byte(short_lookup::locate(
         tree,
         signatures,
         bitfield,
@@ -80,7 +80,7 @@ fn byte(tree: &[u8], signatures: &[u8], bitfield: &[u8], data: &[u8], told: Told
 fn searched(tree: &[u8], signatures: &[u8], bitfield: &[u8], data: &[u8], told: Told, number: u64) {
     super::asked::searched(tree, signatures, bitfield, data, told, number);
     gate_printing::text(b"|");
-    super::asked::say_search(short_way::search(
+    super::asked::say_search(short_lookup::search(
         tree,
         signatures,
         bitfield,

@@ -2,9 +2,9 @@
 use super::parts::Register;
 use super::reading::Line;
 use super::words;
-use counts::Answer;
-use counts::ChunkNumber;
 use gate_samples::Told;
+use number_types::ChunkNumber;
+use refusals::Answer;
 ghost use Prim.Native.Nat.{_≤_};
 
 pub fn by(
@@ -187,7 +187,7 @@ fn listed(
 ) {
     let x = line.numbers;
     let lengths = lengths_in(x);
-    let a = list_append::append_list(
+    let a = append_list::append_list(
         tree,
         signatures,
         bitfield,
@@ -275,7 +275,7 @@ fn signature_at(text: &[u8], at: u64) -> [u8; 64] {
 
 fn copied(signature: &mut [u8; 64], bytes: &[u8]) {
     if bytes.len() == 64 {
-        sequences::copy_to(signature, 0, bytes);
+        byte_strings::copy_to(signature, 0, bytes);
     }
 }
 

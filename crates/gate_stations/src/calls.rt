@@ -2,8 +2,8 @@
 use super::plan::Due;
 use super::plan::State;
 use super::tally::Tally;
-use counts::ChunkNumber;
 use gate_samples::Told;
+use number_types::ChunkNumber;
 
 // Calls until the plan stops. There are fewer than 60,000.
 pub fn all<'a>(
@@ -70,10 +70,10 @@ fn metadata(s: u64) -> Told {
 }
 
 pub fn entered(table: &mut [u64; 161], station: u64, register: u64, chunk: u64, t: Tally) -> Tally {
-    let answer = serving::enter(
+    let answer = station_serving::enter(
         table,
         station,
-        serving::named_by(register),
+        station_serving::named_by(register),
         ChunkNumber(chunk),
     );
     let show = t.show;
@@ -98,7 +98,7 @@ fn served<'a>(
     c: Told,
     t: Tally,
 ) -> Tally {
-    let said = serving::serve_answer(
+    let said = station_serving::serve_answer(
         table,
         mt,
         ms,
@@ -115,7 +115,7 @@ fn served<'a>(
         c.s,
         c.size,
     );
-    let part = serving::serve(
+    let part = station_serving::serve(
         table,
         mt,
         ms,

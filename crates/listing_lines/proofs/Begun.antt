@@ -8,16 +8,16 @@ use native.Mathlib.Omega.{arith}
 use borrow.Author.Tests.{le-leb, lt-leb}
 use lib.Dec.{leb}
 use lib.ListN.{length, drop}
-use Rattle.counts.specs.Verdict.{Verdict, unlessRefused}
+use Rattle.refusals.specs.Verdict.{Verdict, unlessRefused}
 use Rattle.blake2b.specs.Hash.{nodeHash}
-use Rattle.sequences.specs.Lists.{part}
-use Rattle.sequences.specs.Numbers.{number}
-use Rattle.sequences.proofs.Lists.{length-put}
-use Rattle.files.specs.Headers.{treeHeader, signaturesHeader, bitfieldHeader}
-use Rattle.files.specs.Slots.{allHeld, Within}
-use Rattle.files.specs.Belongs.{Buffers, Register}
-use Rattle.files.proofs.OfImage.{treeHeader-length, signaturesHeader-length, bitfieldHeader-length}
-use Rattle.checks.specs.Given.{registerOf}
+use Rattle.byte_strings.specs.Lists.{part}
+use Rattle.byte_strings.specs.Numbers.{number}
+use Rattle.byte_strings.proofs.Lists.{length-put}
+use Rattle.file_format.specs.Headers.{treeHeader, signaturesHeader, bitfieldHeader}
+use Rattle.file_format.specs.Slots.{allHeld, Within}
+use Rattle.file_format.specs.Belongs.{Buffers, Register}
+use Rattle.file_format.proofs.OfImage.{treeHeader-length, signaturesHeader-length, bitfieldHeader-length}
+use Rattle.checks.specs.Lent.{registerOf}
 use Rattle.writing.specs.Start.{started, startedRegister, afterStart}
 use Rattle.writing.specs.Post.{lent, StartPost}
 use Rattle.writing.proofs.Written.{take-header, within-nil}

@@ -10,11 +10,11 @@ use borrow.Author.Tests.{eqb-true, eqb-false, eq-eqb, ne-eqb}
 use lib.Dec.{eqb}
 use lib.ListN.{length, take, drop, length-drop}
 use lib.Seq.{drop-drop}
-use Rattle.sequences.specs.Lists.{part, Bytes}
-use Rattle.sequences.specs.Numbers.{number}
-use Rattle.sequences.proofs.Lists.{length-part, bytes-part}
-use Rattle.checks.specs.Given.{registerOf}
-use Rattle.files.specs.Belongs.{Register}
+use Rattle.byte_strings.specs.Lists.{part, Bytes}
+use Rattle.byte_strings.specs.Numbers.{number}
+use Rattle.byte_strings.proofs.Lists.{length-part, bytes-part}
+use Rattle.checks.specs.Lent.{registerOf}
+use Rattle.file_format.specs.Belongs.{Register}
 use Rattle.listing_lines.specs.Input.{Input, other, chunks, before, nextLength, chunkStands, chunksIn}
 use Rattle.listing_lines.specs.Inner.{Ready, Adds, behind, Reading, Read}
 

@@ -9,8 +9,8 @@ use borrow.Author.Tests.{leb-true, leb-false, ne-eqb}
 use lib.Dec.{leb}
 use lib.ListN.{length, take, drop, length-drop}
 use lib.Seq.{take-all, length-take-le}
-use Rattle.sequences.specs.Lists.{part}
-use Rattle.sequences.specs.Numbers.{number}
+use Rattle.byte_strings.specs.Lists.{part}
+use Rattle.byte_strings.specs.Numbers.{number}
 use Rattle.checks.proofs.Judged.{both-right}
 use Rattle.listing_lines.specs.Input.{other, chunks, before, nextLength, chunkStands, chunksIn, inputOf}
 use Rattle.listing_lines.specs.Lines.{linesFor, listing}

@@ -10,8 +10,8 @@ use native.Mathlib.Omega.{arith}
 use lib.ListN.{length, take, getD, replicate}
 use lib.Seq.{take-suc, take-all}
 use lib.Pow.{pow-pos}
-use Rattle.sequences.specs.Lists.{run, joined, total}
-use Rattle.sequences.proofs.Lists.{run-add, total-append}
+use Rattle.byte_strings.specs.Lists.{run, joined, total}
+use Rattle.byte_strings.proofs.Lists.{run-add, total-append}
 use Rattle.tree_index.specs.Tree.{depth, block, filled, roots, entries}
 use Rattle.tree_index.proofs.Index.{index-of}
 use Rattle.tree_index.proofs.Filled.{block-end, filled-end}
@@ -19,11 +19,11 @@ use Rattle.tree_index.proofs.Words.{end-below}
 use Rattle.tree_index.specs.Numbers.{numbers}
 use Rattle.tree_index.proofs.Numbers.{number-in}
 use Rattle.tree_index.proofs.Roots.{length-roots-le}
-use Rattle.counts.specs.declared.TreeIndex.{TreeIndex}
+use Rattle.number_types.specs.declared.TreeIndex.{TreeIndex}
 use Rattle.writing.proofs.Written.{joined-snoc}
-use Rattle.files.specs.Sizes.{entryPlace}
-use Rattle.files.specs.Stored.{storedSize, storedStart}
-use Rattle.files.specs.Within.{EntryIn}
+use Rattle.file_format.specs.Sizes.{entryPlace}
+use Rattle.file_format.specs.Stored.{storedSize, storedStart}
+use Rattle.file_format.specs.Inner.{EntryIn}
 use Rattle.listing_lines.specs.Lines.{decimal, line, leafWord, parentWord, holeWord, kindWord, firstUnder}
 use Rattle.listing_lines.specs.Inner.{Put, Printable, storedLine, storedEntries, rootsOf}
 use Rattle.listing_lines.proofs.Put.{nothing-put, both-put, wider-put, same-put}

@@ -8,27 +8,27 @@ use native.Mathlib.Omega.{arith}
 use borrow.Author.Tests.{eq-eqb}
 use lib.Dec.{eqb}
 use lib.ListN.{length, take}
-use Rattle.counts.specs.Verdict.{Verdict, done}
+use Rattle.refusals.specs.Verdict.{Verdict, done}
 use Rattle.blake2b.specs.Hash.{nodeHash}
-use Rattle.sequences.specs.Lists.{Bytes}
-use Rattle.sequences.proofs.Lists.{length-put, take-put}
+use Rattle.byte_strings.specs.Lists.{Bytes}
+use Rattle.byte_strings.proofs.Lists.{length-put, take-put}
 use Rattle.tree_index.specs.Tree.{entries}
 use Rattle.bitfield.specs.Image.{entryCount, entriesOf}
 use Rattle.bitfield.proofs.Bits.{with-one}
 use Rattle.bitfield.proofs.Image.{length-entries}
-use Rattle.files.specs.Headers.{signaturesHeader}
-use Rattle.files.specs.Sizes.{usedTree, usedSignatures, usedBitfield}
-use Rattle.files.specs.Slots.{Slot, held, allHeld, heldIn, Within}
-use Rattle.files.specs.Belongs.{Buffers, Register, buffersOf, Belongs}
-use Rattle.files.proofs.Hashed.{hash-function}
+use Rattle.file_format.specs.Headers.{signaturesHeader}
+use Rattle.file_format.specs.Sizes.{usedTree, usedSignatures, usedBitfield}
+use Rattle.file_format.specs.Slots.{Slot, held, allHeld, heldIn, Within}
+use Rattle.file_format.specs.Belongs.{Buffers, Register, buffersOf, Belongs}
+use Rattle.file_format.proofs.Hashed.{hash-function}
 use Rattle.checks.specs.Checks.{signedRight}
-use Rattle.checks.specs.Given.{registerOf}
+use Rattle.checks.specs.Lent.{registerOf}
 use Rattle.checks.proofs.Passed.{Passed}
 use Rattle.audit.proofs.Accepts.{belongs-accepted}
 use Rattle.audit.proofs.Audited.{accepted-audited}
 use Rattle.writing.specs.Append.{appendVerdict, appendedRegister, afterAppend}
 use Rattle.writing.specs.Sign.{signVerdict, signedRegister, afterSign}
-use Rattle.writing.specs.Fits.{AppendFits}
+use Rattle.writing.specs.Conditions.{AppendFits}
 use Rattle.writing.specs.Post.{lent, AppendPost, SignPost}
 use Rattle.writing.proofs.Tree.{appended-length}
 use Rattle.writing.proofs.Orders.{left-done}

@@ -9,22 +9,22 @@ use native.Mathlib.Omega.{arith}
 use borrow.Author.Tests.{leb-true, le-leb, lt-leb}
 use lib.Dec.{leb}
 use lib.ListN.{length, getD, take, drop}
-use Rattle.counts.specs.Verdict.{Verdict, none, done, refused, unlessRefused}
-use Rattle.counts.specs.declared.Place.the-variants.{Nowhere}
+use Rattle.refusals.specs.Verdict.{Verdict, none, done, refused, unlessRefused}
+use Rattle.refusals.specs.declared.Place.the-variants.{Nowhere}
 use Rattle.blake2b.specs.Hash.{nodeHash}
 use Rattle.checks.specs.Checks.{judged}
-use Rattle.sequences.specs.Lists.{part, put, run, joined, total}
-use Rattle.sequences.proofs.Lists.{length-part, getD-part, run-from, run-ext}
+use Rattle.byte_strings.specs.Lists.{part, put, run, joined, total}
+use Rattle.byte_strings.proofs.Lists.{length-part, getD-part, run-from, run-ext}
 use Rattle.tree_index.specs.Tree.{depth, block, filled, entries}
 use Rattle.tree_index.proofs.Index.{index-of}
 use Rattle.tree_index.proofs.Filled.{block-end, filled-end}
-use Rattle.files.specs.Stored.{storedSize, storedStart}
-use Rattle.files.specs.Images.{dataSize}
-use Rattle.files.specs.Slots.{allHeld}
-use Rattle.files.specs.Belongs.{Register}
-use Rattle.files.proofs.Spans.{span, span-all, span-add}
-use Rattle.files.proofs.Slots.{all-length, all-contents}
-use Rattle.files.proofs.OfImage.{stored-start, stored-span}
+use Rattle.file_format.specs.Stored.{storedSize, storedStart}
+use Rattle.file_format.specs.Images.{dataSize}
+use Rattle.file_format.specs.Slots.{allHeld}
+use Rattle.file_format.specs.Belongs.{Register}
+use Rattle.file_format.proofs.Spans.{span, span-all, span-add}
+use Rattle.file_format.proofs.Slots.{all-length, all-contents}
+use Rattle.file_format.proofs.OfImage.{stored-start, stored-span}
 use Rattle.listing_lines.specs.Input.{Input, chunks, before, inputOf}
 use Rattle.listing_lines.specs.Lines.{line, kindWord, holeWord, firstUnder, countUnder, startOf, lengthOf, firstLine, entryLine, linesOf, linesFor, refusedLine, listing}
 use Rattle.listing_lines.specs.Inner.{Put, Read, Printable, Ready, Reading, behind, firstOf, rootsOf, storedLine, storedEntries, storedLines}
@@ -32,7 +32,7 @@ use Rattle.listing_lines.specs.Post.{listVerdict, listingBytes, Listed}
 use Rattle.listing_lines.specs.declared.Listing.{Listing}
 use Rattle.listing_lines.specs.declared.Listing.the-variants.{Refused, Written}
 use Rattle.listing_lines.proofs.Put.{wider-put, same-put}
-use Rattle.files.proofs.Hashed.{hash-function}
+use Rattle.file_format.proofs.Hashed.{hash-function}
 use Rattle.listing_lines.proofs.Entries.{first-le}
 
 -- the lengths of a part of the chunks

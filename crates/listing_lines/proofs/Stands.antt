@@ -8,8 +8,8 @@ use native.Mathlib.Omega.{arith}
 use borrow.Author.Tests.{leb-true, le-leb, lt-leb, not-false}
 use lib.Dec.{leb}
 use lib.ListN.{length, drop, length-drop}
-use Rattle.sequences.specs.Lists.{part}
-use Rattle.sequences.specs.Numbers.{number}
+use Rattle.byte_strings.specs.Lists.{part}
+use Rattle.byte_strings.specs.Numbers.{number}
 use Rattle.checks.proofs.Judged.{both-right}
 use Rattle.listing_lines.specs.Input.{nextLength, chunkStands}
 

@@ -5,12 +5,12 @@ use mathlib.Core.Bool.{Bool, true, false}
 use mathlib.Core.List.{List, [], _∷_, _++_, map}
 use lib.ListN.{length, take}
 use Rattle.blake2b.specs.Hash.{nodeHash}
-use Rattle.sequences.specs.Lists.{run, joined, Bytes}
+use Rattle.byte_strings.specs.Lists.{run, joined, Bytes}
 use Rattle.tree_index.specs.Tree.{filled, roots, entries}
-use Rattle.files.specs.Headers.{signaturesHeader}
-use Rattle.files.specs.Stored.{storedSize, storedStart}
-use Rattle.files.specs.Slots.{allHeld, Within}
-use Rattle.files.specs.Belongs.{Register, Belongs}
+use Rattle.file_format.specs.Headers.{signaturesHeader}
+use Rattle.file_format.specs.Stored.{storedSize, storedStart}
+use Rattle.file_format.specs.Slots.{allHeld, Within}
+use Rattle.file_format.specs.Belongs.{Register, Belongs}
 use Rattle.listing_lines.specs.Input.{Input, other, chunks, before}
 use Rattle.listing_lines.specs.Lines.{decimal, chunksWord, bytesWord, rootsWord, holeWord, line, kindWord, firstUnder}
 

@@ -4,8 +4,8 @@ use mathlib.Core.Bool.{Bool, true, false, _&&_}
 use mathlib.Core.List.{List, [], _∷_}
 use lib.ListN.{length, drop}
 use lib.Dec.{leb, eqb}
-use Rattle.sequences.specs.Lists.{part}
-use Rattle.sequences.specs.Numbers.{number}
+use Rattle.byte_strings.specs.Lists.{part}
+use Rattle.byte_strings.specs.Numbers.{number}
 
 -- a chunk sequence, or other input
 pub data Input : Type 0 where

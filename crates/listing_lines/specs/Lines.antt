@@ -3,9 +3,9 @@ use Prim.Native.Nat.{ℕ, zero, suc, _+_, _*_, _/_, _%_, _^_}
 use mathlib.Core.Bool.{true, false}
 use mathlib.Core.List.{List, [], _∷_, _++_, map}
 use lib.ListN.{length, take}
-use Rattle.sequences.specs.Lists.{part, run, joined}
+use Rattle.byte_strings.specs.Lists.{part, run, joined}
 use Rattle.tree_index.specs.Tree.{depth, block, filled, roots, entries}
-use Rattle.files.specs.Images.{dataSize}
+use Rattle.file_format.specs.Images.{dataSize}
 use Rattle.listing_lines.specs.Input.{Input, other, chunks, inputOf}
 
 -- a number in decimal, of at most k digits

@@ -2,7 +2,7 @@
 ghost use Prim.Native.Nat.{_+_, _-_, _≤_, _<_};
 ghost use mathlib.Core.Path.{_≡_};
 ghost use lib.ListN.{length, drop};
-ghost use Rattle.checks.specs.Given.{registerOf};
+ghost use Rattle.checks.specs.Lent.{registerOf};
 ghost use mathlib.Core.List.{[]};
 ghost use Rattle.listing_lines.specs.Input.{chunkStands, chunksIn, inputOf};
 ghost use Rattle.listing_lines.specs.Inner.{Adds, Ready, Read, Rooms};
@@ -57,7 +57,7 @@ fn stands(input: &[u8], at: usize, size: u64) -> bool
     if left < 4 {
         return false;
     }
-    let len = sequences::read_be32(input, at);
+    let len = byte_strings::read_be32(input, at);
     if 4096 - size < len {
         return false;
     }
@@ -94,7 +94,7 @@ fn read_chunks(
                 size,
             };
         }
-        let len = sequences::read_be32(input, at);
+        let len = byte_strings::read_be32(input, at);
         let start = at + 4;
         let end = start + (len as usize);
         add(
@@ -140,7 +140,7 @@ pub fn read(
     if input.len() < 4 {
         return nothing;
     }
-    let count = sequences::read_be32(input, 0);
+    let count = byte_strings::read_be32(input, 0);
     if 64 < count {
         return nothing;
     }

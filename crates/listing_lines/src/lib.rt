@@ -7,8 +7,8 @@ mod text;
 use crate::build::read;
 use crate::lines::put_lines;
 use crate::text::put_text;
-use counts::Place;
-use counts::Refusal;
+use refusals::Place;
+use refusals::Refusal;
 ghost use mathlib.Core.Path.{_≡_};
 ghost use lib.ListN.{length};
 ghost use Rattle.listing_lines.specs.Lines.{listing};
@@ -60,7 +60,7 @@ fn list_on(
             place: Place::Nowhere,
         });
     }
-    sequences::copy_to(out, 0, &text[0..len]);
+    byte_strings::copy_to(out, 0, &text[0..len]);
     Listing::Written(len)
 }
 

@@ -1,14 +1,14 @@
 // The lines of a register, from its stored tree. Every function is inner: the caller sees to the room.
 use crate::text::put_digits;
 use crate::text::put_text;
-use counts::ByteOffset;
-use counts::ChunkNumber;
-use counts::TreeIndex;
+use number_types::ByteOffset;
+use number_types::ChunkNumber;
+use number_types::TreeIndex;
 ghost use mathlib.Core.Path.{_≡_};
 ghost use Prim.Native.Nat.{_+_, _*_, _≤_, _<_};
 ghost use lib.ListN.{length};
 ghost use Rattle.tree_index.specs.Tree.{entries};
-ghost use Rattle.files.specs.Stored.{storedStart};
+ghost use Rattle.file_format.specs.Stored.{storedStart};
 ghost use Rattle.listing_lines.specs.Lines.{line, firstUnder};
 ghost use Rattle.listing_lines.specs.Inner.{Put, Printable, rootsOf, firstOf, storedLine, storedEntries, storedLines};
 
@@ -44,7 +44,7 @@ fn start_of(tree: &[u8], c: ChunkNumber) -> ByteOffset
     let mut start = ByteOffset(0);
     let mut j = ChunkNumber(0);
     while j.0 < c.0 {
-        let size = files::entries::stored_size(tree, tree_index::leaf_index(j));
+        let size = file_format::entries::stored_size(tree, tree_index::leaf_index(j));
         start = ByteOffset(start.0 + size);
         j = ChunkNumber(j.0 + 1);
     }
@@ -60,7 +60,7 @@ fn put_entry(out: &mut [u8], at: usize, tree: &[u8], n: u64, i: TreeIndex) -> us
         return put_line(out, at, i.0, b" hole ", 0, 0);
     }
     let start = start_of(tree, first_under(i));
-    let len = files::entries::stored_size(tree, i);
+    let len = file_format::entries::stored_size(tree, i);
     if tree_index::depth(i) == 0 {
         return put_line(out, at, i.0, b" leaf ", start.0, len);
     }

@@ -10,7 +10,7 @@ pub fn put_text(out: &mut [u8], at: usize, text: &[u8]) -> usize
     requires { ⌜ at + length (now text) ≤ length (now out) ⌝ }
     ensures { λ r. ⌜ Put (now (out .entry)) at (length (now (text .entry))) (now (text .entry)) r (now (out .exit)) ⌝ }
 {
-    sequences::copy_to(out, at, text);
+    byte_strings::copy_to(out, at, text);
     at + text.len()
 }
 

@@ -9,32 +9,32 @@ use native.Mathlib.Omega.{arith}
 use borrow.Author.Tests.{lt-ltb, le-ltb, le-leb, lt-leb, eq-eqb, ne-eqb}
 use lib.ListN.{length, getD, take, length-take}
 use lib.Seq.{getD-take}
-use Rattle.counts.specs.Verdict.{Verdict, none, tree, done, refused}
-use Rattle.sequences.specs.Lists.{part, total, sameList}
-use Rattle.sequences.proofs.Lists.{length-part, run-ext}
+use Rattle.refusals.specs.Verdict.{Verdict, none, tree, done, refused}
+use Rattle.byte_strings.specs.Lists.{part, total, sameList}
+use Rattle.byte_strings.proofs.Lists.{length-part, run-ext}
 use Rattle.tree_index.specs.Tree.{index, filled}
 use Rattle.tree_index.proofs.Index.{index-leaf}
 use Rattle.tree_index.proofs.Filled.{block-end, end-filled}
 use Rattle.bitfield.specs.Release.{storedHeld}
-use Rattle.files.specs.Sizes.{mostChunks}
-use Rattle.files.specs.Messages.{HashFunction, leafMessage}
-use Rattle.files.specs.Images.{dataSize, leaves}
-use Rattle.files.specs.Nodes.{Entry, leaf, node}
-use Rattle.files.specs.Stored.{storedSize, storedHash, storedChunk}
-use Rattle.files.specs.Slots.{Slot, contents, heldIn, Within}
-use Rattle.files.specs.Belongs.{Register, Belongs}
-use Rattle.files.proofs.Spans.{span, span-add, span-none, span-one, span-all, chunk-inside}
-use Rattle.files.proofs.Slots.{contents-length, held-behind, leaf-held}
-use Rattle.files.proofs.Nodes.{nodeAt-index}
-use Rattle.files.proofs.Held.{stored-held}
-use Rattle.files.proofs.OfImage.{stored-span, stored-leaf-size, stored-start, stored-chunk, stored-node-hash}
+use Rattle.file_format.specs.Sizes.{mostChunks}
+use Rattle.file_format.specs.Messages.{HashFunction, leafMessage}
+use Rattle.file_format.specs.Images.{dataSize, leaves}
+use Rattle.file_format.specs.Entries.{Entry, leaf, node}
+use Rattle.file_format.specs.Stored.{storedSize, storedHash, storedChunk}
+use Rattle.file_format.specs.Slots.{Slot, contents, heldIn, Within}
+use Rattle.file_format.specs.Belongs.{Register, Belongs}
+use Rattle.file_format.proofs.Spans.{span, span-add, span-none, span-one, span-all, chunk-inside}
+use Rattle.file_format.proofs.Slots.{contents-length, held-behind, leaf-held}
+use Rattle.file_format.proofs.Nodes.{nodeAt-index}
+use Rattle.file_format.proofs.Held.{stored-held}
+use Rattle.file_format.proofs.OfImage.{stored-span, stored-leaf-size, stored-start, stored-chunk, stored-node-hash}
 use Rattle.checks.specs.Checks.{judged, registerChecks}
 use Rattle.checks.proofs.Judged.{judged-append}
 use Rattle.checks.proofs.Passed.{Passed, passes, passed, same-of}
 use Rattle.lookup.specs.Descent.{Ending, stopped, reached, chunkWithin, byteWithin, descent}
 use Rattle.lookup.specs.Lookup.{refusal, found, stopRefused, foundUnless, chunkOf, startOf, toChunk, byteEnding, toByte, placeVerdict, heldVerdict, byteVerdict, placeOf, byteAt}
 use Rattle.lookup.specs.Read.{chunkBytes, andThen, partUnless, readVerdict, readPart}
-use Rattle.lookup.specs.Answers.{startIn, HasByte, Answers, AnswersForAll, Right, HoldsChunk, HoldsByte, Lies, Stops, LookupsStayInside, LookupsStayInsideForAll}
+use Rattle.lookup.specs.Theorems.{startIn, HasByte, Answers, AnswersForAll, Right, HoldsChunk, HoldsByte, Lies, Stops, LookupsStayInside, LookupsStayInsideForAll}
 use Rattle.lookup.proofs.Descents.{Steps, Landed, Halted, Ends, ends, chunk-order, byte-order, left-first, right-end, left-inside, twice}
 
 -- ---- the verdicts

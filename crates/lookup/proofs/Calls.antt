@@ -9,26 +9,26 @@ use native.Mathlib.Omega.{arith}
 use borrow.Author.Tests.{lt-ltb, le-ltb, le-leb, lt-leb, ltb-true}
 use lib.Dec.{leb, ltb}
 use lib.ListN.{length, take, drop}
-use Rattle.counts.specs.Verdict.{Spot, Verdict, none, tree, done, refused}
-use Rattle.sequences.specs.Lists.{part, sameList}
+use Rattle.refusals.specs.Verdict.{Spot, Verdict, none, tree, done, refused}
+use Rattle.byte_strings.specs.Lists.{part, sameList}
 use Rattle.tree_index.specs.Tree.{index}
 use Rattle.tree_index.proofs.Filled.{end-filled}
 use Rattle.bitfield.specs.Append.{bitsPlace}
 use Rattle.bitfield.specs.Release.{storedHeld}
 use Rattle.bitfield.proofs.Release.{entry-below}
-use Rattle.files.specs.Sizes.{usedBitfield}
-use Rattle.files.specs.Messages.{leafMessage}
-use Rattle.files.specs.Stored.{storedSize, storedHash, storedRootSizes}
-use Rattle.files.specs.Within.{EntryIn}
-use Rattle.files.specs.Belongs.{Register}
+use Rattle.file_format.specs.Sizes.{usedBitfield}
+use Rattle.file_format.specs.Messages.{leafMessage}
+use Rattle.file_format.specs.Stored.{storedSize, storedHash, storedRootSizes}
+use Rattle.file_format.specs.Inner.{EntryIn}
+use Rattle.file_format.specs.Belongs.{Register}
 use Rattle.checks.specs.Checks.{Check, judged, registerChecks}
 use Rattle.checks.proofs.Judged.{judged-append, judged-refused}
 use Rattle.checks.proofs.Passed.{all-must, all-pass, passes, passed}
 use Rattle.lookup.specs.Descent.{Ending, stopped, reached, chunkWithin, byteWithin, descent}
 use Rattle.lookup.specs.Lookup.{Found, refusal, found, stopRefused, foundUnless, chunkOf, startOf, toChunk, byteEnding, toByte, placeVerdict, heldVerdict, byteVerdict, placeOf, heldPlaceOf, byteAt}
-use Rattle.lookup.specs.Steps.{Searched, SearchedFor, SearchedHeld, placeIn, heldPlaceIn, byteIn}
+use Rattle.lookup.specs.Inner.{Searched, SearchedFor, SearchedHeld, placeIn, heldPlaceIn, byteIn}
 use Rattle.lookup.specs.Read.{chunkBytes, andThen, partUnless, readVerdict, readPart}
-use Rattle.lookup.specs.Said.{LiesAt, PlacedIn, hashJudged, readFound}
+use Rattle.lookup.specs.Meaning.{LiesAt, PlacedIn, hashJudged, readFound}
 use Rattle.lookup.proofs.Descents.{Ends, ends, byte-order}
 use Rattle.lookup.proofs.Visits.{filled-entry}
 use Rattle.lookup.proofs.Answers.{any-start, at-end, not-at-end, stays-inside}

@@ -10,17 +10,17 @@ use native.Mathlib.Nat.{mul-one, mul-assoc, zero-mul, one-mul, add-zero, div-mul
 use native.Mathlib.Omega.{arith}
 use borrow.Author.Tests.{ltb-true, ltb-false, leb-true, leb-false, eqb-true, eqb-false}
 use lib.Dec.{leb, eqb}
-use Rattle.sequences.specs.Lists.{total}
-use Rattle.sequences.proofs.Lists.{total-append}
+use Rattle.byte_strings.specs.Lists.{total}
+use Rattle.byte_strings.proofs.Lists.{total-append}
 use Rattle.tree_index.specs.Tree.{index, rootOf, rootsBelow, roots}
 use Rattle.tree_index.proofs.Index.{depth-index, block-index, pow-twice}
 use Rattle.tree_index.proofs.Filled.{block-end}
 use Rattle.tree_index.proofs.Roots.{bit, no-root, one-root}
 use Rattle.tree_index.proofs.Cover.{high-bits}
-use Rattle.files.specs.Sizes.{longestChunk}
-use Rattle.files.specs.Stored.{storedSize, storedRootSizes}
+use Rattle.file_format.specs.Sizes.{longestChunk}
+use Rattle.file_format.specs.Stored.{storedSize, storedRootSizes}
 use Rattle.lookup.specs.Descent.{Ending, stopped, reached, chunkWithin, byteWithin, descend, fromRoots, descent}
-use Rattle.lookup.specs.Answers.{Right, Visits, fromRoot, toLeft, toRight}
+use Rattle.lookup.specs.Theorems.{Right, Visits, fromRoot, toLeft, toRight}
 
 -- What is sought is met from a place on (`Lo p s`: not before chunk p, whose bytes begin at s), and before one (`Hi p s`).
 pub record Order (within : ℕ → ℕ → ℕ → ℕ → Bool) (Lo Hi : ℕ → ℕ → Type 0) : Type 0 where

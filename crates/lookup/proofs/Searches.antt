@@ -9,16 +9,16 @@ use native.Mathlib.Numerals.{add-one}
 use native.Mathlib.Omega.{arith}
 use lib.ListN.{length, getD, drop, replicate, List·getD-append, drop-of-length-le}
 use lib.Seq.{drop-cons}
-use Rattle.counts.specs.declared.TreeIndex.{TreeIndex}
-use Rattle.sequences.specs.Lists.{total}
+use Rattle.number_types.specs.declared.TreeIndex.{TreeIndex}
+use Rattle.byte_strings.specs.Lists.{total}
 use Rattle.tree_index.specs.Tree.{depth, block, roots, filled}
 use Rattle.tree_index.specs.Numbers.{numbers}
 use Rattle.tree_index.proofs.Roots.{root-filled, length-roots-le}
-use Rattle.files.specs.Stored.{storedSize, storedRootSizes}
-use Rattle.files.specs.Within.{EntryIn}
-use Rattle.files.proofs.ByValue.{number-at}
+use Rattle.file_format.specs.Stored.{storedSize, storedRootSizes}
+use Rattle.file_format.specs.Inner.{EntryIn}
+use Rattle.file_format.proofs.ByValue.{number-at}
 use Rattle.lookup.specs.Descent.{Ending, stopped, descend, fromRoots, descent}
-use Rattle.lookup.specs.Steps.{StandsAt, Searched}
+use Rattle.lookup.specs.Inner.{StandsAt, Searched}
 use Rattle.lookup.proofs.Visits.{filled-entry, filled-stands}
 
 -- the root at a place of the array

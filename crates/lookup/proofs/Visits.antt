@@ -12,12 +12,12 @@ use lib.ListN.{length}
 use Rattle.tree_index.specs.Tree.{index, depth, block, leftChild, rightChild, filled, entries}
 use Rattle.tree_index.proofs.Index.{depth-index, block-index, index-leaf, by-coordinates, leftChild-index, rightChild-index}
 use Rattle.tree_index.proofs.Filled.{filled-below, end-filled, children-below}
-use Rattle.files.specs.Sizes.{mostChunks, longestChunk, usedTree}
-use Rattle.files.specs.Stored.{storedSize}
-use Rattle.files.specs.Within.{EntryIn}
-use Rattle.files.proofs.OfImage.{entry-inside}
+use Rattle.file_format.specs.Sizes.{mostChunks, longestChunk, usedTree}
+use Rattle.file_format.specs.Stored.{storedSize}
+use Rattle.file_format.specs.Inner.{EntryIn}
+use Rattle.file_format.proofs.OfImage.{entry-inside}
 use Rattle.lookup.specs.Descent.{Ending, stopped, reached, chunkWithin, descend}
-use Rattle.lookup.specs.Steps.{StandsAt, Turned, Onward}
+use Rattle.lookup.specs.Inner.{StandsAt, Turned, Onward}
 use Rattle.lookup.proofs.Descents.{left-inside, right-end}
 
 -- ---- the tests

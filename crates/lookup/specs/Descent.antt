@@ -4,8 +4,8 @@ use mathlib.Core.Bool.{Bool, true, false}
 use mathlib.Core.List.{List, [], _∷_}
 use lib.Dec.{leb, ltb, eqb}
 use Rattle.tree_index.specs.Tree.{index, depth, block, roots}
-use Rattle.files.specs.Sizes.{longestChunk}
-use Rattle.files.specs.Stored.{storedSize}
+use Rattle.file_format.specs.Sizes.{longestChunk}
+use Rattle.file_format.specs.Stored.{storedSize}
 
 -- where a descent ends: it stops at a tree index, or comes to the leaf of a chunk, whose bytes begin at a start
 pub data Ending : Type 0 where

@@ -1,7 +1,7 @@
 -- Lookups and verified reads.
 pub mod Descent
 pub mod Lookup
-pub mod Steps
+pub mod Inner
 pub mod Read
-pub mod Said
-pub mod Answers
+pub mod Meaning
+pub mod Theorems

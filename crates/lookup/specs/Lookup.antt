@@ -3,11 +3,11 @@ use Prim.Native.Nat.{ℕ, _-_}
 use mathlib.Core.Bool.{true, false, cond}
 use mathlib.Core.List.{List, [], _∷_, _++_}
 use lib.Dec.{leb, ltb, eqb}
-use Rattle.counts.specs.Verdict.{Spot, Verdict, tree, done, refused}
+use Rattle.refusals.specs.Verdict.{Spot, Verdict, tree, done, refused}
 use Rattle.tree_index.specs.Tree.{index}
 use Rattle.bitfield.specs.Release.{storedHeld}
-use Rattle.files.specs.Stored.{storedSize}
-use Rattle.files.specs.Belongs.{Register}
+use Rattle.file_format.specs.Stored.{storedSize}
+use Rattle.file_format.specs.Belongs.{Register}
 use Rattle.checks.specs.Checks.{judged, registerChecks}
 use Rattle.lookup.specs.Descent.{Ending, stopped, reached, chunkWithin, byteWithin, descent}
 

@@ -3,12 +3,12 @@
 use Prim.Native.Nat.{ℕ}
 use mathlib.Core.Bool.{cond}
 use mathlib.Core.List.{List, []}
-use Rattle.counts.specs.Verdict.{Verdict, tree, done, refused}
-use Rattle.sequences.specs.Lists.{part, sameList}
+use Rattle.refusals.specs.Verdict.{Verdict, tree, done, refused}
+use Rattle.byte_strings.specs.Lists.{part, sameList}
 use Rattle.tree_index.specs.Tree.{index}
-use Rattle.files.specs.Messages.{leafMessage}
-use Rattle.files.specs.Stored.{storedHash, storedSize}
-use Rattle.files.specs.Belongs.{Register}
+use Rattle.file_format.specs.Messages.{leafMessage}
+use Rattle.file_format.specs.Stored.{storedHash, storedSize}
+use Rattle.file_format.specs.Belongs.{Register}
 use Rattle.lookup.specs.Lookup.{startOf, toChunk, heldVerdict}
 
 -- the bytes of chunk c, by its place

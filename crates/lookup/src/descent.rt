@@ -1,13 +1,13 @@
 // Descents through stored lengths, from a root down to a leaf. All of these are inner: they require the tree file to hold the
 // entries that they read, and the offsets to fit.
-use counts::ByteOffset;
-use counts::ChunkNumber;
-use counts::TreeIndex;
+use number_types::ByteOffset;
+use number_types::ChunkNumber;
+use number_types::TreeIndex;
 ghost use mathlib.Core.Path.{_≡_};
 ghost use Prim.Native.Nat.{_+_, _^_, _<_};
 ghost use Rattle.tree_index.specs.Tree.{depth, block};
 ghost use Rattle.lookup.specs.Descent as spec;
-ghost use Rattle.lookup.specs.Steps.{withinOf, endingOf, StandsAt, Searched, Visited};
+ghost use Rattle.lookup.specs.Inner.{withinOf, endingOf, StandsAt, Searched, Visited};
 
 // What a lookup seeks.
 pub enum Sought {
@@ -43,7 +43,7 @@ pub fn visit(tree: &[u8], sought: Sought, i: TreeIndex, start: ByteOffset) -> St
     requires { ⌜ StandsAt (now tree) (i .0) (start .0) ⌝ }
     ensures { λ r. ⌜ Visited (withinOf sought) (now (tree .entry)) (i .0) (start .0) r ⌝ }
 {
-    let size = files::entries::stored_size(tree, i);
+    let size = file_format::entries::stored_size(tree, i);
     if tree_index::depth(i) == 0 {
         if 65536 < size {
             return Step::End(Ending::Stopped(i));
@@ -52,8 +52,8 @@ pub fn visit(tree: &[u8], sought: Sought, i: TreeIndex, start: ByteOffset) -> St
     }
     let left = tree_index::left_child(i);
     let right = tree_index::right_child(i);
-    let first = files::entries::stored_size(tree, left);
-    let second = files::entries::stored_size(tree, right);
+    let first = file_format::entries::stored_size(tree, left);
+    let second = file_format::entries::stored_size(tree, right);
     if size < first {
         return Step::End(Ending::Stopped(i));
     }
@@ -88,7 +88,7 @@ pub fn from_roots(tree: &[u8], n: u64, sought: Sought) -> Ending
     let mut j: usize = 0;
     while j < count {
         let i = roots[j];
-        let size = files::entries::stored_size(tree, i);
+        let size = file_format::entries::stored_size(tree, i);
         if is_within(sought, i, start, size) {
             return descend(tree, sought, i, start);
         }

@@ -1,16 +1,16 @@
 // The place lookup, of any chunk and of one that is held, and the byte lookup.
 use super::descent::Ending;
 use super::descent::Sought;
-use counts::Answer;
-use counts::ByteOffset;
-use counts::ChunkNumber;
-use counts::Place;
-use counts::Refusal;
+use number_types::ByteOffset;
+use number_types::ChunkNumber;
+use refusals::Answer;
+use refusals::Place;
+use refusals::Refusal;
 ghost use mathlib.Core.Path.{_≡_};
-ghost use Rattle.checks.specs.Given.{registerOf};
+ghost use Rattle.checks.specs.Lent.{registerOf};
 ghost use Rattle.lookup.specs.Lookup.{placeOf, heldPlaceOf, byteAt};
-ghost use Rattle.lookup.specs.Steps.{Searched, SearchedFor, SearchedHeld, placeIn, heldPlaceIn, byteIn};
-ghost use Rattle.lookup.specs.Said.{placedOf, locatedOf};
+ghost use Rattle.lookup.specs.Inner.{Searched, SearchedFor, SearchedHeld, placeIn, heldPlaceIn, byteIn};
+ghost use Rattle.lookup.specs.Meaning.{placedOf, locatedOf};
 
 // What a place lookup answers: where the chunk's bytes begin, and how many they are.
 pub enum Placed {
@@ -43,7 +43,7 @@ pub fn place_in(tree: &[u8], n: u64, chunk: ChunkNumber) -> Placed
         }),
         Ending::Reached(_, start) => Placed::At(
             start,
-            files::entries::stored_size(tree, tree_index::leaf_index(chunk)),
+            file_format::entries::stored_size(tree, tree_index::leaf_index(chunk)),
         ),
     }
 }
@@ -131,7 +131,7 @@ pub fn locate_in(tree: &[u8], n: u64, size: u64, offset: ByteOffset) -> Located
         });
     }
     if offset.0 == size {
-        return Located::In(counts::chunk_behind(n), 0);
+        return Located::In(number_types::chunk_behind(n), 0);
     }
     match super::descent::from_roots(tree, n, Sought::Byte(offset)) {
         Ending::Stopped(i) => Located::Refused(Refusal {

@@ -1,16 +1,16 @@
 // The verified read, of one of two registers.
 use super::places::Placed;
-use counts::Answer;
-use counts::ByteOffset;
-use counts::ChunkNumber;
-use counts::Place;
-use counts::Refusal;
+use number_types::ByteOffset;
+use number_types::ChunkNumber;
+use refusals::Answer;
+use refusals::Place;
+use refusals::Refusal;
 ghost use mathlib.Core.Path.{_≡_};
-ghost use Rattle.counts.specs.Said.{said};
+ghost use Rattle.refusals.specs.Meaning.{said};
 ghost use Rattle.blake2b.specs.Hash.{nodeHash};
-ghost use Rattle.checks.specs.Given.{registerOf};
+ghost use Rattle.checks.specs.Lent.{registerOf};
 ghost use Rattle.lookup.specs.Read.{named, readVerdict, readPart};
-ghost use Rattle.lookup.specs.Said.{nameOf, placedOf, verifiedOf, readFound, PlacedIn, hashJudged};
+ghost use Rattle.lookup.specs.Meaning.{nameOf, placedOf, verifiedOf, readFound, PlacedIn, hashJudged};
 
 // Which of the two registers a read names.
 pub enum Name {
@@ -37,9 +37,9 @@ pub fn verify_placed(tree: &[u8], content: &[u8], chunk: ChunkNumber, placed: Pl
             let from = start.0 as usize;
             let to = end.0 as usize;
             let leaf = tree_index::leaf_index(chunk);
-            let stored = files::entries::stored_hash(tree, leaf);
-            let hash = files::hashes::leaf_hash(&content[from..to]);
-            if sequences::same(&stored, &hash) {
+            let stored = file_format::entries::stored_hash(tree, leaf);
+            let hash = file_format::hashes::leaf_hash(&content[from..to]);
+            if byte_strings::same(&stored, &hash) {
                 Verified::Part(start, end)
             } else {
                 Verified::Refused(Refusal {

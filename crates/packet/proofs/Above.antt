@@ -13,18 +13,18 @@ use lib.ListN.{length, getD, take, drop, replicate, length-append, length-drop, 
 use lib.Seq.{drop-cons, drop-length, length-take-le, getD-take, getD-drop, ext-getD}
 use lib.Pow.{shr-shr}
 use borrow.Author.Tests.{ltb-true, ltb-false, lt-ltb, le-ltb, leb-true, leb-false, eq-eqb, ne-eqb}
-use Rattle.sequences.specs.Lists.{run}
-use Rattle.sequences.proofs.Lists.{getD-behind, length-run, getD-run, run-ext, run-from}
-use Rattle.counts.specs.declared.TreeIndex.{TreeIndex}
+use Rattle.byte_strings.specs.Lists.{run}
+use Rattle.byte_strings.proofs.Lists.{getD-behind, length-run, getD-run, run-ext, run-from}
+use Rattle.number_types.specs.declared.TreeIndex.{TreeIndex}
 use Rattle.tree_index.specs.Tree.{index, depth, block, filled, entries, rootOf, rootsBelow, roots}
 use Rattle.tree_index.specs.Numbers.{numbers}
 use Rattle.tree_index.proofs.Numbers.{number-in}
-use Rattle.files.specs.Sizes.{mostChunks}
+use Rattle.file_format.specs.Sizes.{mostChunks}
 use Rattle.tree_index.proofs.Index.{depth-index, block-index, pow-twice}
 use Rattle.tree_index.proofs.Filled.{end-filled, end-hole}
 use Rattle.tree_index.proofs.Roots.{bit, no-root, one-root, root-at, root-below, length-roots-le}
 use Rattle.packet.specs.Packet.{rootAbove, siblings, without, otherRoots}
-use Rattle.packet.specs.Parts.{placeAbove, ChunkOf, skipped}
+use Rattle.packet.specs.Inner.{placeAbove, ChunkOf, skipped}
 
 -- ---- the place of the root above a chunk
 

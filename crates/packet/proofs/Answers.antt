@@ -11,32 +11,32 @@ use lib.Dec.{leb, ltb, eqb}
 use lib.ListN.{length, getD, take, drop, length-map}
 use lib.Seq.{ext-getD}
 use borrow.Author.Tests.{ltb-true, ltb-false, lt-ltb, le-ltb, eqb-true, eqb-false, le-leb}
-use Rattle.counts.specs.Verdict.{Verdict, done}
-use Rattle.sequences.specs.Lists.{part, run, total, sameList}
-use Rattle.sequences.proofs.Lists.{length-run, getD-run, run-ext, same-refl}
+use Rattle.refusals.specs.Verdict.{Verdict, done}
+use Rattle.byte_strings.specs.Lists.{part, run, total, sameList}
+use Rattle.byte_strings.proofs.Lists.{length-run, getD-run, run-ext, same-refl}
 use Rattle.tree_index.specs.Tree.{index, depth, block, filled, roots}
 use Rattle.tree_index.proofs.Filled.{filled-below}
 use Rattle.tree_index.proofs.Roots.{bit, root-filled}
-use Rattle.files.specs.Sizes.{mostChunks, entryPlace}
-use Rattle.files.specs.Messages.{HashFunction, rootItem, rootMessage}
-use Rattle.files.specs.Nodes.{Entry, hole, entryBytes, leaf, parentOf, node, nodeAt, rootMessageOf}
-use Rattle.files.specs.Images.{leaves, dataSize, rootMessageFor, rootHashFor}
-use Rattle.files.specs.Stored.{storedSize, storedRootSizes}
-use Rattle.files.specs.Slots.{Slot, contents, heldIn, Within}
-use Rattle.files.specs.Belongs.{Register, Belongs}
-use Rattle.files.proofs.Spans.{span, span-le, span-all, map-ext}
-use Rattle.files.proofs.Slots.{contents-length, leaves-length, leaf-held}
-use Rattle.files.proofs.Nodes.{nodeAt-index, entryAt-filled, nodeAt-proper}
-use Rattle.files.proofs.OfImage.{stored-entry, stored-node-size, stored-total}
+use Rattle.file_format.specs.Sizes.{mostChunks, entryPlace}
+use Rattle.file_format.specs.Messages.{HashFunction, rootItem, rootMessage}
+use Rattle.file_format.specs.Entries.{Entry, hole, entryBytes, leaf, parentOf, node, nodeAt, rootMessageOf}
+use Rattle.file_format.specs.Images.{leaves, dataSize, rootMessageFor, rootHashFor}
+use Rattle.file_format.specs.Stored.{storedSize, storedRootSizes}
+use Rattle.file_format.specs.Slots.{Slot, contents, heldIn, Within}
+use Rattle.file_format.specs.Belongs.{Register, Belongs}
+use Rattle.file_format.proofs.Spans.{span, span-le, span-all, map-ext}
+use Rattle.file_format.proofs.Slots.{contents-length, leaves-length, leaf-held}
+use Rattle.file_format.proofs.Nodes.{nodeAt-index, entryAt-filled, nodeAt-proper}
+use Rattle.file_format.proofs.OfImage.{stored-entry, stored-node-size, stored-total}
 use Rattle.checks.specs.Checks.{judged, registerChecks, holds}
 use Rattle.checks.proofs.Judged.{right-both}
 use Rattle.lookup.specs.Read.{andThen, chunkBytes, readVerdict, readPart}
-use Rattle.lookup.specs.Answers.{Answers}
+use Rattle.lookup.specs.Theorems.{Answers}
 use Rattle.lookup.proofs.Answers.{answers}
 use Rattle.packet.specs.Packet.{rootAbove, beside, siblings, otherRoots, packetOf, roomOr14, makeVerdict}
 use Rattle.packet.specs.Check.{chunkLength, siblingsPlace, othersPlace, shapeRight, packetChunk, entryIn, entriesIn, siblingEntries, otherEntries, packetTotal, ordered, inTurn, items, Step, stepsAbove, steps, lastEntry, packetRoot, packetRootMessage, rootRight, packetVerdict, checkedChunk, chunkUnless}
-use Rattle.packet.specs.Parts.{placeAbove, ChunkOf, skipped, otherRow, turned, turnEntry, packetWith, Readable, climbed}
-use Rattle.packet.specs.Answers.{PacketAnswers, PacketAnswersForAll}
+use Rattle.packet.specs.Inner.{placeAbove, ChunkOf, skipped, otherRow, turned, turnEntry, packetWith, Readable, climbed}
+use Rattle.packet.specs.Theorems.{PacketAnswers, PacketAnswersForAll}
 use Rattle.packet.proofs.Above.{place-root, place-below, root-spans, other-count}
 use Rattle.packet.proofs.Climb.{left-first, right-first, ordered-size, steps-climb, turned-before, turned-here, turned-behind}
 use Rattle.packet.proofs.InTurn.{all, whole, length-all, entry-at}

@@ -11,12 +11,12 @@ use native.Mathlib.Omega.{arith}
 use lib.Dec.{eqb}
 use lib.ListN.{length}
 use borrow.Author.Tests.{lt-ltb, le-ltb, eq-eqb, ne-eqb}
-use Rattle.sequences.specs.Lists.{run, total}
+use Rattle.byte_strings.specs.Lists.{run, total}
 use Rattle.tree_index.proofs.Roots.{bit}
-use Rattle.files.specs.Messages.{parentMessage}
-use Rattle.files.specs.Nodes.{Entry, parentOf}
+use Rattle.file_format.specs.Messages.{parentMessage}
+use Rattle.file_format.specs.Entries.{Entry, parentOf}
 use Rattle.packet.specs.Check.{entryIn, entriesIn, ordered, stepsAbove, lastEntry}
-use Rattle.packet.specs.Parts.{sizesIn, Climbable, climbed, turned, TurnIn, TurnsIn}
+use Rattle.packet.specs.Inner.{sizesIn, Climbable, climbed, turned, TurnIn, TurnsIn}
 
 -- ---- one step up
 

@@ -11,16 +11,16 @@ use lib.Dec.{ltb, eqb}
 use lib.ListN.{length, getD, take, drop, replicate, length-append, length-drop, List·getD-append}
 use lib.Seq.{length-take-le, getD-take, getD-drop, getD-at}
 use borrow.Author.Tests.{ltb-true, ltb-false, eqb-true, eqb-false, eq-eqb, ne-eqb}
-use Rattle.sequences.specs.Lists.{run, zeros}
-use Rattle.sequences.proofs.Lists.{getD-behind, length-run, getD-run, run-ext, run-from}
+use Rattle.byte_strings.specs.Lists.{run, zeros}
+use Rattle.byte_strings.proofs.Lists.{getD-behind, length-run, getD-run, run-ext, run-from}
 use Rattle.tree_index.specs.Tree.{roots}
 use Rattle.tree_index.proofs.Roots.{length-roots-le}
-use Rattle.files.specs.Messages.{rootItem, rootMessage}
-use Rattle.files.specs.Nodes.{Entry, hole}
-use Rattle.files.specs.ByValue.{padded, itemsOf}
+use Rattle.file_format.specs.Messages.{rootItem, rootMessage}
+use Rattle.file_format.specs.Entries.{Entry, hole}
+use Rattle.file_format.specs.RootsByValue.{padded, itemsOf}
 use Rattle.packet.specs.Packet.{rootAbove, otherRoots}
 use Rattle.packet.specs.Check.{entryIn, entriesIn, inTurn, items}
-use Rattle.packet.specs.Parts.{placeAbove, ChunkOf, turned, turnEntry, hashRow, sizeRow, messageWith, TurnsIn, OthersIn}
+use Rattle.packet.specs.Inner.{placeAbove, ChunkOf, turned, turnEntry, hashRow, sizeRow, messageWith, TurnsIn, OthersIn}
 use Rattle.packet.proofs.Above.{Apart, Distinct, roots-distinct, place-root, place-below, other-count}
 use Rattle.packet.proofs.Climb.{turned-before, turned-here, turned-behind}
 

@@ -4,10 +4,10 @@ use mathlib.Core.Path.{_≡_, ap, _∙_}
 use mathlib.Core.List.{List}
 use native.Mathlib.Omega.{arith}
 use lib.ListN.{length}
-use Rattle.counts.specs.Verdict.{Verdict, done}
+use Rattle.refusals.specs.Verdict.{Verdict, done}
 use Rattle.checks.proofs.Passed.{all-must}
 use Rattle.packet.specs.Check.{packetChunk, packetVerdict, checkedChunk, chunkUnless}
-use Rattle.packet.specs.Answers.{PartStaysInside, PartStaysInsideForAll}
+use Rattle.packet.specs.Theorems.{PartStaysInside, PartStaysInsideForAll}
 use Rattle.packet.proofs.Shape.{sized}
 
 pub part-stays-inside : PartStaysInsideForAll

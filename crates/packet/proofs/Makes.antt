@@ -8,15 +8,15 @@ use native.Mathlib.Omega.{arith}
 use lib.Dec.{leb, ltb}
 use lib.ListN.{length}
 use borrow.Author.Tests.{le-leb, lt-leb, ltb-true}
-use Rattle.counts.specs.Verdict.{Verdict, none, done}
-use Rattle.counts.specs.Said.{refusalOf}
-use Rattle.counts.specs.declared.Refusal.{Refusal}
-use Rattle.counts.specs.declared.Place.the-variants.{Nowhere}
-use Rattle.sequences.specs.Lists.{put}
+use Rattle.refusals.specs.Verdict.{Verdict, none, done}
+use Rattle.refusals.specs.Meaning.{refusalOf}
+use Rattle.refusals.specs.declared.Refusal.{Refusal}
+use Rattle.refusals.specs.declared.Place.the-variants.{Nowhere}
+use Rattle.byte_strings.specs.Lists.{put}
 use Rattle.tree_index.specs.Tree.{index}
-use Rattle.files.specs.Sizes.{longestChunk}
-use Rattle.files.specs.Stored.{storedSize}
-use Rattle.files.specs.Belongs.{Register}
+use Rattle.file_format.specs.Sizes.{longestChunk}
+use Rattle.file_format.specs.Stored.{storedSize}
+use Rattle.file_format.specs.Belongs.{Register}
 use Rattle.checks.specs.Checks.{Check, judged, registerChecks, holds}
 use Rattle.checks.proofs.Judged.{judged-append}
 use Rattle.checks.proofs.Passed.{passed, all-must}
@@ -25,8 +25,8 @@ use Rattle.lookup.specs.Read.{andThen, chunkBytes, readVerdict, readPart, partU
 use Rattle.lookup.proofs.Answers.{stays-inside}
 use Rattle.lookup.proofs.Calls.{done-reached, done-first, held-done}
 use Rattle.packet.specs.Packet.{packetOf, roomOr14, outUnless, lengthUnless, makeVerdict, madeLength, afterMake}
-use Rattle.packet.specs.Parts.{packetWith, Readable}
-use Rattle.packet.specs.Made.{roomFor, MadeAs, MadeOf}
+use Rattle.packet.specs.Inner.{packetWith, Readable}
+use Rattle.packet.specs.Post.{roomFor, MadeAs, MadeOf}
 use Rattle.packet.specs.declared.making.Made.{Made}
 use Rattle.packet.specs.declared.making.Made.the-variants.{Refused, Length}
 

@@ -11,17 +11,17 @@ use lib.Dec.{eqb}
 use lib.ListN.{length, getD, take, drop, length-append}
 use lib.Seq.{take-all}
 use borrow.Author.Tests.{eq-eqb}
-use Rattle.sequences.specs.Lists.{part, joined}
-use Rattle.sequences.specs.Numbers.{be, number}
-use Rattle.sequences.proofs.Lists.{getD-behind, length-part, part-part, part-left, part-behind, part-front, part-at}
-use Rattle.sequences.proofs.Numbers.{length-be, number-be}
-use Rattle.files.specs.Sizes.{longestChunk, entryPlace}
-use Rattle.files.specs.Nodes.{Entry, entryBytes}
-use Rattle.files.proofs.Nodes.{Proper}
+use Rattle.byte_strings.specs.Lists.{part, joined}
+use Rattle.byte_strings.specs.Numbers.{be, number}
+use Rattle.byte_strings.proofs.Lists.{getD-behind, length-part, part-part, part-left, part-behind, part-front, part-at}
+use Rattle.byte_strings.proofs.Numbers.{length-be, number-be}
+use Rattle.file_format.specs.Sizes.{longestChunk, entryPlace}
+use Rattle.file_format.specs.Entries.{Entry, entryBytes}
+use Rattle.file_format.proofs.Nodes.{Proper}
 use Rattle.lookup.proofs.Visits.{filled-entry}
 use Rattle.packet.specs.Packet.{siblings, otherRoots, section}
 use Rattle.packet.specs.Check.{chunkLength, shapeRight, packetChunk, entryIn}
-use Rattle.packet.specs.Parts.{packetWith, Readable}
+use Rattle.packet.specs.Inner.{packetWith, Readable}
 use Rattle.packet.proofs.Shape.{all-tests}
 use Rattle.packet.proofs.Climb.{entry}
 use Rattle.packet.proofs.Rows.{Filled, siblings-filled, others-filled, section-long, packet-long}

@@ -8,17 +8,17 @@ use native.Mathlib.Omega.{arith}
 use lib.Dec.{leb, ltb, eqb}
 use lib.ListN.{length, getD, take, drop}
 use borrow.Author.Tests.{leb-true, leb-false, le-leb, lt-leb, lt-ltb, le-ltb}
-use Rattle.counts.specs.Verdict.{Verdict, none, done, refused}
-use Rattle.sequences.specs.Lists.{part, run, total, sameList}
-use Rattle.sequences.proofs.Lists.{length-part}
-use Rattle.files.specs.Sizes.{mostChunks}
-use Rattle.files.specs.Nodes.{Entry, leaf}
+use Rattle.refusals.specs.Verdict.{Verdict, none, done, refused}
+use Rattle.byte_strings.specs.Lists.{part, run, total, sameList}
+use Rattle.byte_strings.proofs.Lists.{length-part}
+use Rattle.file_format.specs.Sizes.{mostChunks}
+use Rattle.file_format.specs.Entries.{Entry, leaf}
 use Rattle.checks.specs.Checks.{Check, judged, countRight}
 use Rattle.checks.proofs.Judged.{both-right}
 use Rattle.checks.proofs.Steps.{and-stop, and-pass}
 use Rattle.packet.specs.Packet.{siblings, otherRoots}
 use Rattle.packet.specs.Check.{chunkLength, siblingsPlace, othersPlace, shapeRight, packetChunk, entryIn, entriesIn, siblingEntries, otherEntries, packetTotal, Step, stepsAbove, steps, lastEntry, packetRoot, packetRootMessage, rootRight, packetVerdict, chunkUnless, checkedChunk}
-use Rattle.packet.specs.Parts.{ChunkOf, sizesIn, Summed, RowIn, OthersIn, Climbable, climbed, messageWith, Shaped}
+use Rattle.packet.specs.Inner.{ChunkOf, sizesIn, Summed, RowIn, OthersIn, Climbable, climbed, messageWith, Shaped}
 use Rattle.packet.proofs.Above.{few-siblings, few-others}
 use Rattle.packet.proofs.Shape.{Sized, sized}
 use Rattle.packet.proofs.Climb.{steps-climb}

@@ -12,22 +12,22 @@ use lib.Dec.{ltb}
 use lib.ListN.{length, getD, set, take, drop, replicate, length-append, List·getD-append}
 use lib.Pow.{pow-pos, shr-shr}
 use borrow.Author.Tests.{leb-true}
-use Rattle.sequences.specs.Lists.{part, put, run, joined}
-use Rattle.sequences.specs.Numbers.{be}
-use Rattle.sequences.proofs.Lists.{length-part, put-nil, put-one, length-run, getD-run, joined-run-suc}
-use Rattle.sequences.proofs.Numbers.{length-be}
+use Rattle.byte_strings.specs.Lists.{part, put, run, joined}
+use Rattle.byte_strings.specs.Numbers.{be}
+use Rattle.byte_strings.proofs.Lists.{length-part, put-nil, put-one, length-run, getD-run, joined-run-suc}
+use Rattle.byte_strings.proofs.Numbers.{length-be}
 use Rattle.tree_index.specs.Tree.{index, depth, block, filled, roots}
 use Rattle.tree_index.proofs.Index.{pow-twice}
 use Rattle.tree_index.proofs.Filled.{end-filled}
 use Rattle.tree_index.proofs.Roots.{bit, root-filled}
-use Rattle.files.specs.Sizes.{mostChunks, entryPlace, usedTree}
-use Rattle.files.specs.Within.{EntryIn, EntriesIn}
-use Rattle.files.specs.ByValue.{padded}
-use Rattle.files.proofs.ByValue.{gathered}
-use Rattle.files.proofs.Places.{put-next}
+use Rattle.file_format.specs.Sizes.{mostChunks, entryPlace, usedTree}
+use Rattle.file_format.specs.Inner.{EntryIn, EntriesIn}
+use Rattle.file_format.specs.RootsByValue.{padded}
+use Rattle.file_format.proofs.ByValue.{gathered}
+use Rattle.file_format.proofs.Places.{put-next}
 use Rattle.lookup.proofs.Visits.{filled-entry}
 use Rattle.packet.specs.Packet.{rootAbove, beside, siblings, otherRoots, section}
-use Rattle.packet.specs.Parts.{placeAbove, ChunkOf, skipped, siblingRow, otherRow, entriesAt, packetWith, Readable}
+use Rattle.packet.specs.Inner.{placeAbove, ChunkOf, skipped, siblingRow, otherRow, entriesAt, packetWith, Readable}
 use Rattle.packet.proofs.Above.{place-root, place-below, root-spans, others-cut, cut-run, other-count, few-siblings, few-others}
 
 -- ---- the siblings are filled

@@ -8,7 +8,7 @@ use native.Mathlib.Omega.{arith}
 use lib.Dec.{leb, eqb}
 use lib.ListN.{length, getD}
 use borrow.Author.Tests.{leb-true, le-leb, lt-leb, eqb-true, eq-eqb, ne-eqb}
-use Rattle.files.specs.Sizes.{longestChunk}
+use Rattle.file_format.specs.Sizes.{longestChunk}
 use Rattle.checks.proofs.Judged.{both-right}
 use Rattle.checks.proofs.Steps.{and-stop, and-pass}
 use Rattle.packet.specs.Packet.{siblings, otherRoots}

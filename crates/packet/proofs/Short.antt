@@ -8,19 +8,19 @@ use native.Mathlib.Nat.{eq-or-lt-of-le, min-le-left, le-trans, suc-mul}
 use native.Mathlib.Omega.{arith}
 use borrow.Author.Tests.{le-leb}
 use lib.ListN.{length, getD, drop, length-append, length-take}
-use Rattle.counts.specs.Verdict.{Verdict, done, refused}
-use Rattle.sequences.specs.Lists.{part, joined}
-use Rattle.sequences.specs.Numbers.{be}
-use Rattle.sequences.proofs.Numbers.{length-be}
+use Rattle.refusals.specs.Verdict.{Verdict, done, refused}
+use Rattle.byte_strings.specs.Lists.{part, joined}
+use Rattle.byte_strings.specs.Numbers.{be}
+use Rattle.byte_strings.proofs.Numbers.{length-be}
 use Rattle.tree_index.specs.Tree.{depth, rootOf, rootsBelow, roots}
 use Rattle.tree_index.proofs.Index.{depth-index}
 use Rattle.tree_index.proofs.Roots.{root-at}
-use Rattle.files.specs.Sizes.{entryPlace}
-use Rattle.files.specs.Belongs.{Register}
+use Rattle.file_format.specs.Sizes.{entryPlace}
+use Rattle.file_format.specs.Belongs.{Register}
 use Rattle.lookup.specs.Read.{andThen, chunkBytes, readVerdict}
 use Rattle.packet.specs.Packet.{siblings, otherRoots, section, packetOf, packetExtra, roomOr14, makeVerdict}
-use Rattle.packet.specs.Parts.{placeAbove, ChunkOf}
-use Rattle.packet.specs.Answers.{PacketStaysShort, PacketStaysShortForAll}
+use Rattle.packet.specs.Inner.{placeAbove, ChunkOf}
+use Rattle.packet.specs.Theorems.{PacketStaysShort, PacketStaysShortForAll}
 use Rattle.packet.proofs.Above.{place-below, sibling-count, other-count, few-siblings, few-others}
 
 -- ---- how many entries there are

@@ -7,11 +7,11 @@ use native.Mathlib.Nat.{zero-add}
 use native.Mathlib.Omega.{arith}
 use lib.ListN.{length, getD, take}
 use lib.Seq.{take-all, take-length}
-use Rattle.sequences.specs.Lists.{run, total}
-use Rattle.sequences.proofs.Lists.{length-run, getD-run}
-use Rattle.files.proofs.ByValue.{total-next, total-more}
+use Rattle.byte_strings.specs.Lists.{run, total}
+use Rattle.byte_strings.proofs.Lists.{length-run, getD-run}
+use Rattle.file_format.proofs.ByValue.{total-next, total-more}
 use Rattle.packet.specs.Check.{entryIn}
-use Rattle.packet.specs.Parts.{sizesIn, Summed}
+use Rattle.packet.specs.Inner.{sizesIn, Summed}
 
 -- the first j of the lengths are added
 pub record Adding (xs : List ℕ) (from j sum : ℕ) : Type 0 where

@@ -4,13 +4,13 @@ use mathlib.Core.Bool.{Bool, true, false, _&&_, cond}
 use mathlib.Core.List.{List, [], _∷_, _++_, map}
 use lib.ListN.{length, getD}
 use lib.Dec.{leb, ltb, eqb}
-use Rattle.counts.specs.Verdict.{Verdict, done, refused}
-use Rattle.sequences.specs.Lists.{part, run, total, sameList}
-use Rattle.sequences.specs.Numbers.{number}
+use Rattle.refusals.specs.Verdict.{Verdict, done, refused}
+use Rattle.byte_strings.specs.Lists.{part, run, total, sameList}
+use Rattle.byte_strings.specs.Numbers.{number}
 use Rattle.tree_index.specs.Tree.{index, depth, roots}
-use Rattle.files.specs.Sizes.{longestChunk}
-use Rattle.files.specs.Messages.{leafMessage, parentMessage, rootItem, rootMessage}
-use Rattle.files.specs.Nodes.{Entry, leaf, parentOf}
+use Rattle.file_format.specs.Sizes.{longestChunk}
+use Rattle.file_format.specs.Messages.{leafMessage, parentMessage, rootItem, rootMessage}
+use Rattle.file_format.specs.Entries.{Entry, leaf, parentOf}
 use Rattle.checks.specs.Checks.{Check, judged, countRight}
 use Rattle.packet.specs.Packet.{rootAbove, siblings, otherRoots}
 

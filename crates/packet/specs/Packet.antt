@@ -5,12 +5,12 @@ use mathlib.Core.Bool.{Bool, true, false, not}
 use mathlib.Core.List.{List, [], _∷_, _++_, map}
 use lib.ListN.{length}
 use lib.Dec.{ltb, eqb}
-use Rattle.counts.specs.Verdict.{Verdict, none, done, refused}
-use Rattle.sequences.specs.Lists.{part, put, run, joined}
-use Rattle.sequences.specs.Numbers.{be}
+use Rattle.refusals.specs.Verdict.{Verdict, none, done, refused}
+use Rattle.byte_strings.specs.Lists.{part, put, run, joined}
+use Rattle.byte_strings.specs.Numbers.{be}
 use Rattle.tree_index.specs.Tree.{index, depth, block, roots}
-use Rattle.files.specs.Sizes.{entryPlace}
-use Rattle.files.specs.Belongs.{Register}
+use Rattle.file_format.specs.Sizes.{entryPlace}
+use Rattle.file_format.specs.Belongs.{Register}
 use Rattle.checks.specs.Checks.{holds}
 use Rattle.lookup.specs.Read.{chunkBytes, andThen, readVerdict}
 

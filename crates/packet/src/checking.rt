@@ -1,24 +1,24 @@
 // The check of a packet: "takes packet, n, i and root hash; it answers the chunk's part of the packet unless 2, 9, 12 or 13 holds".
 // Any bytes may be lent as a packet: its counts and lengths are judged before anything is read at them.
-use counts::Answer;
-use counts::ChunkNumber;
-use files::roots::Roots;
+use file_format::roots::Roots;
+use number_types::ChunkNumber;
+use refusals::Answer;
 ghost use mathlib.Core.Path.{_≡_};
 ghost use mathlib.Core.List.{List};
 ghost use Prim.Native.Nat.{ℕ, _+_, _-_, _*_, _≤_, _<_};
 ghost use lib.ListN.{length};
 ghost use lib.Dec.{leb};
-ghost use Rattle.counts.specs.Said.{said};
-ghost use Rattle.sequences.specs.Lists.{part, run, total, zeros};
-ghost use Rattle.sequences.specs.Numbers.{number};
+ghost use Rattle.refusals.specs.Meaning.{said};
+ghost use Rattle.byte_strings.specs.Lists.{part, run, total, zeros};
+ghost use Rattle.byte_strings.specs.Numbers.{number};
 ghost use Rattle.tree_index.specs.Tree.{roots as rootsOf};
 ghost use Rattle.blake2b.specs.Hash.{nodeHash};
-ghost use Rattle.files.specs.Messages.{rootMessage};
-ghost use Rattle.files.specs.Nodes.{leaf, parentOf};
-ghost use Rattle.files.specs.ByValue.{padded};
+ghost use Rattle.file_format.specs.Messages.{rootMessage};
+ghost use Rattle.file_format.specs.Entries.{leaf, parentOf};
+ghost use Rattle.file_format.specs.RootsByValue.{padded};
 ghost use Rattle.packet.specs.Packet.{rootAbove, siblings, otherRoots};
 ghost use Rattle.packet.specs.Check.{shapeRight, entryIn, entriesIn, ordered, rootRight, packetVerdict, checkedChunk};
-ghost use Rattle.packet.specs.Parts.{ChunkOf, turnEntry, hashRow, sizeRow, messageWith, sizesIn, Summed, entryOf, RowIn, TurnIn, TurnsIn, OthersIn, Climbable, climbed, Shaped};
+ghost use Rattle.packet.specs.Inner.{ChunkOf, turnEntry, hashRow, sizeRow, messageWith, sizesIn, Summed, entryOf, RowIn, TurnIn, TurnsIn, OthersIn, Climbable, climbed, Shaped};
 
 // An entry by value.
 pub struct Node {
@@ -43,7 +43,7 @@ fn shape_right(packet: &[u8], n: u64, chunk: ChunkNumber) -> bool
     if packet.len() < 4 {
         return false;
     }
-    let length = sequences::read_be32(packet, 0);
+    let length = byte_strings::read_be32(packet, 0);
     if 65536 < length {
         return false;
     }
@@ -65,7 +65,7 @@ fn entry_hash(packet: &[u8], at: usize) -> [u8; 32]
 {
     let end = at + 32;
     let mut hash = [0u8; 32];
-    sequences::copy_to(&mut hash, 0, &packet[at..end]);
+    byte_strings::copy_to(&mut hash, 0, &packet[at..end]);
     hash
 }
 
@@ -74,7 +74,7 @@ fn entry_size(packet: &[u8], at: usize) -> u64
     requires { ⌜ at + 40 ≤ length (now packet) ⌝ }
     ensures { λ r. ⌜ r ≡ entryIn (now (packet .entry)) at .size ⌝ }
 {
-    sequences::read_be64(packet, at + 32)
+    byte_strings::read_be64(packet, at + 32)
 }
 
 // Inner: the lengths of a row of entries added to a sum, as whole numbers: each is compared with what is left up to the bound before it is
@@ -110,7 +110,7 @@ pub fn entry_node(packet: &[u8], at: usize) -> Node
 pub fn leaf_node(chunk: &[u8]) -> Node
     ensures { λ r. ⌜ entryOf r ≡ leaf nodeHash (now (chunk .entry)) ⌝ }
 {
-    let hash = files::hashes::leaf_hash(chunk);
+    let hash = file_format::hashes::leaf_hash(chunk);
     let size = chunk.len() as u64;
     Node { hash, size }
 }
@@ -124,10 +124,10 @@ pub fn step_up(k: u64, node: Node, beside: Node) -> Node
     let own = node.hash;
     let other = beside.hash;
     if k % 2 == 0 {
-        let hash = files::hashes::parent_hash(size, &own, &other);
+        let hash = file_format::hashes::parent_hash(size, &own, &other);
         return Node { hash, size };
     }
-    let hash = files::hashes::parent_hash(size, &other, &own);
+    let hash = file_format::hashes::parent_hash(size, &other, &own);
     Node { hash, size }
 }
 
@@ -215,7 +215,7 @@ fn root_hash_with(packet: &[u8], at: usize, n: u64, chunk: ChunkNumber, node: No
         indexes,
         sizes,
     };
-    files::roots::root_hash(roots, hashes)
+    file_format::roots::root_hash(roots, hashes)
 }
 
 // Inner: "13. The packet's lengths add up to over 68,719,476,736, or its root hash is another." The sum is judged first, so that no
@@ -226,7 +226,7 @@ fn root_right(packet: &[u8], n: u64, chunk: ChunkNumber, root: &[u8; 32]) -> boo
 {
     let up = super::path::sibling_count(n, chunk) as usize;
     let others = super::path::other_count(n, chunk);
-    let length = sequences::read_be32(packet, 0);
+    let length = byte_strings::read_be32(packet, 0);
     let first = 4 + (length as usize);
     let second = first + 1 + 40 * up;
     let sum = add_lengths(packet, first + 1, up, length);
@@ -237,7 +237,7 @@ fn root_right(packet: &[u8], n: u64, chunk: ChunkNumber, root: &[u8; 32]) -> boo
     let leaf = leaf_node(&packet[4..first]);
     let node = climb(packet, first + 1, up, chunk, leaf);
     let hash = root_hash_with(packet, second + 1, n, chunk, node);
-    sequences::same(&hash, root)
+    byte_strings::same(&hash, root)
 }
 
 // Whether a packet passes the check, or its refusal.
@@ -245,16 +245,16 @@ pub fn check_answer(packet: &[u8], n: u64, chunk: ChunkNumber, root: &[u8; 32]) 
     ensures { λ r. ⌜ said r ≡ packetVerdict nodeHash (now (packet .entry)) n (chunk .0) (now (root .entry)) ⌝ }
 {
     if 1048576 < n {
-        return counts::refuse(2);
+        return refusals::refuse(2);
     }
     if n <= chunk.0 {
-        return counts::refuse(9);
+        return refusals::refuse(9);
     }
     if !shape_right(packet, n, chunk) {
-        return counts::refuse(12);
+        return refusals::refuse(12);
     }
     if !root_right(packet, n, chunk, root) {
-        return counts::refuse(13);
+        return refusals::refuse(13);
     }
     Answer::Done
 }
@@ -266,7 +266,7 @@ pub fn check<'a>(packet: &'a [u8], n: u64, chunk: ChunkNumber, root: &[u8; 32]) 
     match check_answer(packet, n, chunk, root) {
         Answer::Refused(_) => &packet[0..0],
         Answer::Done => {
-            let end = 4 + (sequences::read_be32(packet, 0) as usize);
+            let end = 4 + (byte_strings::read_be32(packet, 0) as usize);
             &packet[4..end]
         }
     }

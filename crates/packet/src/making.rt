@@ -1,21 +1,21 @@
 // Making a packet: "a 4-byte chunk length and the chunk; a 1-byte sibling count and siblings from the leaf upward; a 1-byte count of other
 // roots, these from the left". Everything is judged before the buffer is written.
-use counts::ChunkNumber;
-use counts::Place;
-use counts::Refusal;
-use counts::TreeIndex;
 use lookup::Verified;
+use number_types::ChunkNumber;
+use number_types::TreeIndex;
+use refusals::Place;
+use refusals::Refusal;
 ghost use mathlib.Core.Path.{_≡_};
 ghost use mathlib.Core.List.{_∷_};
 ghost use Prim.Native.Nat.{_+_, _*_, _≤_, _<_};
 ghost use lib.ListN.{length};
-ghost use Rattle.sequences.specs.Lists.{put};
+ghost use Rattle.byte_strings.specs.Lists.{put};
 ghost use Rattle.tree_index.specs.Numbers.{numbers};
 ghost use Rattle.blake2b.specs.Hash.{nodeHash};
-ghost use Rattle.files.specs.Within.{EntriesIn};
-ghost use Rattle.checks.specs.Given.{registerOf};
-ghost use Rattle.packet.specs.Parts.{entriesAt, packetWith, Readable, Roomy};
-ghost use Rattle.packet.specs.Made.{MadeAs, MadeOf};
+ghost use Rattle.file_format.specs.Inner.{EntriesIn};
+ghost use Rattle.checks.specs.Lent.{registerOf};
+ghost use Rattle.packet.specs.Inner.{entriesAt, packetWith, Readable, Roomy};
+ghost use Rattle.packet.specs.Post.{MadeAs, MadeOf};
 
 // What making a packet answers: a refusal, or the packet's length.
 pub enum Made {
@@ -30,9 +30,9 @@ fn write_entries(tree: &[u8], indexes: [TreeIndex; 20], count: usize, out: &mut 
 {
     let mut j: usize = 0;
     while j < count {
-        let start = files::entries::entry_place(indexes[j]);
+        let start = file_format::entries::entry_place(indexes[j]);
         let end = start + 40;
-        sequences::copy_to(out, at + 40 * j, &tree[start..end]);
+        byte_strings::copy_to(out, at + 40 * j, &tree[start..end]);
         j += 1;
     }
 }
@@ -66,9 +66,9 @@ fn write_packet(tree: &[u8], n: u64, chunk: ChunkNumber, bytes: &[u8], out: &mut
     let place = super::path::root_place(n, chunk);
     let beside = super::path::other_indexes(n, place);
     let others = super::path::other_count(n, chunk);
-    let length = sequences::be32(bytes.len() as u32);
-    sequences::copy_to(out, 0, &length);
-    sequences::copy_to(out, 4, bytes);
+    let length = byte_strings::be32(bytes.len() as u32);
+    byte_strings::copy_to(out, 0, &length);
+    byte_strings::copy_to(out, 4, bytes);
     let first = 4 + bytes.len();
     let siblings = up as usize;
     write_section(tree, above, siblings, out, first);

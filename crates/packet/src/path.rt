@@ -1,15 +1,15 @@
 // The way from a chunk up to its root: which root it is, and how many siblings and other roots there are. All of these are inner.
-use counts::ChunkNumber;
-use counts::TreeIndex;
+use number_types::ChunkNumber;
+use number_types::TreeIndex;
 ghost use mathlib.Core.Path.{_≡_};
 ghost use Prim.Native.Nat.{_-_, _≤_, _<_};
 ghost use lib.ListN.{length};
 ghost use Rattle.tree_index.specs.Tree.{roots};
 ghost use Rattle.tree_index.specs.Numbers.{numbers};
-ghost use Rattle.files.specs.ByValue.{padded};
+ghost use Rattle.file_format.specs.RootsByValue.{padded};
 ghost use Rattle.packet.specs.Packet as packets;
 ghost use Rattle.packet.specs.Packet.{siblings, otherRoots};
-ghost use Rattle.packet.specs.Parts.{placeAbove, ChunkOf, skipped, siblingRow, otherRow};
+ghost use Rattle.packet.specs.Inner.{placeAbove, ChunkOf, skipped, siblingRow, otherRow};
 
 // Inner: which of the roots, counted from the left, stands above a chunk; their count where none does.
 pub fn root_place(n: u64, chunk: ChunkNumber) -> usize

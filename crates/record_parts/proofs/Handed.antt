@@ -10,28 +10,28 @@ use native.Mathlib.Nat.{zero-add}
 use lib.Dec.{ltb}
 use lib.ListN.{length, getD, take, drop, List·getD-eq-default}
 use borrow.Author.Tests.{lt-ltb, le-ltb}
-use Rattle.counts.specs.declared.Answer.{Answer}
-use Rattle.counts.specs.declared.Answer.the-variants.{Done, Refused}
-use Rattle.counts.specs.declared.Refusal.{Refusal}
-use Rattle.sequences.specs.Lists.{part, run}
-use Rattle.sequences.proofs.Lists.{getD-run, length-run}
-use Rattle.fields.specs.Varints.{digits}
-use Rattle.fields.specs.Fields.{partField}
-use Rattle.fields.specs.Inner.{bytesOf, partOf, BytesInside}
-use Rattle.fields.proofs.Digits.{two}
-use Rattle.fields.specs.declared.rows.Part.{Part}
-use Rattle.fields.specs.declared.rows.Bytes.{Bytes}
-use Rattle.fields.specs.declared.rows.Bytes.the-variants.{Absent, Given}
-use Rattle.records.specs.Records.{Header, HeaderWithin, headerBytes, Writer, Node, nodeBytes}
-use Rattle.records.specs.Theorems.{Accepted, Rejected}
-use Rattle.records.specs.Calls.{HeaderReadAs, headerOf}
-use Rattle.records.specs.declared.headers.HeaderRead.{HeaderRead}
-use Rattle.records.specs.declared.headers.HeaderRead.the-variants.{Refused as NoHeader, Content}
-use Rattle.records.proofs.Unique.{header-unique, node-unique}
-use Rattle.nodes.specs.Calls.{writerOf, writersOf, writerAt, noWriter, noWriters, nodeOf, noNode, WriterInside, WritersInside, NodeInside, NodeReadAs}
-use Rattle.nodes.specs.declared.writers.Writer.{Writer as CodeWriter}
-use Rattle.nodes.specs.declared.writers.Writers.{Writers}
-use Rattle.nodes.specs.declared.reading.Node.{Node as CodeNode}
+use Rattle.refusals.specs.declared.Answer.{Answer}
+use Rattle.refusals.specs.declared.Answer.the-variants.{Done, Refused}
+use Rattle.refusals.specs.declared.Refusal.{Refusal}
+use Rattle.byte_strings.specs.Lists.{part, run}
+use Rattle.byte_strings.proofs.Lists.{getD-run, length-run}
+use Rattle.record_fields.specs.Varints.{digits}
+use Rattle.record_fields.specs.Fields.{partField}
+use Rattle.record_fields.specs.Inner.{bytesOf, partOf, BytesInside}
+use Rattle.record_fields.proofs.Digits.{two}
+use Rattle.record_fields.specs.declared.rows.Part.{Part}
+use Rattle.record_fields.specs.declared.rows.Bytes.{Bytes}
+use Rattle.record_fields.specs.declared.rows.Bytes.the-variants.{Absent, Given}
+use Rattle.record_format.specs.Records.{Header, HeaderWithin, headerBytes, Writer, Node, nodeBytes}
+use Rattle.record_format.specs.Theorems.{Accepted, Rejected}
+use Rattle.record_format.specs.Post.{HeaderReadAs, headerOf}
+use Rattle.record_format.specs.declared.headers.HeaderRead.{HeaderRead}
+use Rattle.record_format.specs.declared.headers.HeaderRead.the-variants.{Refused as NoHeader, Content}
+use Rattle.record_format.proofs.Unique.{header-unique, node-unique}
+use Rattle.record_node.specs.Post.{writerOf, writersOf, writerAt, noWriter, noWriters, nodeOf, noNode, WriterInside, WritersInside, NodeInside, NodeReadAs}
+use Rattle.record_node.specs.declared.writers.Writer.{Writer as CodeWriter}
+use Rattle.record_node.specs.declared.writers.Writers.{Writers}
+use Rattle.record_node.specs.declared.reading.Node.{Node as CodeNode}
 use Rattle.record_parts.specs.Parts.{orNothing, nobody, fieldOf, contentOf, HeaderHanded, NodeHanded, NothingIsNone}
 use Rattle.record_parts.specs.Chosen.{writerIn, chosenOf}
 use Rattle.record_parts.specs.declared.Field.{Field}

@@ -2,12 +2,12 @@
 use Prim.Native.Nat.{ℕ}
 use mathlib.Core.Bool.{cond}
 use lib.Dec.{ltb}
-use Rattle.fields.specs.declared.rows.Bytes.{Bytes}
-use Rattle.fields.specs.declared.rows.Bytes.the-variants.{Given}
-use Rattle.nodes.specs.Calls.{noWriter, writerAt}
-use Rattle.nodes.specs.declared.writers.Writer.{Writer}
-use Rattle.nodes.specs.declared.writers.Writers.{Writers}
-use Rattle.nodes.specs.declared.reading.Node.{Node}
+use Rattle.record_fields.specs.declared.rows.Bytes.{Bytes}
+use Rattle.record_fields.specs.declared.rows.Bytes.the-variants.{Given}
+use Rattle.record_node.specs.Post.{noWriter, writerAt}
+use Rattle.record_node.specs.declared.writers.Writer.{Writer}
+use Rattle.record_node.specs.declared.writers.Writers.{Writers}
+use Rattle.record_node.specs.declared.reading.Node.{Node}
 use Rattle.record_parts.specs.declared.Field.{Field}
 use Rattle.record_parts.specs.declared.Field.the-variants.{Path, Trie, Key, Permission}
 

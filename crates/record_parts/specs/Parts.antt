@@ -7,8 +7,8 @@ use mathlib.Core.Path.{_≡_}
 use mathlib.Core.List.{List, []}
 use mathlib.Core.Option.{Option, none, some}
 use lib.ListN.{getD}
-use Rattle.records.specs.Records.{Header, headerBytes, HeaderWithin, Writer, Node, nodeBytes, NodeWithin}
-use Rattle.records.specs.Theorems.{Accepted, Rejected}
+use Rattle.record_format.specs.Records.{Header, headerBytes, HeaderWithin, Writer, Node, nodeBytes, NodeWithin}
+use Rattle.record_format.specs.Theorems.{Accepted, Rejected}
 use Rattle.record_parts.specs.declared.Field.{Field}
 use Rattle.record_parts.specs.declared.Field.the-variants.{Path, Trie, Key, Permission}
 

@@ -1,18 +1,18 @@
 // The parts of a record as parts of the bytes lent: of bytes, or of a chunk of a register. Nothing after a refusal, whose number the readers
-// tell (`records::read_header`, `nodes::read_node`, `paths::header_of`, `paths::node_of`), and nothing of a field that is absent, which they
+// tell (`record_format::read_header`, `record_node::read_node`, `record_find::header_of`, `record_find::node_of`), and nothing of a field that is absent, which they
 // tell too.
-use counts::ChunkNumber;
-use fields::Bytes;
-use fields::Part;
-use nodes::Node;
-use nodes::Writer;
-use nodes::Writers;
-use records::HeaderRead;
+use number_types::ChunkNumber;
+use record_fields::Bytes;
+use record_fields::Part;
+use record_format::HeaderRead;
+use record_node::Node;
+use record_node::Writer;
+use record_node::Writers;
 ghost use mathlib.Core.Path.{_≡_};
 ghost use Rattle.blake2b.specs.Hash.{nodeHash};
-ghost use Rattle.checks.specs.Given.{registerOf};
+ghost use Rattle.checks.specs.Lent.{registerOf};
 ghost use Rattle.lookup.specs.Read.{readPart};
-ghost use Rattle.fields.specs.Inner.{bytesOf, BytesInside};
+ghost use Rattle.record_fields.specs.Inner.{bytesOf, BytesInside};
 ghost use Rattle.record_parts.specs.Parts.{orNothing, HeaderHanded, NodeHanded};
 ghost use Rattle.record_parts.specs.Chosen.{writerIn, chosenOf};
 
@@ -82,7 +82,7 @@ fn taken<'a>(bytes: &'a [u8], part: Bytes) -> &'a [u8]
 pub fn node_part<'a>(bytes: &'a [u8], field: Field) -> &'a [u8]
     ensures { λ r. ⌜ NodeHanded field (now (bytes .entry)) (now r) ⌝ }
 {
-    let read = nodes::read_node(bytes);
+    let read = record_node::read_node(bytes);
     let node = read.node;
     taken(bytes, chosen(node, field))
 }
@@ -91,7 +91,7 @@ pub fn node_part<'a>(bytes: &'a [u8], field: Field) -> &'a [u8]
 pub fn header_content<'a>(bytes: &'a [u8]) -> &'a [u8]
     ensures { λ r. ⌜ HeaderHanded (now (bytes .entry)) (now r) ⌝ }
 {
-    match records::read_header(bytes) {
+    match record_format::read_header(bytes) {
         HeaderRead::Refused(_) => taken(bytes, Bytes::Absent),
         HeaderRead::Content(part) => taken(bytes, Bytes::Given(part)),
     }

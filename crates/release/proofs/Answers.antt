@@ -8,9 +8,9 @@ use native.Mathlib.Nat.{mul-one}
 use native.Mathlib.Omega.{arith}
 use lib.ListN.{length, getD, set, take, drop, length-replicate, take-append-drop}
 use lib.Seq.{length-take-le, take-at}
-use Rattle.counts.specs.Verdict.{none, tree, done, refused}
-use Rattle.sequences.specs.Lists.{put, zeros, Bytes}
-use Rattle.sequences.proofs.Lists.{take-behind, length-put, drop-put, bytes-put, bytes-zeros}
+use Rattle.refusals.specs.Verdict.{none, tree, done, refused}
+use Rattle.byte_strings.specs.Lists.{put, zeros, Bytes}
+use Rattle.byte_strings.proofs.Lists.{take-behind, length-put, drop-put, bytes-put, bytes-zeros}
 use Rattle.tree_index.specs.Tree.{index}
 use Rattle.tree_index.proofs.Filled.{end-filled}
 use Rattle.bitfield.specs.Image.{entryCount, entriesOf}
@@ -19,25 +19,25 @@ use Rattle.bitfield.proofs.Image.{length-entries, put-local}
 use Rattle.bitfield.proofs.Bits.{without-one}
 use Rattle.bitfield.proofs.Append.{entries-ext}
 use Rattle.bitfield.proofs.Release.{released-image}
-use Rattle.files.specs.Sizes.{longestChunk, usedBitfield}
-use Rattle.files.specs.Messages.{HashFunction}
-use Rattle.files.specs.Nodes.{Entry, hole, node}
-use Rattle.files.specs.Images.{leaves, dataSize, dataImage, bitfieldImage, treeImage}
-use Rattle.files.specs.Stored.{storedHash, storedSize}
-use Rattle.files.specs.Slots.{Slot, released, slotEntry, contents, heldIn, Within}
-use Rattle.files.specs.Belongs.{Register, Lent, Belongs}
-use Rattle.files.proofs.Spans.{span}
-use Rattle.files.proofs.Slots.{slotAt, contents-length, leaf-at}
-use Rattle.files.proofs.Nodes.{Proper, nodeAt-index, node-proper}
-use Rattle.files.proofs.OfImage.{stored-node-hash, stored-node-size}
-use Rattle.files.proofs.Held.{bits-room, bits-cut}
+use Rattle.file_format.specs.Sizes.{longestChunk, usedBitfield}
+use Rattle.file_format.specs.Messages.{HashFunction}
+use Rattle.file_format.specs.Entries.{Entry, hole, node}
+use Rattle.file_format.specs.Images.{leaves, dataSize, dataImage, bitfieldImage, treeImage}
+use Rattle.file_format.specs.Stored.{storedHash, storedSize}
+use Rattle.file_format.specs.Slots.{Slot, released, slotEntry, contents, heldIn, Within}
+use Rattle.file_format.specs.Belongs.{Register, Lent, Belongs}
+use Rattle.file_format.proofs.Spans.{span}
+use Rattle.file_format.proofs.Slots.{slotAt, contents-length, leaf-at}
+use Rattle.file_format.proofs.Nodes.{Proper, nodeAt-index, node-proper}
+use Rattle.file_format.proofs.OfImage.{stored-node-hash, stored-node-size}
+use Rattle.file_format.proofs.Held.{bits-room, bits-cut}
 use Rattle.checks.specs.Checks.{judged, registerChecks}
 use Rattle.checks.proofs.Passed.{Passed, passes, passed}
 use Rattle.lookup.specs.Lookup.{startOf, toChunk, heldVerdict}
 use Rattle.lookup.proofs.Calls.{Placing, placing, held-done}
 use Rattle.lookup.proofs.Answers.{no-held, to-chunk, leaf-of, held-n, held-as, held-done-at}
 use Rattle.release.specs.Release.{releaseVerdict, releasedRegister}
-use Rattle.release.specs.Answers.{leafEntry, releasedIn, Releases, ReleaseAnswers, ReleaseAnswersForAll, ReleaseStays, ReleaseStaysForAll}
+use Rattle.release.specs.Theorems.{leafEntry, releasedIn, Releases, ReleaseAnswers, ReleaseAnswersForAll, ReleaseStays, ReleaseStaysForAll}
 use Rattle.release.proofs.Bits.{bit-room, bits-long, bits-header, bits-bytes, bits-rest}
 use Rattle.release.proofs.Replaced.{data-set, size-set, length-ts, contents-ts, held-ts, tree-ts, within-ts}
 use Rattle.release.proofs.Calls.{held-passed, release-inside}

@@ -5,8 +5,8 @@ use mathlib.Core.List.{List, [], _∷_, _++_}
 use native.Mathlib.Omega.{arith}
 use lib.ListN.{length, getD, set, take, drop, length-set, take-append-drop}
 use lib.Seq.{length-take-le, take-at, drop-at, take-set-le}
-use Rattle.sequences.specs.Lists.{part, put, Bytes}
-use Rattle.sequences.proofs.Lists.{part-left, length-put, take-put, put-one, bytes-put}
+use Rattle.byte_strings.specs.Lists.{part, put, Bytes}
+use Rattle.byte_strings.proofs.Lists.{part-left, length-put, take-put, put-one, bytes-put}
 use Rattle.bitfield.specs.Bits.{digit, changeBit, withoutDigit}
 use Rattle.bitfield.specs.Index.{indexBytes}
 use Rattle.bitfield.specs.Append.{bitsPlace, regenerated}
@@ -14,7 +14,7 @@ use Rattle.bitfield.specs.Release.{clearDataBit, releasedBits}
 use Rattle.bitfield.proofs.Levels.{length-index, bytes-index}
 use Rattle.bitfield.proofs.Image.{bit-local, put-local}
 use Rattle.bitfield.proofs.Release.{entry-below}
-use Rattle.files.specs.Sizes.{usedBitfield}
+use Rattle.file_format.specs.Sizes.{usedBitfield}
 
 one-byte : (v : ℕ) → v < 256 → Bytes (v ∷ [])
 one-byte v h zero = h

@@ -7,12 +7,12 @@ use native.Mathlib.Omega.{arith}
 use lib.Dec.{ltb}
 use lib.ListN.{length}
 use borrow.Author.Tests.{ltb-true}
-use Rattle.counts.specs.Verdict.{Spot, Verdict, tree, done, refused, unlessRefused}
-use Rattle.sequences.specs.Lists.{put, zeros}
+use Rattle.refusals.specs.Verdict.{Spot, Verdict, tree, done, refused, unlessRefused}
+use Rattle.byte_strings.specs.Lists.{put, zeros}
 use Rattle.tree_index.specs.Tree.{index}
 use Rattle.bitfield.specs.Release.{storedHeld, releasedBits}
-use Rattle.files.specs.Stored.{storedSize}
-use Rattle.files.specs.Belongs.{Register, buffersOf}
+use Rattle.file_format.specs.Stored.{storedSize}
+use Rattle.file_format.specs.Belongs.{Register, buffersOf}
 use Rattle.checks.specs.Checks.{Check, judged, registerChecks}
 use Rattle.checks.proofs.Judged.{judged-append}
 use Rattle.checks.proofs.Passed.{Passed, all-must, passed}

@@ -9,18 +9,18 @@ use lib.Dec.{eqb}
 use lib.ListN.{length, getD, set, drop, length-set, length-map, length-replicate}
 use lib.Seq.{drop-at, map-set-same, getD-set-same, getD-set-other}
 use borrow.Author.Tests.{eq-eqb}
-use Rattle.sequences.specs.Lists.{put, joined, total, zeros, Bytes}
-use Rattle.sequences.proofs.Lists.{bytes-zeros}
+use Rattle.byte_strings.specs.Lists.{put, joined, total, zeros, Bytes}
+use Rattle.byte_strings.proofs.Lists.{bytes-zeros}
 use Rattle.bitfield.proofs.Bits.{without-one, clears}
 use Rattle.bitfield.proofs.Levels.{same-or}
 use Rattle.bitfield.proofs.Image.{put-local}
-use Rattle.files.specs.Headers.{treeHeader}
-use Rattle.files.specs.Sizes.{longestChunk}
-use Rattle.files.specs.Nodes.{Entry, treeEntries}
-use Rattle.files.specs.Images.{dataSize, dataImage, leaves, treeImage}
-use Rattle.files.specs.Slots.{Slot, held, released, isHeld, slotBytes, slotEntry, contents, heldIn, Handed, Within}
-use Rattle.files.proofs.Spans.{span, span-none, span-cons}
-use Rattle.files.proofs.Slots.{slotAt}
+use Rattle.file_format.specs.Headers.{treeHeader}
+use Rattle.file_format.specs.Sizes.{longestChunk}
+use Rattle.file_format.specs.Entries.{Entry, treeEntries}
+use Rattle.file_format.specs.Images.{dataSize, dataImage, leaves, treeImage}
+use Rattle.file_format.specs.Slots.{Slot, held, released, isHeld, slotBytes, slotEntry, contents, heldIn, Handed, Within}
+use Rattle.file_format.proofs.Spans.{span, span-none, span-cons}
+use Rattle.file_format.proofs.Slots.{slotAt}
 
 -- ---- lists with one element replaced
 

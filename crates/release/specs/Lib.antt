@@ -1,4 +1,4 @@
 -- Releasing a chunk.
 pub mod Release
 pub mod Post
-pub mod Answers
+pub mod Theorems

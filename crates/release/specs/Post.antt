@@ -3,11 +3,11 @@ use Prim.Native.Nat.{ℕ, _+_, _/_, _≤_}
 use mathlib.Core.Path.{_≡_}
 use mathlib.Core.List.{List}
 use lib.ListN.{length}
-use Rattle.counts.specs.Verdict.{Verdict}
-use Rattle.sequences.specs.Lists.{put, zeros}
+use Rattle.refusals.specs.Verdict.{Verdict}
+use Rattle.byte_strings.specs.Lists.{put, zeros}
 use Rattle.bitfield.specs.Append.{bitsPlace}
 use Rattle.bitfield.specs.Release.{releasedBits}
-use Rattle.files.specs.Belongs.{Buffers, Register}
+use Rattle.file_format.specs.Belongs.{Buffers, Register}
 use Rattle.release.specs.Release.{releaseVerdict, afterRelease}
 
 -- four lent buffers

@@ -1,12 +1,12 @@
 -- "Releasing a chunk, found by the place lookup with its refusals, clears its data bit, regenerates that entry's Index and writes zeros over the
 -- chunk's bytes; its tree entries stay. It answers done".
 use Prim.Native.Nat.{ℕ}
-use Rattle.counts.specs.Verdict.{Verdict, unlessRefused}
-use Rattle.sequences.specs.Lists.{put, zeros}
+use Rattle.refusals.specs.Verdict.{Verdict, unlessRefused}
+use Rattle.byte_strings.specs.Lists.{put, zeros}
 use Rattle.tree_index.specs.Tree.{index}
 use Rattle.bitfield.specs.Release.{releasedBits}
-use Rattle.files.specs.Stored.{storedSize}
-use Rattle.files.specs.Belongs.{Buffers, Register, buffersOf}
+use Rattle.file_format.specs.Stored.{storedSize}
+use Rattle.file_format.specs.Belongs.{Buffers, Register, buffersOf}
 use Rattle.lookup.specs.Lookup.{startOf, toChunk, heldVerdict}
 
 -- the refusals of the place lookup, with 18 just after 9 for a chunk that is not held

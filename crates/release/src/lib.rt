@@ -1,11 +1,11 @@
 // Releasing a chunk: "clears its data bit, regenerates that entry's Index and writes zeros over the chunk's bytes; its tree entries stay".
 // Everything is judged before a byte is written.
-use counts::Answer;
-use counts::ByteOffset;
-use counts::ChunkNumber;
 use lookup::Placed;
-ghost use Rattle.counts.specs.Said.{said};
-ghost use Rattle.checks.specs.Given.{registerOf};
+use number_types::ByteOffset;
+use number_types::ChunkNumber;
+use refusals::Answer;
+ghost use Rattle.refusals.specs.Meaning.{said};
+ghost use Rattle.checks.specs.Lent.{registerOf};
 ghost use Rattle.release.specs.Post.{lent, Clears, Cleared, ReleasePost};
 
 // Inner: what a release writes, of a chunk whose place was found.
@@ -25,7 +25,7 @@ pub fn clear_chunk(
     let at = start.0 as usize;
     let count = size as usize;
     bitfield::release_bits(bitfield, chunk);
-    sequences::clear(content, at, count);
+    byte_strings::clear(content, at, count);
 }
 
 // A chunk that is held makes room: it is held no longer, and its bytes are zeros.

@@ -8,11 +8,11 @@ use native.Mathlib.Nat.{zero-add}
 use native.Mathlib.Omega.{arith}
 use lib.ListN.{length}
 use lib.Seq.{take-all}
-use Rattle.counts.specs.Verdict.{Spot, Verdict, done, refused}
-use Rattle.sequences.specs.Lists.{part, run, joined}
-use Rattle.sequences.specs.Lowest.{Lowest, lowest}
-use Rattle.sequences.proofs.Lists.{part-part, part-front, part-behind, part-joined}
-use Rattle.sequences.proofs.Lowest.{lowest-agree}
+use Rattle.refusals.specs.Verdict.{Spot, Verdict, done, refused}
+use Rattle.byte_strings.specs.Lists.{part, run, joined}
+use Rattle.byte_strings.specs.Lowest.{Lowest, lowest}
+use Rattle.byte_strings.proofs.Lists.{part-part, part-front, part-behind, part-joined}
+use Rattle.byte_strings.proofs.Lowest.{lowest-agree}
 use Rattle.tree_index.specs.Tree.{filled}
 use Rattle.bitfield.specs.Index.{indexBytes}
 use Rattle.bitfield.specs.Image.{dataBytes, treeBytes, entry, entryCount, entriesOf}
@@ -20,15 +20,15 @@ use Rattle.bitfield.specs.Append.{bitsPlace}
 use Rattle.bitfield.specs.Release.{storedHeld}
 use Rattle.bitfield.proofs.Image.{length-data, length-tree, length-entry}
 use Rattle.bitfield.proofs.Levels.{length-index}
-use Rattle.files.specs.Sizes.{mostChunks}
-use Rattle.files.specs.Slots.{Slot, heldIn}
-use Rattle.files.specs.Belongs.{Register, Belongs}
-use Rattle.files.proofs.Held.{bits-cut, stored-held}
+use Rattle.file_format.specs.Sizes.{mostChunks}
+use Rattle.file_format.specs.Slots.{Slot, heldIn}
+use Rattle.file_format.specs.Belongs.{Register, Belongs}
+use Rattle.file_format.proofs.Held.{bits-cut, stored-held}
 use Rattle.checks.specs.Checks.{judged, registerChecks}
 use Rattle.checks.proofs.Passed.{passed}
 use Rattle.search.specs.Search.{firstMissing, Sought, refusal, answer, soughtUnless, searchFor}
 use Rattle.search.specs.Inner.{DataIn}
-use Rattle.search.specs.Answers.{IndexFollows, SearchAnswersForAll}
+use Rattle.search.specs.Theorems.{IndexFollows, SearchAnswersForAll}
 use Rattle.search.proofs.Steps.{data-in}
 use Rattle.search.proofs.Follows.{search-follows}
 

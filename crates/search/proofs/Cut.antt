@@ -4,8 +4,8 @@ use mathlib.Core.Path.{_≡_, refl, sym, ap, ap₂, _∙_}
 use mathlib.Core.Bool.{Bool, true, false}
 use native.Mathlib.Nat.{le-refl, zero-add, add-zero, add-suc, suc-add}
 use native.Mathlib.Omega.{arith}
-use Rattle.sequences.specs.Lowest.{Lowest, nowhere, first, lowest}
-use Rattle.sequences.proofs.Lowest.{step}
+use Rattle.byte_strings.specs.Lowest.{Lowest, nowhere, first, lowest}
+use Rattle.byte_strings.proofs.Lowest.{step}
 
 -- what a first part finds, or else a second
 abbrev or-else : Lowest → Lowest → Lowest

@@ -9,10 +9,10 @@ use native.Mathlib.Omega.{arith}
 use lib.Dec.{eqb}
 use lib.ListN.{length, getD, List·getD-append}
 use borrow.Author.Tests.{eqb-true, eq-eqb}
-use Rattle.sequences.specs.Lists.{part, run}
-use Rattle.sequences.specs.Lowest.{lowest}
-use Rattle.sequences.proofs.Lists.{getD-part, getD-run, length-run}
-use Rattle.sequences.proofs.Lowest.{lowest-agree}
+use Rattle.byte_strings.specs.Lists.{part, run}
+use Rattle.byte_strings.specs.Lowest.{lowest}
+use Rattle.byte_strings.proofs.Lists.{getD-part, getD-run, length-run}
+use Rattle.byte_strings.proofs.Lowest.{lowest-agree}
 use Rattle.tree_index.specs.Tree.{index, depth, block}
 use Rattle.tree_index.proofs.Index.{depth-index, block-index, index-leaf}
 use Rattle.bitfield.specs.Bits.{digit, bitAt}
@@ -22,7 +22,7 @@ use Rattle.bitfield.specs.Release.{storedHeld}
 use Rattle.bitfield.proofs.Levels.{uniform-lt, same-or}
 use Rattle.bitfield.proofs.Release.{entry-below}
 use Rattle.search.specs.Search.{storedTuples, tupleIn, storedTuple, passedOver, notMissing, firstMissing}
-use Rattle.search.specs.Answers.{IndexFollows, SearchFollowsForAll}
+use Rattle.search.specs.Theorems.{IndexFollows, SearchFollowsForAll}
 
 -- ---- numbers
 

@@ -8,16 +8,16 @@ use native.Mathlib.Omega.{arith}
 use lib.Dec.{eqb}
 use lib.ListN.{length, getD}
 use borrow.Author.Tests.{eq-eqb, ne-eqb}
-use Rattle.counts.specs.declared.ChunkNumber.{ChunkNumber}
-use Rattle.sequences.specs.Lowest.{Lowest, nowhere, first, lowest}
-use Rattle.sequences.proofs.Lowest.{lowest-agree}
+use Rattle.number_types.specs.declared.ChunkNumber.{ChunkNumber}
+use Rattle.byte_strings.specs.Lowest.{Lowest, nowhere, first, lowest}
+use Rattle.byte_strings.proofs.Lowest.{lowest-agree}
 use Rattle.bitfield.specs.Image.{entryCount}
 use Rattle.bitfield.specs.Append.{bitsPlace}
 use Rattle.bitfield.specs.Release.{storedHeld}
 use Rattle.bitfield.specs.Missing.{foundAt}
 use Rattle.bitfield.specs.declared.Found.{Found}
 use Rattle.bitfield.specs.declared.Found.the-variants.{At, Nothing}
-use Rattle.files.specs.Sizes.{mostChunks, usedBitfield}
+use Rattle.file_format.specs.Sizes.{mostChunks, usedBitfield}
 use Rattle.search.specs.Search.{storedTuples, tupleIn, storedTuple, passedOver, notMissing}
 use Rattle.search.specs.Inner.{DataIn, InGroup, InRun}
 use Rattle.search.proofs.Cut.{cut-found, cut-none, lowest-none}

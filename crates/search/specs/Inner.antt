@@ -5,7 +5,7 @@ use mathlib.Core.List.{List}
 use lib.ListN.{length}
 use Rattle.bitfield.specs.Image.{entryCount}
 use Rattle.bitfield.specs.Append.{bitsPlace}
-use Rattle.files.specs.Sizes.{mostChunks}
+use Rattle.file_format.specs.Sizes.{mostChunks}
 use Rattle.search.specs.Search.{storedTuples, storedTuple}
 
 -- r is the smaller of a and b

@@ -1,5 +1,5 @@
 -- The search for a chunk that is not held.
 pub mod Search
 pub mod Inner
-pub mod Said
-pub mod Answers
+pub mod Meaning
+pub mod Theorems

@@ -5,11 +5,11 @@ use mathlib.Core.Bool.{Bool, _||_}
 use mathlib.Core.List.{List}
 use lib.ListN.{getD}
 use lib.Dec.{eqb}
-use Rattle.counts.specs.Verdict.{Spot, Verdict, done, refused}
-use Rattle.sequences.specs.Lowest.{Lowest, lowest}
+use Rattle.refusals.specs.Verdict.{Spot, Verdict, done, refused}
+use Rattle.byte_strings.specs.Lowest.{Lowest, lowest}
 use Rattle.bitfield.specs.Append.{bitsPlace}
 use Rattle.bitfield.specs.Release.{storedHeld}
-use Rattle.files.specs.Belongs.{Register}
+use Rattle.file_format.specs.Belongs.{Register}
 use Rattle.checks.specs.Checks.{judged, registerChecks}
 
 -- the Index byte of the run h, of the chunks 64h to 64h + 63, in a bitfield file: "Index byte 2k holds the four tuples of data bytes 8k to 8k + 7"

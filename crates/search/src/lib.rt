@@ -2,14 +2,14 @@
 mod runs;
 
 use bitfield::Found;
-use counts::Answer;
-use counts::ChunkNumber;
-use counts::Refusal;
+use number_types::ChunkNumber;
+use refusals::Answer;
+use refusals::Refusal;
 pub use runs::by_runs;
 ghost use mathlib.Core.Path.{_≡_};
-ghost use Rattle.checks.specs.Given.{registerOf};
+ghost use Rattle.checks.specs.Lent.{registerOf};
 ghost use Rattle.search.specs.Search.{searchFor};
-ghost use Rattle.search.specs.Said.{searchedOf};
+ghost use Rattle.search.specs.Meaning.{searchedOf};
 
 // What a search answers: a refusal, the chunk, or that there is none.
 pub enum Searched {

@@ -1,11 +1,11 @@
 // The search by the Index, over a bitfield file: a run of 64 chunks has an Index byte, with a tuple for each of its four groups of 16 chunks, and only
 // the data bits of groups whose tuple is not 11 are read. All of these are inner: they require the entries that they read to lie in the file.
 use bitfield::Found;
-use counts::ChunkNumber;
+use number_types::ChunkNumber;
 ghost use mathlib.Core.Path.{_≡_};
 ghost use Prim.Native.Nat.{_+_, _-_, _/_, _≤_, _<_};
 ghost use lib.ListN.{length};
-ghost use Rattle.sequences.specs.Lowest.{lowest};
+ghost use Rattle.byte_strings.specs.Lowest.{lowest};
 ghost use Rattle.bitfield.specs.Append.{bitsPlace};
 ghost use Rattle.bitfield.specs.Missing.{foundAt};
 ghost use Rattle.search.specs.Search.{storedTuples, tupleIn, notMissing};
@@ -48,7 +48,7 @@ pub fn in_group(xs: &[u8], tuple: u8, from: u64, end: u64) -> Found
     if tuple == 3 {
         return Found::Nothing;
     }
-    bitfield::first_missing(xs, counts::chunk_behind(from), end)
+    bitfield::first_missing(xs, number_types::chunk_behind(from), end)
 }
 
 // Inner: the same within a run, group by group.
@@ -59,7 +59,7 @@ pub fn by_groups(xs: &[u8], tuples: u8, from: u64, end: u64) -> Found
     let mut k = from;
     while k < end {
         let next = smaller_of((k / 16 + 1) * 16, end);
-        let tuple = group_tuple(tuples, counts::chunk_behind(k));
+        let tuple = group_tuple(tuples, number_types::chunk_behind(k));
         let found = in_group(xs, tuple, k, next);
         let Found::Nothing = found else {
             return found;
@@ -74,7 +74,7 @@ pub fn in_run(xs: &[u8], from: u64, end: u64) -> Found
     requires { ⌜ (from < end) × InRun (now xs) (storedTuples (now xs) (from / 64)) from end ⌝ }
     ensures { λ r. ⌜ foundAt r ≡ lowest (notMissing (now (xs .entry))) from (end - from) ⌝ }
 {
-    let tuples = run_tuples(xs, counts::chunk_behind(from));
+    let tuples = run_tuples(xs, number_types::chunk_behind(from));
     if tuples == 255 {
         return Found::Nothing;
     }

@@ -9,7 +9,7 @@ use native.Mathlib.Omega.{arith}
 use borrow.Author.Tests.{ltb-true, ltb-false}
 use lib.Dec.{ltb}
 use lib.Pow.{pow-pos, pow-add}
-use Rattle.sequences.specs.Lists.{run, among}
+use Rattle.byte_strings.specs.Lists.{run, among}
 use Rattle.tree_index.specs.Tree.{index, depth, block, filled, completed, filledBy}
 use Rattle.tree_index.proofs.Index.{index-of, by-coordinates, index-closed, pow-twice, completed-depth}
 use Rattle.tree_index.proofs.Filled.{end-filled, end-hole}

@@ -6,8 +6,8 @@ use mathlib.Core.Logic.{_⊎_, inl, inr}
 use mathlib.Core.List.{List, [], _∷_, _++_, append-nil, map, map-append}
 use native.Mathlib.Nat.{mod-one, mod-eq-of-lt, div-eq-of-lt, div-div-eq-div-mul, pow-suc, pow-succ', add-mul, one-mul, mul-assoc, zero-mul, mul-one, add-zero}
 use native.Mathlib.Omega.{arith}
-use Rattle.sequences.specs.Lists.{run, joined, total}
-use Rattle.sequences.proofs.Lists.{run-add, joined-append, total-append}
+use Rattle.byte_strings.specs.Lists.{run, joined, total}
+use Rattle.byte_strings.proofs.Lists.{run-add, joined-append, total-append}
 use Rattle.tree_index.specs.Tree.{index, depth, block, rootOf, rootsBelow, roots}
 use Rattle.tree_index.proofs.Index.{depth-index, block-index, pow-twice}
 use Rattle.tree_index.proofs.Filled.{block-end}

@@ -4,7 +4,7 @@ use Prim.Native.Nat.{ℕ, zero, suc, _<_}
 use mathlib.Core.Path.{_≡_, refl, sym, ap, _∙_}
 use mathlib.Core.List.{List, [], _∷_, _++_}
 use lib.ListN.{length, getD, set, List·getD-map, List·getD-append}
-use Rattle.counts.specs.declared.TreeIndex.{TreeIndex}
+use Rattle.number_types.specs.declared.TreeIndex.{TreeIndex}
 use Rattle.tree_index.specs.Numbers.{numbers}
 
 pub numbers-set : (l : List TreeIndex) (i : ℕ) (v : TreeIndex) → numbers (set l i v) ≡ set (numbers l) i (v .0)

@@ -7,7 +7,7 @@ use native.Mathlib.Nat.{add-zero, add-suc, suc-add}
 use native.Mathlib.Omega.{arith}
 use borrow.Author.Tests.{eq-eqb, eqb-true}
 use lib.Dec.{eqb}
-use Rattle.sequences.specs.Lists.{run, among}
+use Rattle.byte_strings.specs.Lists.{run, among}
 
 or-right : (x y : Bool) → y ≡ true → x || y ≡ true
 or-right true y e = refl

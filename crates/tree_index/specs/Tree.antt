@@ -4,7 +4,7 @@ use mathlib.Core.Bool.{Bool}
 use mathlib.Core.List.{List, [], _∷_, _++_}
 use lib.Dec.{leb}
 use lib.Count.{trailingZeros}
-use Rattle.sequences.specs.Lists.{run}
+use Rattle.byte_strings.specs.Lists.{run}
 
 -- the tree index of the block k of 2^d chunks. "chunk i is the leaf at tree index 2i"; a parent stands between its two children
 unfoldable pub index : ℕ → ℕ → ℕ

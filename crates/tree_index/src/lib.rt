@@ -1,8 +1,8 @@
 // The in-order tree: indexes, depths, children, parents and roots.
 //
 // Every function here is inner: its `requires` names its bounds, which its callers meet.
-use counts::ChunkNumber;
-use counts::TreeIndex;
+use number_types::ChunkNumber;
+use number_types::TreeIndex;
 ghost use mathlib.Core.Path.{_≡_};
 ghost use mathlib.Core.List.{_++_};
 ghost use Prim.Native.Nat.{_+_, _-_, _*_, _/_, _%_, _^_, _≤_, _<_};

@@ -4,17 +4,17 @@ use mathlib.Core.Path.{_≡_, sym, ap, ap₂, _∙_}
 use mathlib.Core.List.{List}
 use native.Mathlib.Omega.{arith}
 use lib.ListN.{length}
-use Rattle.counts.specs.Verdict.{Verdict, none, done, refused, unlessRefused}
-use Rattle.counts.specs.Said.{said}
-use Rattle.counts.specs.declared.Refusal.{Refusal}
-use Rattle.counts.specs.declared.Answer.{Answer}
-use Rattle.counts.specs.declared.Answer.the-variants.{Done, Refused}
-use Rattle.sequences.specs.Lists.{put, zeros}
+use Rattle.refusals.specs.Verdict.{Verdict, none, done, refused, unlessRefused}
+use Rattle.refusals.specs.Meaning.{said}
+use Rattle.refusals.specs.declared.Refusal.{Refusal}
+use Rattle.refusals.specs.declared.Answer.{Answer}
+use Rattle.refusals.specs.declared.Answer.the-variants.{Done, Refused}
+use Rattle.byte_strings.specs.Lists.{put, zeros}
 use Rattle.blake2b.specs.Hash.{nodeHash}
-use Rattle.files.specs.Sizes.{usedSignatures}
-use Rattle.files.specs.Stored.{storedRootMessage}
-use Rattle.files.specs.Within.{RootsIn}
-use Rattle.files.specs.Belongs.{Buffers, Register, buffersOf}
+use Rattle.file_format.specs.Sizes.{usedSignatures}
+use Rattle.file_format.specs.Stored.{storedRootMessage}
+use Rattle.file_format.specs.Inner.{RootsIn}
+use Rattle.file_format.specs.Belongs.{Buffers, Register, buffersOf}
 use borrow.Author.Tests.{leb-true}
 use Rattle.checks.specs.Checks.{judged, laterChecks, registerChecks}
 use Rattle.checks.proofs.Judged.{judged-done}
@@ -24,7 +24,7 @@ use Rattle.writing.specs.Start.{startVerdict, started, afterStart}
 use Rattle.writing.specs.Append.{appendVerdict, appendedRegister, rootUnlessRefused, appendRoot, afterAppend}
 use Rattle.writing.specs.Sign.{signVerdict, signedRegister, afterSign}
 use Rattle.writing.specs.RootHash.{rootVerdict, rootAnswer}
-use Rattle.writing.specs.Fits.{StartFits}
+use Rattle.writing.specs.Conditions.{StartFits}
 use Rattle.writing.specs.Post.{lent, StartPost, AppendPost, SignPost, RootPost}
 use Rattle.writing.specs.Inner.{HeadersPut, StoreFits, StorePost}
 use Rattle.writing.proofs.Started.{fits-start, start-refused}

@@ -8,27 +8,27 @@ use mathlib.Core.List.{List, [], _∷_, _++_}
 use native.Mathlib.Nat.{le-refl}
 use native.Mathlib.Omega.{arith}
 use lib.ListN.{length, take, drop}
-use Rattle.sequences.specs.Lists.{part, put, Bytes}
-use Rattle.sequences.proofs.Lists.{drop-put}
+use Rattle.byte_strings.specs.Lists.{part, put, Bytes}
+use Rattle.byte_strings.proofs.Lists.{drop-put}
 use Rattle.tree_index.specs.Tree.{depth}
 use Rattle.bitfield.specs.Image.{entryCount, entriesOf}
 use Rattle.bitfield.specs.Append.{appended, bitsPlace}
 use Rattle.bitfield.proofs.Image.{length-entries}
 use Rattle.bitfield.proofs.Bits.{with-one}
 use Rattle.bitfield.proofs.Append.{NoneFrom, entries-ext, entries-after, appended-image}
-use Rattle.files.specs.Headers.{bitfieldHeader}
-use Rattle.files.specs.Sizes.{mostChunks, usedTree, usedBitfield}
-use Rattle.files.specs.Messages.{HashFunction}
-use Rattle.files.specs.Nodes.{leaf}
-use Rattle.files.specs.Images.{dataSize, dataImage, bitfieldImage, rootHashFor}
-use Rattle.files.specs.Stored.{storedRootMessage}
-use Rattle.files.specs.Slots.{Slot, held, contents, heldIn, Within}
-use Rattle.files.specs.Belongs.{Register, Belongs}
-use Rattle.files.proofs.Slots.{contents-snoc, held-behind, held-snoc}
-use Rattle.files.proofs.OfImage.{bitfieldHeader-length, stored-root-message}
-use Rattle.files.proofs.ToImage.{header-cut}
+use Rattle.file_format.specs.Headers.{bitfieldHeader}
+use Rattle.file_format.specs.Sizes.{mostChunks, usedTree, usedBitfield}
+use Rattle.file_format.specs.Messages.{HashFunction}
+use Rattle.file_format.specs.Entries.{leaf}
+use Rattle.file_format.specs.Images.{dataSize, dataImage, bitfieldImage, rootHashFor}
+use Rattle.file_format.specs.Stored.{storedRootMessage}
+use Rattle.file_format.specs.Slots.{Slot, held, contents, heldIn, Within}
+use Rattle.file_format.specs.Belongs.{Register, Belongs}
+use Rattle.file_format.proofs.Slots.{contents-snoc, held-behind, held-snoc}
+use Rattle.file_format.proofs.OfImage.{bitfieldHeader-length, stored-root-message}
+use Rattle.file_format.proofs.ToImage.{header-cut}
 use Rattle.writing.specs.Append.{appendedRegister}
-use Rattle.writing.specs.Fits.{AppendFits}
+use Rattle.writing.specs.Conditions.{AppendFits}
 use Rattle.writing.proofs.Written.{take-put-end, length-snoc, dataSize-snoc, dataImage-snoc, within-snoc}
 use Rattle.writing.specs.Inner.{made}
 use Rattle.writing.proofs.Made.{new-made, made-long}

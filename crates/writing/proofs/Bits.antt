@@ -7,8 +7,8 @@ use mathlib.Core.List.{List, [], _∷_, _++_}
 use native.Mathlib.Omega.{arith}
 use lib.ListN.{length, take, drop, length-set, length-replicate, take-append-drop}
 use lib.Seq.{length-take-le, take-at, drop-at, take-set-le}
-use Rattle.sequences.specs.Lists.{part, put, zeros, among}
-use Rattle.sequences.proofs.Lists.{part-left, length-put, take-put}
+use Rattle.byte_strings.specs.Lists.{part, put, zeros, among}
+use Rattle.byte_strings.proofs.Lists.{part-left, length-put, take-put}
 use Rattle.tree_index.specs.Tree.{filledBy, entries}
 use Rattle.tree_index.proofs.Filled.{filled-below}
 use Rattle.tree_index.proofs.Appended.{filledBy-filled}
@@ -18,7 +18,7 @@ use Rattle.bitfield.specs.Append.{bitsPlace, zeroedIfNew, setDataBit, setTreeBi
 use Rattle.bitfield.proofs.Image.{bit-local, put-local}
 use Rattle.bitfield.proofs.Levels.{same-or, length-index}
 use Rattle.bitfield.proofs.Append.{zeroed-new, zeroed-old, entries-after}
-use Rattle.files.specs.Sizes.{mostChunks, usedBitfield}
+use Rattle.file_format.specs.Sizes.{mostChunks, usedBitfield}
 use Rattle.writing.proofs.Entries.{among-head, among-tail}
 
 -- a change leaves the length of a list, its header, and what follows the list

@@ -9,20 +9,20 @@ use native.Mathlib.Numerals.{add-one}
 use native.Mathlib.Omega.{arith}
 use lib.ListN.{length, getD, List·getD-append}
 use lib.Pow.{pow-pos}
-use Rattle.sequences.specs.Lists.{run}
-use Rattle.sequences.proofs.Lists.{getD-behind}
+use Rattle.byte_strings.specs.Lists.{run}
+use Rattle.byte_strings.proofs.Lists.{getD-behind}
 use Rattle.tree_index.specs.Tree.{index, filled, completed, filledBy}
 use Rattle.tree_index.proofs.Index.{by-coordinates, pow-twice}
 use Rattle.tree_index.proofs.Filled.{block-end, filled-end, end-filled, filled-left, filled-right}
 use Rattle.tree_index.proofs.Appended.{completed-end, newly-filled}
-use Rattle.files.specs.Messages.{HashFunction}
-use Rattle.files.specs.Nodes.{Entry, hole, leaf, parentOf, node, nodeAt, entryAt}
-use Rattle.files.specs.Images.{leaves}
-use Rattle.files.specs.Slots.{Slot, held, slotEntry, Within}
-use Rattle.files.specs.Belongs.{Register, Belongs}
-use Rattle.files.proofs.Slots.{leaves-length}
-use Rattle.files.proofs.Nodes.{nodeAt-index, entryAt-filled}
-use Rattle.files.proofs.OfImage.{stored-node-hash, stored-node-size}
+use Rattle.file_format.specs.Messages.{HashFunction}
+use Rattle.file_format.specs.Entries.{Entry, hole, leaf, parentOf, node, nodeAt, entryAt}
+use Rattle.file_format.specs.Images.{leaves}
+use Rattle.file_format.specs.Slots.{Slot, held, slotEntry, Within}
+use Rattle.file_format.specs.Belongs.{Register, Belongs}
+use Rattle.file_format.proofs.Slots.{leaves-length}
+use Rattle.file_format.proofs.Nodes.{nodeAt-index, entryAt-filled}
+use Rattle.file_format.proofs.OfImage.{stored-node-hash, stored-node-size}
 use Rattle.writing.specs.Append.{storedEntry, sibling, climb, newEntries}
 use Rattle.writing.proofs.Written.{length-snoc}
 

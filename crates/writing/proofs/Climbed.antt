@@ -9,19 +9,19 @@ use native.Mathlib.Numerals.{add-one}
 use native.Mathlib.Omega.{arith}
 use lib.ListN.{length, getD, length-append, List·getD-append}
 use lib.Pow.{pow-pos}
-use Rattle.sequences.specs.Lists.{put, run, total}
+use Rattle.byte_strings.specs.Lists.{put, run, total}
 use Rattle.tree_index.specs.Tree.{index, filled, completed, filledBy, entries, roots}
 use Rattle.tree_index.proofs.Filled.{block-end, end-filled, filled-below}
 use Rattle.tree_index.proofs.Appended.{completed-end, newly-filled, newly-hole}
 use Rattle.tree_index.proofs.Roots.{Carried, siblings, completed-half, carried, root-filled}
-use Rattle.files.specs.Sizes.{mostChunks, entryPlace, usedTree}
-use Rattle.files.specs.Nodes.{Entry, entryBytes, parentOf}
-use Rattle.files.specs.Stored.{storedHash, storedSize, storedRootSizes}
-use Rattle.files.specs.Within.{EntryIn}
-use Rattle.files.proofs.Nodes.{entryBytes-length}
-use Rattle.files.proofs.OfImage.{entry-inside}
-use Rattle.files.proofs.Spans.{total-append}
-use Rattle.files.proofs.Written.{entry-length, other-hash, other-size}
+use Rattle.file_format.specs.Sizes.{mostChunks, entryPlace, usedTree}
+use Rattle.file_format.specs.Entries.{Entry, entryBytes, parentOf}
+use Rattle.file_format.specs.Stored.{storedHash, storedSize, storedRootSizes}
+use Rattle.file_format.specs.Inner.{EntryIn}
+use Rattle.file_format.proofs.Nodes.{entryBytes-length}
+use Rattle.file_format.proofs.OfImage.{entry-inside}
+use Rattle.file_format.proofs.Spans.{total-append}
+use Rattle.file_format.proofs.Written.{entry-length, other-hash, other-size}
 use Rattle.blake2b.specs.Hash.{nodeHash}
 use Rattle.blake2b.proofs.Laws.{node-length}
 use Rattle.writing.specs.Append.{storedEntry, sibling, withEntries, climb}

@@ -8,11 +8,11 @@ use native.Mathlib.Omega.{arith}
 use borrow.Author.Tests.{eqb-true, eqb-false, eq-eqb}
 use lib.Dec.{eqb}
 use lib.ListN.{length, take, drop}
-use Rattle.sequences.specs.Lists.{part, put, among}
-use Rattle.sequences.proofs.Lists.{drop-put}
-use Rattle.files.specs.Sizes.{entryPlace}
-use Rattle.files.specs.Nodes.{Entry, entryBytes}
-use Rattle.files.proofs.Written.{entry-length, entry-header, other-entry, same-entry}
+use Rattle.byte_strings.specs.Lists.{part, put, among}
+use Rattle.byte_strings.proofs.Lists.{drop-put}
+use Rattle.file_format.specs.Sizes.{entryPlace}
+use Rattle.file_format.specs.Entries.{Entry, entryBytes}
+use Rattle.file_format.proofs.Written.{entry-length, entry-header, other-entry, same-entry}
 use Rattle.writing.specs.Append.{withEntries}
 
 -- what lies behind it stays

@@ -3,24 +3,24 @@
 use Prim.Native.Nat.{ℕ, _+_, _-_, _*_}
 use mathlib.Core.Path.{sym, subst}
 use mathlib.Core.List.{List, [], _∷_, _++_, map}
-use Rattle.sequences.specs.Lists.{put, Bytes, zeros}
-use Rattle.sequences.proofs.Lists.{bytes-put, bytes-zeros}
+use Rattle.byte_strings.specs.Lists.{put, Bytes, zeros}
+use Rattle.byte_strings.proofs.Lists.{bytes-put, bytes-zeros}
 use Rattle.tree_index.specs.Tree.{filledBy}
 use Rattle.bitfield.specs.Image.{entriesOf}
 use Rattle.bitfield.proofs.Bits.{with-one}
 use Rattle.bitfield.proofs.Image.{bytes-entries}
-use Rattle.files.specs.Headers.{treeHeader, signaturesHeader, bitfieldHeader}
-use Rattle.files.specs.Sizes.{entryPlace, usedSignatures}
-use Rattle.files.specs.Messages.{HashFunction}
-use Rattle.files.specs.Nodes.{Entry, entryBytes, entryAt}
-use Rattle.files.specs.Images.{leaves}
-use Rattle.files.specs.Slots.{Slot, held, heldIn, Within}
-use Rattle.files.specs.Belongs.{Buffers, Register, Lent, Belongs}
-use Rattle.files.proofs.ImageBytes.{treeHeader-bytes, signaturesHeader-bytes, bitfieldHeader-bytes, entry-bytes}
+use Rattle.file_format.specs.Headers.{treeHeader, signaturesHeader, bitfieldHeader}
+use Rattle.file_format.specs.Sizes.{entryPlace, usedSignatures}
+use Rattle.file_format.specs.Messages.{HashFunction}
+use Rattle.file_format.specs.Entries.{Entry, entryBytes, entryAt}
+use Rattle.file_format.specs.Images.{leaves}
+use Rattle.file_format.specs.Slots.{Slot, held, heldIn, Within}
+use Rattle.file_format.specs.Belongs.{Buffers, Register, Lent, Belongs}
+use Rattle.file_format.proofs.ImageBytes.{treeHeader-bytes, signaturesHeader-bytes, bitfieldHeader-bytes, entry-bytes}
 use Rattle.writing.specs.Start.{started, startedRegister}
 use Rattle.writing.specs.Append.{withHole, withEntries, appendedRegister}
 use Rattle.writing.specs.Sign.{signedRegister}
-use Rattle.writing.specs.Fits.{AppendFits}
+use Rattle.writing.specs.Conditions.{AppendFits}
 use Rattle.writing.proofs.Tree.{by-hole, appended-entries}
 use Rattle.writing.proofs.Appended.{bits-put, none-from, longer-within}
 

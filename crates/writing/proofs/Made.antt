@@ -5,17 +5,17 @@ use mathlib.Core.List.{List, _∷_, map}
 use native.Mathlib.Numerals.{add-one}
 use native.Mathlib.Omega.{arith}
 use lib.ListN.{length}
-use Rattle.sequences.specs.Lists.{run, Bytes}
-use Rattle.sequences.proofs.Lists.{run-ext, bytes-part}
+use Rattle.byte_strings.specs.Lists.{run, Bytes}
+use Rattle.byte_strings.proofs.Lists.{run-ext, bytes-part}
 use Rattle.tree_index.specs.Tree.{index, depth, completed, filledBy}
 use Rattle.tree_index.proofs.Index.{depth-index}
 use Rattle.blake2b.specs.Hash.{nodeHash}
 use Rattle.blake2b.proofs.Laws.{node-length, node-byte}
-use Rattle.files.specs.Sizes.{entryPlace}
-use Rattle.files.specs.Messages.{HashFunction}
-use Rattle.files.specs.Nodes.{Entry, entryBytes, leaf, parentOf}
-use Rattle.files.specs.Stored.{storedHash}
-use Rattle.files.proofs.Nodes.{leafMessage-bytes, parentMessage-bytes, entryBytes-length}
+use Rattle.file_format.specs.Sizes.{entryPlace}
+use Rattle.file_format.specs.Messages.{HashFunction}
+use Rattle.file_format.specs.Entries.{Entry, entryBytes, leaf, parentOf}
+use Rattle.file_format.specs.Stored.{storedHash}
+use Rattle.file_format.proofs.Nodes.{leafMessage-bytes, parentMessage-bytes, entryBytes-length}
 use Rattle.writing.specs.Append.{storedEntry, sibling, climb, newEntries}
 use Rattle.writing.specs.Inner.{made}
 

@@ -6,13 +6,13 @@ use mathlib.Core.List.{List, [], _∷_, _++_}
 use borrow.Author.Tests.{lt-ltb, le-ltb}
 use lib.Dec.{leb, ltb, eqb}
 use lib.ListN.{length}
-use Rattle.counts.specs.Verdict.{Spot, Verdict, none, done, refused, unlessRefused}
-use Rattle.counts.specs.Said.{said, spotOf}
-use Rattle.counts.specs.declared.Refusal.{Refusal}
-use Rattle.counts.specs.declared.Answer.{Answer}
-use Rattle.counts.specs.declared.Answer.the-variants.{Done, Refused}
-use Rattle.files.specs.Sizes.{mostChunks, longestChunk, usedTree, usedSignatures, usedBitfield}
-use Rattle.files.specs.Belongs.{Buffers, Register}
+use Rattle.refusals.specs.Verdict.{Spot, Verdict, none, done, refused, unlessRefused}
+use Rattle.refusals.specs.Meaning.{said, spotOf}
+use Rattle.refusals.specs.declared.Refusal.{Refusal}
+use Rattle.refusals.specs.declared.Answer.{Answer}
+use Rattle.refusals.specs.declared.Answer.the-variants.{Done, Refused}
+use Rattle.file_format.specs.Sizes.{mostChunks, longestChunk, usedTree, usedSignatures, usedBitfield}
+use Rattle.file_format.specs.Belongs.{Buffers, Register}
 use Rattle.checks.specs.Checks.{Check, judged, holds, laterChecks, registerChecks}
 use Rattle.checks.proofs.Passed.{AllRight}
 use Rattle.checks.proofs.Judged.{judged-append, judged-refused, judged-right, judged-done}

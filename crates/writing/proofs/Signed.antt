@@ -5,13 +5,13 @@ use mathlib.Core.Path.{_≡_, sym, ap, _∙_}
 use mathlib.Core.List.{List, [], _∷_, _++_, append-assoc}
 use native.Mathlib.Omega.{arith}
 use lib.ListN.{length, take, drop}
-use Rattle.sequences.specs.Lists.{put, joined}
-use Rattle.sequences.proofs.Lists.{drop-put}
-use Rattle.files.specs.Headers.{signaturesHeader}
-use Rattle.files.specs.Sizes.{usedSignatures}
-use Rattle.files.specs.Images.{signaturesImage}
-use Rattle.files.specs.Slots.{Slot}
-use Rattle.files.specs.Belongs.{Register, Belongs}
+use Rattle.byte_strings.specs.Lists.{put, joined}
+use Rattle.byte_strings.proofs.Lists.{drop-put}
+use Rattle.file_format.specs.Headers.{signaturesHeader}
+use Rattle.file_format.specs.Sizes.{usedSignatures}
+use Rattle.file_format.specs.Images.{signaturesImage}
+use Rattle.file_format.specs.Slots.{Slot}
+use Rattle.file_format.specs.Belongs.{Register, Belongs}
 use Rattle.writing.specs.Sign.{signedRegister}
 use Rattle.writing.proofs.Written.{take-put-end, joined-snoc}
 

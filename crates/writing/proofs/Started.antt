@@ -7,21 +7,21 @@ use mathlib.Core.List.{List, [], append-nil}
 use borrow.Author.Tests.{leb-true, le-leb}
 use lib.Dec.{leb}
 use lib.ListN.{length, take, drop}
-use Rattle.counts.specs.Verdict.{none, done, refused}
-use Rattle.sequences.specs.Lists.{put, run, joined, total}
+use Rattle.refusals.specs.Verdict.{none, done, refused}
+use Rattle.byte_strings.specs.Lists.{put, run, joined, total}
 use Rattle.tree_index.specs.Tree.{entries}
 use Rattle.bitfield.specs.Image.{entryCount, entriesOf}
-use Rattle.files.specs.Headers.{treeHeader, signaturesHeader, bitfieldHeader}
-use Rattle.files.specs.Sizes.{usedTree, usedSignatures, usedBitfield}
-use Rattle.files.specs.Nodes.{treeEntries}
-use Rattle.files.specs.Images.{dataSize, dataImage, bitfieldImage, signaturesImage, treeImage, leaves}
-use Rattle.files.specs.Slots.{contents, heldIn}
-use Rattle.files.specs.Belongs.{Buffers, Belongs}
-use Rattle.files.proofs.OfImage.{treeHeader-length, signaturesHeader-length, bitfieldHeader-length}
+use Rattle.file_format.specs.Headers.{treeHeader, signaturesHeader, bitfieldHeader}
+use Rattle.file_format.specs.Sizes.{usedTree, usedSignatures, usedBitfield}
+use Rattle.file_format.specs.Entries.{treeEntries}
+use Rattle.file_format.specs.Images.{dataSize, dataImage, bitfieldImage, signaturesImage, treeImage, leaves}
+use Rattle.file_format.specs.Slots.{contents, heldIn}
+use Rattle.file_format.specs.Belongs.{Buffers, Belongs}
+use Rattle.file_format.proofs.OfImage.{treeHeader-length, signaturesHeader-length, bitfieldHeader-length}
 use Rattle.checks.specs.Checks.{judged}
 use Rattle.checks.proofs.Passed.{all-pass}
 use Rattle.writing.specs.Start.{startChecks, startVerdict, started, startedRegister}
-use Rattle.writing.specs.Fits.{StartFits}
+use Rattle.writing.specs.Conditions.{StartFits}
 use Rattle.writing.proofs.Written.{take-header, drop-header}
 
 pub fits-start : (b : Buffers) → StartFits b → startVerdict b ≡ done

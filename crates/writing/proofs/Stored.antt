@@ -5,24 +5,24 @@ use mathlib.Core.Bool.{Bool, true, false, cond}
 use mathlib.Core.List.{List, _++_}
 use native.Mathlib.Omega.{arith}
 use lib.ListN.{length, getD, take, drop}
-use Rattle.sequences.specs.Lists.{part, put, total, zeros}
-use Rattle.sequences.specs.Numbers.{be}
-use Rattle.sequences.proofs.Lists.{part-put}
+use Rattle.byte_strings.specs.Lists.{part, put, total, zeros}
+use Rattle.byte_strings.specs.Numbers.{be}
+use Rattle.byte_strings.proofs.Lists.{part-put}
 use Rattle.tree_index.specs.Tree.{index, filled, completed, filledBy, entries, roots}
 use Rattle.tree_index.proofs.Filled.{filled-below, filled-leaf}
 use Rattle.tree_index.proofs.Roots.{root-filled}
 use Rattle.bitfield.specs.Append.{bitsPlace, appended}
 use Rattle.bitfield.proofs.Append.{entries-after}
 use Rattle.blake2b.specs.Hash.{nodeHash}
-use Rattle.files.specs.Sizes.{mostChunks, entryPlace, usedTree, usedBitfield}
-use Rattle.files.specs.Headers.{treeHeader, signaturesHeader, bitfieldHeader}
-use Rattle.files.specs.Messages.{leafMessage, parentMessage}
-use Rattle.files.specs.Within.{EntryIn}
-use Rattle.files.proofs.OfImage.{entry-inside}
-use Rattle.files.specs.Nodes.{Entry, entryBytes, leaf, parentOf}
-use Rattle.files.specs.Stored.{storedHash, storedSize, storedRootSizes, storedRootMessage}
-use Rattle.files.proofs.Spans.{map-ext}
-use Rattle.files.proofs.Written.{other-hash, other-size}
+use Rattle.file_format.specs.Sizes.{mostChunks, entryPlace, usedTree, usedBitfield}
+use Rattle.file_format.specs.Headers.{treeHeader, signaturesHeader, bitfieldHeader}
+use Rattle.file_format.specs.Messages.{leafMessage, parentMessage}
+use Rattle.file_format.specs.Inner.{EntryIn}
+use Rattle.file_format.proofs.OfImage.{entry-inside}
+use Rattle.file_format.specs.Entries.{Entry, entryBytes, leaf, parentOf}
+use Rattle.file_format.specs.Stored.{storedHash, storedSize, storedRootSizes, storedRootMessage}
+use Rattle.file_format.proofs.Spans.{map-ext}
+use Rattle.file_format.proofs.Written.{other-hash, other-size}
 use Rattle.writing.specs.Append.{storedEntry, sibling, withHole, withEntries, climb, newEntries, appendedTree}
 use Rattle.writing.proofs.Tree.{by-hole, forty, hole-room, hole-length}
 use Rattle.writing.specs.Inner.{place, withLeaf, HeadersPut, FilledFits, StoreFits, StorePost}

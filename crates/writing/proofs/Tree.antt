@@ -8,22 +8,22 @@ use native.Mathlib.Omega.{arith}
 use borrow.Author.Tests.{ltb-true, ltb-false, lt-ltb}
 use lib.Dec.{ltb}
 use lib.ListN.{length, take, drop, length-replicate}
-use Rattle.sequences.specs.Lists.{part, put, zeros, among}
+use Rattle.byte_strings.specs.Lists.{part, put, zeros, among}
 use Rattle.tree_index.specs.Tree.{filled, filledBy, entries}
 use Rattle.tree_index.proofs.Filled.{filled-below, filled-leaf, hole-past}
 use Rattle.tree_index.proofs.Appended.{filledBy-filled, filled-suc}
-use Rattle.files.specs.Headers.{treeHeader}
-use Rattle.files.specs.Sizes.{mostChunks, entryPlace, usedTree}
-use Rattle.files.specs.Messages.{HashFunction}
-use Rattle.files.specs.Nodes.{Entry, entryBytes, entryAt, treeEntries}
-use Rattle.files.specs.Images.{treeImage, leaves}
-use Rattle.files.specs.Slots.{Slot, held, Within}
-use Rattle.files.specs.Belongs.{Register, Belongs}
-use Rattle.files.proofs.Slots.{leaves-length}
-use Rattle.files.proofs.Nodes.{entryAt-filled, entryAt-hole, entry-length}
-use Rattle.files.proofs.OfImage.{treeHeader-length, entry-inside, stored-entry}
-use Rattle.files.proofs.Written.{entry-header, other-entry, same-entry, entry-length as put-length}
-use Rattle.files.proofs.ToImage.{header-cut, hole-zeros, tree-of-entries}
+use Rattle.file_format.specs.Headers.{treeHeader}
+use Rattle.file_format.specs.Sizes.{mostChunks, entryPlace, usedTree}
+use Rattle.file_format.specs.Messages.{HashFunction}
+use Rattle.file_format.specs.Entries.{Entry, entryBytes, entryAt, treeEntries}
+use Rattle.file_format.specs.Images.{treeImage, leaves}
+use Rattle.file_format.specs.Slots.{Slot, held, Within}
+use Rattle.file_format.specs.Belongs.{Register, Belongs}
+use Rattle.file_format.proofs.Slots.{leaves-length}
+use Rattle.file_format.proofs.Nodes.{entryAt-filled, entryAt-hole, entry-length}
+use Rattle.file_format.proofs.OfImage.{treeHeader-length, entry-inside, stored-entry}
+use Rattle.file_format.proofs.Written.{entry-header, other-entry, same-entry, entry-length as put-length}
+use Rattle.file_format.proofs.ToImage.{header-cut, hole-zeros, tree-of-entries}
 use Rattle.writing.specs.Append.{withHole, withEntries, newEntries, appendedTree}
 use Rattle.writing.proofs.Written.{length-snoc}
 use Rattle.writing.proofs.Entries.{put-entry-rest, with-length, with-front, with-rest, with-among, with-other}

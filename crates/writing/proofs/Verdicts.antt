@@ -8,14 +8,14 @@ use native.Mathlib.Omega.{arith}
 use borrow.Author.Tests.{leb-true, ltb-true, eqb-true, eqb-false, le-leb, lt-ltb, eq-eqb, ne-eqb, not-true}
 use lib.Dec.{eqb}
 use lib.ListN.{length}
-use Rattle.counts.specs.Verdict.{done}
-use Rattle.files.specs.Sizes.{mostChunks, longestChunk, usedTree, usedSignatures, usedBitfield}
-use Rattle.files.specs.Belongs.{Register}
+use Rattle.refusals.specs.Verdict.{done}
+use Rattle.file_format.specs.Sizes.{mostChunks, longestChunk, usedTree, usedSignatures, usedBitfield}
+use Rattle.file_format.specs.Belongs.{Register}
 use Rattle.checks.specs.Checks.{Check, signedRight, laterChecks, registerChecks}
 use Rattle.checks.proofs.Passed.{Passed, all-must, all-pass, all-right, right-all}
 use Rattle.writing.specs.Append.{ownChecks, appendChecks, appendVerdict}
 use Rattle.writing.specs.Sign.{ownSignChecks, signChecks, signVerdict}
-use Rattle.writing.specs.Fits.{AppendFits, SignFits}
+use Rattle.writing.specs.Conditions.{AppendFits, SignFits}
 use Rattle.writing.proofs.Orders.{both-right, right-both}
 
 -- ---- an append

@@ -7,13 +7,13 @@ use native.Mathlib.Nat.{add-zero}
 use native.Mathlib.Omega.{arith}
 use lib.ListN.{length, getD, take, drop, length-append}
 use lib.Seq.{length-take-le, take-at}
-use Rattle.sequences.specs.Lists.{put, joined, total, Bytes}
-use Rattle.sequences.proofs.Lists.{take-behind, joined-append, drop-put}
-use Rattle.files.specs.Sizes.{mostChunks, longestChunk}
-use Rattle.files.specs.Images.{dataSize, dataImage}
-use Rattle.files.specs.Slots.{Slot, held, contents, Handed, Within}
-use Rattle.files.proofs.Spans.{total-append}
-use Rattle.files.proofs.Slots.{contents-snoc}
+use Rattle.byte_strings.specs.Lists.{put, joined, total, Bytes}
+use Rattle.byte_strings.proofs.Lists.{take-behind, joined-append, drop-put}
+use Rattle.file_format.specs.Sizes.{mostChunks, longestChunk}
+use Rattle.file_format.specs.Images.{dataSize, dataImage}
+use Rattle.file_format.specs.Slots.{Slot, held, contents, Handed, Within}
+use Rattle.file_format.proofs.Spans.{total-append}
+use Rattle.file_format.proofs.Slots.{contents-snoc}
 
 -- ---- bytes
 

@@ -5,14 +5,14 @@ use mathlib.Core.Bool.{Bool, cond}
 use mathlib.Core.List.{List, [], _∷_, _++_}
 use lib.ListN.{length}
 use lib.Dec.{leb, ltb, eqb}
-use Rattle.counts.specs.Verdict.{Verdict, done, refused, unlessRefused}
-use Rattle.sequences.specs.Lists.{put, zeros}
+use Rattle.refusals.specs.Verdict.{Verdict, done, refused, unlessRefused}
+use Rattle.byte_strings.specs.Lists.{put, zeros}
 use Rattle.tree_index.specs.Tree.{index, filled, completed, filledBy}
 use Rattle.bitfield.specs.Append.{appended}
-use Rattle.files.specs.Sizes.{mostChunks, longestChunk, entryPlace, usedTree, usedBitfield}
-use Rattle.files.specs.Nodes.{Entry, entryBytes, leaf, parentOf}
-use Rattle.files.specs.Stored.{storedHash, storedSize, storedRootMessage}
-use Rattle.files.specs.Belongs.{Buffers, Register, buffersOf}
+use Rattle.file_format.specs.Sizes.{mostChunks, longestChunk, entryPlace, usedTree, usedBitfield}
+use Rattle.file_format.specs.Entries.{Entry, entryBytes, leaf, parentOf}
+use Rattle.file_format.specs.Stored.{storedHash, storedSize, storedRootMessage}
+use Rattle.file_format.specs.Belongs.{Buffers, Register, buffersOf}
 use Rattle.checks.specs.Checks.{Check, judged, laterChecks, holds}
 
 -- the numbers behind 6: 7, 8, and 14 for the buffers that are written: the tree with the new entries, the bitfield, the data with the chunk

@@ -3,6 +3,6 @@ pub mod Start
 pub mod Append
 pub mod Sign
 pub mod RootHash
-pub mod Fits
+pub mod Conditions
 pub mod Post
 pub mod Inner

@@ -2,9 +2,9 @@
 use Prim.Native.Nat.{ℕ}
 use mathlib.Core.Path.{_≡_}
 use mathlib.Core.List.{List}
-use Rattle.counts.specs.Verdict.{Verdict}
+use Rattle.refusals.specs.Verdict.{Verdict}
 use Rattle.blake2b.specs.Hash.{nodeHash}
-use Rattle.files.specs.Belongs.{Buffers, Register}
+use Rattle.file_format.specs.Belongs.{Buffers, Register}
 use Rattle.writing.specs.Start.{startVerdict, afterStart}
 use Rattle.writing.specs.Append.{appendVerdict, appendRoot, afterAppend}
 use Rattle.writing.specs.Sign.{signVerdict, afterSign}

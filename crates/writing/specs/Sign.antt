@@ -3,10 +3,10 @@ use Prim.Native.Nat.{ℕ, _+_}
 use mathlib.Core.Bool.{not}
 use mathlib.Core.List.{List, [], _∷_, _++_}
 use lib.Dec.{eqb}
-use Rattle.counts.specs.Verdict.{Verdict, done, unlessRefused}
-use Rattle.sequences.specs.Lists.{put}
-use Rattle.files.specs.Sizes.{usedSignatures}
-use Rattle.files.specs.Belongs.{Buffers, Register, buffersOf}
+use Rattle.refusals.specs.Verdict.{Verdict, done, unlessRefused}
+use Rattle.byte_strings.specs.Lists.{put}
+use Rattle.file_format.specs.Sizes.{usedSignatures}
+use Rattle.file_format.specs.Belongs.{Buffers, Register, buffersOf}
 use Rattle.checks.specs.Checks.{Check, judged, registerChecks, holds}
 
 -- the numbers behind 6: "8. .. a signature is offered while s = n", and 14 for the signatures

@@ -1,10 +1,10 @@
 -- Start: "only lent four buffers and writes the three headers; its one refusal is 14".
 use Prim.Native.Nat.{ℕ}
 use mathlib.Core.List.{List, [], _∷_}
-use Rattle.counts.specs.Verdict.{Verdict, done, unlessRefused}
-use Rattle.sequences.specs.Lists.{put}
-use Rattle.files.specs.Headers.{treeHeader, signaturesHeader, bitfieldHeader}
-use Rattle.files.specs.Belongs.{Buffers, Register}
+use Rattle.refusals.specs.Verdict.{Verdict, done, unlessRefused}
+use Rattle.byte_strings.specs.Lists.{put}
+use Rattle.file_format.specs.Headers.{treeHeader, signaturesHeader, bitfieldHeader}
+use Rattle.file_format.specs.Belongs.{Buffers, Register}
 use Rattle.checks.specs.Checks.{Check, judged, holds}
 
 -- "14. A buffer to be written is shorter than the result needs.": a header takes 32 bytes, and the data file has none

@@ -1,18 +1,18 @@
 // An append: "adds one chunk, writes the leaf, every completed parent and the new hole, if any, sets the bits, regenerates the
 // Index of the new chunk's bitfield entry (zeroed first if it is new), and answers the new root hash".
-use counts::Answer;
+use refusals::Answer;
 ghost use mathlib.Core.Path.{_≡_};
 ghost use Prim.Native.Nat.{_+_, _≤_, _<_};
 ghost use lib.ListN.{length};
-ghost use Rattle.sequences.specs.Lists.{put};
+ghost use Rattle.byte_strings.specs.Lists.{put};
 ghost use Rattle.tree_index.specs.Tree.{completed, filledBy};
 ghost use Rattle.blake2b.specs.Hash.{nodeHash};
-ghost use Rattle.files.specs.Sizes.{entryPlace, usedTree};
-ghost use Rattle.files.specs.Nodes.{entryBytes, parentOf};
-ghost use Rattle.counts.specs.Verdict.{done};
-ghost use Rattle.counts.specs.Said.{said};
+ghost use Rattle.file_format.specs.Sizes.{entryPlace, usedTree};
+ghost use Rattle.file_format.specs.Entries.{entryBytes, parentOf};
+ghost use Rattle.refusals.specs.Verdict.{done};
+ghost use Rattle.refusals.specs.Meaning.{said};
 ghost use Rattle.checks.specs.Checks.{judged};
-ghost use Rattle.checks.specs.Given.{registerOf};
+ghost use Rattle.checks.specs.Lent.{registerOf};
 ghost use Rattle.writing.specs.Append.{ownChecks, appendVerdict, storedEntry, sibling as siblingOf, withHole, withEntries, climb};
 ghost use Rattle.writing.specs.Inner.{place, entryOf, withLeaf, NodeFits, AboveFits, FilledFits, StoreFits, StorePost};
 ghost use Rattle.writing.specs.Post.{lent, AppendPost};
@@ -52,19 +52,19 @@ fn judge_own(
         ⌝ }
 {
     if 65536 < chunk.len() {
-        return counts::refuse(7);
+        return refusals::refuse(7);
     }
     if s != n {
-        return counts::refuse(8);
+        return refusals::refuse(8);
     }
-    if tree.len() < files::sizes::used_tree(n + 1) {
-        return counts::refuse(14);
+    if tree.len() < file_format::sizes::used_tree(n + 1) {
+        return refusals::refuse(14);
     }
-    if bitfield.len() < files::sizes::used_bitfield(n + 1) {
-        return counts::refuse(14);
+    if bitfield.len() < file_format::sizes::used_bitfield(n + 1) {
+        return refusals::refuse(14);
     }
     if content.len() < (size as usize) + chunk.len() {
-        return counts::refuse(14);
+        return refusals::refuse(14);
     }
     Answer::Done
 }
@@ -89,7 +89,7 @@ pub fn judge(
         ⌝ }
 {
     if 1048576 <= n {
-        return counts::refuse(2);
+        return refusals::refuse(2);
     }
     let found = checks::judge_later(tree, signatures, bitfield, content, n, s, size);
     match found {
@@ -106,11 +106,11 @@ fn clear_hole(tree: &mut [u8], n: u64)
     if n == 0 {
         return;
     }
-    let i = tree_index::parent_before(counts::chunk_behind(n));
+    let i = tree_index::parent_before(number_types::chunk_behind(n));
     if tree_index::is_filled(n + 1, i) {
         return;
     }
-    files::entries::clear_entry(tree, i);
+    file_format::entries::clear_entry(tree, i);
 }
 
 // Inner: an entry at the node of the 2^d chunks that end with the chunk n.
@@ -118,9 +118,9 @@ fn put_node(tree: &mut [u8], n: u64, d: u32, node: Node)
     requires { ⌜ NodeFits (now tree) n d ⌝ }
     ensures { λ _. ⌜ now (tree .exit) ≡ put (now (tree .entry)) (entryPlace (place n d)) (entryBytes (entryOf node)) ⌝ }
 {
-    let i = tree_index::node_ending(counts::chunk_behind(n), d);
+    let i = tree_index::node_ending(number_types::chunk_behind(n), d);
     let hash = node.hash;
-    files::entries::write_entry(tree, i, &hash, node.size);
+    file_format::entries::write_entry(tree, i, &hash, node.size);
 }
 
 // Inner: the parent of a node that ends with the chunk n and of its left sibling, a stored root.
@@ -129,10 +129,10 @@ pub fn above(tree: &[u8], n: u64, d: u32, node: Node) -> Node
     ensures { λ r. ⌜ entryOf r ≡ parentOf nodeHash (storedEntry (now (tree .entry)) (siblingOf n d)) (entryOf node) ⌝ }
 {
     let i = tree_index::node_index(d, ((n + 1) >> d) - 2);
-    let left = files::entries::stored_hash(tree, i);
+    let left = file_format::entries::stored_hash(tree, i);
     let right = node.hash;
-    let size = files::entries::stored_size(tree, i) + node.size;
-    let hash = files::hashes::parent_hash(size, &left, &right);
+    let size = file_format::entries::stored_size(tree, i) + node.size;
+    let hash = file_format::hashes::parent_hash(size, &left, &right);
     Node { hash, size }
 }
 
@@ -146,7 +146,7 @@ fn write_filled(tree: &mut [u8], n: u64, leaf: Node)
         withEntries (now (tree .entry)) (filledBy n) (climb nodeHash (now (tree .entry)) n 0 (completed n) (entryOf leaf))
         ⌝ }
 {
-    let last = tree_index::completed(counts::chunk_behind(n));
+    let last = tree_index::completed(number_types::chunk_behind(n));
     let mut node = leaf;
     let mut d: u32 = 0;
     while d < last {
@@ -185,8 +185,8 @@ fn store(
 {
     let start = size as usize;
     let end = start + chunk.len();
-    sequences::copy_to(content, start, chunk);
-    let hash = files::hashes::leaf_hash(&content[start..end]);
+    byte_strings::copy_to(content, start, chunk);
+    let hash = file_format::hashes::leaf_hash(&content[start..end]);
     add_leaf(
         tree,
         n,
@@ -195,8 +195,8 @@ fn store(
             size: chunk.len() as u64,
         },
     );
-    bitfield::append_bits(bitfield, counts::chunk_behind(n));
-    files::roots::stored_root_hash(tree, n + 1)
+    bitfield::append_bits(bitfield, number_types::chunk_behind(n));
+    file_format::roots::stored_root_hash(tree, n + 1)
 }
 
 // One more chunk, whose predecessor's signature is stored.

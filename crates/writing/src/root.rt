@@ -1,7 +1,7 @@
 // The root hash of a register.
-use counts::Answer;
-ghost use Rattle.counts.specs.Said.{said};
-ghost use Rattle.checks.specs.Given.{registerOf};
+use refusals::Answer;
+ghost use Rattle.refusals.specs.Meaning.{said};
+ghost use Rattle.checks.specs.Lent.{registerOf};
 ghost use Rattle.writing.specs.Post.{RootPost};
 
 // An answer, and beside it the root hash; zeros after a refusal.
@@ -35,7 +35,7 @@ pub fn root_hash(
         },
         Answer::Done => Rooted {
             answer: Answer::Done,
-            root: files::roots::stored_root_hash(tree, n),
+            root: file_format::roots::stored_root_hash(tree, n),
         },
     }
 }

@@ -1,11 +1,11 @@
 // Storing a signature: 64 bytes from a signing device, unread, behind the signatures that are there.
-use counts::Answer;
+use refusals::Answer;
 ghost use mathlib.Core.Path.{_≡_};
 ghost use Prim.Native.Nat.{_+_, _≤_};
-ghost use Rattle.counts.specs.Verdict.{done};
-ghost use Rattle.counts.specs.Said.{said};
+ghost use Rattle.refusals.specs.Verdict.{done};
+ghost use Rattle.refusals.specs.Meaning.{said};
 ghost use Rattle.checks.specs.Checks.{judged};
-ghost use Rattle.checks.specs.Given.{registerOf};
+ghost use Rattle.checks.specs.Lent.{registerOf};
 ghost use Rattle.writing.specs.Sign.{ownSignChecks, signVerdict};
 ghost use Rattle.writing.specs.Post.{lent, SignPost};
 
@@ -15,10 +15,10 @@ fn judge_own(signatures: &[u8], n: u64, s: u64) -> Answer
     ensures { λ r. ⌜ said r ≡ judged (ownSignChecks (now (signatures .entry)) n s) done ⌝ }
 {
     if s == n {
-        return counts::refuse(8);
+        return refusals::refuse(8);
     }
-    if signatures.len() < files::sizes::used_signatures(s + 1) {
-        return counts::refuse(14);
+    if signatures.len() < file_format::sizes::used_signatures(s + 1) {
+        return refusals::refuse(14);
     }
     Answer::Done
 }
@@ -70,8 +70,8 @@ pub fn store_signature(
     match found {
         Answer::Refused(refusal) => Answer::Refused(refusal),
         Answer::Done => {
-            let at = files::sizes::used_signatures(s);
-            sequences::copy_to(signatures, at, signature);
+            let at = file_format::sizes::used_signatures(s);
+            byte_strings::copy_to(signatures, at, signature);
             Answer::Done
         }
     }

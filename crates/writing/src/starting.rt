@@ -1,8 +1,8 @@
 // Start: "only lent four buffers and writes the three headers; its one refusal is 14".
-use counts::Answer;
+use refusals::Answer;
 ghost use Prim.Native.Nat.{_≤_};
 ghost use lib.ListN.{length};
-ghost use Rattle.counts.specs.Said.{said};
+ghost use Rattle.refusals.specs.Meaning.{said};
 ghost use Rattle.writing.specs.Post.{lent, StartPost};
 ghost use Rattle.writing.specs.Inner.{HeadersPut};
 
@@ -15,12 +15,12 @@ fn write_headers(tree: &mut [u8], signatures: &mut [u8], bitfield: &mut [u8])
         (now (signatures .exit)) (now (bitfield .exit))
         ⌝ }
 {
-    let first = files::headers::tree_header();
-    files::headers::write_header(tree, &first);
-    let second = files::headers::signatures_header();
-    files::headers::write_header(signatures, &second);
-    let third = files::headers::bitfield_header();
-    files::headers::write_header(bitfield, &third);
+    let first = file_format::headers::tree_header();
+    file_format::headers::write_header(tree, &first);
+    let second = file_format::headers::signatures_header();
+    file_format::headers::write_header(signatures, &second);
+    let third = file_format::headers::bitfield_header();
+    file_format::headers::write_header(bitfield, &third);
 }
 
 // A register without chunks in four buffers. The data file has no header, so its buffer may have any length.
@@ -32,13 +32,13 @@ pub fn start(tree: &mut [u8], signatures: &mut [u8], bitfield: &mut [u8], conten
         ⌝ }
 {
     if tree.len() < 32 {
-        return counts::refuse(14);
+        return refusals::refuse(14);
     }
     if signatures.len() < 32 {
-        return counts::refuse(14);
+        return refusals::refuse(14);
     }
     if bitfield.len() < 32 {
-        return counts::refuse(14);
+        return refusals::refuse(14);
     }
     write_headers(tree, signatures, bitfield);
     Answer::Done

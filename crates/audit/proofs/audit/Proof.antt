@@ -2,8 +2,8 @@
 use Rattle.audit.specs.Audit.{imagesVerdict, audit}
 use Rattle.audit.proofs.Whole.{checks-refuse, checks-pass, files-in, images-of}
 use Rattle.blake2b.specs.Hash.{nodeHash}
-use Rattle.checks.specs.Given.{registerOf}
-use Rattle.counts.specs.Said.{said}
+use Rattle.checks.specs.Lent.{registerOf}
+use Rattle.refusals.specs.Meaning.{said}
 use borrow.Author.Needs.{needs}
 use mathlib.Core.Path.{ap, _∙_}
 use Rattle.audit.proofs.audit.Statement.{statement}

@@ -1,14 +1,14 @@
 -- `audit::images` meets its contract. Assumes nothing.
 use Prim.Native.Nat.{ℕ, _-_}
 use mathlib.Core.Bool.{Bool}
-use Rattle.counts.specs.Verdict.{bitfield, done}
-use Rattle.files.specs.Sizes.{usedBitfield}
+use Rattle.refusals.specs.Verdict.{bitfield, done}
+use Rattle.file_format.specs.Sizes.{usedBitfield}
 use Rattle.audit.specs.Audit.{lowest, refusedAt}
 use Rattle.audit.proofs.Bytes.{whole-right}
 use Rattle.audit.proofs.Whole.{tree-refuses, bitfield-says}
 use Rattle.blake2b.specs.Hash.{nodeHash}
-use Rattle.checks.specs.Given.{registerOf}
-use Rattle.counts.specs.Said.{said}
+use Rattle.checks.specs.Lent.{registerOf}
+use Rattle.refusals.specs.Meaning.{said}
 use borrow.Author.Needs.{needs}
 use mathlib.Core.List.{[]}
 use mathlib.Core.Path.{_∙_, ap}

@@ -4,8 +4,8 @@ use borrow.Author.Tests.{not-true, not-false}
 use mathlib.Core.Path.{_≡_, refl, sym, _∙_}
 use Prim.Native.Nat.{_-_}
 use native.Mathlib.Omega.{arith}
-use Rattle.sequences.specs.Lowest.{lowest}
-use Rattle.sequences.proofs.Lowest.{lowest-on, lowest-off, lowest-end}
+use Rattle.byte_strings.specs.Lowest.{lowest}
+use Rattle.byte_strings.proofs.Lowest.{lowest-on, lowest-off, lowest-end}
 use Rattle.bitfield.specs.Image.{entryCount}
 use Rattle.bitfield.specs.Append.{bitsPlace}
 use Rattle.bitfield.specs.Release.{storedHeld}

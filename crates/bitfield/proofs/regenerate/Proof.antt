@@ -5,7 +5,7 @@ use mathlib.Core.Path.{_≡_, ap, _∙_}
 use mathlib.Core.List.{List}
 use Prim.Native.Nat.{ℕ, _+_, _-_, _*_}
 use lib.ListN.{length, take, drop}
-use Rattle.sequences.specs.Lists.{part, put}
+use Rattle.byte_strings.specs.Lists.{part, put}
 use Rattle.bitfield.specs.Index.{indexBytes}
 use Rattle.bitfield.specs.Append.{regenerated, bitsPlace}
 use Rattle.bitfield.proofs.Levels.{length-index}

@@ -3,7 +3,7 @@ use borrow.Author.Needs.{needs}
 use native.Mathlib.Omega.{arith}
 use mathlib.Core.Path.{sym, ap, _∙_}
 use Prim.Native.Nat.{ℕ}
-use Rattle.sequences.specs.Lists.{put, zeros}
+use Rattle.byte_strings.specs.Lists.{put, zeros}
 use Rattle.bitfield.specs.Append.{bitsPlace}
 use Rattle.bitfield.proofs.Append.{zeroed-new, zeroed-old}
 use Rattle.bitfield.proofs.zero_if_new.Statement.{statement}

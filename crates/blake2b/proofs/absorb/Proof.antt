@@ -5,9 +5,9 @@ use mathlib.Core.Bool.{true}
 use mathlib.Core.List.{_++_}
 use Prim.Native.Nat.{ℕ, _≤_, _-_, _%_, _/_}
 use lib.ListN.{length-append}
-use Rattle.compression.specs.Compression.{F}
+use Rattle.blake2b_compression.specs.Compression.{F}
 use Rattle.blake2b.specs.Hash.{block}
-use Rattle.blake2b.specs.Pieces.{onward}
+use Rattle.blake2b.specs.Inner.{onward}
 use Rattle.blake2b.proofs.Blocks.{onward-more, absorbed-at}
 use borrow.Author.Needs.{needs}
 use native.Mathlib.Omega.{arith}

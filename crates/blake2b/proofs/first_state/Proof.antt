@@ -2,7 +2,7 @@
 -- Assumes nothing.
 use mathlib.Core.Path.{refl}
 use borrow.Author.Needs.{needs}
-use Rattle.compression.specs.Constants.{IV}
+use Rattle.blake2b_compression.specs.Constants.{IV}
 use Rattle.blake2b.specs.Hash.{initial, parameter}
 use Rattle.blake2b.proofs.first_state.Statement.{statement}
 use Rattle.blake2b.proofs.first_state.Tie as tie

@@ -3,7 +3,7 @@ use borrow.Author.Tests.{not-true, not-false}
 use mathlib.Core.Path.{refl, sym}
 use borrow.Author.Needs.{needs}
 use Rattle.checks.proofs.Steps.{and-stop, and-pass, head-is}
-use Rattle.checks.specs.Given.{headsRight}
+use Rattle.checks.specs.Lent.{headsRight}
 use Rattle.checks.proofs.heads_right.Statement.{statement}
 use Rattle.checks.proofs.heads_right.Tie as tie
 

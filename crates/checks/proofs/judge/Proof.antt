@@ -1,8 +1,8 @@
 -- `checks::judge` meets its contract. Assumes nothing.
 use borrow.Author.Needs.{needs}
 use Rattle.checks.proofs.Steps.{over, not-over}
-use Rattle.checks.specs.Given.{registerOf}
-use Rattle.counts.specs.Said.{said}
+use Rattle.checks.specs.Lent.{registerOf}
+use Rattle.refusals.specs.Meaning.{said}
 use Rattle.checks.proofs.judge.Statement.{statement}
 use Rattle.checks.proofs.judge.Tie as tie
 

@@ -4,12 +4,12 @@ use mathlib.Core.Bool.{true, false}
 use mathlib.Core.Path.{_≡_, refl, sym, _∙_}
 use native.Mathlib.Omega.{arith}
 use borrow.Author.Needs.{needs}
-use Rattle.files.specs.Belongs.{Register}
+use Rattle.file_format.specs.Belongs.{Register}
 use Rattle.checks.specs.Checks.{signedRight}
 use Rattle.checks.proofs.Steps.{signed-le, rooms, answered}
-use Rattle.checks.specs.Given.{registerOf, longRight, headsRight}
-use Rattle.counts.specs.Verdict.{done}
-use Rattle.counts.specs.Said.{said}
+use Rattle.checks.specs.Lent.{registerOf, longRight, headsRight}
+use Rattle.refusals.specs.Verdict.{done}
+use Rattle.refusals.specs.Meaning.{said}
 use Rattle.checks.proofs.judge_later.Statement.{statement}
 use Rattle.checks.proofs.judge_later.Tie as tie
 

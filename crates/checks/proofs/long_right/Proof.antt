@@ -2,7 +2,7 @@
 use mathlib.Core.Path.{refl}
 use borrow.Author.Needs.{needs}
 use Rattle.checks.proofs.Steps.{and-stop, and-pass, short-of, long-of}
-use Rattle.checks.specs.Given.{longRight}
+use Rattle.checks.specs.Lent.{longRight}
 use Rattle.checks.proofs.long_right.Statement.{statement}
 use Rattle.checks.proofs.long_right.Tie as tie
 

@@ -1,8 +1,8 @@
 -- `compare::compare` meets its contract.  Assumes nothing.
 use Rattle.blake2b.specs.Hash.{nodeHash}
-use Rattle.checks.specs.Given.{registerOf}
+use Rattle.checks.specs.Lent.{registerOf}
 use Rattle.compare.proofs.Walked.{first-refuses, second-refuses, both-walkable, walk-says}
-use Rattle.compare.specs.Answered.{compared}
+use Rattle.compare.specs.Meaning.{compared}
 use borrow.Author.Needs.{needs}
 use Rattle.compare.proofs.compare.Statement.{statement}
 use Rattle.compare.proofs.compare.Tie as tie

@@ -1,8 +1,8 @@
 -- `compare::judge_whole` meets its contract. Assumes nothing.
 use Rattle.bitfield.specs.Missing.{foundAt}
 use Rattle.blake2b.specs.Hash.{nodeHash}
-use Rattle.checks.specs.Given.{registerOf}
-use Rattle.counts.specs.Said.{said}
+use Rattle.checks.specs.Lent.{registerOf}
+use Rattle.refusals.specs.Meaning.{said}
 use Rattle.compare.proofs.Whole.{whole-checks, whole-files, whole-bits, missing-below, missing-refuses, images-say}
 use borrow.Author.Needs.{needs}
 use mathlib.Core.Path.{ap}

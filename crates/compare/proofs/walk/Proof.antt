@@ -1,7 +1,7 @@
 -- `compare::walk` meets its contract.  Assumes nothing.
 use Rattle.blake2b.specs.Hash.{nodeHash}
 use Rattle.compare.proofs.Walked.{walk-differ, walk-roots, walk-found, walk-count}
-use Rattle.compare.specs.Answered.{compared}
+use Rattle.compare.specs.Meaning.{compared}
 use borrow.Author.Needs.{needs}
 use borrow.Author.Tests.{not-true, not-false}
 use Rattle.compare.proofs.walk.Statement.{statement}

@@ -5,9 +5,9 @@ use mathlib.Core.List.{List}
 use Prim.Native.Nat.{ℕ, _-_, _*_, _≤_}
 use native.Mathlib.Omega.{arith}
 use lib.ListN.{getD, length-set}
-use Rattle.sequences.specs.Lists.{Bytes}
-use Rattle.sequences.specs.Numbers.{be}
-use Rattle.sequences.proofs.Numbers.{four-lt}
+use Rattle.byte_strings.specs.Lists.{Bytes}
+use Rattle.byte_strings.specs.Numbers.{be}
+use Rattle.byte_strings.proofs.Numbers.{four-lt}
 use Rattle.coordinates.specs.Grouping.{word, difference}
 use Rattle.coordinates.proofs.Words.{prior, prior-next, prior-lt, word-is, difference-is}
 use Rattle.coordinates.proofs.Planes.{Filled, filled-none, filled-turn, all-planes}

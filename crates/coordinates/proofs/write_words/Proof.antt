@@ -5,9 +5,9 @@ use mathlib.Core.List.{List}
 use Prim.Native.Nat.{ℕ, _+_, _-_, _*_, _%_, _^_, _≤_}
 use native.Mathlib.Omega.{arith}
 use lib.ListN.{length}
-use Rattle.sequences.specs.Lists.{put}
-use Rattle.sequences.specs.Numbers.{be}
-use Rattle.sequences.proofs.Numbers.{length-be}
+use Rattle.byte_strings.specs.Lists.{put}
+use Rattle.byte_strings.specs.Numbers.{be}
+use Rattle.byte_strings.proofs.Numbers.{length-be}
 use Rattle.coordinates.specs.Grouping.{words, restored}
 use Rattle.coordinates.proofs.Words.{prior, prior-next, words-none, words-more, gathered-lt, restored-is}
 use Rattle.coordinates.proofs.write_words.Statement.{statement}

@@ -1,9 +1,9 @@
 -- `copy_audit::audit` meets its contract. Assumes nothing.
 use mathlib.Core.Path.{sym, ap, _∙_}
-use Rattle.counts.specs.Said.{said, spotOf}
+use Rattle.refusals.specs.Meaning.{said, spotOf}
 use Rattle.blake2b.specs.Hash.{nodeHash}
-use Rattle.copies.specs.Copy.{Copy, copyOf}
-use Rattle.copies.specs.Said.{foundOf}
+use Rattle.copy_checks.specs.Copy.{Copy, copyOf}
+use Rattle.copy_checks.specs.Meaning.{foundOf}
 use Rattle.copy_audit.proofs.Verdicts.{audit-refused, files-in, audit-entry, audit-byte}
 use borrow.Author.Needs.{needs}
 use Rattle.copy_audit.proofs.audit.Statement.{statement}

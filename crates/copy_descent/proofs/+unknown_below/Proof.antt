@@ -1,13 +1,13 @@
 -- The proof of the cycle of calls {unknown_below}. The measure is the depth of the node. Assumes nothing.
 use Prim.Native.Nat.{ℕ, _<_}
 use mathlib.Core.Path.{_≡_, sym, ap, _∙_, subst}
-use Rattle.sequences.specs.Lowest.{Lowest, nowhere}
+use Rattle.byte_strings.specs.Lowest.{Lowest, nowhere}
 use Rattle.tree_index.specs.Tree.{depth}
 use Rattle.bitfield.specs.Known.{storedKnown}
-use Rattle.lookup.specs.Steps.{withinOf, Lower, Way, Onward}
-use Rattle.copies.specs.Least.{firstUnknown}
-use Rattle.copies.specs.Said.{unknownOf}
-use Rattle.copy_descent.specs.Steps.{childrenRead}
+use Rattle.lookup.specs.Inner.{withinOf, Lower, Way, Onward}
+use Rattle.copy_checks.specs.Least.{firstUnknown}
+use Rattle.copy_checks.specs.Meaning.{unknownOf}
+use Rattle.copy_descent.specs.Inner.{childrenRead}
 use Rattle.copy_descent.proofs.Firsts.{first-here, first-behind}
 use Rattle.copy_descent.proofs.Below.{standing-in, standing-children, standing-next, readsAt, reads-front, reads-end, reads-on}
 use borrow.Author.Needs.{needs}

@@ -3,7 +3,7 @@ use Prim.Native.Nat.{ℕ}
 use mathlib.Core.Path.{sym, ap, subst}
 use native.Mathlib.Omega.{arith}
 use Rattle.lookup.specs.declared.descent.Sought.{Sought}
-use Rattle.copy_descent.specs.Steps.{Fits, behindOf}
+use Rattle.copy_descent.specs.Inner.{Fits, behindOf}
 use borrow.Author.Needs.{needs}
 use Rattle.copy_descent.proofs.behind.Statement.{statement}
 use Rattle.copy_descent.proofs.behind.Tie as tie

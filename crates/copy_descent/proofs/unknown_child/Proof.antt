@@ -4,12 +4,12 @@ use mathlib.Core.Path.{sym, ap, _∙_, subst}
 use mathlib.Core.List.{List, [], _∷_}
 use lib.ListN.{length}
 use borrow.Author.Tests.{not-true, not-false}
-use Rattle.sequences.specs.Lowest.{first}
+use Rattle.byte_strings.specs.Lowest.{first}
 use Rattle.tree_index.specs.Tree.{depth, leftChild, rightChild}
 use Rattle.bitfield.specs.Append.{bitsPlace}
 use Rattle.bitfield.specs.Known.{storedKnown}
 use Rattle.lookup.proofs.Visits.{deeper}
-use Rattle.copies.specs.Least.{firstUnknown}
+use Rattle.copy_checks.specs.Least.{firstUnknown}
 use Rattle.copy_descent.proofs.Firsts.{first-known, first-unknown}
 use Rattle.copy_descent.proofs.Below.{children-leaf, children-parent}
 use borrow.Author.Needs.{needs}

@@ -4,11 +4,11 @@ use mathlib.Core.Path.{_≡_, sym, ap, _∙_, subst}
 use native.Mathlib.Omega.{arith}
 use lib.ListN.{length, getD}
 use borrow.Author.Tests.{not-true, not-false}
-use Rattle.sequences.specs.Lowest.{first}
+use Rattle.byte_strings.specs.Lowest.{first}
 use Rattle.tree_index.specs.Tree.{roots}
 use Rattle.tree_index.proofs.Roots.{length-roots-le}
 use Rattle.bitfield.specs.Known.{storedKnown}
-use Rattle.copies.proofs.Roots.{root-is, root-bit}
+use Rattle.copy_checks.proofs.Roots.{root-is, root-bit}
 use Rattle.copy_descent.proofs.Among.{Left, whole, none-left, root-entry, root-fits, root-standing, root-unknown, found-here, not-here, fits-behind}
 use borrow.Author.Needs.{needs}
 use Rattle.copy_descent.proofs.unknown_to.Statement.{statement}

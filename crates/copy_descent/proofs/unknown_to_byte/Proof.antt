@@ -6,7 +6,7 @@ use mathlib.Core.List.{List, []}
 use borrow.Author.Tests.{eq-eqb, ne-eqb}
 use Rattle.bitfield.specs.Known.{storedKnown}
 use Rattle.lookup.specs.Descent.{byteWithin}
-use Rattle.copies.specs.Least.{firstUnknown}
+use Rattle.copy_checks.specs.Least.{firstUnknown}
 use Rattle.copy_descent.specs.Reads.{reads, readsToByte, unknownToByte}
 use borrow.Author.Needs.{needs}
 use Rattle.copy_descent.proofs.unknown_to_byte.Statement.{statement}

@@ -1,9 +1,9 @@
 -- `copy_packet::make` meets its contract. Assumes nothing.
 use mathlib.Core.Path.{refl, sym, ap, _∙_}
-use Rattle.counts.specs.Said.{spotOf}
+use Rattle.refusals.specs.Meaning.{spotOf}
 use Rattle.blake2b.specs.Hash.{nodeHash}
-use Rattle.lookup.specs.Said.{verifiedOf}
-use Rattle.copies.specs.Copy.{Copy, copyOf}
+use Rattle.lookup.specs.Meaning.{verifiedOf}
+use Rattle.copy_checks.specs.Copy.{Copy, copyOf}
 use Rattle.copy_lookup.proofs.AsRegister.{read-found-done}
 use Rattle.copy_lookup.proofs.Calls.{copy-lying, copy-nothing}
 use Rattle.copy_packet.proofs.Calls.{bytes-are, readable, made-none, made-from}

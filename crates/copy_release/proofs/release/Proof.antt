@@ -1,9 +1,9 @@
 -- `copy_release::release` meets its contract. Assumes nothing.
 use mathlib.Core.Path.{sym, ap, _∙_}
 use borrow.Author.Needs.{needs}
-use Rattle.counts.specs.Said.{spotOf}
-use Rattle.lookup.specs.Said.{placedOf}
-use Rattle.copies.specs.Copy.{Copy, copyOf}
+use Rattle.refusals.specs.Meaning.{spotOf}
+use Rattle.lookup.specs.Meaning.{placedOf}
+use Rattle.copy_checks.specs.Copy.{Copy, copyOf}
 use Rattle.copy_release.proofs.Calls.{release-fits, release-not, release-done}
 use Rattle.copy_release.proofs.release.Statement.{statement}
 use Rattle.copy_release.proofs.release.Tie as tie

@@ -1,7 +1,7 @@
 -- `copy_roots::judge_old` meets its contract. Assumes nothing.
 use mathlib.Core.Path.{sym, ap, _∙_}
-use Rattle.counts.specs.Said.{said, spotOf}
-use Rattle.copies.specs.Copy.{Copy, copyOf}
+use Rattle.refusals.specs.Meaning.{said, spotOf}
+use Rattle.copy_checks.specs.Copy.{Copy, copyOf}
 use Rattle.copy_roots.proofs.Calls.{old-refused, old-above, old-bits, old-judged}
 use borrow.Author.Needs.{needs}
 use Rattle.copy_roots.proofs.judge_old.Statement.{statement}

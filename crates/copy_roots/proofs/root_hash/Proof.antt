@@ -1,7 +1,7 @@
 -- `copy_roots::root_hash` meets its contract. Assumes nothing.
 use mathlib.Core.Path.{sym, _∙_}
-use Rattle.counts.specs.Said.{said}
-use Rattle.copies.specs.Copy.{Copy, copyOf}
+use Rattle.refusals.specs.Meaning.{said}
+use Rattle.copy_checks.specs.Copy.{Copy, copyOf}
 use Rattle.copy_roots.proofs.Calls.{root-fits, root-post}
 use borrow.Author.Needs.{needs}
 use Rattle.copy_roots.proofs.root_hash.Statement.{statement}

@@ -1,7 +1,7 @@
 -- `copy_roots::rooted` meets its contract. Assumes nothing.
 use mathlib.Core.Path.{refl, sym, ap, _∙_}
-use Rattle.counts.specs.Verdict.{Verdict}
-use Rattle.counts.specs.Said.{said}
+use Rattle.refusals.specs.Verdict.{Verdict}
+use Rattle.refusals.specs.Meaning.{said}
 use Rattle.blake2b.specs.Hash.{nodeHash}
 use Rattle.copy_roots.specs.Roots.{rootUnless}
 use borrow.Author.Needs.{needs}

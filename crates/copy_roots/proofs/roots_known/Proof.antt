@@ -1,9 +1,9 @@
 -- `copy_roots::roots_known` meets its contract. Assumes nothing.
 use mathlib.Core.Path.{sym, ap, _∙_}
-use Rattle.counts.specs.Verdict.{tree, done}
-use Rattle.sequences.specs.Lowest.{Lowest}
+use Rattle.refusals.specs.Verdict.{tree, done}
+use Rattle.byte_strings.specs.Lowest.{Lowest}
 use Rattle.audit.specs.Audit.{refusedAt}
-use Rattle.copies.specs.Said.{unknownOf}
+use Rattle.copy_checks.specs.Meaning.{unknownOf}
 use borrow.Author.Needs.{needs}
 use Rattle.copy_roots.proofs.roots_known.Statement.{statement}
 use Rattle.copy_roots.proofs.roots_known.Tie as tie

@@ -1,10 +1,10 @@
 -- `copy_roots::search` meets its contract. Assumes nothing.
 use mathlib.Core.Path.{sym, ap, _∙_}
-use Rattle.counts.specs.Said.{said, spotOf}
-use Rattle.sequences.specs.Lowest.{nowhere, first}
+use Rattle.refusals.specs.Meaning.{said, spotOf}
+use Rattle.byte_strings.specs.Lowest.{nowhere, first}
 use Rattle.bitfield.specs.Missing.{foundAt}
 use Rattle.search.specs.Search.{firstMissing}
-use Rattle.copies.specs.Copy.{Copy, copyOf}
+use Rattle.copy_checks.specs.Copy.{Copy, copyOf}
 use Rattle.copy_roots.proofs.Calls.{search-refused, search-passed, search-room}
 use borrow.Author.Needs.{needs}
 use Rattle.copy_roots.proofs.search.Statement.{statement}

@@ -1,10 +1,10 @@
 -- `release::release` meets its contract. Assumes nothing.
 use mathlib.Core.Path.{sym, ap, _∙_}
 use borrow.Author.Needs.{needs}
-use Rattle.counts.specs.Said.{spotOf}
-use Rattle.files.specs.Belongs.{Register}
-use Rattle.checks.specs.Given.{registerOf}
-use Rattle.lookup.specs.Said.{placedOf}
+use Rattle.refusals.specs.Meaning.{spotOf}
+use Rattle.file_format.specs.Belongs.{Register}
+use Rattle.checks.specs.Lent.{registerOf}
+use Rattle.lookup.specs.Meaning.{placedOf}
 use Rattle.release.proofs.Calls.{release-fits, release-not, release-done}
 use Rattle.release.proofs.release.Statement.{statement}
 use Rattle.release.proofs.release.Tie as tie

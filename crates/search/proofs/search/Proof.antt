@@ -1,9 +1,9 @@
 -- `search::search` meets its contract. Assumes nothing.
 use mathlib.Core.Path.{sym, ap, _∙_}
-use Rattle.counts.specs.Said.{said, spotOf}
-use Rattle.sequences.specs.Lowest.{nowhere, first}
-use Rattle.files.specs.Belongs.{Register}
-use Rattle.checks.specs.Given.{registerOf}
+use Rattle.refusals.specs.Meaning.{said, spotOf}
+use Rattle.byte_strings.specs.Lowest.{nowhere, first}
+use Rattle.file_format.specs.Belongs.{Register}
+use Rattle.checks.specs.Lent.{registerOf}
 use Rattle.search.specs.Search.{firstMissing}
 use Rattle.bitfield.specs.Missing.{foundAt}
 use Rattle.search.proofs.Answers.{search-refused, search-passed, search-room}

@@ -4,7 +4,7 @@ use mathlib.Core.Path.{_∙_, ap}
 use borrow.Author.Needs.{needs}
 use Rattle.bitfield.specs.Bits.{byteOf}
 use Rattle.audit.specs.Audit.{heldBits}
-use Rattle.audit.specs.Bytes.{eight}
+use Rattle.audit.specs.BitfieldEntries.{eight}
 use Rattle.audit.proofs.bits.data_byte.Statement.{statement}
 use Rattle.audit.proofs.bits.data_byte.Tie as tie
 

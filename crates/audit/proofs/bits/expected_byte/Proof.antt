@@ -4,7 +4,7 @@ use borrow.Author.Needs.{needs}
 use mathlib.Core.Path.{_∙_, ap}
 use Rattle.bitfield.specs.Bits.{byteOf}
 use Rattle.audit.specs.Audit.{heldBits}
-use Rattle.audit.specs.Bytes.{treeBits}
+use Rattle.audit.specs.BitfieldEntries.{treeBits}
 use Rattle.audit.proofs.bits.expected_byte.Statement.{statement}
 use Rattle.audit.proofs.bits.expected_byte.Tie as tie
 

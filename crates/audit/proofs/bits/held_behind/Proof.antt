@@ -5,7 +5,7 @@ use borrow.Author.Tests.{lt-ltb, le-ltb}
 use native.Mathlib.Omega.{arith}
 use Rattle.bitfield.specs.Image.{entryCount}
 use Rattle.bitfield.specs.Append.{bitsPlace}
-use Rattle.files.specs.Sizes.{usedBitfield}
+use Rattle.file_format.specs.Sizes.{usedBitfield}
 use Rattle.checks.proofs.Steps.{and-stop, and-pass}
 use Rattle.audit.specs.Audit.{heldBits}
 use Rattle.audit.proofs.bits.held_behind.Statement.{statement}

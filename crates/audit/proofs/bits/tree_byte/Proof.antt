@@ -3,7 +3,7 @@ use native.Mathlib.Nat.{add-zero}
 use mathlib.Core.Path.{_∙_, ap}
 use borrow.Author.Needs.{needs}
 use Rattle.bitfield.specs.Bits.{byteOf}
-use Rattle.audit.specs.Bytes.{eight, treeBits}
+use Rattle.audit.specs.BitfieldEntries.{eight, treeBits}
 use Rattle.audit.proofs.bits.tree_byte.Statement.{statement}
 use Rattle.audit.proofs.bits.tree_byte.Tie as tie
 

@@ -3,8 +3,8 @@ use Prim.Native.Nat.{_+_, _-_, _/_}
 use Rattle.audit.proofs.Bytes.{Entering, entering-start, entering-entry, entering-next, entering-found, entering-done}
 use Rattle.audit.proofs.Search.{stops}
 use Rattle.bitfield.specs.Image.{entryCount}
-use Rattle.audit.specs.Bytes.{treeBits}
-use Rattle.counts.specs.Said.{said}
+use Rattle.audit.specs.BitfieldEntries.{treeBits}
+use Rattle.refusals.specs.Meaning.{said}
 use borrow.Author.Needs.{needs}
 use mathlib.Core.Path.{refl, ap}
 use native.Mathlib.Omega.{arith}

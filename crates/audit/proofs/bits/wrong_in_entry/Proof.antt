@@ -1,8 +1,8 @@
 -- `audit::bits::wrong_in_entry` meets its contract. The invariant: what is left from byte j on decides. Assumes nothing.
 use Prim.Native.Nat.{_+_, _*_, _-_}
 use Rattle.audit.proofs.Bytes.{Passing, entry-room, part-long, index-by, passing-start, passing-next, passing-found, passing-done}
-use Rattle.audit.specs.Bytes.{treeBits}
-use Rattle.counts.specs.Said.{said}
+use Rattle.audit.specs.BitfieldEntries.{treeBits}
+use Rattle.refusals.specs.Meaning.{said}
 use borrow.Author.Needs.{needs}
 use mathlib.Core.Path.{_∙_, sym}
 use native.Mathlib.Omega.{arith}

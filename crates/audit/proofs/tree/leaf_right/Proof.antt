@@ -2,7 +2,7 @@
 use Prim.Native.Nat.{_+_, _-_}
 use Rattle.audit.proofs.Entries.{entry-as, leaf-long, leaf-past, leaf-zero, leaf-same}
 use Rattle.blake2b.specs.Hash.{nodeHash}
-use Rattle.files.specs.Stored.{storedHash, storedSize}
+use Rattle.file_format.specs.Stored.{storedHash, storedSize}
 use Rattle.tree_index.proofs.Index.{index-leaf}
 use borrow.Author.Needs.{needs}
 use borrow.Author.Tests.{not-true, not-false}

@@ -1,7 +1,7 @@
 -- `audit::tree::parent_right` meets its contract. The tests come in the definition's order. Assumes nothing.
 use Rattle.audit.proofs.Entries.{entry-as, parent-less, parent-off, parent-same}
 use Rattle.blake2b.specs.Hash.{nodeHash}
-use Rattle.files.specs.Stored.{storedHash, storedSize}
+use Rattle.file_format.specs.Stored.{storedHash, storedSize}
 use borrow.Author.Needs.{needs}
 use mathlib.Core.Path.{_∙_, ap}
 use Rattle.audit.proofs.tree.parent_right.Statement.{statement}

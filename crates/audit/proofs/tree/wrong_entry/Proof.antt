@@ -2,7 +2,7 @@
 use Prim.Native.Nat.{_-_}
 use Rattle.audit.proofs.Entries.{Walking, at-start, walking-start, walking-entry, walking-next, walking-found, walking-done}
 use Rattle.blake2b.specs.Hash.{nodeHash}
-use Rattle.counts.specs.Said.{said}
+use Rattle.refusals.specs.Meaning.{said}
 use borrow.Author.Needs.{needs}
 use borrow.Author.Tests.{not-true, not-false}
 use mathlib.Core.Path.{_∙_, sym}

@@ -5,7 +5,7 @@ use mathlib.Core.List.{List, _++_}
 use Prim.Native.Nat.{ℕ, _-_, _*_, _≤_}
 use native.Mathlib.Nat.{le-antisymm}
 use lib.ListN.{set}
-use Rattle.sequences.specs.Lists.{zeros}
+use Rattle.byte_strings.specs.Lists.{zeros}
 use Rattle.bitfield.specs.Index.{tuples}
 use Rattle.bitfield.specs.Levels.{leaves}
 use Rattle.bitfield.proofs.Levels.{leaves-zero, leaves-step, leaves-end}

@@ -1,6 +1,6 @@
 -- `c_api::grouping::sleep_group` meets its contract.
 use borrow.Author.Needs.{needs}
-use Rattle.c_answers.proofs.Laws.{coded}
+use Rattle.c_encoding.proofs.Laws.{coded}
 use Rattle.c_api.proofs.grouping.sleep_group.Statement.{statement}
 use Rattle.c_api.proofs.grouping.sleep_group.Tie as tie
 

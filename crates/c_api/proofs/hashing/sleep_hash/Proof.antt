@@ -1,8 +1,8 @@
 -- `c_api::hashing::sleep_hash` meets its contract.
 use mathlib.Core.Path.{ap, _∙_}
 use borrow.Author.Needs.{needs}
-use Rattle.c_answers.specs.Number.{numberOf}
-use Rattle.c_answers.proofs.Laws.{given-hash}
+use Rattle.c_encoding.specs.Number.{numberOf}
+use Rattle.c_encoding.proofs.Laws.{given-hash}
 use Rattle.c_api.proofs.hashing.sleep_hash.Statement.{statement}
 use Rattle.c_api.proofs.hashing.sleep_hash.Tie as tie
 

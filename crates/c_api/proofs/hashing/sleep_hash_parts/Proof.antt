@@ -2,9 +2,9 @@
 use lib.ListN.{length}
 use native.Mathlib.Omega.{arith}
 use borrow.Author.Needs.{needs}
-use Rattle.counts.specs.Verdict.{none}
+use Rattle.refusals.specs.Verdict.{none}
 use Rattle.blake2b.proofs.Calls.{key-too-long, all-right}
-use Rattle.c_answers.proofs.Laws.{done-by, refused-by}
+use Rattle.c_encoding.proofs.Laws.{done-by, refused-by}
 use Rattle.c_api.proofs.hashing.sleep_hash_parts.Statement.{statement}
 use Rattle.c_api.proofs.hashing.sleep_hash_parts.Tie as tie
 

@@ -1,6 +1,6 @@
 -- `c_api::hashing::sleep_label` meets its contract.
 use borrow.Author.Needs.{needs}
-use Rattle.c_answers.proofs.Laws.{numbered, given-hash}
+use Rattle.c_encoding.proofs.Laws.{numbered, given-hash}
 use Rattle.c_api.proofs.hashing.sleep_label.Statement.{statement}
 use Rattle.c_api.proofs.hashing.sleep_label.Tie as tie
 

@@ -1,6 +1,6 @@
 -- `c_api::lookups::sleep_byte` meets its contract.
 use borrow.Author.Needs.{needs}
-use Rattle.c_answers.proofs.Laws.{gives-same}
+use Rattle.c_encoding.proofs.Laws.{gives-same}
 use Rattle.c_api.proofs.lookups.sleep_byte.Statement.{statement}
 use Rattle.c_api.proofs.lookups.sleep_byte.Tie as tie
 

@@ -2,10 +2,10 @@
 use mathlib.Core.Path.{sym, ap, _∙_}
 use borrow.Author.Needs.{needs}
 use Rattle.blake2b.specs.Hash.{nodeHash}
-use Rattle.checks.specs.Given.{registerOf}
+use Rattle.checks.specs.Lent.{registerOf}
 use Rattle.lookup.proofs.Calls.{lying}
-use Rattle.c_answers.specs.Encoding.{asPart}
-use Rattle.c_answers.proofs.Laws.{gives-same}
+use Rattle.c_encoding.specs.Encoding.{asPart}
+use Rattle.c_encoding.proofs.Laws.{gives-same}
 use Rattle.c_api.proofs.lookups.sleep_read.Statement.{statement}
 use Rattle.c_api.proofs.lookups.sleep_read.Tie as tie
 

@@ -1,11 +1,11 @@
 -- `c_api::packets::sleep_check_packet` meets its contract, by the case of the answer.
 use mathlib.Core.Path.{sym, ap, _∙_}
 use borrow.Author.Needs.{needs}
-use Rattle.counts.specs.Said.{said}
+use Rattle.refusals.specs.Meaning.{said}
 use Rattle.blake2b.specs.Hash.{nodeHash}
 use Rattle.packet.specs.Check.{chunkLength}
 use Rattle.packet.proofs.Right.{passed-shape}
-use Rattle.c_answers.proofs.Laws.{gives-refused, gives-found}
+use Rattle.c_encoding.proofs.Laws.{gives-refused, gives-found}
 use Rattle.c_api.proofs.Laws.{packet-refused, packet-found}
 use Rattle.c_api.proofs.packets.sleep_check_packet.Statement.{statement}
 use Rattle.c_api.proofs.packets.sleep_check_packet.Tie as tie

@@ -1,6 +1,6 @@
 -- `c_api::partial::sleep_copy_audit` meets its contract.
 use borrow.Author.Needs.{needs}
-use Rattle.c_answers.proofs.Laws.{coded}
+use Rattle.c_encoding.proofs.Laws.{coded}
 use Rattle.c_api.proofs.partial.sleep_copy_audit.Statement.{statement}
 use Rattle.c_api.proofs.partial.sleep_copy_audit.Tie as tie
 

@@ -1,6 +1,6 @@
 -- `c_api::partial::sleep_copy_release` meets its contract.
 use borrow.Author.Needs.{needs}
-use Rattle.c_answers.proofs.Laws.{coded}
+use Rattle.c_encoding.proofs.Laws.{coded}
 use Rattle.c_api.proofs.partial.sleep_copy_release.Statement.{statement}
 use Rattle.c_api.proofs.partial.sleep_copy_release.Tie as tie
 

@@ -1,6 +1,6 @@
 -- `c_api::partial_lookups::sleep_copy_byte` meets its contract.
 use borrow.Author.Needs.{needs}
-use Rattle.c_answers.proofs.Laws.{gives-same}
+use Rattle.c_encoding.proofs.Laws.{gives-same}
 use Rattle.c_api.proofs.partial_lookups.sleep_copy_byte.Statement.{statement}
 use Rattle.c_api.proofs.partial_lookups.sleep_copy_byte.Tie as tie
 

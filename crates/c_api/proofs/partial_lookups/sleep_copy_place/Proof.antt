@@ -1,6 +1,6 @@
 -- `c_api::partial_lookups::sleep_copy_place` meets its contract.
 use borrow.Author.Needs.{needs}
-use Rattle.c_answers.proofs.Laws.{gives-same}
+use Rattle.c_encoding.proofs.Laws.{gives-same}
 use Rattle.c_api.proofs.partial_lookups.sleep_copy_place.Statement.{statement}
 use Rattle.c_api.proofs.partial_lookups.sleep_copy_place.Tie as tie
 

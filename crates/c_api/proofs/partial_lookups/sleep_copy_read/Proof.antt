@@ -2,10 +2,10 @@
 use mathlib.Core.Path.{sym, ap, _∙_}
 use borrow.Author.Needs.{needs}
 use Rattle.blake2b.specs.Hash.{nodeHash}
-use Rattle.copies.specs.Copy.{copyOf}
+use Rattle.copy_checks.specs.Copy.{copyOf}
 use Rattle.copy_lookup.proofs.Calls.{copy-lying}
-use Rattle.c_answers.specs.Encoding.{asPart}
-use Rattle.c_answers.proofs.Laws.{gives-same}
+use Rattle.c_encoding.specs.Encoding.{asPart}
+use Rattle.c_encoding.proofs.Laws.{gives-same}
 use Rattle.c_api.proofs.partial_lookups.sleep_copy_read.Statement.{statement}
 use Rattle.c_api.proofs.partial_lookups.sleep_copy_read.Tie as tie
 

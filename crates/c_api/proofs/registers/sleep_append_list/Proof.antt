@@ -1,6 +1,6 @@
 -- `c_api::registers::sleep_append_list` meets its contract.
 use borrow.Author.Needs.{needs}
-use Rattle.c_answers.proofs.Laws.{coded, given-hash}
+use Rattle.c_encoding.proofs.Laws.{coded, given-hash}
 use Rattle.c_api.proofs.registers.sleep_append_list.Statement.{statement}
 use Rattle.c_api.proofs.registers.sleep_append_list.Tie as tie
 

@@ -1,6 +1,6 @@
 -- `c_api::registers::sleep_release` meets its contract.
 use borrow.Author.Needs.{needs}
-use Rattle.c_answers.proofs.Laws.{coded}
+use Rattle.c_encoding.proofs.Laws.{coded}
 use Rattle.c_api.proofs.registers.sleep_release.Statement.{statement}
 use Rattle.c_api.proofs.registers.sleep_release.Tie as tie
 

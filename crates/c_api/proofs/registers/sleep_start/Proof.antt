@@ -1,6 +1,6 @@
 -- `c_api::registers::sleep_start` meets its contract.
 use borrow.Author.Needs.{needs}
-use Rattle.c_answers.proofs.Laws.{coded}
+use Rattle.c_encoding.proofs.Laws.{coded}
 use Rattle.c_api.proofs.registers.sleep_start.Statement.{statement}
 use Rattle.c_api.proofs.registers.sleep_start.Tie as tie
 

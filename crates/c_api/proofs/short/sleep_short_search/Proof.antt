@@ -1,8 +1,8 @@
 -- `c_api::short::sleep_short_search` meets its contract.
 use mathlib.Core.Path.{ap}
 use borrow.Author.Needs.{needs}
-use Rattle.c_answers.specs.Encoding.{asFound}
-use Rattle.c_answers.proofs.Laws.{gives-same}
+use Rattle.c_encoding.specs.Encoding.{asFound}
+use Rattle.c_encoding.proofs.Laws.{gives-same}
 use Rattle.c_api.proofs.short.sleep_short_search.Statement.{statement}
 use Rattle.c_api.proofs.short.sleep_short_search.Tie as tie
 

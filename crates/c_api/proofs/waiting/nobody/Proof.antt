@@ -1,7 +1,7 @@
 -- `c_api::waiting::nobody` meets its contract.
 use mathlib.Core.Path.{ap}
 use borrow.Author.Needs.{needs}
-use Rattle.c_answers.specs.declared.answers.SleepAnswer.{SleepAnswer}
+use Rattle.c_encoding.specs.declared.answers.SleepAnswer.{SleepAnswer}
 use Rattle.c_api.specs.declared.waiting.SleepServing.{SleepServing}
 use Rattle.c_api.proofs.waiting.nobody.Statement.{statement}
 use Rattle.c_api.proofs.waiting.nobody.Tie as tie

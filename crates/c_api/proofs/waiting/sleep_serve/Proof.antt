@@ -1,8 +1,8 @@
 -- `c_api::waiting::sleep_serve` meets its contract, by the case of the turn.
 use mathlib.Core.Path.{sym, ap, _∙_}
 use borrow.Author.Needs.{needs}
-use Rattle.stations.specs.Calls.{turnOf}
-use Rattle.lookup.specs.Said.{nameOf}
+use Rattle.station_table.specs.Post.{turnOf}
+use Rattle.lookup.specs.Meaning.{nameOf}
 use Rattle.c_api.proofs.Turns.{hands-nobody, hands-turn}
 use Rattle.c_api.proofs.waiting.sleep_serve.Statement.{statement}
 use Rattle.c_api.proofs.waiting.sleep_serve.Tie as tie

@@ -1,5 +1,5 @@
 -- `compare::messages::same_hash` meets its contract.  Assumes nothing.
-use Rattle.sequences.specs.Lists.{sameList}
+use Rattle.byte_strings.specs.Lists.{sameList}
 use borrow.Author.Needs.{needs}
 use mathlib.Core.Path.{_∙_, ap₂}
 use Rattle.compare.proofs.messages.same_hash.Statement.{statement}

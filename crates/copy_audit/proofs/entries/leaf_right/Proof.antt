@@ -4,7 +4,7 @@ use mathlib.Core.Bool.{Bool}
 use borrow.Author.Needs.{needs}
 use Rattle.blake2b.specs.Hash.{nodeHash}
 use Rattle.bitfield.specs.Release.{storedHeld}
-use Rattle.audit.specs.Walked.{leafFrom}
+use Rattle.audit.specs.TreeWalk.{leafFrom}
 use Rattle.copy_audit.proofs.Judged.{chunk-bit, leaf-at, start-past}
 use Rattle.copy_audit.proofs.entries.leaf_right.Statement.{statement}
 use Rattle.copy_audit.proofs.entries.leaf_right.Tie as tie

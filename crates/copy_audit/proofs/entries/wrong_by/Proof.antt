@@ -5,8 +5,8 @@ use borrow.Author.Tests.{not-true, not-false}
 use Rattle.blake2b.specs.Hash.{nodeHash}
 use Rattle.audit.proofs.Bytes.{tree-bit}
 use Rattle.audit.proofs.Entries.{entry-in}
-use Rattle.copies.specs.Copy.{Copy, copyOf}
-use Rattle.copies.specs.Said.{foundOf}
+use Rattle.copy_checks.specs.Copy.{Copy, copyOf}
+use Rattle.copy_checks.specs.Meaning.{foundOf}
 use Rattle.copy_audit.proofs.Judged.{leaf-chunk, node-at, family-at, by-hole, by-unknown, by-leaf, by-parent}
 use Rattle.copy_audit.proofs.entries.wrong_by.Statement.{statement}
 use Rattle.copy_audit.proofs.entries.wrong_by.Tie as tie

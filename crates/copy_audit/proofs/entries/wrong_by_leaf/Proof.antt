@@ -3,9 +3,9 @@ use mathlib.Core.Path.{sym, ap, _∙_}
 use borrow.Author.Needs.{needs}
 use native.Mathlib.Omega.{arith}
 use Rattle.blake2b.specs.Hash.{nodeHash}
-use Rattle.lookup.specs.Steps.{endingOf}
-use Rattle.copies.specs.Copy.{Copy, copyOf}
-use Rattle.copies.specs.Said.{foundOf, unknownOf}
+use Rattle.lookup.specs.Inner.{endingOf}
+use Rattle.copy_checks.specs.Copy.{Copy, copyOf}
+use Rattle.copy_checks.specs.Meaning.{foundOf, unknownOf}
 use Rattle.copy_audit.proofs.Judged.{leaf-unknown, leaf-stopped, leaf-reached}
 use Rattle.copy_audit.proofs.entries.wrong_by_leaf.Statement.{statement}
 use Rattle.copy_audit.proofs.entries.wrong_by_leaf.Tie as tie

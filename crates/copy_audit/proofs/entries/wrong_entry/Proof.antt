@@ -2,8 +2,8 @@
 use Prim.Native.Nat.{_-_}
 use borrow.Author.Needs.{needs}
 use Rattle.blake2b.specs.Hash.{nodeHash}
-use Rattle.copies.specs.Copy.{Copy, copyOf}
-use Rattle.copies.specs.Said.{foundOf}
+use Rattle.copy_checks.specs.Copy.{Copy, copyOf}
+use Rattle.copy_checks.specs.Meaning.{foundOf}
 use Rattle.copy_audit.proofs.Judged.{Seeking, seeking-none, seeking-entry, seeking-next, seeking-all}
 use Rattle.copy_audit.proofs.entries.wrong_entry.Statement.{statement}
 use Rattle.copy_audit.proofs.entries.wrong_entry.Tie as tie

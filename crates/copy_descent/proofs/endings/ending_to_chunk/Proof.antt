@@ -7,10 +7,10 @@ use native.Mathlib.Omega.{arith}
 use lib.ListN.{length, getD}
 use Rattle.tree_index.specs.Tree.{roots}
 use Rattle.tree_index.proofs.Roots.{length-roots-le}
-use Rattle.files.specs.Stored.{storedSize}
+use Rattle.file_format.specs.Stored.{storedSize}
 use Rattle.lookup.specs.Descent.{Ending}
 use Rattle.lookup.proofs.Visits.{chunk-within}
-use Rattle.copies.proofs.Roots.{root-is}
+use Rattle.copy_checks.proofs.Roots.{root-is}
 use Rattle.copy_descent.specs.Capped.{cappedEnding, movedBy}
 use Rattle.copy_descent.proofs.Capped.{Rest, rest-whole, rest-most, rest-none, rest-entry, rest-stands, rest-found, rest-next}
 use borrow.Author.Needs.{needs}

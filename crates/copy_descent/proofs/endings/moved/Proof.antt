@@ -1,7 +1,7 @@
 -- `copy_descent::endings::moved` meets its contract: each arm knows which ending it has. Assumes nothing.
 use mathlib.Core.Path.{sym, ap, _∙_}
 use Rattle.lookup.specs.Descent.{Ending, reached}
-use Rattle.lookup.specs.Steps.{endingOf}
+use Rattle.lookup.specs.Inner.{endingOf}
 use Rattle.copy_descent.specs.Capped.{cappedEnding, movedBy}
 use borrow.Author.Needs.{needs}
 use Rattle.copy_descent.proofs.endings.moved.Statement.{statement}

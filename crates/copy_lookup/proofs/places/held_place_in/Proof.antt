@@ -1,9 +1,9 @@
 -- `copy_lookup::places::held_place_in` meets its contract: 20 where the way is walked, else what a register gives. Assumes nothing.
 use mathlib.Core.Path.{_≡_, sym, ap, _∙_}
 use mathlib.Core.Bool.{Bool}
-use Rattle.sequences.specs.Lowest.{Lowest, nowhere, first}
-use Rattle.copies.specs.Said.{unknownOf}
-use Rattle.copy_lookup.specs.Steps.{isThere, unknownIf}
+use Rattle.byte_strings.specs.Lowest.{Lowest, nowhere, first}
+use Rattle.copy_checks.specs.Meaning.{unknownOf}
+use Rattle.copy_lookup.specs.Inner.{isThere, unknownIf}
 use Rattle.copy_lookup.proofs.Calls.{held-read, held-way}
 use borrow.Author.Needs.{needs}
 use Rattle.copy_lookup.proofs.places.held_place_in.Statement.{statement}

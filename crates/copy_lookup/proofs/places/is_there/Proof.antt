@@ -5,7 +5,7 @@ use mathlib.Core.List.{[]}
 use borrow.Author.Tests.{lt-ltb, le-ltb}
 use Rattle.bitfield.specs.Release.{storedHeld}
 use Rattle.lookup.proofs.Calls.{bit-in}
-use Rattle.copy_lookup.specs.Steps.{isThere}
+use Rattle.copy_lookup.specs.Inner.{isThere}
 use borrow.Author.Needs.{needs}
 use Rattle.copy_lookup.proofs.places.is_there.Statement.{statement}
 use Rattle.copy_lookup.proofs.places.is_there.Tie as tie

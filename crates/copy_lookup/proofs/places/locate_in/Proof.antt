@@ -1,7 +1,7 @@
 -- `copy_lookup::places::locate_in` meets its contract: 20 where the way is walked, else what a register gives. Assumes nothing.
 use mathlib.Core.Path.{sym, ap, _∙_}
-use Rattle.sequences.specs.Lowest.{nowhere, first}
-use Rattle.copies.specs.Said.{unknownOf}
+use Rattle.byte_strings.specs.Lowest.{nowhere, first}
+use Rattle.copy_checks.specs.Meaning.{unknownOf}
 use Rattle.copy_lookup.proofs.Calls.{byte-way}
 use borrow.Author.Needs.{needs}
 use Rattle.copy_lookup.proofs.places.locate_in.Statement.{statement}

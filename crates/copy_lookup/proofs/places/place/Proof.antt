@@ -2,8 +2,8 @@
 use Prim.Native.Nat.{_^_, _<_}
 use mathlib.Core.Path.{sym, ap, _∙_}
 use native.Mathlib.Omega.{arith}
-use Rattle.counts.specs.Said.{said, spotOf}
-use Rattle.copies.specs.Copy.{Copy, copyOf}
+use Rattle.refusals.specs.Meaning.{said, spotOf}
+use Rattle.copy_checks.specs.Copy.{Copy, copyOf}
 use Rattle.copy_lookup.proofs.Calls.{copy-searched, searched-held, place-refused, place-passed}
 use borrow.Author.Needs.{needs}
 use Rattle.copy_lookup.proofs.places.place.Statement.{statement}

@@ -3,10 +3,10 @@ use mathlib.Core.Path.{sym, ap, _∙_}
 use mathlib.Core.Bool.{Bool, cond}
 use mathlib.Core.List.{[]}
 use borrow.Author.Tests.{le-leb, lt-leb}
-use Rattle.sequences.specs.Lowest.{nowhere}
-use Rattle.copies.specs.Copy.{copyOf}
+use Rattle.byte_strings.specs.Lowest.{nowhere}
+use Rattle.copy_checks.specs.Copy.{copyOf}
 use Rattle.copy_descent.specs.Reads.{unknownToByte}
-use Rattle.copy_lookup.specs.Steps.{unknownByteIf}
+use Rattle.copy_lookup.specs.Inner.{unknownByteIf}
 use Rattle.copy_lookup.proofs.Calls.{byte-read}
 use borrow.Author.Needs.{needs}
 use Rattle.copy_lookup.proofs.places.unknown_byte_if.Statement.{statement}

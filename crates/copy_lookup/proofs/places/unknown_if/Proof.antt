@@ -2,10 +2,10 @@
 use mathlib.Core.Path.{sym, ap, _∙_}
 use mathlib.Core.Bool.{Bool, cond}
 use mathlib.Core.List.{[]}
-use Rattle.sequences.specs.Lowest.{nowhere}
-use Rattle.copies.specs.Copy.{copyOf}
+use Rattle.byte_strings.specs.Lowest.{nowhere}
+use Rattle.copy_checks.specs.Copy.{copyOf}
 use Rattle.copy_descent.specs.Reads.{unknownToChunk}
-use Rattle.copy_lookup.specs.Steps.{unknownIf}
+use Rattle.copy_lookup.specs.Inner.{unknownIf}
 use Rattle.copy_lookup.proofs.Calls.{held-read}
 use borrow.Author.Needs.{needs}
 use Rattle.copy_lookup.proofs.places.unknown_if.Statement.{statement}

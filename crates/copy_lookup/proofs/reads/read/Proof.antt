@@ -1,9 +1,9 @@
 -- `copy_lookup::reads::read` meets its contract: the part that was verified lies within the data. Assumes nothing.
 use mathlib.Core.Path.{sym, ap, _∙_}
-use Rattle.counts.specs.Said.{spotOf}
+use Rattle.refusals.specs.Meaning.{spotOf}
 use Rattle.blake2b.specs.Hash.{nodeHash}
-use Rattle.lookup.specs.Said.{verifiedOf}
-use Rattle.copies.specs.Copy.{Copy, copyOf}
+use Rattle.lookup.specs.Meaning.{verifiedOf}
+use Rattle.copy_checks.specs.Copy.{Copy, copyOf}
 use Rattle.copy_lookup.proofs.Calls.{Read, copy-lying, copy-nothing}
 use borrow.Author.Needs.{needs}
 use Rattle.copy_lookup.proofs.reads.read.Statement.{statement}

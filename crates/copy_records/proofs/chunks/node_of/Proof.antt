@@ -2,12 +2,12 @@
 use mathlib.Core.Path.{sym, ap, _∙_, refl, subst}
 use mathlib.Core.List.{List}
 use Prim.Native.Nat.{ℕ}
-use Rattle.counts.specs.Said.{refusalOf, spotOf}
+use Rattle.refusals.specs.Meaning.{refusalOf, spotOf}
 use Rattle.tree_index.specs.Tree.{index}
 use Rattle.blake2b.specs.Hash.{nodeHash}
-use Rattle.lookup.specs.Said.{verifiedOf}
-use Rattle.paths.specs.Chunks.{NodeSaid}
-use Rattle.copies.specs.Copy.{copyOf}
+use Rattle.lookup.specs.Meaning.{verifiedOf}
+use Rattle.record_find.specs.ChunkRecords.{NodeSaid}
+use Rattle.copy_checks.specs.Copy.{copyOf}
 use Rattle.copy_lookup.proofs.Calls.{copy-lying, copy-nothing}
 use Rattle.copy_records.proofs.Chunk.{read-refused, read-done, copy-small}
 use borrow.Author.Needs.{needs}

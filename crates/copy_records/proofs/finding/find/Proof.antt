@@ -1,12 +1,12 @@
 -- The checks, the copy of no chunks, chunk 0, and then the search.
 use mathlib.Core.Path.{sym, ap, _∙_}
-use Rattle.counts.specs.Verdict.{done}
-use Rattle.counts.specs.Said.{said, spotOf}
+use Rattle.refusals.specs.Verdict.{done}
+use Rattle.refusals.specs.Meaning.{said, spotOf}
 use Rattle.blake2b.specs.Hash.{nodeHash}
-use Rattle.paths.specs.Finding.{foundOf}
-use Rattle.paths.proofs.Search.{find-refused, find-empty, find-headless, find-below}
-use Rattle.copies.specs.Copy.{copyOf}
-use Rattle.copies.specs.Checks.{copyJudged}
+use Rattle.record_find.specs.Finding.{foundOf}
+use Rattle.record_find.proofs.Search.{find-refused, find-empty, find-headless, find-below}
+use Rattle.copy_checks.specs.Copy.{copyOf}
+use Rattle.copy_checks.specs.Checks.{copyJudged}
 use Rattle.copy_records.specs.Records.{CopyHeaderAs, CopySays}
 use borrow.Author.Needs.{needs}
 use Rattle.copy_records.proofs.finding.find.Statement.{statement}

@@ -1,8 +1,8 @@
 -- The chunks from k up were looked at. The measure is k.
 use native.Mathlib.Omega.{arith}
 use Rattle.blake2b.specs.Hash.{nodeHash}
-use Rattle.paths.proofs.Search.{Left, left-all, left-none, left-failed, left-found, left-less}
-use Rattle.copies.specs.Copy.{copyOf}
+use Rattle.record_find.proofs.Search.{Left, left-all, left-none, left-failed, left-found, left-less}
+use Rattle.copy_checks.specs.Copy.{copyOf}
 use Rattle.copy_records.specs.Records.{CopyHeaderAs, CopySays}
 use borrow.Author.Needs.{needs}
 use Rattle.copy_records.proofs.finding.search.Statement.{statement}

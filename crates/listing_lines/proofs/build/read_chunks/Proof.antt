@@ -5,7 +5,7 @@ use mathlib.Core.Path.{sym, _∙_}
 use Prim.Native.Nat.{_+_, _-_, _≤_}
 use borrow.Author.Tests.{not-true, not-false}
 use lib.ListN.{length, drop}
-use Rattle.checks.specs.Given.{registerOf}
+use Rattle.checks.specs.Lent.{registerOf}
 use Rattle.listing_lines.specs.Input.{chunksIn}
 use Rattle.listing_lines.specs.Inner.{Reading}
 use Rattle.listing_lines.proofs.Stands.{stands-facts, stood-room}

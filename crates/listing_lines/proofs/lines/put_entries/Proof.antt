@@ -1,7 +1,7 @@
 -- `listing_lines::lines::put_entries` meets its contract. The loop's invariant: the lines of the first i entries are put. Assumes nothing.
 use native.Mathlib.Omega.{arith}
 use Prim.Native.Nat.{_-_, _*_, _≤_}
-use Rattle.sequences.specs.Lists.{run, joined}
+use Rattle.byte_strings.specs.Lists.{run, joined}
 use Rattle.tree_index.specs.Tree.{entries}
 use Rattle.listing_lines.specs.Inner.{Put, storedLine}
 use Rattle.listing_lines.proofs.Entries.{most, entry-small, entry-next, entries-none, entries-more, entries-all}

@@ -2,7 +2,7 @@
 use mathlib.Core.Path.{sym, ap, _∙_}
 use native.Mathlib.Omega.{arith}
 use borrow.Author.Tests.{not-true, not-false}
-use Rattle.files.specs.Stored.{storedStart}
+use Rattle.file_format.specs.Stored.{storedStart}
 use Rattle.listing_lines.specs.Lines.{leafWord, parentWord, holeWord}
 use Rattle.listing_lines.proofs.Put.{same-put}
 use Rattle.listing_lines.proofs.Entries.{entry-small, entry-in, first-le, fewer-printable, line-hole, line-leaf, line-parent}

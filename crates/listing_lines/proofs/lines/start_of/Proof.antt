@@ -3,7 +3,7 @@ use mathlib.Core.Path.{_≡_, ap, _∙_}
 use Prim.Native.Nat.{_-_, _+_, _≤_}
 use native.Mathlib.Omega.{arith}
 use Rattle.tree_index.proofs.Index.{index-leaf}
-use Rattle.files.specs.Stored.{storedSize, storedStart}
+use Rattle.file_format.specs.Stored.{storedSize, storedStart}
 use Rattle.listing_lines.proofs.Entries.{start-none, start-more, entry-in}
 use Rattle.listing_lines.proofs.lines.start_of.Statement.{statement}
 use Rattle.listing_lines.proofs.lines.start_of.Tie as tie

@@ -2,7 +2,7 @@
 use borrow.Author.Needs.{needs}
 use mathlib.Core.Path.{sym, ap, _∙_, subst}
 use Rattle.tree_index.specs.Tree.{depth}
-use Rattle.lookup.specs.Steps.{withinOf, followed, Lower}
+use Rattle.lookup.specs.Inner.{withinOf, followed, Lower}
 use Prim.Native.Nat.{ℕ, _<_}
 use borrow.Fn.Kinds.{In}
 use borrow.Fn.PlainCycle.{Measures, is, falls, and}

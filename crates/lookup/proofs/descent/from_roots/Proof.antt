@@ -5,7 +5,7 @@ use mathlib.Core.Path.{_≡_, sym, _∙_, subst}
 use native.Mathlib.Omega.{arith}
 use lib.ListN.{length, getD}
 use Rattle.tree_index.specs.Tree.{roots}
-use Rattle.lookup.specs.Steps.{withinOf}
+use Rattle.lookup.specs.Inner.{withinOf}
 use Rattle.lookup.proofs.Searches.{Rest, few-roots, whole, none-left, root-of, root-entry, root-fits, root-stands, found-here, not-here}
 use Rattle.lookup.proofs.descent.from_roots.Statement.{statement}
 use Rattle.lookup.proofs.descent.from_roots.Tie as tie

@@ -3,7 +3,7 @@ use mathlib.Core.Path.{sym, ap, _∙_}
 use mathlib.Core.Bool.{not}
 use Rattle.tree_index.specs.Tree.{depth, block}
 use Rattle.lookup.specs.Descent.{byteWithin}
-use Rattle.lookup.specs.Steps.{withinOf}
+use Rattle.lookup.specs.Inner.{withinOf}
 use Rattle.lookup.proofs.Visits.{chunk-within}
 use borrow.Author.Needs.{needs}
 use Rattle.lookup.proofs.descent.is_within.Statement.{statement}

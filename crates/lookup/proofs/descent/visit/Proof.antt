@@ -3,7 +3,7 @@ use Prim.Native.Nat.{ℕ, _≤_, _<_}
 use mathlib.Core.Path.{sym, ap, _∙_, subst}
 use native.Mathlib.Omega.{arith}
 use Rattle.lookup.specs.Descent.{reached}
-use Rattle.lookup.specs.Steps.{withinOf}
+use Rattle.lookup.specs.Inner.{withinOf}
 use Rattle.lookup.proofs.Visits.{deeper, stands-entry, leaf-even, at-leaf, at-long-leaf, seen-children, seen-less, seen-other, seen-left, seen-right, seen-fits}
 use borrow.Author.Needs.{needs}
 use Rattle.lookup.proofs.descent.visit.Statement.{statement}

@@ -2,7 +2,7 @@
 use Prim.Native.Nat.{ℕ}
 use mathlib.Core.Path.{sym, ap, _∙_}
 use borrow.Author.Tests.{not-true, not-false}
-use Rattle.counts.specs.Verdict.{tree}
+use Rattle.refusals.specs.Verdict.{tree}
 use Rattle.lookup.specs.Lookup.{refusal}
 use Rattle.lookup.proofs.Calls.{held-above, held-gone, held-here, bit-in}
 use borrow.Author.Needs.{needs}

@@ -1,7 +1,7 @@
 -- `lookup::places::locate_in` meets its contract. Assumes nothing.
 use mathlib.Core.Path.{sym, ap, _∙_}
 use Rattle.lookup.specs.Lookup.{found}
-use Rattle.lookup.specs.Steps.{endingOf}
+use Rattle.lookup.specs.Inner.{endingOf}
 use Rattle.lookup.proofs.Calls.{byte-above, byte-end, byte-from, byte-stopped, byte-reached}
 use borrow.Author.Needs.{needs}
 use Rattle.lookup.proofs.places.locate_in.Statement.{statement}

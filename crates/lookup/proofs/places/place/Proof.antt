@@ -2,8 +2,8 @@
 use Prim.Native.Nat.{_^_, _<_}
 use mathlib.Core.Path.{sym, ap, _∙_}
 use native.Mathlib.Omega.{arith}
-use Rattle.counts.specs.Said.{said, spotOf}
-use Rattle.checks.specs.Given.{registerOf}
+use Rattle.refusals.specs.Meaning.{said, spotOf}
+use Rattle.checks.specs.Lent.{registerOf}
 use Rattle.lookup.proofs.Calls.{searched, place-refused, place-passed}
 use borrow.Author.Needs.{needs}
 use Rattle.lookup.proofs.places.place.Statement.{statement}

@@ -1,8 +1,8 @@
 -- `lookup::places::place_in` meets its contract. Assumes nothing.
 use mathlib.Core.Path.{sym, ap, _∙_, subst}
-use Rattle.files.specs.Stored.{storedSize}
-use Rattle.files.specs.Within.{EntryIn}
-use Rattle.lookup.specs.Steps.{endingOf}
+use Rattle.file_format.specs.Stored.{storedSize}
+use Rattle.file_format.specs.Inner.{EntryIn}
+use Rattle.lookup.specs.Inner.{endingOf}
 use Rattle.lookup.proofs.Calls.{place-above, leaf-in, place-stopped, place-reached}
 use borrow.Author.Needs.{needs}
 use Rattle.lookup.proofs.places.place_in.Statement.{statement}

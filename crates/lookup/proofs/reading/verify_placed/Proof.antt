@@ -3,14 +3,14 @@ use Prim.Native.Nat.{ℕ, _+_, _-_, _≤_}
 use mathlib.Core.Path.{sym, ap, ap₂, _∙_, subst}
 use native.Mathlib.Omega.{arith}
 use lib.ListN.{length, take, drop}
-use Rattle.counts.specs.Verdict.{tree}
-use Rattle.counts.specs.Said.{spotOf}
-use Rattle.sequences.specs.Lists.{sameList}
+use Rattle.refusals.specs.Verdict.{tree}
+use Rattle.refusals.specs.Meaning.{spotOf}
+use Rattle.byte_strings.specs.Lists.{sameList}
 use Rattle.blake2b.specs.Hash.{nodeHash}
-use Rattle.files.specs.Stored.{storedHash}
-use Rattle.files.specs.Within.{EntryIn}
+use Rattle.file_format.specs.Stored.{storedHash}
+use Rattle.file_format.specs.Inner.{EntryIn}
 use Rattle.lookup.specs.Lookup.{Found, refusal}
-use Rattle.lookup.specs.Said.{placedOf, LiesAt, PlacedIn, hashJudged}
+use Rattle.lookup.specs.Meaning.{placedOf, LiesAt, PlacedIn, hashJudged}
 use Rattle.lookup.proofs.Calls.{as-part, hash-refused, hash-right, hash-other}
 use borrow.Author.Needs.{needs}
 use Rattle.lookup.proofs.reading.verify_placed.Statement.{statement}

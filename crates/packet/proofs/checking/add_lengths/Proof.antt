@@ -2,7 +2,7 @@
 use Prim.Native.Nat.{ℕ, _-_, _≤_, _<_}
 use mathlib.Core.Path.{_≡_, sym, ap, _∙_, subst}
 use native.Mathlib.Omega.{arith}
-use Rattle.packet.specs.Parts.{sizesIn}
+use Rattle.packet.specs.Inner.{sizesIn}
 use Rattle.packet.proofs.Sums.{Adding, adding-none, adding-next, adding-over, adding-all, length-sizes, size-at}
 use borrow.Author.Needs.{needs}
 use Rattle.packet.proofs.checking.add_lengths.Statement.{statement}

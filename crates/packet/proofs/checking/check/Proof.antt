@@ -1,8 +1,8 @@
 -- `packet::checking::check` meets its contract. Assumes nothing.
 use mathlib.Core.Path.{sym, ap, _∙_}
 use native.Mathlib.Omega.{arith}
-use Rattle.counts.specs.Said.{said, refusalOf}
-use Rattle.sequences.specs.Lists.{part}
+use Rattle.refusals.specs.Meaning.{said, refusalOf}
+use Rattle.byte_strings.specs.Lists.{part}
 use Rattle.blake2b.specs.Hash.{nodeHash}
 use Rattle.packet.specs.Check.{chunkLength}
 use Rattle.packet.proofs.Right.{passed-shape, checked-by, checked-part}

@@ -2,8 +2,8 @@
 use mathlib.Core.Path.{refl, sym, _∙_}
 use native.Mathlib.Omega.{arith}
 use borrow.Author.Tests.{not-true, not-false}
-use Rattle.counts.specs.Verdict.{done}
-use Rattle.counts.specs.Said.{said}
+use Rattle.refusals.specs.Verdict.{done}
+use Rattle.refusals.specs.Meaning.{said}
 use Rattle.blake2b.specs.Hash.{nodeHash}
 use Rattle.packet.proofs.Right.{shaped, verdict-2, verdict-9, verdict-12, verdict-13, verdict-done}
 use borrow.Author.Needs.{needs}

@@ -5,7 +5,7 @@ use native.Mathlib.Nat.{div-one}
 use native.Mathlib.Omega.{arith}
 use Rattle.blake2b.specs.Hash.{nodeHash}
 use Rattle.packet.specs.Check.{entriesIn}
-use Rattle.packet.specs.Parts.{entryOf, climbed}
+use Rattle.packet.specs.Inner.{entryOf, climbed}
 use Rattle.packet.proofs.Climb.{Climbing, climbing-none, climbing-next, climbing-fits, climbing-end}
 use borrow.Author.Needs.{needs}
 use Rattle.packet.proofs.checking.climb.Statement.{statement}

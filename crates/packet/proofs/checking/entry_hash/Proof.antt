@@ -1,7 +1,7 @@
 -- `packet::checking::entry_hash` meets its contract. Assumes nothing.
 use mathlib.Core.Path.{refl}
-use Rattle.sequences.specs.Lists.{part}
-use Rattle.files.proofs.Places.{read-hash}
+use Rattle.byte_strings.specs.Lists.{part}
+use Rattle.file_format.proofs.Places.{read-hash}
 use Rattle.packet.specs.Check.{entryIn}
 use borrow.Author.Needs.{needs}
 use Rattle.packet.proofs.checking.entry_hash.Statement.{statement}

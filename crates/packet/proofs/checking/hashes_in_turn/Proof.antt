@@ -2,10 +2,10 @@
 use Prim.Native.Nat.{_-_}
 use mathlib.Core.Path.{ap, refl}
 use borrow.Author.Needs.{needs}
-use Rattle.sequences.specs.Lists.{zeros}
-use Rattle.files.specs.Nodes.{Entry}
-use Rattle.files.proofs.ByValue.{Filling, filling-none, filling-next, filling-all}
-use Rattle.packet.specs.Parts.{turnEntry, hashRow, entryOf}
+use Rattle.byte_strings.specs.Lists.{zeros}
+use Rattle.file_format.specs.Entries.{Entry}
+use Rattle.file_format.proofs.ByValue.{Filling, filling-none, filling-next, filling-all}
+use Rattle.packet.specs.Inner.{turnEntry, hashRow, entryOf}
 use Rattle.packet.proofs.Climb.{turn-in}
 use Rattle.packet.proofs.checking.hashes_in_turn.Statement.{statement}
 use Rattle.packet.proofs.checking.hashes_in_turn.Tie as tie

@@ -4,7 +4,7 @@ use lib.ListN.{length}
 use mathlib.Core.Path.{_≡_, sym, _∙_}
 use native.Mathlib.Omega.{arith}
 use Rattle.packet.specs.Check.{entryIn}
-use Rattle.packet.specs.Parts.{entryOf, turnEntry}
+use Rattle.packet.specs.Inner.{entryOf, turnEntry}
 use Rattle.packet.proofs.Climb.{turned-before, turned-here, turned-behind}
 use borrow.Author.Needs.{needs}
 use Rattle.packet.proofs.checking.in_turn.Statement.{statement}

@@ -3,7 +3,7 @@ use mathlib.Core.Path.{ap}
 use mathlib.Core.List.{List}
 use Prim.Native.Nat.{ℕ}
 use lib.ListN.{length}
-use Rattle.files.specs.Nodes.{leaf}
+use Rattle.file_format.specs.Entries.{leaf}
 use Rattle.packet.proofs.Climb.{entry}
 use borrow.Author.Needs.{needs}
 use Rattle.packet.proofs.checking.leaf_node.Statement.{statement}

@@ -4,7 +4,7 @@ use native.Mathlib.Omega.{arith}
 use Rattle.tree_index.specs.Numbers.{numbers}
 use Rattle.tree_index.proofs.Roots.{length-roots-le}
 use Rattle.blake2b.specs.Hash.{nodeHash}
-use Rattle.packet.specs.Parts.{entryOf}
+use Rattle.packet.specs.Inner.{entryOf}
 use Rattle.packet.proofs.InTurn.{gathered-message, turns-in}
 use borrow.Author.Needs.{needs}
 use Rattle.packet.proofs.checking.root_hash_with.Statement.{statement}

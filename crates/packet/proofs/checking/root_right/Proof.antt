@@ -1,11 +1,11 @@
 -- `packet::checking::root_right` meets its contract. Assumes nothing.
-use Rattle.sequences.specs.Lists.{part}
+use Rattle.byte_strings.specs.Lists.{part}
 use Prim.Native.Nat.{ℕ, _+_, _≤_}
 use mathlib.Core.Path.{_∙_}
 use native.Mathlib.Omega.{arith}
 use Rattle.blake2b.specs.Hash.{nodeHash}
 use Rattle.packet.specs.Check.{chunkLength}
-use Rattle.packet.specs.Parts.{entryOf}
+use Rattle.packet.specs.Inner.{entryOf}
 use Rattle.packet.proofs.Shape.{sized}
 use Rattle.packet.proofs.Right.{Laid, laid, siblings-row, others-row, others-in, sum-wrong, climbable, root-judged}
 use borrow.Author.Needs.{needs}

@@ -2,9 +2,9 @@
 use Prim.Native.Nat.{_-_}
 use mathlib.Core.Path.{ap, refl}
 use borrow.Author.Needs.{needs}
-use Rattle.files.specs.Nodes.{Entry}
-use Rattle.files.proofs.ByValue.{Filling, filling-none, filling-next, filling-all}
-use Rattle.packet.specs.Parts.{turnEntry, sizeRow, entryOf}
+use Rattle.file_format.specs.Entries.{Entry}
+use Rattle.file_format.proofs.ByValue.{Filling, filling-none, filling-next, filling-all}
+use Rattle.packet.specs.Inner.{turnEntry, sizeRow, entryOf}
 use Rattle.packet.proofs.Climb.{turn-in}
 use Rattle.packet.proofs.checking.sizes_in_turn.Statement.{statement}
 use Rattle.packet.proofs.checking.sizes_in_turn.Tie as tie

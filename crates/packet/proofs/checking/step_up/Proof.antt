@@ -2,7 +2,7 @@
 use mathlib.Core.Path.{_≡_}
 use native.Mathlib.Omega.{arith}
 use Rattle.blake2b.specs.Hash.{nodeHash}
-use Rattle.packet.specs.Parts.{entryOf}
+use Rattle.packet.specs.Inner.{entryOf}
 use Rattle.packet.proofs.Climb.{odd, stepped-left, stepped-right}
 use borrow.Author.Needs.{needs}
 use Rattle.packet.proofs.checking.step_up.Statement.{statement}

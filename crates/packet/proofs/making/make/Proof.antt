@@ -1,9 +1,9 @@
 -- `packet::making::make` meets its contract. Assumes nothing.
 use mathlib.Core.Path.{sym, ap, _∙_}
-use Rattle.counts.specs.Said.{spotOf}
+use Rattle.refusals.specs.Meaning.{spotOf}
 use Rattle.blake2b.specs.Hash.{nodeHash}
-use Rattle.checks.specs.Given.{registerOf}
-use Rattle.lookup.specs.Said.{verifiedOf}
+use Rattle.checks.specs.Lent.{registerOf}
+use Rattle.lookup.specs.Meaning.{verifiedOf}
 use Rattle.lookup.proofs.Calls.{lying, nothing}
 use Rattle.packet.proofs.Makes.{readable, read-bytes, made-none, made-from}
 use borrow.Author.Needs.{needs}

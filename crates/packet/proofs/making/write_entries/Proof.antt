@@ -3,12 +3,12 @@ use Prim.Native.Nat.{ℕ, zero-le, _+_, _-_, _*_, _≤_, _<_}
 use mathlib.Core.Path.{_≡_, refl, sym, ap, _∙_, subst}
 use native.Mathlib.Omega.{arith}
 use lib.ListN.{length, getD}
-use Rattle.sequences.specs.Lists.{part, put}
+use Rattle.byte_strings.specs.Lists.{part, put}
 use Rattle.tree_index.specs.Numbers.{numbers}
-use Rattle.files.specs.Sizes.{entryPlace}
-use Rattle.files.specs.Within.{EntryIn}
-use Rattle.files.proofs.ByValue.{number-at}
-use Rattle.packet.specs.Parts.{entriesAt}
+use Rattle.file_format.specs.Sizes.{entryPlace}
+use Rattle.file_format.specs.Inner.{EntryIn}
+use Rattle.file_format.proofs.ByValue.{number-at}
+use Rattle.packet.specs.Inner.{entriesAt}
 use Rattle.packet.proofs.Rows.{Writing, writing-none, writing-next, lent-entry, lent-length}
 use borrow.Author.Needs.{needs}
 use Rattle.packet.proofs.making.write_entries.Statement.{statement}

@@ -3,7 +3,7 @@ use Prim.Native.Nat.{ℕ, _<_}
 use mathlib.Core.Path.{sym, ap, subst}
 use native.Mathlib.Omega.{arith}
 use lib.ListN.{length}
-use Rattle.sequences.proofs.Numbers.{length-be}
+use Rattle.byte_strings.proofs.Numbers.{length-be}
 use Rattle.tree_index.specs.Tree.{roots}
 use Rattle.tree_index.specs.Numbers.{numbers}
 use Rattle.packet.proofs.Above.{place-below}

@@ -3,7 +3,7 @@ use mathlib.Core.Path.{refl, _∙_}
 use native.Mathlib.Omega.{arith}
 use lib.ListN.{set, length-set}
 use Rattle.tree_index.specs.Numbers.{numbers}
-use Rattle.packet.specs.Parts.{entriesAt}
+use Rattle.packet.specs.Inner.{entriesAt}
 use Rattle.packet.proofs.Rows.{section-written}
 use borrow.Author.Needs.{needs}
 use Rattle.packet.proofs.making.write_section.Statement.{statement}

@@ -3,14 +3,14 @@ use Prim.Native.Nat.{ℕ, _-_, _<_}
 use mathlib.Core.Path.{sym, ap, _∙_, subst}
 use native.Mathlib.Omega.{arith}
 use lib.ListN.{length, getD}
-use Rattle.sequences.specs.Lists.{run}
+use Rattle.byte_strings.specs.Lists.{run}
 use Rattle.tree_index.specs.Tree.{roots}
 use Rattle.tree_index.specs.Numbers.{numbers}
 use Rattle.tree_index.proofs.Numbers.{numbers-set}
 use Rattle.tree_index.proofs.Roots.{length-roots-le}
-use Rattle.files.specs.ByValue.{padded}
-use Rattle.files.proofs.ByValue.{Filling, filling-none, filling-next, filling-all}
-use Rattle.packet.specs.Parts.{skipped, otherRow}
+use Rattle.file_format.specs.RootsByValue.{padded}
+use Rattle.file_format.proofs.ByValue.{Filling, filling-none, filling-next, filling-all}
+use Rattle.packet.specs.Inner.{skipped, otherRow}
 use Rattle.packet.proofs.Above.{root-in}
 use Rattle.packet.proofs.Rows.{skipped-below}
 use borrow.Author.Needs.{needs}

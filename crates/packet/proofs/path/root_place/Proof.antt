@@ -6,7 +6,7 @@ use lib.ListN.{length}
 use borrow.Author.Tests.{not-true, not-false}
 use Rattle.tree_index.specs.Tree.{filled, roots}
 use Rattle.tree_index.proofs.Roots.{length-roots-le}
-use Rattle.packet.specs.Parts.{placeAbove}
+use Rattle.packet.specs.Inner.{placeAbove}
 use Rattle.packet.proofs.Above.{Seeking, seeking-none, seeking-found, seeking-next, seeking-end, root-in, root-small}
 use borrow.Author.Needs.{needs}
 use Rattle.packet.proofs.path.root_place.Statement.{statement}

@@ -7,9 +7,9 @@ use borrow.Author.Needs.{needs}
 use Rattle.tree_index.specs.Tree.{index}
 use Rattle.tree_index.specs.Numbers.{numbers}
 use Rattle.tree_index.proofs.Numbers.{numbers-set}
-use Rattle.files.proofs.ByValue.{Filling, filling-none, filling-next, filling-all}
+use Rattle.file_format.proofs.ByValue.{Filling, filling-none, filling-next, filling-all}
 use Rattle.packet.specs.Packet.{beside}
-use Rattle.packet.specs.Parts.{siblingRow}
+use Rattle.packet.specs.Inner.{siblingRow}
 use Rattle.packet.proofs.Rows.{beside-end}
 use Rattle.packet.proofs.path.sibling_indexes.Statement.{statement}
 use Rattle.packet.proofs.path.sibling_indexes.Tie as tie

@@ -2,8 +2,8 @@
 use Prim.Native.Nat.{ℕ, _-_, _/_, _≤_}
 use mathlib.Core.Path.{_≡_, refl, sym, ap, _∙_}
 use native.Mathlib.Omega.{arith}
-use Rattle.sequences.specs.Lowest.{lowest}
-use Rattle.sequences.proofs.Lowest.{lowest-end}
+use Rattle.byte_strings.specs.Lowest.{lowest}
+use Rattle.byte_strings.proofs.Lowest.{lowest-end}
 use Rattle.search.specs.Search.{tupleIn, notMissing}
 use Rattle.search.proofs.Steps.{group-in, found-here, none-here}
 use borrow.Author.Needs.{needs}

@@ -2,8 +2,8 @@
 use Prim.Native.Nat.{_-_}
 use mathlib.Core.Path.{_≡_, refl, sym, _∙_}
 use native.Mathlib.Omega.{arith}
-use Rattle.sequences.specs.Lowest.{lowest}
-use Rattle.sequences.proofs.Lowest.{lowest-end}
+use Rattle.byte_strings.specs.Lowest.{lowest}
+use Rattle.byte_strings.proofs.Lowest.{lowest-end}
 use Rattle.search.specs.Search.{notMissing}
 use Rattle.search.proofs.Steps.{run-in, found-here, none-here}
 use borrow.Author.Needs.{needs}

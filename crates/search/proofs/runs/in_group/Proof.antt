@@ -1,7 +1,7 @@
 -- `search::runs::in_group` meets its contract. Assumes nothing.
 use Prim.Native.Nat.{ℕ, _-_}
 use mathlib.Core.Path.{ap, _∙_}
-use Rattle.sequences.specs.Lowest.{lowest}
+use Rattle.byte_strings.specs.Lowest.{lowest}
 use Rattle.bitfield.specs.Release.{storedHeld}
 use Rattle.search.proofs.Steps.{group-over, group-read}
 use borrow.Author.Needs.{needs}

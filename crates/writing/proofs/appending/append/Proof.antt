@@ -1,7 +1,7 @@
 -- `writing::appending::append` meets its contract. Assumes nothing.
 use borrow.Author.Needs.{needs}
-use Rattle.files.specs.Belongs.{Register}
-use Rattle.checks.specs.Given.{registerOf}
+use Rattle.file_format.specs.Belongs.{Register}
+use Rattle.checks.specs.Lent.{registerOf}
 use Rattle.writing.proofs.Answers.{store-fits, append-not, append-done}
 use Rattle.writing.proofs.appending.append.Statement.{statement}
 use Rattle.writing.proofs.appending.append.Tie as tie

@@ -1,10 +1,10 @@
 -- `writing::appending::judge` meets its contract. Assumes nothing.
 use borrow.Author.Needs.{needs}
-use Rattle.counts.specs.Verdict.{done}
-use Rattle.counts.specs.Said.{said}
-use Rattle.files.specs.Belongs.{Register}
+use Rattle.refusals.specs.Verdict.{done}
+use Rattle.refusals.specs.Meaning.{said}
+use Rattle.file_format.specs.Belongs.{Register}
 use Rattle.checks.specs.Checks.{judged, laterChecks}
-use Rattle.checks.specs.Given.{registerOf}
+use Rattle.checks.specs.Lent.{registerOf}
 use Rattle.writing.specs.Append.{ownChecks}
 use Rattle.writing.proofs.Answers.{data-inside}
 use Rattle.writing.proofs.Orders.{append-over, append-within, refused-before, passed-before}

@@ -3,10 +3,10 @@ use mathlib.Core.Bool.{true, false}
 use mathlib.Core.Path.{refl}
 use borrow.Author.Needs.{needs}
 use borrow.Author.Tests.{le-leb, lt-leb, eq-eqb, ne-eqb}
-use Rattle.counts.specs.Verdict.{done}
-use Rattle.counts.specs.Said.{said}
-use Rattle.files.specs.Belongs.{Register}
-use Rattle.checks.specs.Given.{registerOf}
+use Rattle.refusals.specs.Verdict.{done}
+use Rattle.refusals.specs.Meaning.{said}
+use Rattle.file_format.specs.Belongs.{Register}
+use Rattle.checks.specs.Lent.{registerOf}
 use Rattle.checks.proofs.Steps.{short-of, long-of}
 use Rattle.writing.proofs.Orders.{own-answered}
 use Rattle.writing.proofs.appending.judge_own.Statement.{statement}

@@ -1,7 +1,7 @@
 -- `writing::root::root_hash` meets its contract. Assumes nothing.
 use borrow.Author.Needs.{needs}
-use Rattle.files.specs.Belongs.{Register}
-use Rattle.checks.specs.Given.{registerOf}
+use Rattle.file_format.specs.Belongs.{Register}
+use Rattle.checks.specs.Lent.{registerOf}
 use Rattle.writing.proofs.Answers.{root-fits, root-not, root-done}
 use Rattle.writing.proofs.root.root_hash.Statement.{statement}
 use Rattle.writing.proofs.root.root_hash.Tie as tie

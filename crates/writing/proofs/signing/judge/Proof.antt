@@ -1,10 +1,10 @@
 -- `writing::signing::judge` meets its contract. Assumes nothing.
 use borrow.Author.Needs.{needs}
-use Rattle.counts.specs.Verdict.{done}
-use Rattle.counts.specs.Said.{said}
-use Rattle.files.specs.Belongs.{Register}
+use Rattle.refusals.specs.Verdict.{done}
+use Rattle.refusals.specs.Meaning.{said}
+use Rattle.file_format.specs.Belongs.{Register}
 use Rattle.checks.specs.Checks.{judged, registerChecks}
-use Rattle.checks.specs.Given.{registerOf}
+use Rattle.checks.specs.Lent.{registerOf}
 use Rattle.writing.specs.Sign.{ownSignChecks}
 use Rattle.writing.proofs.Answers.{counts-right}
 use Rattle.writing.proofs.Orders.{sign-by, refused-before, passed-before}

@@ -3,8 +3,8 @@ use mathlib.Core.Bool.{true, false}
 use mathlib.Core.Path.{refl}
 use borrow.Author.Needs.{needs}
 use borrow.Author.Tests.{eq-eqb, ne-eqb}
-use Rattle.counts.specs.Verdict.{done}
-use Rattle.counts.specs.Said.{said}
+use Rattle.refusals.specs.Verdict.{done}
+use Rattle.refusals.specs.Meaning.{said}
 use Rattle.checks.proofs.Steps.{short-of, long-of}
 use Rattle.writing.proofs.Orders.{own-sign-answered}
 use Rattle.writing.proofs.signing.judge_own.Statement.{statement}

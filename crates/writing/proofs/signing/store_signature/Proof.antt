@@ -1,8 +1,8 @@
 -- `writing::signing::store_signature` meets its contract. Assumes nothing.
 use native.Mathlib.Omega.{arith}
 use borrow.Author.Needs.{needs}
-use Rattle.files.specs.Belongs.{Register}
-use Rattle.checks.specs.Given.{registerOf}
+use Rattle.file_format.specs.Belongs.{Register}
+use Rattle.checks.specs.Lent.{registerOf}
 use Rattle.writing.proofs.Answers.{sign-fits, sign-not, sign-done}
 use Rattle.writing.proofs.signing.store_signature.Statement.{statement}
 use Rattle.writing.proofs.signing.store_signature.Tie as tie

@@ -1,8 +1,8 @@
 -- `writing::starting::start` meets its contract. Assumes nothing.
 use native.Mathlib.Omega.{arith}
 use borrow.Author.Needs.{needs}
-use Rattle.files.specs.Belongs.{Buffers}
-use Rattle.counts.specs.Said.{said}
+use Rattle.file_format.specs.Belongs.{Buffers}
+use Rattle.refusals.specs.Meaning.{said}
 use Rattle.writing.specs.Post.{lent}
 use Rattle.writing.proofs.Answers.{start-not, start-done}
 use Rattle.writing.proofs.starting.start.Statement.{statement}

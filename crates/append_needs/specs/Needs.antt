@@ -1,0 +1,70 @@
+-- "From n, the data size and a list of 0 to 256 chunk lengths, give the four file sizes afterwards, each signature counted, and the number of
+-- compression runs of BLAKE2b for new leaves, completed parents and the final root hash."
+use Prim.Native.Nat.{ℕ, _+_, _*_}
+use mathlib.Core.List.{List, [], _∷_, map}
+use lib.ListN.{length}
+use lib.Dec.{leb}
+use Rattle.refusals.specs.Verdict.{Verdict, done, unlessRefused}
+use Rattle.byte_strings.specs.Lists.{run, total, zeros}
+use Rattle.tree_index.specs.Tree.{completed, roots}
+use Rattle.blake2b.specs.Runs.{runs}
+use Rattle.file_format.specs.Sizes.{mostChunks, longestChunk, usedTree, usedSignatures, usedBitfield}
+use Rattle.file_format.specs.Messages.{leafMessage, parentMessage, rootItem, rootMessage}
+use Rattle.checks.specs.Checks.{Check, judged}
+use Rattle.checks.specs.Lengths.{mostListed, allShort}
+
+-- the four sizes, and the three counts
+pub record Need : Type 0 where
+  pub tree : ℕ
+  pub signatures : ℕ
+  pub bitfield : ℕ
+  pub content : ℕ
+  pub leaves : ℕ
+  pub parents : ℕ
+  pub root : ℕ
+
+-- The runs of a message follow from its length, so zeros stand here for the bytes and hashes that nobody has yet. That the messages which the
+-- appends hash take as many runs is said in Appends.
+
+-- of the leaf of a chunk of l bytes
+unfoldable pub leafRuns : ℕ → ℕ
+leafRuns l = runs [] (leafMessage (zeros l))
+
+-- of a parent
+unfoldable pub parentRuns : ℕ
+parentRuns = runs [] (parentMessage 0 (zeros 32) (zeros 32))
+
+-- of the root hash of n chunks
+unfoldable pub rootRuns : ℕ → ℕ
+rootRuns n = runs [] (rootMessage (map (λ i. rootItem (zeros 32) i 0) (roots n)))
+
+-- what chunks of the lengths ls behind n others need
+unfoldable pub needOf : ℕ → ℕ → List ℕ → Need
+needOf n size ls =
+    record {
+      tree = usedTree (n + length ls);
+      signatures = usedSignatures (n + length ls);
+      bitfield = usedBitfield (n + length ls);
+      content = size + total ls;
+      leaves = total (map leafRuns ls);
+      parents = total (run (λ i. completed i * parentRuns) n (length ls));
+      root = rootRuns (n + length ls);
+    }
+
+-- "It refuses, in this order, with 2 where n and the list together pass 1,048,576, with 16 a list above 256, with 7 .., with 9 a data size
+-- above 65,536 times n."
+unfoldable pub needChecks : ℕ → ℕ → List ℕ → List Check
+needChecks n size ls =
+    record { number = 2; right = leb (n + length ls) mostChunks } ∷ record { number = 16; right = leb (length ls) mostListed }
+    ∷ record { number = 7; right = allShort ls } ∷ record { number = 9; right = leb size (longestChunk * n) } ∷ []
+
+unfoldable pub needVerdict : ℕ → ℕ → List ℕ → Verdict
+needVerdict n size ls = judged (needChecks n size ls) done
+
+-- zeros alone
+unfoldable pub nothing : Need
+nothing = record { tree = 0; signatures = 0; bitfield = 0; content = 0; leaves = 0; parents = 0; root = 0 }
+
+-- what the call gives: zeros after a refusal
+unfoldable pub needGiven : ℕ → ℕ → List ℕ → Need
+needGiven n size ls = unlessRefused (needVerdict n size ls) (needOf n size ls) nothing

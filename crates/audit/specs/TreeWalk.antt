@@ -1,0 +1,58 @@
+-- What the inner functions of the audit require: where a walk over the tree entries from the left has come to.
+use Prim.Native.Nat.{ℕ, _+_, _*_, _/_, _%_, _^_, _≤_, _<_}
+use mathlib.Core.Path.{_≡_}
+use mathlib.Core.Bool.{Bool, cond, _&&_}
+use mathlib.Core.List.{List}
+use lib.ListN.{length}
+use lib.Dec.{leb}
+use Rattle.byte_strings.specs.Lists.{part, sameList, allZero}
+use Rattle.tree_index.specs.Tree.{depth, leftChild, rightChild, entries}
+use Rattle.file_format.specs.Sizes.{longestChunk}
+use Rattle.file_format.specs.Messages.{leafMessage}
+use Rattle.file_format.specs.Stored.{storedHash, storedSize, storedStart}
+use Rattle.file_format.specs.Inner.{EntryIn, RootsIn}
+use Rattle.audit.specs.BitfieldEntries.{BitsIn}
+
+-- how many leaves stand before the tree index i
+abbrev pub leavesBefore : ℕ → ℕ
+leavesBefore i = (i + 1) / 2
+
+-- whether a leaf is right whose data begin at `start`, wherever that was found
+unfoldable pub leafFrom : (List ℕ → List ℕ) → List ℕ → List ℕ → ℕ → Bool → ℕ → ℕ → Bool
+leafFrom F t content size held k start =
+    leb (storedSize t (2 * k)) longestChunk
+    && (leb (start + storedSize t (2 * k)) size
+    && cond held (sameList (storedHash t (2 * k)) (F (leafMessage (part content start (storedSize t (2 * k))))))
+    (allZero (part content start (storedSize t (2 * k)))))
+
+-- what the checks 2 to 6 give of the lent bytes: they hold the files of n chunks and of a data size
+pub record FilesIn (tree bits content : List ℕ) (n size : ℕ) : Type 0 where
+  pub nodes : RootsIn tree n
+  pub field : BitsIn bits n
+  pub bytes : size ≤ length content
+
+-- at the entry i the next leaf starts at `start`; if i is that leaf, its end is a number of 64 bits
+pub record Started (tree : List ℕ) (i start : ℕ) : Type 0 where
+  pub entry : EntryIn tree i
+  pub here : start ≡ storedStart tree (leavesBefore i)
+  pub fits : i % 2 ≡ 0 → start + storedSize tree i < 2 ^ 64
+
+-- an entry i that a register of n chunks has, and the start of the next leaf, which is within the data
+pub record AtEntry (tree bits content : List ℕ) (n size i start : ℕ) : Type 0 where
+  pub files : FilesIn tree bits content n size
+  pub entry : i < entries n
+  pub here : start ≡ storedStart tree (leavesBefore i)
+  pub inside : start ≤ size
+
+-- a leaf that is to be judged, and a start within the data
+pub record AtLeaf (tree content : List ℕ) (size k start : ℕ) : Type 0 where
+  pub entry : EntryIn tree (2 * k)
+  pub bytes : size ≤ length content
+  pub inside : start ≤ size
+
+-- a parent and its children, all within the tree file
+pub record AtParent (tree : List ℕ) (i : ℕ) : Type 0 where
+  pub entry : EntryIn tree i
+  pub parent : 0 < depth i
+  pub left : EntryIn tree (leftChild i)
+  pub right : EntryIn tree (rightChild i)

@@ -1,0 +1,47 @@
+-- The numbers that stand for what a call says.
+use Prim.Native.Nat.{ℕ, _-_, _≤_}
+use mathlib.Core.Path.{_≡_}
+use mathlib.Core.List.{List, [], _∷_}
+use Rattle.refusals.specs.Verdict.{Spot, Verdict, none, tree, bitfield, done, refused}
+use Rattle.lookup.specs.Lookup.{Found, refusal, found}
+use Rattle.byte_strings.specs.Lowest.{nowhere, first}
+use Rattle.search.specs.Search.{Sought, refusal as unsought, answer as sought}
+use Rattle.c_encoding.specs.declared.answers.SleepAnswer.{SleepAnswer}
+
+-- the number 0 where the call is done, else the refusal's; the place's kind is 0 for none, 1 for a tree index, 2 for a byte offset in the
+-- bitfield file
+abbrev pub encoded : Verdict → SleepAnswer
+encoded done = record { number = 0; «place_kind» = 0; place = 0 }
+encoded (refused number none) = record { number = number; «place_kind» = 0; place = 0 }
+encoded (refused number (tree i)) = record { number = number; «place_kind» = 1; place = i }
+encoded (refused number (bitfield b)) = record { number = number; «place_kind» = 2; place = b }
+
+-- what a call that gives two numbers says: done, or its refusal
+abbrev pub verdictOf : Found → Verdict
+verdictOf (refusal number at) = refused number at
+verdictOf (found a b) = done
+
+-- what the two numbers lent to it are after it
+abbrev pub numbersUnless : Found → List ℕ → List ℕ
+numbersUnless (refusal number at) before = before
+numbersUnless (found a b) before = a ∷ b ∷ []
+
+-- a call that finds f: its answer, and the two numbers lent to it before and after
+pub record Gives (f : Found) (before : List ℕ) (answer : SleepAnswer) (after : List ℕ) : Type 0 where
+  pub answers : answer ≡ encoded (verdictOf f)
+  pub numbers : after ≡ numbersUnless f before
+
+-- a part that is found by its start and its end, as its start and its length
+abbrev pub asPart : Found → Found
+asPart (refusal number at) = refusal number at
+asPart (found from end) = found from (end - from)
+
+-- such a part ends where it begins, or behind
+abbrev pub Ordered : Found → Type 0
+Ordered f = (from end : ℕ) → f ≡ found from end → from ≤ end
+
+-- a search, as two numbers: 1 and the chunk, or 0 and 0 where there is none
+abbrev pub asFound : Sought → Found
+asFound (unsought number at) = refusal number at
+asFound (sought nowhere) = found 0 0
+asFound (sought (first c)) = found 1 c

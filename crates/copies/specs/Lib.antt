@@ -1,5 +1,0 @@
--- A partial copy: what it is, what it knows, and its checks.
-pub mod Copy
-pub mod Least
-pub mod Checks
-pub mod Said

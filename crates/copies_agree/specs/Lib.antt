@@ -1,2 +1,0 @@
--- Where the short way and the quick one agree on copies.
-pub mod Agree

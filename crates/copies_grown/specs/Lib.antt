@@ -1,4 +1,0 @@
--- Copies that are made and grown.
-pub mod Grown
-pub mod Calls
-pub mod Needed

@@ -1,0 +1,23 @@
+-- `copy_checks::heads_right` meets its contract: each header is the first that differs, or none does. Assumes nothing.
+use borrow.Author.Tests.{not-true, not-false}
+use mathlib.Core.Path.{refl, sym}
+use borrow.Author.Needs.{needs}
+use Rattle.checks.proofs.Steps.{and-stop, and-pass, head-is}
+use Rattle.copy_checks.specs.Meaning.{headsRight}
+use Rattle.copy_checks.proofs.heads_right.Statement.{statement}
+use Rattle.copy_checks.proofs.heads_right.Tie as tie
+
+returns : tie.Need-returns
+unfolding headsRight
+returns c = and-stop _ _ (head-is (c .before .before .before .before .before .before .args .tree .now) (c .before .before .before .tree-header .ensures) (c .before .has-header .ensures) (not-true _ (c .if1 .taken)))
+
+returns-2 : tie.Need-returns-2
+unfolding headsRight
+returns-2 c =
+    let a = c .before .before .before .before .before .before .before .before .before .args in
+    and-pass _ _ _ (head-is (a .tree .now) (c .before .before .before .before .before .before .tree-header .ensures) (c .before .before .before .before .has-header .ensures) (not-false _ (c .before .before .before .if1 .left)))
+    (sym (head-is (a .bitfield .now) (c .before .before .bitfield-header .ensures) (c .has-header2 .ensures) refl))
+
+pub heads-right-spec : {M : Type 1} → statement M
+heads-right-spec =
+    tie.close (tie.spec (λ c κs. search needs) (λ c κs. search needs) returns (λ c κs. search needs) (λ c κs. search needs) returns-2)

@@ -1,0 +1,43 @@
+-- `copy_checks::judge_partly` meets its contract. Assumes nothing.
+use mathlib.Core.Path.{sym, ap, _∙_}
+use Rattle.refusals.specs.Meaning.{said, spotOf}
+use Rattle.copy_checks.specs.Copy.{Copy, copyOf}
+use Rattle.copy_checks.specs.Checks.{unknownRoot}
+use Rattle.copy_checks.specs.Meaning.{unknownOf}
+use Rattle.copy_checks.proofs.Steps.{lent-passed, bits-in, roots-in, partly-refused, partly-unknown, partly-known}
+use borrow.Author.Needs.{needs}
+use Rattle.copy_checks.proofs.judge_partly.Statement.{statement}
+use Rattle.copy_checks.proofs.judge_partly.Tie as tie
+
+abbrev given : (c : tie.Start) → Copy
+given c = copyOf (c .args .tree .now) (c .args .bitfield .now) (c .args .content .now) (c .args .n) (c .args .size)
+
+unknown-root-requires : tie.Need-unknown-root-requires
+unknown-root-requires c κs = let e = sym (ap said (c .enum-told .given .1)) ∙ c .before .before .judge-lent .ensures in bits-in (given (c .before .before .before .before .before .before)) (lent-passed (given (c .before .before .before .before .before .before)) _ (sym e) .0)
+
+judge-size-requires : tie.Need-judge-size-requires
+judge-size-requires c κs = let e = sym (ap said (c .before .before .before .enum-told .given .1)) ∙ c .before .before .before .before .before .judge-lent .ensures in roots-in (given (c .before .before .before .before .before .before .before .before .before)) (lent-passed (given (c .before .before .before .before .before .before .before .before .before)) _ (sym e) .0)
+
+returns : tie.Need-returns
+returns c =
+    let q = c .before .refusal .given in
+    partly-refused (given (c .before .before .before .before .before .before .before)) (q .0 .0 .number) (spotOf (q .0 .0 .place)) (sym (ap said (q .1)) ∙ c .before .before .before .judge-lent .ensures)
+
+returns-2 : tie.Need-returns-2
+unfolding unknownRoot
+returns-2 c =
+    let q = c .enum-told2 .given in
+    let e = sym (ap said (c .before .before .before .enum-told .given .1)) ∙ c .before .before .before .before .before .judge-lent .ensures in
+    partly-unknown (given (c .before .before .before .before .before .before .before .before .before)) e (q .0 .0 .0) (sym (ap unknownOf (q .1)) ∙ c .before .before .unknown-root .ensures)
+
+returns-3 : tie.Need-returns-3
+unfolding unknownRoot
+returns-3 c =
+    let e = sym (ap said (c .before .before .before .before .enum-told .given .1)) ∙ c .before .before .before .before .before .before .judge-lent .ensures in
+    partly-known (given (c .before .before .before .before .before .before .before .before .before .before)) e (said (c .judge-size .result)) (sym (ap unknownOf (c .before .enum-told3 .given .1)) ∙ c .before .before .before .unknown-root .ensures) (c .judge-size .ensures)
+
+pub judge-partly-spec : {M : Type 1} → statement M
+judge-partly-spec =
+    tie.close
+    (tie.spec (λ c κs. search needs) (λ c. search needs) (λ c. search needs) unknown-root-requires (λ c. search needs) (λ c. search needs) judge-size-requires
+    returns returns-2 returns-3)

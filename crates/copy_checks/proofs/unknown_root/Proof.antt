@@ -1,0 +1,62 @@
+-- `copy_checks::unknown_root` meets its contract. The invariant: what is left of the roots decides. Assumes nothing.
+use Prim.Native.Nat.{ℕ, _-_, _≤_, _<_}
+use mathlib.Core.Path.{_≡_, refl, sym, ap, _∙_, subst}
+use native.Mathlib.Omega.{arith}
+use lib.ListN.{length, drop}
+use borrow.Author.Tests.{not-true, not-false}
+use Rattle.byte_strings.specs.Lowest.{first}
+use Rattle.tree_index.specs.Tree.{roots}
+use Rattle.tree_index.proofs.Roots.{length-roots-le}
+use Rattle.bitfield.specs.Known.{storedKnown}
+use Rattle.copy_checks.specs.Least.{firstUnknown}
+use Rattle.copy_checks.proofs.Least.{unknown-on, unknown-off, unknown-end}
+use Rattle.copy_checks.proofs.Roots.{root-is, root-bit}
+use borrow.Author.Needs.{needs}
+use Rattle.copy_checks.proofs.unknown_root.Statement.{statement}
+use Rattle.copy_checks.proofs.unknown_root.Tie as tie
+
+abbrev Inv-loop : tie.InvT-loop
+Inv-loop bitfield n count indexes j₀ j = firstUnknown (storedKnown bitfield) (drop j (roots n)) ≡ firstUnknown (storedKnown bitfield) (roots n)
+
+abbrev μ-loop : tie.MeasureT-loop
+μ-loop bitfield n count indexes j₀ j = count - j
+
+loop-holds : tie.Need-loop-holds Inv-loop μ-loop
+loop-holds c = refl
+
+mul-i : tie.Need-mul-i Inv-loop μ-loop
+mul-i c = omega (arith, c .before .before .before .root-count .ensures, length-roots-le (c .before .before .before .before .before .args .n) (c .before .before .before .before .before .pre .count))
+
+array-copy-out-i : tie.Need-array-copy-out-i Inv-loop μ-loop
+array-copy-out-i c = omega (arith, c .before .before .before .root-count .ensures, length-roots-le (c .before .before .before .before .before .args .n) (c .before .before .before .before .before .pre .count))
+
+is-known-requires : tie.Need-is-known-requires Inv-loop μ-loop
+is-known-requires c κs =
+    root-bit (c .before .before .before .before .before .before .args .bitfield .now) (c .before .before .before .root-indexes .result) (c .before .before .before .before .before .before .args .n) (c .before .before .loop .j) (c .before .before .before .before .before .before .pre) (c .before .before .before .root-indexes .ensures)
+    (subst (λ (x : ℕ). c .before .before .loop .j < x) (c .before .before .before .before .root-count .ensures) (c .before .loop-test .taken))
+
+returns : tie.Need-returns Inv-loop μ-loop
+returns c =
+    let k = storedKnown (c .before .before .before .before .before .before .before .before .args .bitfield .now) in
+    let h : c .before .before .before .before .loop .j < length (roots (c .before .before .before .before .before .before .before .before .args .n)) = subst (λ (x : ℕ). c .before .before .before .before .loop .j < x) (c .before .before .before .before .before .before .root-count .ensures) (c .before .before .before .loop-test .taken) in
+    let e = root-is (c .before .before .before .before .before .root-indexes .result) (c .before .before .before .before .before .before .before .before .args .n) (c .before .before .before .before .loop .j) (c .before .before .before .before .before .root-indexes .ensures) h in
+    ap first e
+    ∙ sym (unknown-off k (roots (c .before .before .before .before .before .before .before .before .args .n)) (c .before .before .before .before .loop .j) h (ap k (sym e) ∙ sym (c .before .is-known .ensures) ∙ not-true _ (c .if1 .taken))) ∙ c .before .before .before .before .loop .inv
+
+loop-again : tie.Need-loop-again Inv-loop μ-loop
+loop-again c =
+    let k = storedKnown (c .before .before .before .before .before .before .before .before .args .bitfield .now) in
+    let h : c .before .before .before .before .loop .j < length (roots (c .before .before .before .before .before .before .before .before .args .n)) = subst (λ (x : ℕ). c .before .before .before .before .loop .j < x) (c .before .before .before .before .before .before .root-count .ensures) (c .before .before .before .loop-test .taken) in
+    let e = root-is (c .before .before .before .before .before .root-indexes .result) (c .before .before .before .before .before .before .before .before .args .n) (c .before .before .before .before .loop .j) (c .before .before .before .before .before .root-indexes .ensures) h in
+    sym (unknown-on k (roots (c .before .before .before .before .before .before .before .before .args .n)) (c .before .before .before .before .loop .j) h (ap k (sym e) ∙ sym (c .before .is-known .ensures) ∙ not-false _ (c .if1 .left))) ∙ c .before .before .before .before .loop .inv
+
+returns-2 : tie.Need-returns-2 Inv-loop μ-loop
+returns-2 c =
+    sym (unknown-end (storedKnown (c .before .before .before .before .before .args .bitfield .now)) (roots (c .before .before .before .before .before .args .n)) (c .before .loop .j) (subst (λ (x : ℕ). x ≤ c .before .loop .j) (c .before .before .before .root-count .ensures) (c .loop-test .left)))
+    ∙ c .before .loop .inv
+
+pub unknown-root-spec : {M : Type 1} → statement M
+unknown-root-spec =
+    tie.close
+    (tie.spec Inv-loop μ-loop (λ c κs. search needs) (λ c κs. search needs) loop-holds mul-i array-copy-out-i is-known-requires returns (λ c. search needs)
+    (λ c. search needs) loop-again returns-2)

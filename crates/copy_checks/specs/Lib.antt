@@ -1,0 +1,5 @@
+-- A partial copy: what it is, what it knows, and its checks.
+pub mod Copy
+pub mod Least
+pub mod Checks
+pub mod Meaning

@@ -1,0 +1,28 @@
+-- `copy_make::make_copy` meets its contract. Assumes nothing.
+use mathlib.Core.Path.{sym, ap, _∙_}
+use borrow.Author.Needs.{needs}
+use Rattle.refusals.specs.Meaning.{said, spotOf}
+use Rattle.copy_checks.specs.Copy.{Copy, copyOf}
+use Rattle.copy_make.proofs.Calls.{roomy, made-not, made}
+use Rattle.copy_make.proofs.make_copy.Statement.{statement}
+use Rattle.copy_make.proofs.make_copy.Tie as tie
+
+abbrev given : (c : tie.Start) → Copy
+given c = copyOf (c .args .tree .now) (c .args .bitfield .now) (c .args .content .now) (c .args .n) (c .args .size)
+
+write-files-requires : tie.Need-write-files-requires
+write-files-requires c κs = roomy (given (c .before .before .before .before .before .before .before .before .before .before .before .before)) (sym (ap said (c .before .before .before .enum-told .given .1)) ∙ c .before .before .before .before .before .judge .ensures)
+
+returns : tie.Need-returns
+returns c =
+    let q = c .before .answer .given in
+    made-not (given (c .before .before .before .before .before .before .before .before .before .before)) (q .0 .0 .number) (spotOf (q .0 .0 .place)) (sym (ap said (q .1)) ∙ c .before .before .before .judge .ensures)
+
+returns-2 : tie.Need-returns-2
+returns-2 c = made (given (c .before .before .before .before .before .before .before .before .before .before .before .before .before .before .before .before .before .before .before)) _ (sym (ap said (c .before .before .before .before .before .before .before .before .before .before .enum-told .given .1)) ∙ c .before .before .before .before .before .before .before .before .before .before .before .before .judge .ensures) (c .before .before .before .before .before .before .write-files .ensures)
+
+pub make-copy-spec : {M : Type 1} → statement M
+make-copy-spec =
+    tie.close
+    (tie.spec (λ c κs. search needs) (λ c. search needs) (λ c. search needs) write-files-requires (λ c. search needs) (λ c. search needs) (λ c. search needs) returns
+    (λ c. search needs) (λ c. search needs) (λ c. search needs) returns-2)

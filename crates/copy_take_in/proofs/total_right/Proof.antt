@@ -1,0 +1,64 @@
+-- `copy_take_in::total_right` meets its contract. Assumes nothing.
+use Prim.Native.Nat.{ℕ, _+_, _*_}
+use mathlib.Core.Path.{_≡_, refl, sym, ap, _∙_}
+use native.Mathlib.Omega.{arith}
+use lib.Dec.{eqb}
+use lib.ListN.{length}
+use Rattle.packet.specs.Packet.{siblings, otherRoots}
+use Rattle.packet.specs.Check.{chunkLength, siblingsPlace}
+use Rattle.copy_take_in.proofs.Calls.{placed, front, second-is, beside-in, roots-in, total-summed}
+use borrow.Author.Needs.{needs}
+use Rattle.copy_take_in.proofs.total_right.Statement.{statement}
+use Rattle.copy_take_in.proofs.total_right.Tie as tie
+
+-- the places and the counts
+first-is : (c : tie.After-read-be32) → 4 + c .read-be32 .result + 1 ≡ siblingsPlace (c .before .before .before .before .args .packet .now) + 1
+unfolding siblingsPlace chunkLength
+first-is c = ap (λ (l : ℕ). 4 + l + 1) (c .read-be32 .ensures)
+
+length-is : (c : tie.After-read-be32) → c .read-be32 .result ≡ chunkLength (c .before .before .before .before .args .packet .now)
+unfolding chunkLength
+length-is c = c .read-be32 .ensures
+
+read-be32-requires : tie.Need-read-be32-requires
+read-be32-requires c κs = front (c .before .before .before .args .packet .now) (c .before .before .before .args .n) (c .before .before .before .args .chunk .0) (c .before .before .before .pre .shaped)
+
+add-first : tie.Need-add-first
+add-first c = let z = placed (c .before .before .before .before .args .packet .now) (c .before .before .before .before .args .n) (c .before .before .before .before .args .chunk .0) (c .before .before .before .before .pre .shaped) in omega (arith, length-is (c))
+
+add-first-2 : tie.Need-add-first-2
+add-first-2 c = let z = placed (c .before .before .before .before .args .packet .now) (c .before .before .before .before .args .n) (c .before .before .before .before .args .chunk .0) (c .before .before .before .before .pre .shaped) in omega (arith, length-is (c))
+
+mul-second : tie.Need-mul-second
+mul-second c = omega (arith, c .before .before .sibling-count .ensures .1)
+
+add-second : tie.Need-add-second
+add-second c = let z = placed (c .before .before .before .before .args .packet .now) (c .before .before .before .before .args .n) (c .before .before .before .before .args .chunk .0) (c .before .before .before .before .pre .shaped) in omega (arith, length-is (c), c .before .before .sibling-count .ensures .1)
+
+add-second-2 : tie.Need-add-second-2
+add-second-2 c = let z = placed (c .before .before .before .before .args .packet .now) (c .before .before .before .before .args .n) (c .before .before .before .before .args .chunk .0) (c .before .before .before .before .pre .shaped) in omega (arith, length-is (c), c .before .before .sibling-count .ensures .1)
+
+add-lengths-requires : tie.Need-add-lengths-requires
+add-lengths-requires c κs =
+    let z = placed (c .before .before .before .before .args .packet .now) (c .before .before .before .before .args .n) (c .before .before .before .before .args .chunk .0) (c .before .before .before .before .pre .shaped) in (
+      beside-in (c .before .before .before .before .args .packet .now) (c .before .before .before .before .args .n) (c .before .before .before .before .args .chunk .0) (c .before .before .before .before .pre .shaped) _ (first-is (c)) (c .before .before .sibling-count .result) (c .before .before .sibling-count .ensures .0),
+      omega (arith, length-is (c)),
+    )
+
+add-lengths-requires-2 : tie.Need-add-lengths-requires-2
+add-lengths-requires-2 c κs = (
+  roots-in (c .before .before .before .before .before .args .packet .now) (c .before .before .before .before .before .args .n) (c .before .before .before .before .before .args .chunk .0) (c .before .before .before .before .before .pre .shaped) _ (first-is (c .before)) (c .before .before .before .sibling-count .result) (c .before .before .other-count .result) (c .before .before .before .sibling-count .ensures .0)
+      (c .before .before .other-count .ensures .0),
+  c .add-lengths .ensures .small,
+)
+
+returns : tie.Need-returns
+returns c =
+    ap (λ (x : ℕ). eqb x (c .before .before .before .before .before .before .args .size))
+    (total-summed (c .before .before .before .before .before .before .args .packet .now) (c .before .before .before .before .before .before .args .n) (c .before .before .before .before .before .before .args .chunk .0) (c .before .before .read-be32 .result) _ _ (c .before .before .before .before .sibling-count .result) (c .before .before .before .other-count .result) (c .before .add-lengths .result) (c .add-lengths2 .result)
+    (length-is (c .before .before)) (first-is (c .before .before))
+    (second-is (c .before .before .before .before .before .before .args .packet .now) (c .before .before .before .before .before .before .args .n) (c .before .before .before .before .before .before .args .chunk .0) (c .before .before .before .before .before .before .pre .shaped) _ (first-is (c .before .before)) (c .before .before .before .before .sibling-count .result) (c .before .before .before .before .sibling-count .ensures .0)) (c .before .before .before .before .sibling-count .ensures .0)
+    (c .before .before .before .other-count .ensures .0) (c .before .before .before .before .before .before .pre .small) (c .before .add-lengths .ensures) (c .add-lengths2 .ensures))
+
+pub total-right-spec : {M : Type 1} → statement M
+total-right-spec = tie.close (tie.spec (λ c κs. search needs) (λ c. search needs) (λ c κs. search needs) read-be32-requires add-first add-first-2 mul-second add-second add-second-2 add-lengths-requires add-lengths-requires-2 returns)

@@ -1,0 +1,36 @@
+-- `copy_take_in::way::way_of` meets its contract. Assumes nothing.
+use Prim.Native.Nat.{ℕ, _<_}
+use mathlib.Core.Path.{_≡_, refl, sym, subst}
+use native.Mathlib.Omega.{arith}
+use lib.ListN.{length}
+use Rattle.tree_index.specs.Tree.{roots}
+use Rattle.packet.proofs.Above.{place-below}
+use Rattle.copy_take_in.proofs.Paths.{way-is}
+use borrow.Author.Needs.{needs}
+use Rattle.copy_take_in.proofs.way.way_of.Statement.{statement}
+use Rattle.copy_take_in.proofs.way.way_of.Tie as tie
+
+above-indexes-requires : tie.Need-above-indexes-requires
+above-indexes-requires c κs = (omega (arith, c .before .pre .count, c .before .pre .below), c .sibling-count .ensures .1)
+
+sibling-indexes-requires : tie.Need-sibling-indexes-requires
+sibling-indexes-requires c κs = (omega (arith, c .before .before .pre .count, c .before .before .pre .below), c .before .sibling-count .ensures .1)
+
+root-place-requires : tie.Need-root-place-requires
+root-place-requires c κs = c .before .before .before .before .pre .count
+
+other-indexes-requires : tie.Need-other-indexes-requires
+other-indexes-requires c κs = (
+  c .before .before .before .before .before .pre .count,
+  subst (λ (x : ℕ). x < length (roots (c .before .before .before .before .before .args .n))) (sym (c .root-place .ensures)) (place-below (c .before .before .before .before .before .args .n) (c .before .before .before .before .before .args .chunk .0) (c .before .before .before .before .before .pre)),
+)
+
+returns : tie.Need-returns
+returns c =
+    way-is (c .before .before .before .before .before .before .args .n) (c .before .before .before .before .before .before .args .chunk .0) _ (c .before .before .before .before .before .sibling-count .result) (c .before .root-place .result) (c .before .before .before .before .before .before .pre) (c .before .before .before .before .before .sibling-count .ensures .0) refl (c .before .before .before .before .above-indexes .ensures) (c .before .before .before .sibling-indexes .ensures)
+    (c .before .before .other-count .ensures .0) (c .before .root-place .ensures) (c .other-indexes .ensures)
+
+pub way-of-spec : {M : Type 1} → statement M
+way-of-spec =
+    tie.close
+    (tie.spec (λ c κs. search needs) above-indexes-requires sibling-indexes-requires (λ c κs. search needs) root-place-requires other-indexes-requires (λ c. search needs) returns)

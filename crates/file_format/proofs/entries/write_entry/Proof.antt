@@ -1,0 +1,19 @@
+-- `file_format::entries::write_entry` meets its contract: the length goes right behind the hash. Assumes nothing.
+use borrow.Author.Needs.{needs}
+use Rattle.file_format.proofs.Places.{written-entry}
+use Rattle.file_format.proofs.entries.write_entry.Statement.{statement}
+use Rattle.file_format.proofs.entries.write_entry.Tie as tie
+
+returns : tie.Need-returns
+returns c =
+    let a = c .before .before .before .before .before .before .before .before .before .before .before .before .before .args in
+    written-entry (a .tree .now) (a .hash .now) (a .size)
+    (c .before .before .before .before .before .before .before .before .before .before .before .entry-place .ensures) (search needs)
+    (search needs) (c .before .before .before .before .before .before .before .before .copy-to .ensures)
+    (c .before .before .before .before .before .be64 .ensures) (c .before .before .copy-to2 .ensures)
+
+pub write-entry-spec : {M : Type 1} → statement M
+write-entry-spec =
+    tie.close
+    (tie.spec (λ c κs. search needs) (λ c κs. search needs) (λ c κs. search needs) (λ c. search needs) (λ c. search needs)
+    (λ c κs. search needs) (λ c. search needs) returns)

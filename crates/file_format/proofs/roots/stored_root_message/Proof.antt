@@ -1,0 +1,21 @@
+-- `file_format::roots::stored_root_message` meets its contract. Assumes nothing.
+use Prim.Native.Nat.{ℕ, _+_, _*_, _≤_}
+use lib.ListN.{take}
+use mathlib.Core.Path.{_∙_, ap, sym, subst}
+use borrow.Author.Needs.{needs}
+use Rattle.file_format.proofs.ByValue.{items-roots, from-padded}
+use Rattle.tree_index.proofs.Roots.{length-roots-le}
+use Rattle.tree_index.specs.Numbers.{numbers}
+use Rattle.file_format.proofs.roots.stored_root_message.Statement.{statement}
+use Rattle.file_format.proofs.roots.stored_root_message.Tie as tie
+
+root-message-requires : tie.Need-root-message-requires
+root-message-requires c κs = subst (λ (i : ℕ). i ≤ 20) (sym (c .before .stored-roots .ensures .count)) (length-roots-le (c .before .before .before .args .n) (c .before .before .before .pre .count))
+
+returns : tie.Need-returns
+returns c = let a = c .before .before .before .before .args in ap (λ (k : ℕ). take (1 + 48 * k) (c .root-message .result)) (sym (c .before .before .stored-roots .ensures .count)) ∙ c .root-message .ensures ∙ (items-roots (a .tree .now) (numbers (c .before .before .stored-roots .result .indexes)) (a .n) (c .before .before .stored-roots .result .count) (c .before .before .stored-roots .ensures .count) (from-padded (numbers (c .before .before .stored-roots .result .indexes)) (a .n) (c .before .before .stored-roots .ensures .indexes)) (c .before .stored-root-hashes .result) (c .before .before .stored-roots .result .sizes) (c .before .stored-root-hashes .ensures) (c .before .before .stored-roots .ensures .sizes))
+
+pub stored-root-message-spec : {M : Type 1} → statement M
+stored-root-message-spec =
+    tie.close
+    (tie.spec (λ c κs. search needs) (λ c κs. search needs) root-message-requires returns)

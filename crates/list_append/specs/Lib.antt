@@ -1,6 +1,0 @@
--- A list of chunks appended together, over any hash function F.
-pub mod Chunks
-pub mod Append
-pub mod Fits
-pub mod Post
-pub mod Inner

@@ -1,0 +1,105 @@
+-- The steps of a descent as the code takes them, and what its inner functions require.
+use Prim.Native.Nat.{ℕ, _+_, _-_, _*_, _^_, _≤_, _<_}
+use mathlib.Core.Path.{_≡_}
+use mathlib.Core.Bool.{Bool, true, false, cond}
+use mathlib.Core.List.{List, [], _∷_}
+use lib.ListN.{length}
+use lib.Dec.{leb, ltb}
+use Rattle.refusals.specs.Verdict.{tree as atTree, refused}
+use Rattle.byte_strings.specs.Lists.{total}
+use Rattle.tree_index.specs.Tree.{index, depth, block, leftChild, rightChild}
+use Rattle.bitfield.specs.Release.{storedHeld}
+use Rattle.file_format.specs.Sizes.{mostChunks, usedTree, usedBitfield}
+use Rattle.file_format.specs.Stored.{storedSize, storedRootSizes}
+use Rattle.file_format.specs.Inner.{RootsIn}
+use Rattle.checks.specs.Checks.{judged}
+use Rattle.lookup.specs.Descent.{Ending, stopped, reached, chunkWithin, byteWithin, descend, descent}
+use Rattle.lookup.specs.Lookup.{Found, stopRefused, foundUnless, chunkOf, startOf, byteEnding}
+use Rattle.lookup.specs.declared.descent.Sought.{Sought}
+use Rattle.lookup.specs.declared.descent.Sought.the-variants.{Chunk, Byte}
+use Rattle.lookup.specs.declared.descent.Ending.{Ending as CodeEnding}
+use Rattle.lookup.specs.declared.descent.Ending.the-variants.{Stopped, Reached}
+use Rattle.lookup.specs.declared.descent.Step.{Step}
+use Rattle.lookup.specs.declared.descent.Step.the-variants.{End, Down}
+
+-- which test a descent makes for what is sought
+abbrev pub withinOf : Sought → ℕ → ℕ → ℕ → ℕ → Bool
+withinOf (Chunk c) = chunkWithin (c .0)
+withinOf (Byte b) = byteWithin (b .0)
+
+-- the ending that each case stands for
+abbrev pub endingOf : CodeEnding → Ending
+endingOf (Stopped i) = stopped (i .0)
+endingOf (Reached c start) = reached (c .0) (start .0)
+
+-- A descent may visit the node at tree index i, whose bytes begin at `start`: the entries of all chunks up to the end of its block lie within
+-- the tree file, and the offsets of its bytes fit.
+pub record StandsAt (tree : List ℕ) (i start : ℕ) : Type 0 where
+  pub count : (block i + 1) * 2 ^ depth i ≤ mostChunks
+  pub inside : usedTree ((block i + 1) * 2 ^ depth i) ≤ length tree
+  pub fits : start + storedSize tree i < 2 ^ 64
+
+-- A search may begin among the roots of n chunks: their entries lie within the tree file, and the sum of their lengths fits.
+pub record Searched (tree : List ℕ) (n : ℕ) : Type 0 where
+  pub roots : RootsIn tree n
+  pub fits : total (storedRootSizes tree n) < 2 ^ 64
+
+-- the same for a data size that the lengths of the roots add up to
+pub record SearchedFor (tree : List ℕ) (n size : ℕ) : Type 0 where
+  pub searched : Searched tree n
+  pub adds : total (storedRootSizes tree n) ≡ size
+
+-- the same where the data bits of n chunks lie within the bitfield file
+pub record SearchedHeld (tree bitfield : List ℕ) (n : ℕ) : Type 0 where
+  pub searched : Searched tree n
+  pub bits : usedBitfield n ≤ length bitfield
+
+-- what the lookups give in a register that passes the checks 2 to 6
+unfoldable pub placeIn : List ℕ → ℕ → ℕ → Found
+placeIn tree n c =
+    foundUnless (judged (record { number = 9; right = ltb c n } ∷ []) (stopRefused (descent (chunkWithin c) tree n)))
+    (startOf (descent (chunkWithin c) tree n)) (storedSize tree (index 0 c))
+
+unfoldable pub heldPlaceIn : List ℕ → List ℕ → ℕ → ℕ → Found
+heldPlaceIn tree bitfield n c =
+    foundUnless
+    (judged (record { number = 9; right = ltb c n } ∷ [])
+    (cond (storedHeld bitfield c) (stopRefused (descent (chunkWithin c) tree n)) (refused 18 (atTree (index 0 c)))))
+    (startOf (descent (chunkWithin c) tree n)) (storedSize tree (index 0 c))
+
+unfoldable pub byteIn : List ℕ → ℕ → ℕ → ℕ → Found
+byteIn tree n size b =
+    foundUnless (judged (record { number = 9; right = leb b size } ∷ []) (stopRefused (byteEnding tree n size b)))
+    (chunkOf (byteEnding tree n size b)) (b - startOf (byteEnding tree n size b))
+
+-- where the descent ends that goes on from a step
+abbrev pub followed : (ℕ → ℕ → ℕ → ℕ → Bool) → List ℕ → Step → Ending
+followed within tree (End e) = endingOf e
+followed within tree (Down j start) = descend within tree (depth (j .0)) (block (j .0)) (start .0)
+
+-- a step down comes to a child that may be visited, and whose depth is less
+abbrev pub Lower : List ℕ → ℕ → Step → Type 0
+Lower tree i (End e) = Unit {0}
+Lower tree i (Down j start) = StandsAt tree (j .0) (start .0) × (depth (j .0) < depth i)
+
+-- a step down goes to the left child where what is sought lies there, and else to the right one
+abbrev pub Turned : Bool → List ℕ → ℕ → ℕ → ℕ → ℕ → Type 0
+Turned true tree i start j from = (j ≡ leftChild i) × (from ≡ start)
+Turned false tree i start j from = (j ≡ rightChild i) × (from ≡ start + storedSize tree (leftChild i))
+
+-- it is made at a parent whose length is the sum of its children's
+pub record Onward (within : ℕ → ℕ → ℕ → ℕ → Bool) (tree : List ℕ) (i start j from : ℕ) : Type 0 where
+  pub deep : 0 < depth i
+  pub sum : storedSize tree i ≡ storedSize tree (leftChild i) + storedSize tree (rightChild i)
+  pub turned : Turned (within (depth (leftChild i)) (block (leftChild i)) start (storedSize tree (leftChild i))) tree i start j from
+
+-- and at no other node
+abbrev pub Way : (ℕ → ℕ → ℕ → ℕ → Bool) → List ℕ → ℕ → ℕ → Step → Type 0
+Way within tree i start (End e) = 0 < depth i → storedSize tree i ≡ storedSize tree (leftChild i) + storedSize tree (rightChild i) → ⊥
+Way within tree i start (Down j from) = Onward within tree i start (j .0) (from .0)
+
+-- what a visit of the node at i finds
+pub record Visited (within : ℕ → ℕ → ℕ → ℕ → Bool) (tree : List ℕ) (i start : ℕ) (step : Step) : Type 0 where
+  pub same : followed within tree step ≡ descend within tree (depth i) (block i) start
+  pub lower : Lower tree i step
+  pub way : Way within tree i start step

@@ -1,0 +1,64 @@
+-- The number and the values that each case of an answer stands for.
+use Prim.Native.Nat.{ℕ, _+_, _≤_, _<_}
+use mathlib.Core.Bool.{cond}
+use mathlib.Core.List.{List}
+use lib.ListN.{length}
+use Rattle.refusals.specs.Verdict.{tree as atTree}
+use Rattle.refusals.specs.Meaning.{spotOf}
+use Rattle.refusals.specs.declared.Refusal.{Refusal}
+use Rattle.byte_strings.specs.Lists.{part, sameList}
+use Rattle.tree_index.specs.Tree.{index}
+use Rattle.file_format.specs.Messages.{leafMessage}
+use Rattle.file_format.specs.Stored.{storedHash, storedSize}
+use Rattle.file_format.specs.Inner.{EntryIn}
+use Rattle.file_format.specs.Belongs.{Register}
+use Rattle.lookup.specs.Lookup.{Found, refusal, found, foundUnless, startOf, toChunk}
+use Rattle.lookup.specs.Read.{Name, metadata, contents, readVerdict}
+use Rattle.lookup.specs.declared.places.Placed.{Placed}
+use Rattle.lookup.specs.declared.places.Placed.the-variants.{Refused as NoPlace, At}
+use Rattle.lookup.specs.declared.places.Located.{Located}
+use Rattle.lookup.specs.declared.places.Located.the-variants.{Refused as NoByte, In}
+use Rattle.lookup.specs.declared.reading.Name.{Name as CodeName}
+use Rattle.lookup.specs.declared.reading.Name.the-variants.{Metadata, Content}
+use Rattle.lookup.specs.declared.reading.Verified.{Verified}
+use Rattle.lookup.specs.declared.reading.Verified.the-variants.{Refused as NoPart, Part}
+
+abbrev pub refusedAs : Refusal → Found
+refusedAs r = refusal (r .number) (spotOf (r .place))
+
+abbrev pub placedOf : Placed → Found
+placedOf (NoPlace r) = refusedAs r
+placedOf (At start size) = found (start .0) size
+
+abbrev pub locatedOf : Located → Found
+locatedOf (NoByte r) = refusedAs r
+locatedOf (In chunk rest) = found (chunk .0) rest
+
+abbrev pub nameOf : CodeName → Name
+nameOf Metadata = metadata
+nameOf Content = contents
+
+abbrev pub verifiedOf : Verified → Found
+verifiedOf (NoPart r) = refusedAs r
+verifiedOf (Part start end) = found (start .0) (end .0)
+
+-- what the checks of a read find: its refusal, or where the chunk's bytes begin and end
+unfoldable pub readFound : (List ℕ → List ℕ) → Register → ℕ → Found
+readFound F r c =
+    foundUnless (readVerdict F r c) (startOf (toChunk r c)) (startOf (toChunk r c) + storedSize (r .tree) (index 0 c))
+
+-- a chunk that has a place has its bytes within the data, and its leaf's entry within the tree file
+pub record LiesAt (tree content : List ℕ) (c start size : ℕ) : Type 0 where
+  pub inside : start + size ≤ length content
+  pub small : c < 2097152
+  pub entry : EntryIn tree (index 0 c)
+
+abbrev pub PlacedIn : List ℕ → List ℕ → ℕ → Found → Type 0
+PlacedIn tree content c (refusal m at) = Unit {0}
+PlacedIn tree content c (found start size) = LiesAt tree content c start size
+
+-- a place, judged by the leaf hash of the bytes there: its refusal, or where they begin and end
+unfoldable pub hashJudged : (List ℕ → List ℕ) → List ℕ → List ℕ → ℕ → Found → Found
+hashJudged F tree content c (refusal m at) = refusal m at
+hashJudged F tree content c (found start size) =
+    cond (sameList (storedHash tree (index 0 c)) (F (leafMessage (part content start size)))) (found start (start + size)) (refusal 10 (atTree (index 0 c)))

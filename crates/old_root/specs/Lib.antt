@@ -1,3 +1,0 @@
--- Root hashes of earlier years.
-pub mod OldRoot
-pub mod Answers

@@ -1,0 +1,60 @@
+-- `packet_compare::compare_packets` meets its contract. Assumes nothing.
+use mathlib.Core.Path.{_≡_, sym, ap, _∙_}
+use borrow.Author.Needs.{needs}
+use Rattle.refusals.specs.Verdict.{done}
+use Rattle.refusals.specs.Meaning.{said, spotOf}
+use Rattle.blake2b.specs.Hash.{nodeHash}
+use Rattle.packet.specs.Check.{packetVerdict}
+use Rattle.packet_compare.proofs.Tells.{both-done, first-refused, second-refused}
+use Rattle.packet_compare.proofs.compare_packets.Statement.{statement}
+use Rattle.packet_compare.proofs.compare_packets.Tie as tie
+
+-- the first packet passes
+first-passes : (c : tie.After-enum-told) → packetVerdict nodeHash (c .before .before .before .before .before .args .first .now)
+    (c .before .before .before .before .before .args .n) (c .before .before .before .before .before .args .chunk .0) (c .before .before .before .before .before .args .root .now)
+    ≡ done
+first-passes c = sym (c .before .before .check-answer .ensures) ∙ ap said (c .enum-told .given .1)
+
+-- and the second
+second-passes : (c : tie.After-enum-told2) → packetVerdict nodeHash (c .before .before .before .before .before .before .before .before .args .second .now)
+    (c .before .before .before .before .before .before .before .before .args .n) (c .before .before .before .before .before .before .before .before .args .chunk .0)
+    (c .before .before .before .before .before .before .before .before .args .root .now)
+    ≡ done
+second-passes c = sym (c .before .before .check-answer2 .ensures) ∙ ap said (c .enum-told2 .given .1)
+
+walk-requires : tie.Need-walk-requires
+walk-requires c κs =
+    let s = c .before .before .before .before .before .before .before .before in
+    record { root = s .args .root .now; first = first-passes (c .before .before .before); second = second-passes c }
+
+returns : tie.Need-returns
+returns c =
+    let a = c .before .before .before .before .before .before .args in
+    let q = c .before .refusal .given in
+    sym (first-refused nodeHash (a .first .now) (a .second .now) (a .n) (a .chunk .0) (a .root .now) (q .0 .0 .number) (spotOf (q .0 .0 .place))
+    (sym (c .before .before .before .check-answer .ensures) ∙ ap said (q .1)))
+
+returns-2 : tie.Need-returns-2
+returns-2 c =
+    let e = c .before .before .before .before in
+    let a = e .before .before .before .before .before .args in
+    let q = c .before .refusal2 .given in
+    sym (second-refused nodeHash (a .first .now) (a .second .now) (a .n) (a .chunk .0) (a .root .now) (q .0 .0 .number) (spotOf (q .0 .0 .place))
+    (first-passes e) (sym (c .before .before .before .check-answer2 .ensures) ∙ ap said (q .1)))
+
+returns-3 : tie.Need-returns-3
+returns-3 c =
+    let e = c .before .before .before .before in
+    let a = e .before .before .before .before .before .args in
+    c .walk .ensures
+    ∙ sym (both-done nodeHash (a .first .now) (a .second .now) (a .n) (a .chunk .0) (a .root .now) (first-passes e) (second-passes (c .before)))
+
+pub compare-packets-spec : {M : Type 1} → statement M
+compare-packets-spec =
+    tie.close
+    (tie.spec
+    (λ c κs. search needs) (λ c. search needs) (λ c. search needs) (λ c κs. search needs) (λ c. search needs) (λ c. search needs)
+    walk-requires
+    returns
+    returns-2
+    returns-3)

@@ -1,0 +1,29 @@
+-- `prefix_root::judge` meets its contract: the checks 2 to 6, and what comes behind them. Assumes nothing.
+use Rattle.refusals.specs.Meaning.{said}
+use Rattle.file_format.specs.Belongs.{Register}
+use Rattle.checks.specs.Lent.{registerOf}
+use Rattle.prefix_root.proofs.Calls.{before-refused, behind-checks}
+use borrow.Author.Needs.{needs}
+use Rattle.prefix_root.proofs.judge.Statement.{statement}
+use Rattle.prefix_root.proofs.judge.Tie as tie
+
+abbrev given : (c : tie.Start) → Register
+given c =
+    registerOf (c .args .tree .now) (c .args .signatures .now) (c .args .bitfield .now) (c .args .content .now) (c .args .n) (c .args .s)
+    (c .args .size)
+
+returns : tie.Need-returns
+returns c =
+    let s = c .before .before .before .before .before .before .before .before in
+    let q = c .before .refusal .given in
+    before-refused (given s) (s .args .m) (c .before .before .before .judge .result) (c .before .before .before .judge .ensures) (q .0 .0) (q .1)
+
+returns-2 : tie.Need-returns-2
+returns-2 c =
+    let s = c .before .before .before .before .before .before .before .before in
+    behind-checks (given s) (s .args .m) (c .before .before .before .judge .result) (c .before .before .before .judge .ensures) (c .before .enum-told .given .1)
+    (said (c .up-to .result)) (c .up-to .ensures)
+
+pub judge-spec : {M : Type 1} → statement M
+judge-spec =
+    tie.close (tie.spec (λ c κs. search needs) (λ c. search needs) (λ c. search needs) (λ c κs. search needs) returns returns-2)

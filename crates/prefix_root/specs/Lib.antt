@@ -1,0 +1,3 @@
+-- Root hashes of earlier years.
+pub mod PrefixRoot
+pub mod Theorems

@@ -1,0 +1,171 @@
+-- The proof of the cycle of calls {digits}. The measure is how many bytes may follow. Assumes nothing.
+use borrow.Author.Needs.{needs}
+use native.Mathlib.Omega.{arith}
+use Rattle.record_fields.proofs.Found.{digits-end, digits-last, digits-none, digits-more}
+use Prim.Native.Nat.{ℕ, _<_}
+use borrow.Fn.Kinds.{In}
+use borrow.Fn.PlainCycle.{Measures, is, falls, and}
+use Rattle.record_fields.proofs.varints.digits.Reads as digits
+use Rattle.record_fields.proofs.varints.digits.Kinds as digits-kinds
+use Rattle.record_fields.proofs.varints.+digits.Lts-digits as digits-lts
+use Rattle.record_fields.proofs.varints.joined.Reads as joined-reads
+use Rattle.record_fields.proofs.varints.wide.Reads as wide-reads
+use Rattle.record_fields.proofs.varints.+digits.{statement}
+use Rattle.record_fields.proofs.varints.+digits.Tie.{close}
+
+abbrev μ-digits : Measures 1 digits-kinds.ps ℕ
+μ-digits κs a = a .1 .1 .0
+
+abbrev digits-at : ℕ → In 1 digits-kinds.ps
+digits-at t = and 1 digits-kinds.ps (is 1 digits-kinds.ps μ-digits t) digits.Pre
+
+abbrev digits-below : ℕ → In 1 digits-kinds.ps
+digits-below t = and 1 digits-kinds.ps (falls 1 digits-kinds.ps _<_ μ-digits t) digits.Pre
+
+digits-returns : (t : ℕ) → digits-lts.Need-returns (
+  wide-reads.Asked,
+  wide-reads.Learnt,
+  digits-below t,
+  digits.Post,
+  joined-reads.Asked,
+  joined-reads.Learnt,
+) (digits-at t) digits.Post
+digits-returns t c = let a = c .before .before .args in digits-end (a .d .now) (a .k) (a .at) (c .if1 .taken)
+
+digits-shared-slice-read-wide : (t : ℕ) → digits-lts.Need-shared-slice-read-wide (
+  wide-reads.Asked,
+  wide-reads.Learnt,
+  digits-below t,
+  digits.Post,
+  joined-reads.Asked,
+  joined-reads.Learnt,
+) (digits-at t) digits.Post
+digits-shared-slice-read-wide t c = search needs
+
+digits-wide-requires : (t : ℕ) → digits-lts.Need-wide-requires (
+  wide-reads.Asked,
+  wide-reads.Learnt,
+  digits-below t,
+  digits.Post,
+  joined-reads.Asked,
+  joined-reads.Learnt,
+) (digits-at t) digits.Post
+digits-wide-requires t c κs = search needs
+
+digits-add-t9 : (t : ℕ) → digits-lts.Need-add-t9 (
+  wide-reads.Asked,
+  wide-reads.Learnt,
+  digits-below t,
+  digits.Post,
+  joined-reads.Asked,
+  joined-reads.Learnt,
+) (digits-at t) digits.Post
+digits-add-t9 t c = search needs
+
+digits-returns-2 : (t : ℕ) → digits-lts.Need-returns-2 (
+  wide-reads.Asked,
+  wide-reads.Learnt,
+  digits-below t,
+  digits.Post,
+  joined-reads.Asked,
+  joined-reads.Learnt,
+) (digits-at t) digits.Post
+digits-returns-2 t c =
+    let read = c .before in
+    let a = read .before .before .before .before .args in
+    digits-last (a .d .now) (a .k) (a .at) (read .wide .result) (read .before .before .if1 .left) (read .wide .ensures) (c .if2 .taken)
+
+digits-returns-3 : (t : ℕ) → digits-lts.Need-returns-3 (
+  wide-reads.Asked,
+  wide-reads.Learnt,
+  digits-below t,
+  digits.Post,
+  joined-reads.Asked,
+  joined-reads.Learnt,
+) (digits-at t) digits.Post
+digits-returns-3 t c =
+    let read = c .before .before in
+    let a = read .before .before .before .before .args in
+    digits-none (a .d .now) (a .k) (a .at) (read .wide .result) (read .before .before .if1 .left) (read .wide .ensures) (c .before .if2 .left) (c .if3 .taken)
+
+digits-add-digits : (t : ℕ) → digits-lts.Need-add-digits (
+  wide-reads.Asked,
+  wide-reads.Learnt,
+  digits-below t,
+  digits.Post,
+  joined-reads.Asked,
+  joined-reads.Learnt,
+) (digits-at t) digits.Post
+digits-add-digits t c = search needs
+
+digits-sub-digits : (t : ℕ) → digits-lts.Need-sub-digits (
+  wide-reads.Asked,
+  wide-reads.Learnt,
+  digits-below t,
+  digits.Post,
+  joined-reads.Asked,
+  joined-reads.Learnt,
+) (digits-at t) digits.Post
+digits-sub-digits t c = search needs
+
+digits-digits-requires : (t : ℕ) → digits-lts.Need-digits-requires (
+  wide-reads.Asked,
+  wide-reads.Learnt,
+  digits-below t,
+  digits.Post,
+  joined-reads.Asked,
+  joined-reads.Learnt,
+) (digits-at t) digits.Post
+digits-digits-requires t c κs =
+    let start = c .before .before .before .before .before .before in
+    (omega (arith, start .pre .0, c .if3 .left), omega (arith, c .before .before .before .before .if1 .left))
+
+digits-joined-requires : (t : ℕ) → digits-lts.Need-joined-requires (
+  wide-reads.Asked,
+  wide-reads.Learnt,
+  digits-below t,
+  digits.Post,
+  joined-reads.Asked,
+  joined-reads.Learnt,
+) (digits-at t) digits.Post
+digits-joined-requires t c κs =
+    let read = c .before .before .before in
+    let a = read .before .before .before .before .args in
+    omega (arith, read .wide .ensures, read .before .shared-slice-known2 .given (a .at))
+
+digits-returns-4 : (t : ℕ) → digits-lts.Need-returns-4 (
+  wide-reads.Asked,
+  wide-reads.Learnt,
+  digits-below t,
+  digits.Post,
+  joined-reads.Asked,
+  joined-reads.Learnt,
+) (digits-at t) digits.Post
+digits-returns-4 t c =
+    let read = c .before .before .before .before in
+    let a = read .before .before .before .before .args in
+    digits-more (a .d .now) (a .k) (a .at) (read .wide .result) (c .before .digits .result) (c .joined .result) (read .before .before .if1 .left) (read .wide .ensures)
+    (c .before .before .before .if2 .left) (omega (arith, read .wide .ensures, read .before .shared-slice-known2 .given (a .at))) (c .before .before .if3 .left) (c .before .digits .ensures) (c .joined .ensures)
+
+pub +digits-spec : {M : Type 1} → statement M
++digits-spec = close μ-digits λ t. digits-lts.spec (
+  wide-reads.Asked,
+  wide-reads.Learnt,
+  digits-below t,
+  digits.Post,
+  joined-reads.Asked,
+  joined-reads.Learnt,
+)
+    (digits-at t)
+    digits.Post
+    (digits-returns t)
+    (digits-shared-slice-read-wide t)
+    (digits-wide-requires t)
+    (digits-add-t9 t)
+    (digits-returns-2 t)
+    (digits-returns-3 t)
+    (digits-add-digits t)
+    (digits-sub-digits t)
+    (digits-digits-requires t)
+    (digits-joined-requires t)
+    (digits-returns-4 t)

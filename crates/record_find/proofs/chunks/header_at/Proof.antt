@@ -1,0 +1,20 @@
+-- The reader decides; a refusal gets its place.
+use mathlib.Core.Path.{subst}
+use Rattle.record_format.specs.Post.{HeaderReadAs}
+use Rattle.tree_index.specs.Tree.{index}
+use Rattle.record_find.proofs.Chunk.{header-none}
+use borrow.Author.Needs.{needs}
+use Rattle.record_find.proofs.chunks.header_at.Statement.{statement}
+use Rattle.record_find.proofs.chunks.header_at.Tie as tie
+
+returns : tie.Need-returns
+returns c =
+    let a = c .before .before .before .before .before .args in
+    header-none (a .bytes .now) (index 0 (a .chunk .0)) (c .before .before .before .read-header .result) _ (c .no-record .result) (c .before .enum-told .given .1) (c .before .before .before .read-header .ensures) (c .no-record .ensures)
+
+returns-2 : tie.Need-returns-2
+returns-2 c = let a = c .before .before .before .before .before .args in subst (HeaderReadAs (a .bytes .now)) (c .before .part .given .1) (c .before .before .before .read-header .ensures)
+
+pub header-at-spec : {M : Type 1} → statement M
+header-at-spec =
+    tie.close (tie.spec (λ c κs. search needs) (λ c. search needs) (λ c κs. search needs) (λ c. search needs) returns returns-2)

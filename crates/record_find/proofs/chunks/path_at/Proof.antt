@@ -1,0 +1,42 @@
+-- The reader decides, and then the path's bytes.
+use native.Mathlib.Omega.{arith}
+use Rattle.tree_index.specs.Tree.{index}
+use Rattle.record_find.proofs.Chunk.{path-none, path-inside, path-same, path-other}
+use borrow.Author.Needs.{needs}
+use Rattle.record_find.proofs.chunks.path_at.Statement.{statement}
+use Rattle.record_find.proofs.chunks.path_at.Tie as tie
+
+add-to : tie.Need-add-to
+add-to c =
+    let a = c .before .before .before .before .before .before .before .before .args in
+    let read = c .before .before .before .before .before .read-node in
+    omega (arith, path-inside (a .bytes .now) (index 0 (a .chunk .0)) (read .result .answer) (read .result .node) (read .ensures) (c .before .before .enum-told2 .given .1))
+
+part-same-end : tie.Need-part-same-end
+part-same-end c =
+    let a = c .before .before .before .before .before .before .before .before .args in
+    let read = c .before .before .before .before .before .read-node in
+    omega (arith, path-inside (a .bytes .now) (index 0 (a .chunk .0)) (read .result .answer) (read .result .node) (read .ensures) (c .before .before .enum-told2 .given .1))
+
+returns : tie.Need-returns
+returns c =
+    let a = c .before .before .before .before .before .before .before .before .before .before .before .args in
+    let read = c .before .before .before .before .before .before .before .before .read-node in
+    path-same (a .bytes .now) (index 0 (a .chunk .0)) (read .result .answer) (read .result .node) (read .ensures) (c .before .before .before .before .before .enum-told2 .given .1) (a .path .now) (c .before .same .result) (c .before .same .ensures) (c .if1 .taken)
+
+returns-2 : tie.Need-returns-2
+returns-2 c =
+    let a = c .before .before .before .before .before .before .before .args in
+    let read = c .before .before .before .before .read-node in
+    path-none (a .bytes .now) (index 0 (a .chunk .0)) (read .result .answer) (read .result .node) (read .ensures) _ (c .no-record .result) (a .path .now) (c .before .enum-told .given .1) (c .no-record .ensures)
+
+returns-3 : tie.Need-returns-3
+returns-3 c =
+    let a = c .before .before .before .before .before .before .before .before .before .before .before .args in
+    let read = c .before .before .before .before .before .before .before .before .read-node in
+    path-other (a .bytes .now) (index 0 (a .chunk .0)) (read .result .answer) (read .result .node) (read .ensures) (c .before .before .before .before .before .enum-told2 .given .1) (a .path .now) (c .before .same .result) (c .before .same .ensures) (c .if1 .left)
+
+pub path-at-spec : {M : Type 1} → statement M
+path-at-spec =
+    tie.close (tie.spec (λ c κs. search needs) (λ c. search needs) (λ c κs. search needs) (λ c. search needs) add-to (λ c. search needs) (λ c. search needs) part-same-end
+    (λ c κs. search needs) returns returns-2 returns-3)

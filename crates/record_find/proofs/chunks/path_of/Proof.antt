@@ -1,0 +1,60 @@
+-- The read's own refusal, or what is said of the bytes read.
+use mathlib.Core.Path.{sym, ap, _∙_, refl, subst}
+use mathlib.Core.List.{List}
+use Prim.Native.Nat.{ℕ}
+use Rattle.refusals.specs.Meaning.{refusalOf, spotOf}
+use Rattle.blake2b.specs.Hash.{nodeHash}
+use Rattle.checks.specs.Lent.{registerOf}
+use Rattle.tree_index.specs.Tree.{index}
+use Rattle.lookup.specs.Meaning.{verifiedOf}
+use Rattle.lookup.proofs.Calls.{nothing}
+use Rattle.record_find.specs.ChunkRecords.{HeaderJudged, NodeJudged, NodeSaid, PathJudged}
+use Rattle.record_find.proofs.Chunk.{lies, read-refused, read-done, small}
+use borrow.Author.Needs.{needs}
+use Rattle.record_find.proofs.chunks.path_of.Statement.{statement}
+use Rattle.record_find.proofs.chunks.path_of.Tie as tie
+
+sub-path-at : tie.Need-sub-path-at
+sub-path-at c =
+    let a = c .before .before .before .before .before .before .before .before .before .args in
+    let k = c .before .start .given in
+    lies nodeHash (registerOf (a .tree .now) (a .signatures .now) (a .bitfield .now) (a .content .now) (a .n) (a .s) (a .size)) (a .chunk .0) (k .0 .0 .0) (k .0 .1 .0 .0) (sym (ap verifiedOf (k .1)) ∙ c .before .before .before .verify .ensures) .ordered
+
+part-path-at-start : tie.Need-part-path-at-start
+part-path-at-start c =
+    let a = c .before .before .before .before .before .before .before .before .before .args in
+    let k = c .before .start .given in
+    lies nodeHash (registerOf (a .tree .now) (a .signatures .now) (a .bitfield .now) (a .content .now) (a .n) (a .s) (a .size)) (a .chunk .0) (k .0 .0 .0) (k .0 .1 .0 .0) (sym (ap verifiedOf (k .1)) ∙ c .before .before .before .verify .ensures) .ordered
+
+part-path-at-end : tie.Need-part-path-at-end
+part-path-at-end c =
+    let a = c .before .before .before .before .before .before .before .before .before .args in
+    let k = c .before .start .given in
+    lies nodeHash (registerOf (a .tree .now) (a .signatures .now) (a .bitfield .now) (a .content .now) (a .n) (a .s) (a .size)) (a .chunk .0) (k .0 .0 .0) (k .0 .1 .0 .0) (sym (ap verifiedOf (k .1)) ∙ c .before .before .before .verify .ensures) .inside
+
+path-at-requires : tie.Need-path-at-requires
+path-at-requires c κs =
+    let a = c .before .before .before .before .before .before .before .before .before .before .args in
+    let k = c .before .before .start .given in
+    small nodeHash (registerOf (a .tree .now) (a .signatures .now) (a .bitfield .now) (a .content .now) (a .n) (a .s) (a .size)) (a .chunk .0) (k .0 .0 .0) (k .0 .1 .0 .0) (sym (ap verifiedOf (k .1)) ∙ c .before .before .before .before .verify .ensures)
+
+returns : tie.Need-returns
+returns c =
+    let a = c .before .before .before .before .before .before .before .before .before .args in
+    let r = registerOf (a .tree .now) (a .signatures .now) (a .bitfield .now) (a .content .now) (a .n) (a .s) (a .size) in
+    let k = c .before .refusal .given in
+    read-refused nodeHash r (a .chunk .0) (k .0 .0 .number) (spotOf (k .0 .0 .place)) _ _ refl
+    (nothing nodeHash r (a .chunk .0) (k .0 .0 .number) (spotOf (k .0 .0 .place)) (sym (ap verifiedOf (k .1)) ∙ c .before .before .before .verify .ensures) .0)
+
+returns-2 : tie.Need-returns-2
+returns-2 c =
+    let a = c .before .before .before .before .before .before .before .before .before .before .before .args in
+    let r = registerOf (a .tree .now) (a .signatures .now) (a .bitfield .now) (a .content .now) (a .n) (a .s) (a .size) in
+    let k = c .before .before .before .start .given in
+    let e = sym (ap verifiedOf (k .1)) ∙ c .before .before .before .before .before .verify .ensures in
+    read-done nodeHash r (a .chunk .0) (k .0 .0 .0) (k .0 .1 .0 .0) e _ _
+    (subst (λ (d : List ℕ). PathJudged d (index 0 (a .chunk .0)) (a .path .now) (c .path-at .result)) (lies nodeHash r (a .chunk .0) (k .0 .0 .0) (k .0 .1 .0 .0) e .same) (c .path-at .ensures))
+
+pub path-of-spec : {M : Type 1} → statement M
+path-of-spec =
+    tie.close (tie.spec (λ c κs. search needs) (λ c. search needs) (λ c. search needs) sub-path-at part-path-at-start part-path-at-end path-at-requires returns returns-2)

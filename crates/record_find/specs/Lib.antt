@@ -1,0 +1,4 @@
+-- The records of a register's chunks, and the paths in them.
+pub mod ChunkRecords
+pub mod Finding
+pub mod Theorems

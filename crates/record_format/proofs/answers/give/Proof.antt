@@ -1,0 +1,20 @@
+-- Room or none.
+use mathlib.Core.Path.{refl}
+use Rattle.record_format.proofs.Whole.{written-14, written-done}
+use borrow.Author.Needs.{needs}
+use Rattle.record_format.proofs.answers.give.Statement.{statement}
+use Rattle.record_format.proofs.answers.give.Tie as tie
+
+returns : tie.Need-returns
+returns c =
+    let a = c .before .before .before .before .args in
+    written-14 (Unit {0}) (a .bytes .now) (a .out .now) (c .refusal .result) (c .refusal .ensures) tt (c .before .if1 .taken)
+
+returns-2 : tie.Need-returns-2
+returns-2 c =
+    let a = c .before .before .before .before .before .before .before .args in
+    written-done (Unit {0}) (a .bytes .now) (a .out .now) _ _ tt (c .before .before .before .before .if1 .left) refl (c .before .before .copy-to .ensures)
+
+pub give-spec : {M : Type 1} → statement M
+give-spec =
+    tie.close (tie.spec (λ c κs. search needs) returns (λ c κs. search needs) (λ c. search needs) returns-2)

@@ -1,0 +1,37 @@
+-- The first three fields that do not fit decide.
+use borrow.Author.Tests.{not-true, not-false}
+use Rattle.record_format.specs.Records.{Stat, rowsOf, RowsWithin}
+use Rattle.record_format.specs.Inner.{ThreeMost}
+use Rattle.record_format.specs.Post.{statOf}
+use Rattle.record_format.proofs.Nine.{rows-most, nine-rows}
+use Rattle.record_format.proofs.Writing.{yes, no, carried}
+use borrow.Author.Needs.{needs}
+use Rattle.record_format.proofs.stats.rows_fit.Statement.{statement}
+use Rattle.record_format.proofs.stats.rows_fit.Tie as tie
+
+abbrev First : Stat → Type 0
+First s = ThreeMost 4294967295 (s .mode, (s .uid, s .gid))
+
+abbrev Second : Stat → Type 0
+Second s = ThreeMost 18446744073709551615 (s .size, (s .blocks, s .offset))
+
+abbrev Third : Stat → Type 0
+Third s = ThreeMost 18446744073709551615 (s .byteOffset, (s .mtime, s .ctime))
+
+returns : tie.Need-returns
+returns c w = let s = statOf (c .before .before .args .stat) in no (First s) (c .before .three-fit .result) (not-true _ (c .if1 .taken)) (c .before .three-fit .ensures) (rows-most s w .0)
+
+returns-2 : tie.Need-returns-2
+returns-2 c w = let s = statOf (c .before .before .before .before .args .stat) in no (Second s) (c .before .three-fit2 .result) (not-true _ (c .if2 .taken)) (c .before .three-fit2 .ensures) (rows-most s w .1 .0)
+
+returns-3 : tie.Need-returns-3
+returns-3 c =
+    let s = statOf (c .before .before .before .before .before .args .stat) in
+    let first = yes (First s) (c .before .before .before .before .three-fit .result) (not-false _ (c .before .before .before .if1 .left)) (c .before .before .before .before .three-fit .ensures) in
+    let second = yes (Second s) (c .before .before .three-fit2 .result) (not-false _ (c .before .if2 .left)) (c .before .before .three-fit2 .ensures) in
+    carried (Third s) (RowsWithin 1 (rowsOf s)) (c .three-fit3 .result)
+    (λ z. nine-rows s (first, (second, z))) (λ w. rows-most s w .1 .1) (c .three-fit3 .ensures)
+
+pub rows-fit-spec : {M : Type 1} → statement M
+rows-fit-spec =
+    tie.close (tie.spec (λ c κs. search needs) returns (λ c κs. search needs) returns-2 (λ c κs. search needs) returns-3)

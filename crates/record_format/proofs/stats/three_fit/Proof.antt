@@ -1,0 +1,27 @@
+-- The first field that does not fit decides.
+use borrow.Author.Tests.{not-true, not-false}
+use Rattle.record_fields.specs.Fields.{Most}
+use Rattle.record_fields.specs.Inner.{numberOf}
+use Rattle.record_format.specs.Inner.{ThreeMost}
+use Rattle.record_format.proofs.Writing.{yes, no, carried}
+use borrow.Author.Needs.{needs}
+use Rattle.record_format.proofs.stats.three_fit.Statement.{statement}
+use Rattle.record_format.proofs.stats.three_fit.Tie as tie
+
+returns : tie.Need-returns
+returns c w = let a = c .before .before .args in no (Most (a .most) (numberOf (a .a))) (c .before .number-fits .result) (not-true _ (c .if1 .taken)) (c .before .number-fits .ensures) (w .0)
+
+returns-2 : tie.Need-returns-2
+returns-2 c w = let a = c .before .before .before .before .args in no (Most (a .most) (numberOf (a .b))) (c .before .number-fits2 .result) (not-true _ (c .if2 .taken)) (c .before .number-fits2 .ensures) (w .1 .0)
+
+returns-3 : tie.Need-returns-3
+returns-3 c =
+    let a = c .before .before .before .before .before .args in
+    let first = yes (Most (a .most) (numberOf (a .a))) (c .before .before .before .before .number-fits .result) (not-false _ (c .before .before .before .if1 .left)) (c .before .before .before .before .number-fits .ensures) in
+    let second = yes (Most (a .most) (numberOf (a .b))) (c .before .before .number-fits2 .result) (not-false _ (c .before .if2 .left)) (c .before .before .number-fits2 .ensures) in
+    carried (Most (a .most) (numberOf (a .c))) (ThreeMost (a .most) (numberOf (a .a), (numberOf (a .b), numberOf (a .c)))) (c .number-fits3 .result)
+    (λ z. (first, (second, z))) (λ w. w .1 .1) (c .number-fits3 .ensures)
+
+pub three-fit-spec : {M : Type 1} → statement M
+three-fit-spec =
+    tie.close (tie.spec (λ c κs. search needs) returns (λ c κs. search needs) returns-2 (λ c κs. search needs) returns-3)

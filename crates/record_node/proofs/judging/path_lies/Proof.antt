@@ -1,0 +1,45 @@
+-- Each test by itself.
+use borrow.Author.Tests.{not-true, not-false}
+use Rattle.record_fields.specs.Inner.{Inside}
+use Rattle.record_format.proofs.Writing.{yes, no}
+use Rattle.record_node.proofs.Bounds.{path-empty, path-long, path-first, path-other, path-right}
+use borrow.Author.Needs.{needs}
+use Rattle.record_node.proofs.judging.path_lies.Statement.{statement}
+use Rattle.record_node.proofs.judging.path_lies.Tie as tie
+
+returns : tie.Need-returns
+returns c w = let a = c .before .before .before .args in no (Inside (a .d .now) (a .part)) (c .before .lies .result) (not-true _ (c .if1 .taken)) (c .before .lies .ensures) (w .inside)
+
+returns-2 : tie.Need-returns-2
+returns-2 c =
+    let a = c .before .before .before .before .before .args in
+    let h = yes (Inside (a .d .now) (a .part)) (c .before .before .before .lies .result) (not-false _ (c .before .before .if1 .left)) (c .before .before .before .lies .ensures) in
+    path-empty (a .d .now) (a .part) h (c .if2 .taken)
+
+returns-3 : tie.Need-returns-3
+returns-3 c =
+    let a = c .before .before .before .before .before .before .before .args in
+    let h = yes (Inside (a .d .now) (a .part)) (c .before .before .before .before .before .lies .result) (not-false _ (c .before .before .before .before .if1 .left)) (c .before .before .before .before .before .lies .ensures) in
+    path-long (a .d .now) (a .part) h (c .if3 .taken)
+
+shared-slice-read-if4 : tie.Need-shared-slice-read-if4
+shared-slice-read-if4 c =
+    let a = c .before .before .before .before .before .before .before .before .args in
+    let h = yes (Inside (a .d .now) (a .part)) (c .before .before .before .before .before .before .lies .result) (not-false _ (c .before .before .before .before .before .if1 .left)) (c .before .before .before .before .before .before .lies .ensures) in
+    path-first (a .d .now) (a .part) h (c .before .before .before .if2 .left)
+
+returns-4 : tie.Need-returns-4
+returns-4 c =
+    let a = c .before .before .before .before .before .before .before .before .before .args in
+    let h = yes (Inside (a .d .now) (a .part)) (c .before .before .before .before .before .before .before .lies .result) (not-false _ (c .before .before .before .before .before .before .if1 .left)) (c .before .before .before .before .before .before .before .lies .ensures) in
+    path-right (a .d .now) (a .part) h (c .before .before .before .before .if2 .left) (c .before .before .if3 .left) (c .if4 .taken)
+
+returns-5 : tie.Need-returns-5
+returns-5 c =
+    let a = c .before .before .before .before .before .before .before .before .before .args in
+    let h = yes (Inside (a .d .now) (a .part)) (c .before .before .before .before .before .before .before .lies .result) (not-false _ (c .before .before .before .before .before .before .if1 .left)) (c .before .before .before .before .before .before .before .lies .ensures) in
+    path-other (a .d .now) (a .part) h (c .before .before .before .before .if2 .left) (c .if4 .left)
+
+pub path-lies-spec : {M : Type 1} → statement M
+path-lies-spec =
+    tie.close (tie.spec (λ c κs. search needs) returns returns-2 returns-3 shared-slice-read-if4 returns-4 returns-5)

@@ -1,0 +1,26 @@
+-- The key decides, and then the permission.
+use borrow.Author.Tests.{not-true, not-false}
+use Rattle.record_node.specs.Inner.{Lies}
+use Rattle.record_format.proofs.Writing.{yes, no}
+use Rattle.record_node.proofs.Bounds.{key-short, key-outside, writer-lies}
+use borrow.Author.Needs.{needs}
+use Rattle.record_node.proofs.judging.writer_lies.Statement.{statement}
+use Rattle.record_node.proofs.judging.writer_lies.Tie as tie
+
+returns : tie.Need-returns
+returns c = let a = c .before .before .before .before .args in key-short (a .d .now) (a .writer) (c .if1 .taken)
+
+returns-2 : tie.Need-returns-2
+returns-2 c =
+    let a = c .before .before .before .before .before .before .args in
+    key-outside (a .d .now) (a .writer) (no (Lies (a .d .now) (a .writer .key)) (c .before .lies .result) (not-true _ (c .if2 .taken)) (c .before .lies .ensures))
+
+returns-3 : tie.Need-returns-3
+returns-3 c =
+    let a = c .before .before .before .before .before .before .before .args in
+    writer-lies (a .d .now) (a .writer) (c .before .before .before .if1 .left) (yes (Lies (a .d .now) (a .writer .key)) (c .before .before .lies .result) (not-false _ (c .before .if2 .left)) (c .before .before .lies .ensures))
+    (c .bytes-lie .result) (c .bytes-lie .ensures)
+
+pub writer-lies-spec : {M : Type 1} → statement M
+writer-lies-spec =
+    tie.close (tie.spec returns (λ c κs. search needs) returns-2 (λ c κs. search needs) returns-3)

@@ -1,0 +1,43 @@
+-- The Writers, behind them the sequence, and nothing behind that.
+use native.Mathlib.Omega.{arith}
+use Rattle.record_node.proofs.Five.{tail-writers, tail-fifth, tail-number, tail-left, tail-read}
+use borrow.Author.Needs.{needs}
+use Rattle.record_node.proofs.reading.last_fields.Statement.{statement}
+use Rattle.record_node.proofs.reading.last_fields.Tie as tie
+
+number-row-requires : tie.Need-number-row-requires
+number-row-requires c κs =
+    let one = c .before .before .before .before in
+    let a = one .before .before .args in
+    (tail-fifth (a .d .now) (a .at) (one .writers-row .result .row) (one .writers-row .result .writers) _ (c .before .row .given .1) (one .writers-row .ensures), omega arith)
+
+returns : tie.Need-returns
+returns c =
+    let one = c .before .before .before .before .before .before .before .before .before in
+    let a = one .before .before .args in
+    tail-left (a .d .now) (a .at) (one .writers-row .result .row) (one .writers-row .result .writers) _ (c .before .before .before .before .before .before .row .given .1) (one .writers-row .ensures)
+    (c .before .before .before .before .number-row .result) _ _ (c .before .before .sequence .given .1) (c .before .before .before .before .number-row .ensures) (c .if1 .taken)
+
+returns-2 : tie.Need-returns-2
+returns-2 c =
+    let one = c .before .before .before in
+    let a = one .before .before .args in
+    tail-writers (a .d .now) (a .at) (one .writers-row .result .row) (one .writers-row .result .writers) (c .enum-told .given .1) (one .writers-row .ensures)
+
+returns-3 : tie.Need-returns-3
+returns-3 c =
+    let one = c .before .before .before .before .before .before .before in
+    let a = one .before .before .args in
+    tail-number (a .d .now) (a .at) (one .writers-row .result .row) (one .writers-row .result .writers) _ (c .before .before .before .before .row .given .1) (one .writers-row .ensures)
+    (c .before .before .number-row .result) (c .enum-told2 .given .1) (c .before .before .number-row .ensures)
+
+returns-4 : tie.Need-returns-4
+returns-4 c =
+    let one = c .before .before .before .before .before .before .before .before .before in
+    let a = one .before .before .args in
+    tail-read (a .d .now) (a .at) (one .writers-row .result .row) (one .writers-row .result .writers) _ (c .before .before .before .before .before .before .row .given .1) (one .writers-row .ensures)
+    (c .before .before .before .before .number-row .result) _ _ (c .before .before .sequence .given .1) (c .before .before .before .before .number-row .ensures) (c .if1 .left)
+
+pub last-fields-spec : {M : Type 1} → statement M
+last-fields-spec =
+    tie.close (tie.spec (λ c κs. search needs) (λ c. search needs) (λ c. search needs) number-row-requires (λ c. search needs) (λ c. search needs) returns returns-2 returns-3 returns-4)

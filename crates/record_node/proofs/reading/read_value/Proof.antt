@@ -1,0 +1,39 @@
+-- Each case by itself.
+use native.Mathlib.Omega.{arith}
+use mathlib.Core.Path.{refl}
+use Rattle.record_node.proofs.Five.{value-none, value-inside, value-wrong, value-right}
+use borrow.Author.Needs.{needs}
+use Rattle.record_node.proofs.reading.read_value.Statement.{statement}
+use Rattle.record_node.proofs.reading.read_value.Tie as tie
+
+add-to : tie.Need-add-to
+add-to c =
+    let start = c .before .before .before .before .before in
+    let a = start .args in
+    omega (arith, value-inside (a .d .now) (a .field) _ (c .before .before .field .given .1) (start .pre))
+
+part-read-stat-end : tie.Need-part-read-stat-end
+part-read-stat-end c =
+    let start = c .before .before .before .before .before in
+    let a = start .args in
+    omega (arith, value-inside (a .d .now) (a .field) _ (c .before .before .field .given .1) (start .pre))
+
+returns : tie.Need-returns
+returns c = let a = c .before .before .before .args in value-none (a .d .now) (a .field) (c .enum-told .given .1)
+
+returns-2 : tie.Need-returns-2
+returns-2 c =
+    let start = c .before .before .before .before .before .before .before .before .before in
+    let a = start .args in
+    value-wrong (a .d .now) (a .field) _ (c .before .before .before .before .before .before .field .given .1) (start .pre) _ refl (c .before .before .read-stat .result) (c .enum-told2 .given .1) (c .before .before .read-stat .ensures)
+
+returns-3 : tie.Need-returns-3
+returns-3 c =
+    let start = c .before .before .before .before .before .before .before .before .before .before in
+    let a = start .args in
+    value-right (a .d .now) (a .field) _ (c .before .before .before .before .before .before .before .field .given .1) (start .pre) _ refl (c .before .before .before .read-stat .result) _ (c .before .stat .given .1) (c .before .before .before .read-stat .ensures)
+
+pub read-value-spec : {M : Type 1} → statement M
+read-value-spec =
+    tie.close (tie.spec (λ c. search needs) (λ c. search needs) add-to (λ c. search needs) (λ c. search needs) part-read-stat-end (λ c κs. search needs) (λ c. search needs)
+    (λ c. search needs) returns returns-2 returns-3)

@@ -1,0 +1,45 @@
+-- One field behind the other.
+use native.Mathlib.Omega.{arith}
+use Rattle.record_node.proofs.Keyed.{row-next}
+use Rattle.record_node.proofs.Five.{parts-first, parts-second, parts-third, parts-read}
+use borrow.Author.Needs.{needs}
+use Rattle.record_node.proofs.reading.three_parts.Statement.{statement}
+use Rattle.record_node.proofs.reading.three_parts.Tie as tie
+
+bytes-row-requires-2 : tie.Need-bytes-row-requires-2
+bytes-row-requires-2 c κs =
+    let a = c .before .before .before .before .before .args in
+    (row-next (a .d .now) 0 1 255 _ _ _ (c .before .path .given .1) (c .before .before .before .bytes-row .ensures), omega arith)
+
+bytes-row-requires-3 : tie.Need-bytes-row-requires-3
+bytes-row-requires-3 c κs =
+    let a = c .before .before .before .before .before .before .before .before .before .args in
+    (row-next (a .d .now) _ 2 99 _ _ _ (c .before .value .given .1) (c .before .before .before .bytes-row2 .ensures), omega arith)
+
+returns : tie.Need-returns
+returns c = let a = c .before .before .before .before .args in parts-first (a .d .now) (c .before .before .bytes-row .result) (c .enum-told .given .1) (c .before .before .bytes-row .ensures)
+
+returns-2 : tie.Need-returns-2
+returns-2 c =
+    let one = c .before .before .before .before .before .before in
+    let a = one .before .before .args in
+    parts-second (a .d .now) (one .bytes-row .result) _ _ (c .before .before .before .before .path .given .1) (one .bytes-row .ensures) (c .before .before .bytes-row2 .result) (c .enum-told2 .given .1) (c .before .before .bytes-row2 .ensures)
+
+returns-3 : tie.Need-returns-3
+returns-3 c =
+    let one = c .before .before .before .before .before .before .before .before .before .before in
+    let a = one .before .before .args in
+    parts-third (a .d .now) (one .bytes-row .result) _ _ (c .before .before .before .before .before .before .before .before .path .given .1) (one .bytes-row .ensures) (c .before .before .before .before .before .before .bytes-row2 .result) _ _ (c .before .before .before .before .value .given .1) (c .before .before .before .before .before .before .bytes-row2 .ensures)
+    (c .before .before .bytes-row3 .result) (c .enum-told3 .given .1) (c .before .before .bytes-row3 .ensures)
+
+returns-4 : tie.Need-returns-4
+returns-4 c =
+    let one = c .before .before .before .before .before .before .before .before .before .before .before in
+    let a = one .before .before .args in
+    parts-read (a .d .now) (one .bytes-row .result) _ _ (c .before .before .before .before .before .before .before .before .before .path .given .1) (one .bytes-row .ensures) (c .before .before .before .before .before .before .before .bytes-row2 .result) _ _ (c .before .before .before .before .before .value .given .1) (c .before .before .before .before .before .before .before .bytes-row2 .ensures)
+    (c .before .before .before .bytes-row3 .result) _ _ (c .before .trie .given .1) (c .before .before .before .bytes-row3 .ensures)
+
+pub three-parts-spec : {M : Type 1} → statement M
+three-parts-spec =
+    tie.close (tie.spec (λ c κs. search needs) (λ c. search needs) (λ c. search needs) bytes-row-requires-2 (λ c. search needs) (λ c. search needs) bytes-row-requires-3 (λ c. search needs)
+    (λ c. search needs) returns returns-2 returns-3 returns-4)

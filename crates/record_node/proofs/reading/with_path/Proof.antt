@@ -1,0 +1,26 @@
+-- Each case by itself.
+use Rattle.record_node.specs.Inner.{PathLies}
+use Rattle.record_format.proofs.Writing.{yes, no}
+use Rattle.record_node.proofs.Five.{path-absent, path-given, path-wrong}
+use borrow.Author.Needs.{needs}
+use Rattle.record_node.proofs.reading.with_path.Statement.{statement}
+use Rattle.record_node.proofs.reading.with_path.Tie as tie
+
+returns : tie.Need-returns
+returns c =
+    let a = c .before .before .before .before .before .before .args in
+    let p = c .before .before .before .field .given .0 .0 in
+    path-given (a .d .now) (a .field) p (c .before .before .before .field .given .1) (yes (PathLies (a .d .now) p) (c .before .path-lies .result) (c .if1 .taken) (c .before .path-lies .ensures))
+
+returns-2 : tie.Need-returns-2
+returns-2 c = let a = c .before .before .before .args in path-absent (a .d .now) (a .field) (c .enum-told .given .1)
+
+returns-3 : tie.Need-returns-3
+returns-3 c =
+    let a = c .before .before .before .before .before .before .args in
+    let p = c .before .before .before .field .given .0 .0 in
+    path-wrong (a .d .now) (a .field) p (c .before .before .before .field .given .1) (c .before .before .before .before .before .before .pre) (no (PathLies (a .d .now) p) (c .before .path-lies .result) (c .if1 .left) (c .before .path-lies .ensures))
+
+pub with-path-spec : {M : Type 1} → statement M
+with-path-spec =
+    tie.close (tie.spec (λ c. search needs) (λ c. search needs) (λ c κs. search needs) returns returns-2 returns-3)

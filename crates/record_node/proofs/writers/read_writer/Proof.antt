@@ -1,0 +1,42 @@
+-- The key, behind it the permission, and nothing behind that.
+use native.Mathlib.Omega.{arith}
+use Rattle.record_node.proofs.Keyed.{row-next, writer-first, writer-second, writer-left, writer-whole}
+use borrow.Author.Needs.{needs}
+use Rattle.record_node.proofs.writers.read_writer.Statement.{statement}
+use Rattle.record_node.proofs.writers.read_writer.Tie as tie
+
+bytes-row-requires-2 : tie.Need-bytes-row-requires-2
+bytes-row-requires-2 c κs =
+    let a = c .before .before .before .before .before .args in
+    (row-next (a .d .now) (a .at) 1 32 _ _ _ (c .before .key .given .1) (c .before .before .before .bytes-row .ensures), omega arith)
+
+returns : tie.Need-returns
+returns c =
+    let one = c .before .before .before .before .before .before .before .before in
+    let a = one .before .before .args in
+    writer-left (a .d .now) (a .at) (one .bytes-row .result) _ _ (c .before .before .before .before .before .before .key .given .1) (one .bytes-row .ensures)
+    (c .before .before .before .before .bytes-row2 .result) _ _ (c .before .before .permission .given .1) (c .before .before .before .before .bytes-row2 .ensures) (c .if1 .taken)
+
+returns-2 : tie.Need-returns-2
+returns-2 c =
+    let a = c .before .before .before .before .args in
+    writer-first (a .d .now) (a .at) (c .before .before .bytes-row .result) (c .enum-told .given .1) (c .before .before .bytes-row .ensures)
+
+returns-3 : tie.Need-returns-3
+returns-3 c =
+    let one = c .before .before .before .before .before .before in
+    let a = one .before .before .args in
+    writer-second (a .d .now) (a .at) (one .bytes-row .result) _ _ (c .before .before .before .before .key .given .1) (one .bytes-row .ensures)
+    (c .before .before .bytes-row2 .result) (c .enum-told2 .given .1) (c .before .before .bytes-row2 .ensures)
+
+returns-4 : tie.Need-returns-4
+returns-4 c =
+    let one = c .before .before .before .before .before .before .before .before .before in
+    let a = one .before .before .args in
+    writer-whole (a .d .now) (a .at) (one .bytes-row .result) _ _ (c .before .before .before .before .before .before .before .key .given .1) (one .bytes-row .ensures)
+    (c .before .before .before .before .before .bytes-row2 .result) _ _ (c .before .before .before .permission .given .1) (c .before .before .before .before .before .bytes-row2 .ensures) (c .before .if1 .left) (c .with-key .result) (c .with-key .ensures)
+
+pub read-writer-spec : {M : Type 1} → statement M
+read-writer-spec =
+    tie.close (tie.spec (λ c κs. search needs) (λ c. search needs) (λ c. search needs) bytes-row-requires-2 (λ c. search needs) (λ c. search needs) returns (λ c κs. search needs) returns-2
+    returns-3 returns-4)

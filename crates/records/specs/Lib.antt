@@ -1,5 +1,0 @@
--- The records in the chunks of a metadata register, byte by byte.
-pub mod Records
-pub mod Theorems
-pub mod Calls
-pub mod Inner

@@ -1,0 +1,144 @@
+-- Where every filled entry is right as to its length, both ways end alike: the proofs of the agreements. Assumes nothing.
+use Prim.Native.Nat.{ℕ, zero, suc, _+_, _-_, _*_, _^_, _≤_, _<_}
+use mathlib.Core.Path.{_≡_, refl, sym, ap, ap₂, _∙_, subst}
+use mathlib.Core.List.{List}
+use native.Mathlib.Nat.{mul-one}
+use native.Mathlib.Decide.{decLt}
+use native.Mathlib.Omega.{arith}
+use Rattle.refusals.specs.Verdict.{Verdict, tree, done, refused}
+use Rattle.byte_strings.specs.Lists.{total}
+use Rattle.tree_index.specs.Tree.{index}
+use Rattle.tree_index.proofs.Filled.{end-filled}
+use Rattle.file_format.specs.Sizes.{mostChunks}
+use Rattle.file_format.specs.Stored.{storedSize, storedStart, storedRootSizes}
+use Rattle.checks.specs.Checks.{judged, registerChecks}
+use Rattle.checks.proofs.Passed.{passed}
+use Rattle.lookup.specs.Descent.{Ending, stopped, reached, chunkWithin, byteWithin, descent}
+use Rattle.lookup.specs.Inner.{placeIn, byteIn}
+use Rattle.lookup.specs.Theorems.{Right}
+use Rattle.lookup.proofs.Descents.{Steps, Halted, Ends, ends, chunk-order, byte-order, left-first, right-end, left-inside}
+use Rattle.lookup.proofs.Calls as quick
+use Rattle.search.specs.Search.{soughtUnless, searchFor}
+use Rattle.search.proofs.Follows.{search-follows}
+use Rattle.short_lookup.specs.ShortLookup.{shortPlaceIn, shortByteIn, shortSearchFor}
+use Rattle.short_lookup.specs.Theorems.{LeavesFit, LengthsRight, AgreeInForAll, LookupsAgree, LookupsAgreeForAll, SearchAgreesForAll}
+use Rattle.short_lookup.proofs.Walks.{start-next, start-none, place-nowhere, place-nine, place-there, byte-nine, byte-end, byte-there}
+use Rattle.short_lookup.proofs.Calls.{place-refused, place-passed, byte-refused, byte-passed}
+use Rattle.short_lookup.proofs.Answers.{byte-at, place-at}
+
+module _ (t : List ℕ) (n : ℕ) (few : n ≤ mostChunks) (right : LengthsRight t n) where
+  right-at : (d k : ℕ) → (k + 1) * 2 ^ d ≤ n → Right t d k
+  unfolding LengthsRight
+  right-at d k h = right d k (end-filled n d k h)
+
+  leaves-fit : (m : ℕ) → m ≤ n → LeavesFit t m
+  unfolding LeavesFit
+  leaves-fit m h k l = right-at 0 k (omega (arith, mul-one (k + 1)))
+
+  -- a block's bytes are those of its leaves
+  start-block : (d k : ℕ) → (k + 1) * 2 ^ d ≤ n → storedStart t ((k + 1) * 2 ^ d) ≡ storedStart t (k * 2 ^ d) + storedSize t (index d k)
+  start-block zero k h =
+      ap (storedStart t) (mul-one (k + 1)) ∙ start-next t k ∙ ap (λ (j : ℕ). storedStart t j + storedSize t (index 0 k)) (sym (mul-one k))
+  start-block (suc d) k h =
+      let a = start-block d (2 * k) (left-inside d k n h) in
+      let b = start-block d (2 * k + 1) (subst (λ (x : ℕ). x ≤ n) (sym (right-end d k)) h) in
+      let l : storedStart t (2 * k * 2 ^ d) ≡ storedStart t (k * 2 ^ suc d) = ap (storedStart t) (left-first d k) in
+      let m : storedStart t ((2 * k + 1 + 1) * 2 ^ d) ≡ storedStart t ((k + 1) * 2 ^ suc d) = ap (storedStart t) (right-end d k) in
+      omega (arith, right-at (suc d) k h)
+
+  starts : Steps t n (λ p s. s ≡ storedStart t p)
+  starts d k s h e = ap (λ (x : ℕ). x + storedSize t (index d k)) e ∙ sym (start-block d k h)
+
+  never-stops : {Lo Hi At : ℕ → ℕ → Type 0} {i : ℕ} → Halted t n Lo Hi At i → ⊥
+  never-stops l = l .wrong (right-at (l .d) (l .k) (l .met .inside))
+
+  -- ---- the place lookup
+
+  to-chunk : (c : ℕ) → c < n → descent (chunkWithin c) t n ≡ reached c (storedStart t c)
+  to-chunk c h =
+      must (descent (chunkWithin c) t n)
+      (ends (chunkWithin c) t n (λ p s. p ≤ c) (λ p s. c < p) (λ p s. s ≡ storedStart t p) (chunk-order c) starts (omega arith) (sym (start-none t)) (omega arith) h)
+    where
+      must : (x : Ending) → Ends t n (λ p s. p ≤ c) (λ p s. c < p) (λ p s. s ≡ storedStart t p) x → x ≡ reached c (storedStart t c)
+      must (stopped i) l = absurd (never-stops l)
+      must (reached k s) l =
+          let e : k ≡ c = omega (arith, l .met .low, l .met .high) in
+          ap₂ reached e (l .met .at ∙ ap (storedStart t) (mul-one k ∙ e))
+
+  place-agrees : (c : ℕ) → shortPlaceIn t n c ≡ placeIn t n c
+  place-agrees c = elim (decLt c n) [
+    | yes h ↦ sym (place-nowhere t c (place-at t c (leaves-fit (c + 1) (omega arith))) ∙ place-there t n c h)
+        ∙ quick.place-reached t n c h c (storedStart t c) (storedSize t (index 0 c)) (sym (to-chunk c h)) refl
+    | no h ↦ sym (place-nine t n c (omega arith)) ∙ quick.place-above t n c (omega arith)
+  ]
+
+  -- ---- the byte lookup
+
+  record Reached (b : ℕ) : Type 0 where
+    k : ℕ
+    below : k < n
+    from : storedStart t k ≤ b
+    to : b < storedStart t k + storedSize t (index 0 k)
+    same : descent (byteWithin b) t n ≡ reached k (storedStart t k)
+
+  to-byte : (b : ℕ) → b < total (storedRootSizes t n) → Reached b
+  to-byte b h =
+      must (descent (byteWithin b) t n) refl
+      (ends (byteWithin b) t n (λ p s. s ≤ b) (λ p s. b < s) (λ p s. s ≡ storedStart t p) (byte-order b) starts (omega arith) (sym (start-none t)) (omega arith) h)
+    where
+      must : (x : Ending) → descent (byteWithin b) t n ≡ x → Ends t n (λ p s. s ≤ b) (λ p s. b < s) (λ p s. s ≡ storedStart t p) x → Reached b
+      must (stopped i) w l = absurd (never-stops l)
+      must (reached k s) w l =
+          let e : s ≡ storedStart t k = l .met .at ∙ ap (storedStart t) (mul-one k) in
+          record {
+            k = k;
+            below = omega (arith, l .met .inside);
+            from = omega (arith, l .met .low);
+            to = omega (arith, l .met .high);
+            same = w ∙ ap (reached k) e;
+          }
+
+  module _ (size : ℕ) (adds : total (storedRootSizes t n) ≡ size) where
+    byte-inside : (b : ℕ) → b < size → shortByteIn t n size b ≡ byteIn t n size b
+    byte-inside b h =
+        let g = to-byte b (omega (arith, adds)) in
+        sym
+        (byte-at t n b (g .k) (g .below) (g .from) (leaves-fit (g .k + 1) (omega (arith, g .below))) (g .to)
+        ∙ byte-there t n size b (omega arith) (λ q. omega arith))
+        ∙ quick.byte-reached t n size b (omega arith) (λ q. omega arith) (g .k) (storedStart t (g .k)) (sym (g .same))
+
+    byte-agrees : (b : ℕ) → shortByteIn t n size b ≡ byteIn t n size b
+    byte-agrees b = elim (decLt b size) [
+      | yes h ↦ byte-inside b h
+      | no h ↦ elim (decLt size b) [
+        | yes g ↦ sym (byte-nine t n size b g) ∙ quick.byte-above t n size b g
+        | no g ↦ let e : b ≡ size = omega arith in sym (byte-end t n size b e) ∙ quick.byte-end t n size b e
+      ]
+    ]
+
+pub agree-in : AgreeInForAll
+agree-in t n size few adds right = record { place = place-agrees t n few right; byte = byte-agrees t n few right size adds }
+
+-- ---- a register
+
+pub lookups-agree : LookupsAgreeForAll
+lookups-agree r right = pick (judged (registerChecks r) done) refl
+  where
+    pick : (v : Verdict) → v ≡ judged (registerChecks r) done → LookupsAgree r
+    pick done e =
+        let p = passed r done (sym e) .0 in
+        let a = agree-in (r .tree) (r .n) (r .size) (p .count) (p .adds) right in
+        record {
+          place = λ c. sym (place-passed r e c) ∙ a .place c ∙ quick.place-passed r c e;
+          byte = λ b. sym (byte-passed r e b) ∙ a .byte b ∙ quick.byte-passed r b e;
+        }
+    pick (refused m at) e =
+        record {
+          place = λ c. sym (place-refused r c m at e) ∙ quick.place-refused r c m at e;
+          byte = λ b. sym (byte-refused r b m at e) ∙ quick.byte-refused r b m at e;
+        }
+
+pub search-agrees : SearchAgreesForAll
+unfolding shortSearchFor searchFor
+search-agrees r w from =
+    ap (soughtUnless (judged (registerChecks r) done)) (sym (search-follows (r .bitfield) (r .n) w from))

@@ -1,0 +1,3 @@
+-- Reads that wait their turn, served from the two registers.
+pub mod Serving
+pub mod Meaning

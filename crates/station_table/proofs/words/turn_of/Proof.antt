@@ -1,0 +1,20 @@
+-- `station_table::words::turn_of` meets its contract. Assumes nothing.
+use mathlib.Core.Path.{ap}
+use borrow.Author.Needs.{needs}
+use Rattle.station_table.specs.Table.{turn}
+use Rattle.station_table.proofs.Numbers.{first-read}
+use Rattle.station_table.proofs.words.turn_of.Statement.{statement}
+use Rattle.station_table.proofs.words.turn_of.Tie as tie
+
+returns : tie.Need-returns
+returns c =
+    let known = c .before .before in
+    let a = known .before .before .args in
+    ap (turn (a .s)) (first-read (a .table .now) (a .s) (known .first .result) (known .first .ensures .0))
+
+pub turn-of-spec : {M : Type 1} → statement M
+turn-of-spec =
+    tie.close
+    (tie.spec
+    (λ c κs. search needs) (λ c. search needs) (λ c. search needs) (λ c. search needs) (λ c. search needs)
+    (λ c. search needs) (λ c. search needs) (λ c. search needs) (λ c. search needs) returns)

@@ -1,5 +1,0 @@
--- Sixteen workstations that wait for one archive: the table of waiting reads.
-pub mod Table
-pub mod Words
-pub mod Calls
-pub mod Runs

@@ -1,0 +1,116 @@
+-- The agreements on copies, from those of tree and bitfield files. Assumes nothing.
+use Prim.Native.Nat.{ℕ, _-_, _≤_, _<_}
+use mathlib.Core.Path.{_≡_, refl, sym, ap, _∙_}
+use mathlib.Core.Bool.{Bool, true, false}
+use mathlib.Core.List.{List, [], _∷_}
+use borrow.Author.Tests.{ltb-true, ltb-false, leb-false, eqb-true}
+use lib.Dec.{leb, ltb}
+use Rattle.refusals.specs.Verdict.{Spot, Verdict, tree, done, refused}
+use Rattle.byte_strings.specs.Lists.{total}
+use Rattle.byte_strings.specs.Lowest.{Lowest}
+use Rattle.tree_index.specs.Tree.{index}
+use Rattle.file_format.specs.Stored.{storedSize, storedRootSizes}
+use Rattle.checks.specs.Checks.{judged, addsUp}
+use Rattle.audit.specs.Audit.{refusedAt}
+use Rattle.lookup.specs.Lookup.{foundUnless, stopRefused, chunkOf, startOf, toChunk, toByte}
+use Rattle.lookup.specs.Inner.{placeIn, byteIn}
+use Rattle.search.specs.Search.{soughtUnless}
+use Rattle.search.proofs.Follows.{search-follows}
+use Rattle.short_lookup.specs.ShortLookup.{shortPlaceIn, shortByteIn, foundBehind}
+use Rattle.short_lookup.proofs.Walks.{place-nine, byte-nine}
+use Rattle.short_lookup.proofs.Agree.{agree-in}
+use Rattle.copy_checks.specs.Copy.{Copy, known, unsigned}
+use Rattle.copy_checks.specs.Checks.{copyJudged}
+use Rattle.copy_checks.proofs.Steps.{Knowing, copy-passed, copy-passes, copy-refused-by}
+use Rattle.copy_descent.specs.Reads.{chunkStop, byteStop, unknownToChunk, unknownToByte}
+use Rattle.copy_lookup.specs.Lookups.{copyPlaceVerdict, copyByteVerdict, copyPlaceOf, copyByteAt}
+use Rattle.copy_roots.specs.Roots.{copySearch}
+use Rattle.copy_short_lookup.specs.Leaves.{leavesToChunk, leavesToByte}
+use Rattle.copy_short_lookup.specs.Short.{unknownAmong, copyShortPlaceVerdict, copyShortByteVerdict, copyShortPlaceOf, copyShortByteAt, copyShortSearch}
+use Rattle.theorem_copies_agree.specs.Theorems.{AllKnown, CopyLookupsAgree, CopyLookupsAgreeForAll, CopySearchAgreesForAll}
+use Rattle.theorem_copies_agree.proofs.Known.{chunk-known, byte-known, short-chunk-known, short-byte-known}
+
+-- ---- refused by the checks
+
+module _ (c : Copy) (m : ℕ) (at : Spot) (e : copyJudged c done ≡ refused m at) where
+  place-refused : (i : ℕ) → copyShortPlaceOf c i ≡ copyPlaceOf c i
+  unfolding copyShortPlaceOf copyShortPlaceVerdict copyPlaceOf copyPlaceVerdict
+  place-refused i =
+      ap (λ (v : Verdict). foundBehind v (shortPlaceIn (c .tree) (c .n) i)) (copy-refused-by c _ m at e)
+      ∙ sym (ap (λ (v : Verdict). foundUnless v (startOf (toChunk (unsigned c) i)) (storedSize (c .tree) (index 0 i))) (copy-refused-by c _ m at e))
+
+  byte-refused : (b : ℕ) → copyShortByteAt c b ≡ copyByteAt c b
+  unfolding copyShortByteAt copyShortByteVerdict copyByteAt copyByteVerdict
+  byte-refused b =
+      ap (λ (v : Verdict). foundBehind v (shortByteIn (c .tree) (c .n) (c .size) b)) (copy-refused-by c _ m at e)
+      ∙ sym (ap (λ (v : Verdict). foundUnless v (chunkOf (toByte (unsigned c) b)) (b - startOf (toByte (unsigned c) b))) (copy-refused-by c _ m at e))
+
+-- ---- passed
+
+module _ (c : Copy) (all : AllKnown c) (k : Knowing c) where
+  short-place : (i : ℕ) → copyShortPlaceOf c i ≡ shortPlaceIn (c .tree) (c .n) i
+  unfolding copyShortPlaceOf copyShortPlaceVerdict unknownAmong refusedAt judged
+  short-place i =
+      ap (λ (v : Verdict). foundBehind v (shortPlaceIn (c .tree) (c .n) i)) (copy-passes c _ k)
+      ∙ pick (ltb i (c .n)) refl
+    where
+      pick : (x : Bool) → ltb i (c .n) ≡ x
+          → foundBehind (judged (record { number = 9; right = x } ∷ []) (unknownAmong c (leavesToChunk (c .tree) i))) (shortPlaceIn (c .tree) (c .n) i)
+          ≡ shortPlaceIn (c .tree) (c .n) i
+      pick true e =
+          ap (λ (l : Lowest). foundBehind (refusedAt 20 tree l done) (shortPlaceIn (c .tree) (c .n) i)) (short-chunk-known c all i (ltb-true i (c .n) e))
+      pick false e = place-nine (c .tree) (c .n) i (ltb-false i (c .n) e)
+
+  quick-place : (i : ℕ) → placeIn (c .tree) (c .n) i ≡ copyPlaceOf c i
+  unfolding placeIn copyPlaceOf copyPlaceVerdict chunkStop refusedAt toChunk
+  quick-place i =
+      sym
+      (ap (λ (v : Verdict). foundUnless v (startOf (toChunk (unsigned c) i)) (storedSize (c .tree) (index 0 i))) (copy-passes c _ k)
+      ∙ ap (λ (l : Lowest). foundUnless (judged (record { number = 9; right = ltb i (c .n) } ∷ []) (refusedAt 20 tree l (stopRefused (toChunk (unsigned c) i))))
+      (startOf (toChunk (unsigned c) i)) (storedSize (c .tree) (index 0 i))) (chunk-known c all i))
+
+  short-byte : (b : ℕ) → copyShortByteAt c b ≡ shortByteIn (c .tree) (c .n) (c .size) b
+  unfolding copyShortByteAt copyShortByteVerdict unknownAmong refusedAt judged
+  short-byte b =
+      ap (λ (v : Verdict). foundBehind v (shortByteIn (c .tree) (c .n) (c .size) b)) (copy-passes c _ k)
+      ∙ pick (leb b (c .size)) refl
+    where
+      pick : (x : Bool) → leb b (c .size) ≡ x
+          → foundBehind (judged (record { number = 9; right = x } ∷ []) (unknownAmong c (leavesToByte (c .tree) (c .n) (c .size) b)))
+          (shortByteIn (c .tree) (c .n) (c .size) b)
+          ≡ shortByteIn (c .tree) (c .n) (c .size) b
+      pick true e =
+          ap (λ (l : Lowest). foundBehind (refusedAt 20 tree l done) (shortByteIn (c .tree) (c .n) (c .size) b)) (short-byte-known c all b)
+      pick false e = byte-nine (c .tree) (c .n) (c .size) b (leb-false b (c .size) e)
+
+  quick-byte : (b : ℕ) → byteIn (c .tree) (c .n) (c .size) b ≡ copyByteAt c b
+  unfolding byteIn copyByteAt copyByteVerdict byteStop refusedAt toByte
+  quick-byte b =
+      sym
+      (ap (λ (v : Verdict). foundUnless v (chunkOf (toByte (unsigned c) b)) (b - startOf (toByte (unsigned c) b))) (copy-passes c _ k)
+      ∙ ap (λ (l : Lowest). foundUnless (judged (record { number = 9; right = leb b (c .size) } ∷ []) (refusedAt 20 tree l (stopRefused (toByte (unsigned c) b))))
+      (chunkOf (toByte (unsigned c) b)) (b - startOf (toByte (unsigned c) b))) (byte-known c all b))
+
+  adds : total (storedRootSizes (c .tree) (c .n)) ≡ c .size
+  unfolding addsUp
+  adds = eqb-true (total (storedRootSizes (c .tree) (c .n))) (c .size) (k .adds)
+
+-- ---- both
+
+pub copy-lookups-agree : CopyLookupsAgreeForAll
+copy-lookups-agree c all right = pick (copyJudged c done) refl
+  where
+    pick : (v : Verdict) → copyJudged c done ≡ v → CopyLookupsAgree c
+    pick done e =
+        let k = copy-passed c done e .0 in
+        let a = agree-in (c .tree) (c .n) (c .size) (k .lent .count) (adds c all k) right in
+        record {
+          place = λ i. short-place c all k i ∙ a .place i ∙ quick-place c all k i;
+          byte = λ b. short-byte c all k b ∙ a .byte b ∙ quick-byte c all k b;
+        }
+    pick (refused m at) e = record { place = place-refused c m at e; byte = byte-refused c m at e }
+
+pub copy-search-agrees : CopySearchAgreesForAll
+unfolding copyShortSearch copySearch
+copy-search-agrees c w from =
+    ap (soughtUnless (copyJudged c done)) (sym (search-follows (c .bitfield) (c .n) w from))

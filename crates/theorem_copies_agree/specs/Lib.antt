@@ -1,0 +1,2 @@
+-- Where the short way and the quick one agree on copies.
+pub mod Theorems

@@ -1,0 +1,4 @@
+-- Copies that are made and grown.
+pub mod Grown
+pub mod KeptByCalls
+pub mod Needed

@@ -1,0 +1,86 @@
+-- What follows from demand 3, and from demand 2 of a chunk sequence, as they are stated, with no look at their proofs.
+-- Assumes nothing: each corollary takes the demand.
+use mathlib.Core.Path.{_≡_, refl, sym, ap, _∙_, subst}
+use mathlib.Core.Bool.{true}
+use mathlib.Core.Logic.{_≢_, _↔_, inl, inr}
+use mathlib.Core.List.{List, [], _++_}
+use Prim.Native.Nat.{ℕ, _<_}
+use borrow.Author.Tests.{lt-ltb}
+use lib.ListN.{length, getD}
+use Rattle.refusals.specs.Verdict.{done}
+use Rattle.bitfield.specs.Image.{heldBelow}
+use Rattle.bitfield.proofs.Append.{entries-ext}
+use Rattle.file_format.specs.Headers.{bitfieldHeader}
+use Rattle.file_format.specs.Images.{bitfieldImage, rootMessageFor, messageFor}
+use Rattle.file_format.specs.Slots.{allHeld, heldIn, Within}
+use Rattle.file_format.specs.Belongs.{Register, Belongs}
+use Rattle.file_format.proofs.Slots.{all-contents, all-held}
+use Rattle.audit.specs.Audit.{Accepted}
+use Rattle.compare.specs.Walk.{equal, compare}
+use Rattle.lookup.specs.Read.{readVerdict, readPart}
+use Rattle.lookup.specs.Theorems.{Answers}
+use Rattle.packet.specs.Theorems.{PacketAnswers}
+use Rattle.theorem_demands.specs.Demand2.{Demand2}
+use Rattle.theorem_demands.specs.Demand3.{Collision, NamesCollision, Tells, Demand3}
+
+-- an accepted register that belongs to a chunk sequence
+pub record Holds (F : List ℕ → List ℕ) (r : Register) (cs : List (List ℕ)) : Type 0 where
+  pub within : Within (allHeld cs)
+  pub accepted : Accepted F r
+  pub belongs : Belongs F r (allHeld cs)
+
+module _ (F : List ℕ → List ℕ) (demand : Demand3 F) where
+  -- the claim of two such registers
+  tells : {a b : Register} {cs ds : List (List ℕ)} → Holds F a cs → Holds F b ds → Tells F a b cs ds
+  tells {a} {b} {cs} {ds} p q = demand .tells cs ds (p .within) (q .within) a b (p .accepted) (q .accepted) (p .belongs) (q .belongs)
+
+  -- "equal" is said of the registers of one sequence, and of no others
+  pub equal-exactly : {a b : Register} {cs ds : List (List ℕ)} → Holds F a cs → Holds F b ds → (compare F a b ≡ equal) ↔ (cs ≡ ds)
+  equal-exactly p q = tells p q .equalExactly
+
+  -- a collision that is named is one: two different messages with one hash
+  pub named-collides : {a b : Register} {cs ds : List (List ℕ)} → Holds F a cs → Holds F b ds → NamesCollision (compare F a b)
+      → (m₁ : List ℕ) × (m₂ : List ℕ) × Collision F m₁ m₂
+  named-collides {a} {b} {cs} {ds} p q = go
+    where
+      go : NamesCollision (compare F a b) → (m₁ : List ℕ) × (m₂ : List ℕ) × Collision F m₁ m₂
+      go (inl e) = (rootMessageFor F (allHeld cs), rootMessageFor F (allHeld ds), tells p q .atRootsExactly .0 e)
+      go (inr e) = (messageFor F (allHeld cs) (e .0), messageFor F (allHeld ds) (e .0), tells p q .atIndexExactly (e .0) .0 (e .1) .1 .collision)
+
+  -- a register is equal to itself, and to every other of its sequence
+  pub equal-own : {a b : Register} {cs : List (List ℕ)} → Holds F a cs → Holds F b cs → compare F a b ≡ equal
+  equal-own p q = equal-exactly p q .1 refl
+
+  -- the order of the two registers doesn't matter for "equal"
+  pub same-answer : {a b : Register} {cs ds : List (List ℕ)} → Holds F a cs → Holds F b ds → (compare F a b ≡ equal) ↔ (compare F b a ≡ equal)
+  same-answer p q =
+      ((λ e. equal-exactly q p .1 (sym (equal-exactly p q .0 e))), (λ e. equal-exactly p q .1 (sym (equal-exactly q p .0 e))))
+
+  -- and registers equal to one register are equal
+  pub equal-chain : {a b c : Register} {cs ds es : List (List ℕ)} → Holds F a cs → Holds F b ds → Holds F c es → compare F a b ≡ equal
+      → compare F b c ≡ equal → compare F a c ≡ equal
+  equal-chain p q r e g = equal-exactly p r .1 (equal-exactly p q .0 e ∙ equal-exactly q r .0 g)
+
+-- ---- a chunk sequence, all of it held
+
+-- "A data bit is 1 for each chunk below n"
+pub sequence-bits : (cs : List (List ℕ)) (n : ℕ) → bitfieldImage (heldIn (allHeld cs)) n ≡ bitfieldImage (heldBelow (length cs)) n
+unfolding bitfieldImage
+sequence-bits cs n = ap (λ (l : List ℕ). bitfieldHeader ++ l) (entries-ext (heldIn (allHeld cs)) (heldBelow (length cs)) n (all-held cs))
+
+module _ (F : List ℕ → List ℕ) (demand : Demand2 F) {r : Register} {cs : List (List ℕ)} (p : Holds F r cs) where
+  -- places and bytes
+  pub sequence-answers : Answers F r (allHeld cs) cs
+  sequence-answers = subst (Answers F r (allHeld cs)) (all-contents cs) (demand .reads r (allHeld cs) (p .within) (p .belongs) (p .accepted))
+
+  module _ (i : ℕ) (h : i < length cs) where
+    here : heldIn (allHeld cs) i ≡ true
+    here = all-held cs i ∙ lt-ltb i (length cs) h
+
+    -- every chunk is read back
+    pub sequence-reads : (readVerdict F r i ≡ done) × (readPart F r i ≡ getD cs i [])
+    sequence-reads = (sequence-answers .readDone i here, sequence-answers .read i here)
+
+    -- and has its packet
+    pub sequence-packets : PacketAnswers F r (allHeld cs) i
+    sequence-packets = demand .packets r (allHeld cs) (p .within) (p .belongs) (p .accepted) i here

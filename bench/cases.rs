@@ -9,6 +9,9 @@ pub const CHUNKS: usize = 1_048_576;
 pub const LENGTH: usize = 64;
 pub const LOOKUPS: usize = 100;
 
+/// The most chunks of a register whose short lookups are counted: they walk over every chunk.
+pub const SHORT: usize = 30_000;
+
 pub enum Case {
     Lookups,
     Append,

@@ -7,8 +7,8 @@ mod simple_blake2b;
 mod simple_register;
 mod timing;
 
-use cases::{cut_back, picked, Case, CASES, CHUNKS, LENGTH, LISTED, RELEASED};
-use proved::{CopyStore, Store, PACKET_EXTRA};
+use cases::{cut_back, picked, Case, CASES, CHUNKS, LENGTH, LISTED, RELEASED, SHORT};
+use proved::{Copied, CopyStore, Store, PACKET_EXTRA};
 
 /// Counts of first chunks, with no roots, with nine, with one and with six.
 const OLD: [u64; 4] = [0, 511, 512, 952];
@@ -66,6 +66,38 @@ fn released(store: &mut Store, n: usize, chunk: u64) {
     store.data[at].copy_from_slice(&bytes);
 }
 
+/// Lookups and reads on the register lent as a copy, which knows every entry; the short ones walk over every chunk before, so there are few of them.
+fn looked_up(store: &Store, n: usize) {
+    let copy = Copied {
+        tree: &store.tree,
+        bitfield: &store.bitfield,
+        data: &store.data,
+        n: store.n,
+        size: store.size,
+    };
+    for chunk in picked(copy.n) {
+        assert_eq!(copy.place(chunk), Ok((chunk * LENGTH as u64, LENGTH as u64)));
+        println!("copy_place {n}");
+        assert_eq!(copy.read(chunk).unwrap().len(), LENGTH);
+        println!("copy_read {n}");
+    }
+    for offset in picked(copy.size) {
+        copy.byte(offset).unwrap();
+        println!("copy_byte {n}");
+    }
+    if n > SHORT {
+        return;
+    }
+    for chunk in picked(copy.n).into_iter().step_by(10) {
+        copy.short_place(chunk).unwrap();
+        println!("copy_short_place {n}");
+        copy.short_byte(chunk * LENGTH as u64).unwrap();
+        println!("copy_short_byte {n}");
+        assert_eq!(copy.short_search(chunk), Ok(None));
+        println!("copy_short_search {n}");
+    }
+}
+
 /// Packets of two neighbours, made from the register, taken into a copy of which nothing is known.
 fn taken(store: &Store, n: usize, chunk: u64) {
     let mut copy = CopyStore::with_room(n, n * LENGTH);
@@ -102,6 +134,7 @@ fn main() {
                     println!("byte {n}");
                 }
                 searched(&mut store, n);
+                looked_up(&store, n);
             }
             Case::Release => {
                 for chunk in RELEASED {

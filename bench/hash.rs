@@ -17,13 +17,11 @@ const ROUNDS: usize = 30;
 /// Nodes and roots have the empty key.
 const NO_KEY: [u8; 1] = [0];
 
-// The proved library's archive. A slice is a pointer and a length, a reference to an array a pointer.
+// The proved library's archive. A slice is an address and a length, a reference to an array an address.
+#[rustfmt::skip]
 extern "C" {
-    #[rustfmt::skip]
-    fn sleep_hash(length: u64, key: *const u8, key_len: usize, message: *const u8, message_len: usize,
-        digest: *mut [u8; 64]) -> u64;
-    #[rustfmt::skip]
-    fn sleep_hash_parts(key: *const u8, key_len: usize, prefix: *const u8, prefix_len: usize, body: *const u8, body_len: usize,
+    fn sleep_flat_hash(length: u64, key: *const u8, key_len: u64, message: *const u8, message_len: u64, digest: *mut [u8; 64]) -> u64;
+    fn sleep_flat_hash_parts(key: *const u8, key_len: u64, prefix: *const u8, prefix_len: u64, body: *const u8, body_len: u64,
         out: *mut Digest) -> u64;
 }
 
@@ -61,14 +59,15 @@ fn front(digest: [u8; 64]) -> Digest {
 
 fn proved_whole(message: &[u8]) -> Digest {
     let mut digest = [0; 64];
-    let number = unsafe { sleep_hash(32, NO_KEY.as_ptr(), 0, message.as_ptr(), message.len(), &mut digest) };
+    let number = unsafe { sleep_flat_hash(32, NO_KEY.as_ptr(), 0, message.as_ptr(), message.len() as u64, &mut digest) };
     assert_eq!(number, 0, "the hash was refused");
     front(digest)
 }
 
 fn proved_parts(prefix: &[u8], body: &[u8]) -> Digest {
     let mut out = [0; 32];
-    let number = unsafe { sleep_hash_parts(NO_KEY.as_ptr(), 0, prefix.as_ptr(), prefix.len(), body.as_ptr(), body.len(), &mut out) };
+    let (prefix_length, body_length) = (prefix.len() as u64, body.len() as u64);
+    let number = unsafe { sleep_flat_hash_parts(NO_KEY.as_ptr(), 0, prefix.as_ptr(), prefix_length, body.as_ptr(), body_length, &mut out) };
     assert_eq!(number, 0, "the hash was refused");
     out
 }

@@ -14,7 +14,14 @@ pub mod sodium {
     #[link(name = "sodium")]
     extern "C" {
         fn sodium_init() -> i32;
-        fn crypto_generichash_blake2b(out: *mut Digest, out_len: usize, message: *const u8, len: u64, key: *const u8, key_len: usize) -> i32;
+        fn crypto_generichash_blake2b(
+            out: *mut Digest,
+            out_len: usize,
+            message: *const u8,
+            len: u64,
+            key: *const u8,
+            key_len: usize,
+        ) -> i32;
         fn crypto_generichash_blake2b_init(state: *mut State, key: *const u8, key_len: usize, out_len: usize) -> i32;
         fn crypto_generichash_blake2b_update(state: *mut State, part: *const u8, len: u64) -> i32;
         fn crypto_generichash_blake2b_final(state: *mut State, out: *mut Digest, out_len: usize) -> i32;

@@ -1,5 +1,6 @@
-//! Safe calls of the proved library `libc_api.a`: slices in, `Result` out. Link it by
-//! `rustc -L native=target/staticlib -l static=c_api`. What each call does, needs and refuses is said in include/sleep_register.h.
+//! Safe calls of the proved library `libc_api.a`: slices in, `Result` out. Link it by `rustc -L native=target/staticlib -l static=c_api`, or, as
+//! tools/archive-for writes it for a processor, by `-L native=target/TARGET -l static=sleep_register`. What each call does, needs and refuses is said in
+//! include/sleep_register.h.
 #![allow(dead_code)]
 
 /// What a refusal points at.
@@ -10,7 +11,7 @@ pub enum Place {
     BitfieldByte(u64),
 }
 
-/// A refused call: nothing that was lent to it has changed.
+/// A refused call: nothing that was lent to it has changed; a served read that is refused has left its table.
 #[derive(Clone, Copy, Debug, PartialEq, Eq)]
 pub struct Refusal {
     pub number: u64,
@@ -159,20 +160,17 @@ pub struct CopyStore<B = Vec<u8>> {
     pub size: u64,
 }
 
-#[repr(C)]
 struct Answer {
     number: u64,
     place_kind: u64,
     place: u64,
 }
 
-#[repr(C)]
 struct Compared {
     outcome: u64,
     answer: Answer,
 }
 
-#[repr(C)]
 struct Serving {
     served: u64,
     station: u64,
@@ -181,176 +179,169 @@ struct Serving {
     answer: Answer,
 }
 
-#[repr(C)]
-#[derive(Clone, Copy, Default)]
-struct FlatNumber {
-    given: u64,
-    value: u64,
-}
-
-#[repr(C)]
-#[derive(Clone, Copy, Default)]
-struct FlatPart {
-    offset: u64,
-    length: u64,
-}
-
-#[repr(C)]
-#[derive(Clone, Copy, Default)]
-struct FlatBytes {
-    given: u64,
-    part: FlatPart,
-}
-
-#[repr(C)]
-#[derive(Clone, Copy, Default)]
-struct FlatWriter {
-    key: FlatPart,
-    permission: FlatBytes,
-}
-
-#[repr(C)]
-#[derive(Clone, Copy, Default)]
-struct FlatNode {
-    path: FlatPart,
-    stat_given: u64,
-    stat: [FlatNumber; 9],
-    trie: FlatBytes,
-    count: u64,
-    writers: [FlatWriter; 8],
-    sequence: FlatNumber,
-}
-
-#[repr(C)]
 struct NodeRead {
     answer: Answer,
-    node: FlatNode,
+    node: [u64; 67],
 }
 
-#[repr(C)]
 struct Sought {
     found: u64,
     chunk: u64,
     answer: Answer,
 }
 
+/// The numbers in which the archive answers, and what they stand for.
+trait Numbers {
+    type Said;
+    fn said(self) -> Self::Said;
+}
+
+impl Numbers for [u64; 3] {
+    type Said = Answer;
+    fn said(self) -> Answer {
+        let [number, place_kind, place] = self;
+        Answer { number, place_kind, place }
+    }
+}
+
+impl Numbers for [u64; 4] {
+    type Said = Compared;
+    fn said(self) -> Compared {
+        let [outcome, answer @ ..] = self;
+        Compared { outcome, answer: answer.said() }
+    }
+}
+
+impl Numbers for [u64; 5] {
+    type Said = Sought;
+    fn said(self) -> Sought {
+        let [found, chunk, answer @ ..] = self;
+        Sought { found, chunk, answer: answer.said() }
+    }
+}
+
+impl Numbers for [u64; 7] {
+    type Said = Serving;
+    fn said(self) -> Serving {
+        let [served, station, name, chunk, answer @ ..] = self;
+        Serving { served, station, name, chunk, answer: answer.said() }
+    }
+}
+
+impl Numbers for [u64; 70] {
+    type Said = NodeRead;
+    fn said(self) -> NodeRead {
+        let [number, place_kind, place, node @ ..] = self;
+        NodeRead { answer: Answer { number, place_kind, place }, node }
+    }
+}
+
+/// A lent array, which the call writes whole.
+fn lent<const K: usize>() -> [u64; K] {
+    [0; K]
+}
+
+/// A call, and what it answers in the array that is lent to it last. The pointers are of slices with the lengths beside them.
+macro_rules! call {
+    ($call:ident, $($word:expr),* $(,)?) => {{
+        let mut answer = lent();
+        unsafe { $call($($word,)* &mut answer) };
+        answer.said()
+    }};
+}
+
 type In = *const u8;
 type Out = *mut u8;
 
+#[rustfmt::skip]
 extern "C" {
-    fn sleep_hash(length: u64, key: In, key_length: usize, message: In, message_length: usize, digest: Out) -> u64;
-    #[rustfmt::skip]
-    fn sleep_hash_parts(key: In, key_length: usize, prefix: In, prefix_length: usize, body: In, body_length: usize,
-        out: Out) -> u64;
-    fn sleep_label(root: In, key: In, key_length: usize, out: Out) -> u64;
-    fn sleep_start(t: Out, tl: usize, g: Out, gl: usize, b: Out, bl: usize, d: In, dl: usize) -> Answer;
-    #[rustfmt::skip]
-    fn sleep_append(t: Out, tl: usize, g: In, gl: usize, b: Out, bl: usize, d: Out, dl: usize, n: u64, s: u64, size: u64,
-        chunk: In, chunk_length: usize, root: Out) -> Answer;
-    #[rustfmt::skip]
-    fn sleep_append_list(t: Out, tl: usize, g: Out, gl: usize, b: Out, bl: usize, d: Out, dl: usize, n: u64, s: u64, size: u64,
-        lengths: *const u64, lengths_length: usize, bytes: In, bytes_length: usize, root: Out) -> Answer;
-    #[rustfmt::skip]
-    fn sleep_preview(t: In, tl: usize, g: In, gl: usize, b: In, bl: usize, d: In, dl: usize, n: u64, s: u64, size: u64,
-        chunk: In, chunk_length: usize, root: Out) -> Answer;
-    #[rustfmt::skip]
-    fn sleep_store_signature(t: In, tl: usize, g: Out, gl: usize, b: In, bl: usize, d: In, dl: usize, n: u64, s: u64, size: u64,
-        signature: In) -> Answer;
-    #[rustfmt::skip]
-    fn sleep_root_hash(t: In, tl: usize, g: In, gl: usize, b: In, bl: usize, d: In, dl: usize, n: u64, s: u64, size: u64,
-        root: Out) -> Answer;
-    #[rustfmt::skip]
-    fn sleep_old_root(t: In, tl: usize, g: In, gl: usize, b: In, bl: usize, d: In, dl: usize, n: u64, s: u64, size: u64,
-        m: u64, root: Out) -> Answer;
-    #[rustfmt::skip]
-    fn sleep_audit(t: In, tl: usize, g: In, gl: usize, b: In, bl: usize, d: In, dl: usize, n: u64, s: u64, size: u64) -> Answer;
-    #[rustfmt::skip]
-    fn sleep_place(t: In, tl: usize, g: In, gl: usize, b: In, bl: usize, d: In, dl: usize, n: u64, s: u64, size: u64,
-        chunk: u64, out: *mut u64) -> Answer;
-    #[rustfmt::skip]
-    fn sleep_byte(t: In, tl: usize, g: In, gl: usize, b: In, bl: usize, d: In, dl: usize, n: u64, s: u64, size: u64,
-        offset: u64, out: *mut u64) -> Answer;
-    #[rustfmt::skip]
-    fn sleep_read(t: In, tl: usize, g: In, gl: usize, b: In, bl: usize, d: In, dl: usize, n: u64, s: u64, size: u64,
-        chunk: u64, out: *mut u64) -> Answer;
-    #[rustfmt::skip]
-    fn sleep_search(t: In, tl: usize, g: In, gl: usize, b: In, bl: usize, d: In, dl: usize, n: u64, s: u64, size: u64,
-        from: u64, out: *mut u64) -> Answer;
-    #[rustfmt::skip]
-    fn sleep_short_place(t: In, tl: usize, g: In, gl: usize, b: In, bl: usize, d: In, dl: usize, n: u64, s: u64, size: u64,
-        chunk: u64, out: *mut u64) -> Answer;
-    #[rustfmt::skip]
-    fn sleep_short_byte(t: In, tl: usize, g: In, gl: usize, b: In, bl: usize, d: In, dl: usize, n: u64, s: u64, size: u64,
-        offset: u64, out: *mut u64) -> Answer;
-    #[rustfmt::skip]
-    fn sleep_short_search(t: In, tl: usize, g: In, gl: usize, b: In, bl: usize, d: In, dl: usize, n: u64, s: u64, size: u64,
-        from: u64, out: *mut u64) -> Answer;
-    #[rustfmt::skip]
-    fn sleep_release(t: In, tl: usize, g: In, gl: usize, b: Out, bl: usize, d: Out, dl: usize, n: u64, s: u64, size: u64,
-        chunk: u64) -> Answer;
-    #[rustfmt::skip]
-    fn sleep_make_packet(t: In, tl: usize, g: In, gl: usize, b: In, bl: usize, d: In, dl: usize, n: u64, s: u64, size: u64,
-        chunk: u64, out: Out, out_length: usize, length: *mut u64) -> Answer;
-    fn sleep_needs(n: u64, size: u64, lengths: *const u64, lengths_count: usize, out: *mut u64) -> Answer;
-    fn sleep_fresh(table: *mut u64) -> Answer;
-    fn sleep_enter(table: *mut u64, station: u64, name: u64, chunk: u64) -> Answer;
-    #[rustfmt::skip]
-    fn sleep_serve(table: *mut u64, t: In, tl: usize, g: In, gl: usize, b: In, bl: usize, d: In, dl: usize, n: u64, s: u64, size: u64,
-        t2: In, tl2: usize, g2: In, gl2: usize, b2: In, bl2: usize, d2: In, dl2: usize, n2: u64, s2: u64, size2: u64,
-        out: *mut u64) -> Serving;
-    fn sleep_write_header(content: In, content_length: usize, out: Out, out_length: usize, length: *mut u64) -> Answer;
-    #[rustfmt::skip]
-    fn sleep_write_node(bytes: In, bytes_length: usize, node: FlatNode, out: Out, out_length: usize, length: *mut u64) -> Answer;
-    fn sleep_read_header(bytes: In, bytes_length: usize, out: *mut u64) -> Answer;
-    fn sleep_read_node(bytes: In, bytes_length: usize) -> NodeRead;
-    #[rustfmt::skip]
-    fn sleep_header_of(t: In, tl: usize, g: In, gl: usize, b: In, bl: usize, d: In, dl: usize, n: u64, s: u64, size: u64,
-        chunk: u64, out: *mut u64) -> Answer;
-    #[rustfmt::skip]
-    fn sleep_node_of(t: In, tl: usize, g: In, gl: usize, b: In, bl: usize, d: In, dl: usize, n: u64, s: u64, size: u64,
-        chunk: u64) -> NodeRead;
-    #[rustfmt::skip]
-    fn sleep_find(t: In, tl: usize, g: In, gl: usize, b: In, bl: usize, d: In, dl: usize, n: u64, s: u64, size: u64,
-        path: In, path_length: usize) -> Sought;
-    fn sleep_group(bytes: In, bytes_length: usize, out: Out, out_length: usize) -> Answer;
-    fn sleep_ungroup(bytes: In, bytes_length: usize, out: Out, out_length: usize) -> Answer;
-    fn sleep_check_packet(packet: In, packet_length: usize, n: u64, chunk: u64, root: In, out: *mut u64) -> Answer;
-    #[rustfmt::skip]
-    fn sleep_compare_packets(first: In, first_length: usize, second: In, second_length: usize, n: u64, chunk: u64, root: In) -> Compared;
-    #[rustfmt::skip]
-    fn sleep_compare(t: In, tl: usize, g: In, gl: usize, b: In, bl: usize, d: In, dl: usize, n: u64, s: u64, size: u64,
-        t2: In, tl2: usize, g2: In, gl2: usize, b2: In, bl2: usize, d2: In, dl2: usize, n2: u64, s2: u64, size2: u64) -> Compared;
-    fn sleep_make_copy(t: Out, tl: usize, b: Out, bl: usize, d: Out, dl: usize, n: u64, size: u64) -> Answer;
-    #[rustfmt::skip]
-    fn sleep_take_in(t: Out, tl: usize, b: Out, bl: usize, d: Out, dl: usize, n: u64, size: u64,
-        packet: In, packet_length: usize, chunk: u64, root: In) -> Answer;
-    fn sleep_copy_audit(t: In, tl: usize, b: In, bl: usize, d: In, dl: usize, n: u64, size: u64) -> Answer;
-    fn sleep_copy_root_hash(t: In, tl: usize, b: In, bl: usize, d: In, dl: usize, n: u64, size: u64, root: Out) -> Answer;
-    fn sleep_copy_old_root(t: In, tl: usize, b: In, bl: usize, d: In, dl: usize, n: u64, size: u64, m: u64, root: Out) -> Answer;
-    fn sleep_copy_place(t: In, tl: usize, b: In, bl: usize, d: In, dl: usize, n: u64, size: u64, chunk: u64, out: *mut u64) -> Answer;
-    fn sleep_copy_byte(t: In, tl: usize, b: In, bl: usize, d: In, dl: usize, n: u64, size: u64, offset: u64, out: *mut u64) -> Answer;
-    fn sleep_copy_read(t: In, tl: usize, b: In, bl: usize, d: In, dl: usize, n: u64, size: u64, chunk: u64, out: *mut u64) -> Answer;
-    fn sleep_copy_search(t: In, tl: usize, b: In, bl: usize, d: In, dl: usize, n: u64, size: u64, from: u64, out: *mut u64) -> Answer;
-    #[rustfmt::skip]
-    fn sleep_copy_short_place(t: In, tl: usize, b: In, bl: usize, d: In, dl: usize, n: u64, size: u64,
-        chunk: u64, out: *mut u64) -> Answer;
-    #[rustfmt::skip]
-    fn sleep_copy_short_byte(t: In, tl: usize, b: In, bl: usize, d: In, dl: usize, n: u64, size: u64,
-        offset: u64, out: *mut u64) -> Answer;
-    #[rustfmt::skip]
-    fn sleep_copy_short_search(t: In, tl: usize, b: In, bl: usize, d: In, dl: usize, n: u64, size: u64,
-        from: u64, out: *mut u64) -> Answer;
-    fn sleep_copy_release(t: In, tl: usize, b: Out, bl: usize, d: Out, dl: usize, n: u64, size: u64, chunk: u64) -> Answer;
-    #[rustfmt::skip]
-    fn sleep_copy_make_packet(t: In, tl: usize, b: In, bl: usize, d: In, dl: usize, n: u64, size: u64,
-        chunk: u64, out: Out, out_length: usize, length: *mut u64) -> Answer;
-    #[rustfmt::skip]
-    fn sleep_copy_header_of(t: In, tl: usize, b: In, bl: usize, d: In, dl: usize, n: u64, size: u64,
-        chunk: u64, out: *mut u64) -> Answer;
-    fn sleep_copy_node_of(t: In, tl: usize, b: In, bl: usize, d: In, dl: usize, n: u64, size: u64, chunk: u64) -> NodeRead;
-    #[rustfmt::skip]
-    fn sleep_copy_find(t: In, tl: usize, b: In, bl: usize, d: In, dl: usize, n: u64, size: u64,
-        path: In, path_length: usize) -> Sought;
+    fn sleep_flat_hash(length: u64, key: In, key_length: u64, message: In, message_length: u64, digest: Out) -> u64;
+    fn sleep_flat_hash_parts(key: In, key_length: u64, prefix: In, prefix_length: u64, body: In, body_length: u64, out: Out) -> u64;
+    fn sleep_flat_label(root: In, key: In, key_length: u64, out: Out) -> u64;
+    fn sleep_flat_start(t: Out, tl: u64, g: Out, gl: u64, b: Out, bl: u64, d: In, dl: u64, answer: &mut [u64; 3]);
+    fn sleep_flat_append(t: Out, tl: u64, g: In, gl: u64, b: Out, bl: u64, d: Out, dl: u64, n: u64, s: u64, size: u64, chunk: In,
+        chunk_length: u64, root: Out, answer: &mut [u64; 3]);
+    fn sleep_flat_append_list(t: Out, tl: u64, g: Out, gl: u64, b: Out, bl: u64, d: Out, dl: u64, n: u64, s: u64, size: u64,
+        lengths: *const u64, lengths_length: u64, bytes: In, bytes_length: u64, root: Out, answer: &mut [u64; 3]);
+    fn sleep_flat_preview(t: In, tl: u64, g: In, gl: u64, b: In, bl: u64, d: In, dl: u64, n: u64, s: u64, size: u64, chunk: In,
+        chunk_length: u64, root: Out, answer: &mut [u64; 3]);
+    fn sleep_flat_store_signature(t: In, tl: u64, g: Out, gl: u64, b: In, bl: u64, d: In, dl: u64, n: u64, s: u64, size: u64, signature: In,
+        answer: &mut [u64; 3]);
+    fn sleep_flat_root_hash(t: In, tl: u64, g: In, gl: u64, b: In, bl: u64, d: In, dl: u64, n: u64, s: u64, size: u64, root: Out,
+        answer: &mut [u64; 3]);
+    fn sleep_flat_old_root(t: In, tl: u64, g: In, gl: u64, b: In, bl: u64, d: In, dl: u64, n: u64, s: u64, size: u64, m: u64, root: Out,
+        answer: &mut [u64; 3]);
+    fn sleep_flat_audit(t: In, tl: u64, g: In, gl: u64, b: In, bl: u64, d: In, dl: u64, n: u64, s: u64, size: u64, answer: &mut [u64; 3]);
+    fn sleep_flat_place(t: In, tl: u64, g: In, gl: u64, b: In, bl: u64, d: In, dl: u64, n: u64, s: u64, size: u64, chunk: u64,
+        out: *mut u64, answer: &mut [u64; 3]);
+    fn sleep_flat_byte(t: In, tl: u64, g: In, gl: u64, b: In, bl: u64, d: In, dl: u64, n: u64, s: u64, size: u64, offset: u64,
+        out: *mut u64, answer: &mut [u64; 3]);
+    fn sleep_flat_read(t: In, tl: u64, g: In, gl: u64, b: In, bl: u64, d: In, dl: u64, n: u64, s: u64, size: u64, chunk: u64, out: *mut u64,
+        answer: &mut [u64; 3]);
+    fn sleep_flat_search(t: In, tl: u64, g: In, gl: u64, b: In, bl: u64, d: In, dl: u64, n: u64, s: u64, size: u64, from: u64,
+        out: *mut u64, answer: &mut [u64; 3]);
+    fn sleep_flat_short_place(t: In, tl: u64, g: In, gl: u64, b: In, bl: u64, d: In, dl: u64, n: u64, s: u64, size: u64, chunk: u64,
+        out: *mut u64, answer: &mut [u64; 3]);
+    fn sleep_flat_short_byte(t: In, tl: u64, g: In, gl: u64, b: In, bl: u64, d: In, dl: u64, n: u64, s: u64, size: u64, offset: u64,
+        out: *mut u64, answer: &mut [u64; 3]);
+    fn sleep_flat_short_search(t: In, tl: u64, g: In, gl: u64, b: In, bl: u64, d: In, dl: u64, n: u64, s: u64, size: u64, from: u64,
+        out: *mut u64, answer: &mut [u64; 3]);
+    fn sleep_flat_release(t: In, tl: u64, g: In, gl: u64, b: Out, bl: u64, d: Out, dl: u64, n: u64, s: u64, size: u64, chunk: u64,
+        answer: &mut [u64; 3]);
+    fn sleep_flat_make_packet(t: In, tl: u64, g: In, gl: u64, b: In, bl: u64, d: In, dl: u64, n: u64, s: u64, size: u64, chunk: u64,
+        out: Out, out_length: u64, length: *mut u64, answer: &mut [u64; 3]);
+    fn sleep_flat_needs(n: u64, size: u64, lengths: *const u64, lengths_count: u64, out: *mut u64, answer: &mut [u64; 3]);
+    fn sleep_flat_fresh(table: *mut u64, answer: &mut [u64; 3]);
+    fn sleep_flat_enter(table: *mut u64, station: u64, name: u64, chunk: u64, answer: &mut [u64; 3]);
+    fn sleep_flat_serve(table: *mut u64, t: In, tl: u64, g: In, gl: u64, b: In, bl: u64, d: In, dl: u64, n: u64, s: u64, size: u64, t2: In,
+        tl2: u64, g2: In, gl2: u64, b2: In, bl2: u64, d2: In, dl2: u64, n2: u64, s2: u64, size2: u64, out: *mut u64, answer: &mut [u64; 7]);
+    fn sleep_flat_write_header(content: In, content_length: u64, out: Out, out_length: u64, length: *mut u64, answer: &mut [u64; 3]);
+    fn sleep_flat_write_node(bytes: In, bytes_length: u64, node: &[u64; 67], out: Out, out_length: u64, length: *mut u64,
+        answer: &mut [u64; 3]);
+    fn sleep_flat_read_header(bytes: In, bytes_length: u64, out: *mut u64, answer: &mut [u64; 3]);
+    fn sleep_flat_read_node(bytes: In, bytes_length: u64, answer: &mut [u64; 70]);
+    fn sleep_flat_header_of(t: In, tl: u64, g: In, gl: u64, b: In, bl: u64, d: In, dl: u64, n: u64, s: u64, size: u64, chunk: u64,
+        out: *mut u64, answer: &mut [u64; 3]);
+    fn sleep_flat_node_of(t: In, tl: u64, g: In, gl: u64, b: In, bl: u64, d: In, dl: u64, n: u64, s: u64, size: u64, chunk: u64,
+        answer: &mut [u64; 70]);
+    fn sleep_flat_find(t: In, tl: u64, g: In, gl: u64, b: In, bl: u64, d: In, dl: u64, n: u64, s: u64, size: u64, path: In,
+        path_length: u64, answer: &mut [u64; 5]);
+    fn sleep_flat_group(bytes: In, bytes_length: u64, out: Out, out_length: u64, answer: &mut [u64; 3]);
+    fn sleep_flat_ungroup(bytes: In, bytes_length: u64, out: Out, out_length: u64, answer: &mut [u64; 3]);
+    fn sleep_flat_check_packet(packet: In, packet_length: u64, n: u64, chunk: u64, root: In, out: *mut u64, answer: &mut [u64; 3]);
+    fn sleep_flat_compare_packets(first: In, first_length: u64, second: In, second_length: u64, n: u64, chunk: u64, root: In,
+        answer: &mut [u64; 4]);
+    fn sleep_flat_compare(t: In, tl: u64, g: In, gl: u64, b: In, bl: u64, d: In, dl: u64, n: u64, s: u64, size: u64, t2: In, tl2: u64,
+        g2: In, gl2: u64, b2: In, bl2: u64, d2: In, dl2: u64, n2: u64, s2: u64, size2: u64, answer: &mut [u64; 4]);
+    fn sleep_flat_make_copy(t: Out, tl: u64, b: Out, bl: u64, d: Out, dl: u64, n: u64, size: u64, answer: &mut [u64; 3]);
+    fn sleep_flat_take_in(t: Out, tl: u64, b: Out, bl: u64, d: Out, dl: u64, n: u64, size: u64, packet: In, packet_length: u64, chunk: u64,
+        root: In, answer: &mut [u64; 3]);
+    fn sleep_flat_copy_audit(t: In, tl: u64, b: In, bl: u64, d: In, dl: u64, n: u64, size: u64, answer: &mut [u64; 3]);
+    fn sleep_flat_copy_root_hash(t: In, tl: u64, b: In, bl: u64, d: In, dl: u64, n: u64, size: u64, root: Out, answer: &mut [u64; 3]);
+    fn sleep_flat_copy_old_root(t: In, tl: u64, b: In, bl: u64, d: In, dl: u64, n: u64, size: u64, m: u64, root: Out,
+        answer: &mut [u64; 3]);
+    fn sleep_flat_copy_place(t: In, tl: u64, b: In, bl: u64, d: In, dl: u64, n: u64, size: u64, chunk: u64, out: *mut u64,
+        answer: &mut [u64; 3]);
+    fn sleep_flat_copy_byte(t: In, tl: u64, b: In, bl: u64, d: In, dl: u64, n: u64, size: u64, offset: u64, out: *mut u64,
+        answer: &mut [u64; 3]);
+    fn sleep_flat_copy_read(t: In, tl: u64, b: In, bl: u64, d: In, dl: u64, n: u64, size: u64, chunk: u64, out: *mut u64,
+        answer: &mut [u64; 3]);
+    fn sleep_flat_copy_search(t: In, tl: u64, b: In, bl: u64, d: In, dl: u64, n: u64, size: u64, from: u64, out: *mut u64,
+        answer: &mut [u64; 3]);
+    fn sleep_flat_copy_short_place(t: In, tl: u64, b: In, bl: u64, d: In, dl: u64, n: u64, size: u64, chunk: u64, out: *mut u64,
+        answer: &mut [u64; 3]);
+    fn sleep_flat_copy_short_byte(t: In, tl: u64, b: In, bl: u64, d: In, dl: u64, n: u64, size: u64, offset: u64, out: *mut u64,
+        answer: &mut [u64; 3]);
+    fn sleep_flat_copy_short_search(t: In, tl: u64, b: In, bl: u64, d: In, dl: u64, n: u64, size: u64, from: u64, out: *mut u64,
+        answer: &mut [u64; 3]);
+    fn sleep_flat_copy_release(t: In, tl: u64, b: Out, bl: u64, d: Out, dl: u64, n: u64, size: u64, chunk: u64, answer: &mut [u64; 3]);
+    fn sleep_flat_copy_make_packet(t: In, tl: u64, b: In, bl: u64, d: In, dl: u64, n: u64, size: u64, chunk: u64, out: Out, out_length: u64,
+        length: *mut u64, answer: &mut [u64; 3]);
+    fn sleep_flat_copy_header_of(t: In, tl: u64, b: In, bl: u64, d: In, dl: u64, n: u64, size: u64, chunk: u64, out: *mut u64,
+        answer: &mut [u64; 3]);
+    fn sleep_flat_copy_node_of(t: In, tl: u64, b: In, bl: u64, d: In, dl: u64, n: u64, size: u64, chunk: u64, answer: &mut [u64; 70]);
+    fn sleep_flat_copy_find(t: In, tl: u64, b: In, bl: u64, d: In, dl: u64, n: u64, size: u64, path: In, path_length: u64,
+        answer: &mut [u64; 5]);
 }
 
 impl Answer {
@@ -378,8 +369,8 @@ fn plain<T>(number: u64, given: T) -> Result<T, Refusal> {
 /// BLAKE2b with `length` bytes of output, 1 to 64, then zeros, under a key of 0 to 64 bytes.
 pub fn hash(length: u64, key: &[u8], message: &[u8]) -> Result<[u8; 64], Refusal> {
     let mut digest = [0; 64];
-    // The pointers are of slices with these lengths, as in every call below.
-    let number = unsafe { sleep_hash(length, key.as_ptr(), key.len(), message.as_ptr(), message.len(), digest.as_mut_ptr()) };
+    let number =
+        unsafe { sleep_flat_hash(length, key.as_ptr(), key.len() as u64, message.as_ptr(), message.len() as u64, digest.as_mut_ptr()) };
     plain(number, digest)
 }
 
@@ -387,31 +378,31 @@ pub fn hash(length: u64, key: &[u8], message: &[u8]) -> Result<[u8; 64], Refusal
 pub fn hash_parts(key: &[u8], prefix: &[u8], body: &[u8]) -> Result<[u8; 32], Refusal> {
     let mut out = [0; 32];
     let (k, p, b) = (key.as_ptr(), prefix.as_ptr(), body.as_ptr());
-    let number = unsafe { sleep_hash_parts(k, key.len(), p, prefix.len(), b, body.len(), out.as_mut_ptr()) };
+    let number = unsafe { sleep_flat_hash_parts(k, key.len() as u64, p, prefix.len() as u64, b, body.len() as u64, out.as_mut_ptr()) };
     plain(number, out)
 }
 
 /// The label of a root hash under a key of 0 to 64 bytes.
 pub fn label(root: &[u8; 32], key: &[u8]) -> Result<[u8; 32], Refusal> {
     let mut out = [0; 32];
-    let number = unsafe { sleep_label(root.as_ptr(), key.as_ptr(), key.len(), out.as_mut_ptr()) };
+    let number = unsafe { sleep_flat_label(root.as_ptr(), key.as_ptr(), key.len() as u64, out.as_mut_ptr()) };
     plain(number, out)
 }
 
 /// The bytes grouped, at the front of `out`, which keeps its rest.
 pub fn group(bytes: &[u8], out: &mut [u8]) -> Result<(), Refusal> {
-    unsafe { sleep_group(bytes.as_ptr(), bytes.len(), out.as_mut_ptr(), out.len()) }.result(())
+    call!(sleep_flat_group, bytes.as_ptr(), bytes.len() as u64, out.as_mut_ptr(), out.len() as u64).result(())
 }
 
 /// Grouped bytes as they were before, at the front of `out`, which keeps its rest.
 pub fn ungroup(bytes: &[u8], out: &mut [u8]) -> Result<(), Refusal> {
-    unsafe { sleep_ungroup(bytes.as_ptr(), bytes.len(), out.as_mut_ptr(), out.len()) }.result(())
+    call!(sleep_flat_ungroup, bytes.as_ptr(), bytes.len() as u64, out.as_mut_ptr(), out.len() as u64).result(())
 }
 
 /// What chunks of these lengths behind `n` others of `size` bytes will need, appended singly.
 pub fn needs(n: u64, size: u64, lengths: &[u64]) -> Result<Needs, Refusal> {
     let mut out = [0; 8];
-    unsafe { sleep_needs(n, size, lengths.as_ptr(), lengths.len(), out.as_mut_ptr()) }.result(())?;
+    call!(sleep_flat_needs, n, size, lengths.as_ptr(), lengths.len() as u64, out.as_mut_ptr()).result(())?;
     let [tree, signatures, bitfield, data, leaves, parents, root, runs] = out;
     Ok(Needs { tree, signatures, bitfield, data, leaves, parents, root, runs })
 }
@@ -419,7 +410,7 @@ pub fn needs(n: u64, size: u64, lengths: &[u64]) -> Result<Needs, Refusal> {
 /// The chunk in a packet that shows it to be chunk number `chunk` of the `n` chunks under a root hash.
 pub fn check_packet<'a>(packet: &'a [u8], n: u64, chunk: u64, root: &[u8; 32]) -> Result<&'a [u8], Refusal> {
     let mut out = [0; 2];
-    let answer = unsafe { sleep_check_packet(packet.as_ptr(), packet.len(), n, chunk, root.as_ptr(), out.as_mut_ptr()) };
+    let answer = call!(sleep_flat_check_packet, packet.as_ptr(), packet.len() as u64, n, chunk, root.as_ptr(), out.as_mut_ptr());
     answer.result(())?;
     Ok(part(packet, out))
 }
@@ -427,9 +418,8 @@ pub fn check_packet<'a>(packet: &'a [u8], n: u64, chunk: u64, root: &[u8; 32]) -
 /// Both packets checked, and then the walk along them: chunks that differ under one root hash lead to two messages with one hash.
 pub fn compare_packets(first: &[u8], second: &[u8], n: u64, chunk: u64, root: &[u8; 32]) -> Walked {
     #[rustfmt::skip]
-    let said = unsafe {
-        sleep_compare_packets(first.as_ptr(), first.len(), second.as_ptr(), second.len(), n, chunk, root.as_ptr())
-    };
+    let said = call!(sleep_flat_compare_packets, first.as_ptr(), first.len() as u64, second.as_ptr(), second.len() as u64, n, chunk,
+        root.as_ptr());
     match said.outcome {
         0 => Walked::SameChunk,
         2 => Walked::CollisionAtRoots,
@@ -442,7 +432,7 @@ pub fn compare_packets(first: &[u8], second: &[u8], n: u64, chunk: u64, root: &[
 /// The Header with these content bytes, 32 of them, at the front of `out`; its length.
 pub fn write_header(content: &[u8], out: &mut [u8]) -> Result<usize, Refusal> {
     let mut length = 0;
-    let answer = unsafe { sleep_write_header(content.as_ptr(), content.len(), out.as_mut_ptr(), out.len(), &mut length) };
+    let answer = call!(sleep_flat_write_header, content.as_ptr(), content.len() as u64, out.as_mut_ptr(), out.len() as u64, &mut length);
     answer.result(())?;
     Ok(length as usize)
 }
@@ -450,7 +440,7 @@ pub fn write_header(content: &[u8], out: &mut [u8]) -> Result<usize, Refusal> {
 /// The content bytes of the Header that `bytes` are.
 pub fn read_header(bytes: &[u8]) -> Result<&[u8], Refusal> {
     let mut out = [0; 2];
-    let answer = unsafe { sleep_read_header(bytes.as_ptr(), bytes.len(), out.as_mut_ptr()) };
+    let answer = call!(sleep_flat_read_header, bytes.as_ptr(), bytes.len() as u64, out.as_mut_ptr());
     answer.result(())?;
     Ok(part(bytes, out))
 }
@@ -459,50 +449,46 @@ pub fn read_header(bytes: &[u8]) -> Result<&[u8], Refusal> {
 pub fn write_node(node: &Node, out: &mut [u8]) -> Result<usize, Refusal> {
     let (flat, bytes) = node.flat();
     let mut length = 0;
-    let answer = unsafe { sleep_write_node(bytes.as_ptr(), bytes.len(), flat, out.as_mut_ptr(), out.len(), &mut length) };
+    let answer = call!(sleep_flat_write_node, bytes.as_ptr(), bytes.len() as u64, &flat, out.as_mut_ptr(), out.len() as u64, &mut length);
     answer.result(())?;
     Ok(length as usize)
 }
 
 /// The Node that `bytes` are, with parts of them.
 pub fn read_node(bytes: &[u8]) -> Result<Node<'_>, Refusal> {
-    let read = unsafe { sleep_read_node(bytes.as_ptr(), bytes.len()) };
+    let read = call!(sleep_flat_read_node, bytes.as_ptr(), bytes.len() as u64);
     read.answer.result(())?;
     Ok(Node::of(bytes, &read.node))
 }
 
-impl FlatNumber {
-    fn of(value: Option<u64>) -> FlatNumber {
-        FlatNumber { given: value.is_some() as u64, value: value.unwrap_or(0) }
-    }
-
-    fn value(self) -> Option<u64> {
-        (self.given != 0).then_some(self.value)
-    }
+/// A number's field, as numbers and back.
+fn number(value: Option<u64>) -> [u64; 2] {
+    [value.is_some() as u64, value.unwrap_or(0)]
 }
 
-impl FlatPart {
-    /// More bytes behind those that are there.
-    fn placed(data: &[u8], bytes: &mut Vec<u8>) -> FlatPart {
-        let offset = bytes.len() as u64;
-        bytes.extend_from_slice(data);
-        FlatPart { offset, length: data.len() as u64 }
-    }
-
-    fn of(self, whole: &[u8]) -> &[u8] {
-        part(whole, [self.offset, self.length])
-    }
+fn number_at(flat: &[u64]) -> Option<u64> {
+    (flat[0] != 0).then_some(flat[1])
 }
 
-impl FlatBytes {
-    fn placed(data: Option<&[u8]>, bytes: &mut Vec<u8>) -> FlatBytes {
-        let part = data.map_or(FlatPart::default(), |data| FlatPart::placed(data, bytes));
-        FlatBytes { given: data.is_some() as u64, part }
-    }
+/// More bytes behind those that are there, as a part of them.
+fn placed(data: &[u8], bytes: &mut Vec<u8>) -> [u64; 2] {
+    let offset = bytes.len() as u64;
+    bytes.extend_from_slice(data);
+    [offset, data.len() as u64]
+}
 
-    fn of(self, whole: &[u8]) -> Option<&[u8]> {
-        (self.given != 0).then(|| self.part.of(whole))
-    }
+fn part_at<'a>(flat: &[u64], whole: &'a [u8]) -> &'a [u8] {
+    part(whole, [flat[0], flat[1]])
+}
+
+/// A part's field, as numbers and back.
+fn optional(data: Option<&[u8]>, bytes: &mut Vec<u8>) -> [u64; 3] {
+    let [offset, length] = data.map_or([0; 2], |data| placed(data, bytes));
+    [data.is_some() as u64, offset, length]
+}
+
+fn optional_at<'a>(flat: &[u64], whole: &'a [u8]) -> Option<&'a [u8]> {
+    (flat[0] != 0).then(|| part_at(&flat[1..], whole))
 }
 
 impl Stat {
@@ -518,31 +504,32 @@ impl Stat {
 
 impl<'a> Node<'a> {
     /// The fields as numbers, and the bytes that the parts lie in. Of more than 8 writers the first 8 are listed, and all are counted.
-    fn flat(&self) -> (FlatNode, Vec<u8>) {
+    fn flat(&self) -> ([u64; 67], Vec<u8>) {
         let mut bytes = Vec::new();
-        let mut flat = FlatNode { path: FlatPart::placed(self.path, &mut bytes), ..FlatNode::default() };
+        let mut flat = [0; 67];
+        flat[..2].copy_from_slice(&placed(self.path, &mut bytes));
         if let Some(stat) = self.stat {
-            flat.stat_given = 1;
-            flat.stat = stat.fields().map(FlatNumber::of);
+            flat[2] = 1;
+            flat[3..21].copy_from_slice(&stat.fields().map(number).concat());
         }
-        flat.trie = FlatBytes::placed(self.trie, &mut bytes);
-        flat.count = self.writers.len() as u64;
-        for (place, writer) in flat.writers.iter_mut().zip(&self.writers) {
-            place.key = FlatPart::placed(writer.key, &mut bytes);
-            place.permission = FlatBytes::placed(writer.permission, &mut bytes);
+        flat[21..24].copy_from_slice(&optional(self.trie, &mut bytes));
+        flat[24] = self.writers.len() as u64;
+        for (place, writer) in flat[25..65].chunks_mut(5).zip(&self.writers) {
+            place[..2].copy_from_slice(&placed(writer.key, &mut bytes));
+            place[2..].copy_from_slice(&optional(writer.permission, &mut bytes));
         }
-        flat.sequence = FlatNumber::of(self.sequence);
+        flat[65..].copy_from_slice(&number(self.sequence));
         (flat, bytes)
     }
 
-    fn of(bytes: &'a [u8], flat: &FlatNode) -> Node<'a> {
-        let writers = flat.writers[..flat.count as usize].iter();
+    fn of(bytes: &'a [u8], flat: &[u64; 67]) -> Node<'a> {
+        let writers = flat[25..65].chunks(5).take(flat[24] as usize);
         Node {
-            path: flat.path.of(bytes),
-            stat: (flat.stat_given != 0).then(|| Stat::of(flat.stat.map(FlatNumber::value))),
-            trie: flat.trie.of(bytes),
-            writers: writers.map(|writer| Writer { key: writer.key.of(bytes), permission: writer.permission.of(bytes) }).collect(),
-            sequence: flat.sequence.value(),
+            path: part_at(flat, bytes),
+            stat: (flat[2] != 0).then(|| Stat::of(std::array::from_fn(|k| number_at(&flat[3 + 2 * k..])))),
+            trie: optional_at(&flat[21..], bytes),
+            writers: writers.map(|w| Writer { key: part_at(w, bytes), permission: optional_at(&w[2..], bytes) }).collect(),
+            sequence: number_at(&flat[65..]),
         }
     }
 }
@@ -556,58 +543,56 @@ fn part(whole: &[u8], out: [u64; 2]) -> &[u8] {
 /// A call on a register that is only read: the four slices and the three numbers come first.
 macro_rules! reading {
     ($call:ident, $r:expr $(, $other:expr)*) => {
-        unsafe {
-            $call(
-                $r.tree.as_ptr(), $r.tree.len(), $r.signatures.as_ptr(), $r.signatures.len(), $r.bitfield.as_ptr(),
-                $r.bitfield.len(), $r.data.as_ptr(), $r.data.len(), $r.n, $r.s, $r.size $(, $other)*
-            )
-        }
+        call!(
+            $call, $r.tree.as_ptr(), $r.tree.len() as u64, $r.signatures.as_ptr(), $r.signatures.len() as u64, $r.bitfield.as_ptr(),
+            $r.bitfield.len() as u64, $r.data.as_ptr(), $r.data.len() as u64, $r.n, $r.s, $r.size $(, $other)*
+        )
     };
 }
 
 impl<'a> Register<'a> {
     pub fn root_hash(&self) -> Result<[u8; 32], Refusal> {
         let mut root = [0; 32];
-        let answer = reading!(sleep_root_hash, self, root.as_mut_ptr());
+        let answer = reading!(sleep_flat_root_hash, self, root.as_mut_ptr());
         answer.result(root)
     }
 
     /// The root hash of the first m chunks, as it was when the register had m.
     pub fn old_root(&self, m: u64) -> Result<[u8; 32], Refusal> {
         let mut root = [0; 32];
-        let answer = reading!(sleep_old_root, self, m, root.as_mut_ptr());
+        let answer = reading!(sleep_flat_old_root, self, m, root.as_mut_ptr());
         answer.result(root)
     }
 
     /// What an append of a chunk would give, its root hash, or its refusal; nothing is written.
     pub fn preview(&self, chunk: &[u8]) -> Result<[u8; 32], Refusal> {
         let mut root = [0; 32];
-        let answer = reading!(sleep_preview, self, chunk.as_ptr(), chunk.len(), root.as_mut_ptr());
+        let answer = reading!(sleep_flat_preview, self, chunk.as_ptr(), chunk.len() as u64, root.as_mut_ptr());
         answer.result(root)
     }
 
     pub fn audit(&self) -> Result<(), Refusal> {
-        reading!(sleep_audit, self).result(())
+        reading!(sleep_flat_audit, self).result(())
     }
 
     /// Start and length of a chunk, held or not.
     pub fn place(&self, chunk: u64) -> Result<Pair, Refusal> {
         let mut out = [0; 2];
-        let answer = reading!(sleep_place, self, chunk, out.as_mut_ptr());
+        let answer = reading!(sleep_flat_place, self, chunk, out.as_mut_ptr());
         answer.result((out[0], out[1]))
     }
 
     /// The chunk that has the byte at an offset, and the offset less its start; at the data size n and 0.
     pub fn byte(&self, offset: u64) -> Result<Pair, Refusal> {
         let mut out = [0; 2];
-        let answer = reading!(sleep_byte, self, offset, out.as_mut_ptr());
+        let answer = reading!(sleep_flat_byte, self, offset, out.as_mut_ptr());
         answer.result((out[0], out[1]))
     }
 
     /// The bytes of a chunk that is held, where they lie, after their hash was compared.
     pub fn read(&self, chunk: u64) -> Result<&'a [u8], Refusal> {
         let mut out = [0; 2];
-        let answer = reading!(sleep_read, self, chunk, out.as_mut_ptr());
+        let answer = reading!(sleep_flat_read, self, chunk, out.as_mut_ptr());
         answer.result(())?;
         Ok(part(self.data, out))
     }
@@ -615,7 +600,7 @@ impl<'a> Register<'a> {
     /// The first chunk from a number on, below n, that is not held.
     pub fn search(&self, from: u64) -> Result<Option<u64>, Refusal> {
         let mut out = [0; 2];
-        let answer = reading!(sleep_search, self, from, out.as_mut_ptr());
+        let answer = reading!(sleep_flat_search, self, from, out.as_mut_ptr());
         answer.result(())?;
         Ok((out[0] == 1).then_some(out[1]))
     }
@@ -623,21 +608,21 @@ impl<'a> Register<'a> {
     /// Start and length of a chunk by the leaf lengths alone, added up from chunk 0 on. Of a register that no audit accepted they may run past the data.
     pub fn short_place(&self, chunk: u64) -> Result<Pair, Refusal> {
         let mut out = [0; 2];
-        let answer = reading!(sleep_short_place, self, chunk, out.as_mut_ptr());
+        let answer = reading!(sleep_flat_short_place, self, chunk, out.as_mut_ptr());
         answer.result((out[0], out[1]))
     }
 
     /// The chunk that has the byte at an offset, and the offset less its start, by the leaf lengths alone; at the data size n and 0.
     pub fn short_byte(&self, offset: u64) -> Result<Pair, Refusal> {
         let mut out = [0; 2];
-        let answer = reading!(sleep_short_byte, self, offset, out.as_mut_ptr());
+        let answer = reading!(sleep_flat_short_byte, self, offset, out.as_mut_ptr());
         answer.result((out[0], out[1]))
     }
 
     /// The first chunk from a number on, below n, whose data bit is 0.
     pub fn short_search(&self, from: u64) -> Result<Option<u64>, Refusal> {
         let mut out = [0; 2];
-        let answer = reading!(sleep_short_search, self, from, out.as_mut_ptr());
+        let answer = reading!(sleep_flat_short_search, self, from, out.as_mut_ptr());
         answer.result(())?;
         Ok((out[0] == 1).then_some(out[1]))
     }
@@ -645,7 +630,7 @@ impl<'a> Register<'a> {
     /// The packet of a chunk at the front of `out`; its length.
     pub fn make_packet(&self, chunk: u64, out: &mut [u8]) -> Result<usize, Refusal> {
         let mut length = 0;
-        let answer = reading!(sleep_make_packet, self, chunk, out.as_mut_ptr(), out.len(), &mut length);
+        let answer = reading!(sleep_flat_make_packet, self, chunk, out.as_mut_ptr(), out.len() as u64, &mut length);
         answer.result(())?;
         Ok(length as usize)
     }
@@ -658,20 +643,20 @@ impl<'a> Register<'a> {
     /// The content bytes of the Header that a chunk is, as a rule chunk 0.
     pub fn header_of(&self, chunk: u64) -> Result<&'a [u8], Refusal> {
         let mut out = [0; 2];
-        reading!(sleep_header_of, self, chunk, out.as_mut_ptr()).result(())?;
+        reading!(sleep_flat_header_of, self, chunk, out.as_mut_ptr()).result(())?;
         Ok(part(self.chunk(chunk)?, out))
     }
 
     /// The Node that a chunk is, with parts of the data.
     pub fn node_of(&self, chunk: u64) -> Result<Node<'a>, Refusal> {
-        let read = reading!(sleep_node_of, self, chunk);
+        let read = reading!(sleep_flat_node_of, self, chunk);
         read.answer.result(())?;
         Ok(Node::of(self.chunk(chunk)?, &read.node))
     }
 
     /// The highest chunk number from 1 up whose record has this path.
     pub fn find(&self, path: &[u8]) -> Result<Option<u64>, Refusal> {
-        let sought = reading!(sleep_find, self, path.as_ptr(), path.len());
+        let sought = reading!(sleep_flat_find, self, path.as_ptr(), path.len() as u64);
         sought.answer.result(())?;
         Ok((sought.found != 0).then_some(sought.chunk))
     }
@@ -680,8 +665,8 @@ impl<'a> Register<'a> {
     pub fn compare(&self, second: &Register) -> Comparison {
         let b = second;
         #[rustfmt::skip]
-        let said = reading!(sleep_compare, self, b.tree.as_ptr(), b.tree.len(), b.signatures.as_ptr(), b.signatures.len(),
-            b.bitfield.as_ptr(), b.bitfield.len(), b.data.as_ptr(), b.data.len(), b.n, b.s, b.size);
+        let said = reading!(sleep_flat_compare, self, b.tree.as_ptr(), b.tree.len() as u64, b.signatures.as_ptr(), b.signatures.len() as u64,
+            b.bitfield.as_ptr(), b.bitfield.len() as u64, b.data.as_ptr(), b.data.len() as u64, b.n, b.s, b.size);
         match said.outcome {
             0 => Comparison::Equal,
             1 => Comparison::RootsDiffer,
@@ -696,52 +681,50 @@ impl<'a> Register<'a> {
 /// A call on a copy that is only read: the three slices and the two numbers come first.
 macro_rules! reading_copy {
     ($call:ident, $c:expr $(, $other:expr)*) => {
-        unsafe {
-            $call(
-                $c.tree.as_ptr(), $c.tree.len(), $c.bitfield.as_ptr(), $c.bitfield.len(), $c.data.as_ptr(), $c.data.len(), $c.n,
-                $c.size $(, $other)*
-            )
-        }
+        call!(
+            $call, $c.tree.as_ptr(), $c.tree.len() as u64, $c.bitfield.as_ptr(), $c.bitfield.len() as u64, $c.data.as_ptr(),
+            $c.data.len() as u64, $c.n, $c.size $(, $other)*
+        )
     };
 }
 
 /// The calls of a register on a copy. Each is refused with 20 where it would read an entry that is not known.
 impl<'a> Copied<'a> {
     pub fn audit(&self) -> Result<(), Refusal> {
-        reading_copy!(sleep_copy_audit, self).result(())
+        reading_copy!(sleep_flat_copy_audit, self).result(())
     }
 
     pub fn root_hash(&self) -> Result<[u8; 32], Refusal> {
         let mut root = [0; 32];
-        let answer = reading_copy!(sleep_copy_root_hash, self, root.as_mut_ptr());
+        let answer = reading_copy!(sleep_flat_copy_root_hash, self, root.as_mut_ptr());
         answer.result(root)
     }
 
     /// The root hash of the first m chunks, as it was when the register had m.
     pub fn old_root(&self, m: u64) -> Result<[u8; 32], Refusal> {
         let mut root = [0; 32];
-        let answer = reading_copy!(sleep_copy_old_root, self, m, root.as_mut_ptr());
+        let answer = reading_copy!(sleep_flat_copy_old_root, self, m, root.as_mut_ptr());
         answer.result(root)
     }
 
     /// Start and length of a chunk, held or not.
     pub fn place(&self, chunk: u64) -> Result<Pair, Refusal> {
         let mut out = [0; 2];
-        let answer = reading_copy!(sleep_copy_place, self, chunk, out.as_mut_ptr());
+        let answer = reading_copy!(sleep_flat_copy_place, self, chunk, out.as_mut_ptr());
         answer.result((out[0], out[1]))
     }
 
     /// The chunk that has the byte at an offset, and the offset less its start; at the data size n and 0.
     pub fn byte(&self, offset: u64) -> Result<Pair, Refusal> {
         let mut out = [0; 2];
-        let answer = reading_copy!(sleep_copy_byte, self, offset, out.as_mut_ptr());
+        let answer = reading_copy!(sleep_flat_copy_byte, self, offset, out.as_mut_ptr());
         answer.result((out[0], out[1]))
     }
 
     /// The bytes of a chunk that is held, where they lie, after their hash was compared.
     pub fn read(&self, chunk: u64) -> Result<&'a [u8], Refusal> {
         let mut out = [0; 2];
-        let answer = reading_copy!(sleep_copy_read, self, chunk, out.as_mut_ptr());
+        let answer = reading_copy!(sleep_flat_copy_read, self, chunk, out.as_mut_ptr());
         answer.result(())?;
         Ok(part(self.data, out))
     }
@@ -749,7 +732,7 @@ impl<'a> Copied<'a> {
     /// The first chunk from a number on, below n, that is not held.
     pub fn search(&self, from: u64) -> Result<Option<u64>, Refusal> {
         let mut out = [0; 2];
-        let answer = reading_copy!(sleep_copy_search, self, from, out.as_mut_ptr());
+        let answer = reading_copy!(sleep_flat_copy_search, self, from, out.as_mut_ptr());
         answer.result(())?;
         Ok((out[0] == 1).then_some(out[1]))
     }
@@ -757,21 +740,21 @@ impl<'a> Copied<'a> {
     /// Start and length of a chunk by the leaf lengths alone, added up from chunk 0 on. Of a copy that no audit accepted they may run past the data.
     pub fn short_place(&self, chunk: u64) -> Result<Pair, Refusal> {
         let mut out = [0; 2];
-        let answer = reading_copy!(sleep_copy_short_place, self, chunk, out.as_mut_ptr());
+        let answer = reading_copy!(sleep_flat_copy_short_place, self, chunk, out.as_mut_ptr());
         answer.result((out[0], out[1]))
     }
 
     /// The chunk that has the byte at an offset, and the offset less its start, by the leaf lengths alone; at the data size n and 0.
     pub fn short_byte(&self, offset: u64) -> Result<Pair, Refusal> {
         let mut out = [0; 2];
-        let answer = reading_copy!(sleep_copy_short_byte, self, offset, out.as_mut_ptr());
+        let answer = reading_copy!(sleep_flat_copy_short_byte, self, offset, out.as_mut_ptr());
         answer.result((out[0], out[1]))
     }
 
     /// The first chunk from a number on, below n, whose data bit is 0.
     pub fn short_search(&self, from: u64) -> Result<Option<u64>, Refusal> {
         let mut out = [0; 2];
-        let answer = reading_copy!(sleep_copy_short_search, self, from, out.as_mut_ptr());
+        let answer = reading_copy!(sleep_flat_copy_short_search, self, from, out.as_mut_ptr());
         answer.result(())?;
         Ok((out[0] == 1).then_some(out[1]))
     }
@@ -779,7 +762,7 @@ impl<'a> Copied<'a> {
     /// The packet of a chunk that is held, at the front of `out`; its length.
     pub fn make_packet(&self, chunk: u64, out: &mut [u8]) -> Result<usize, Refusal> {
         let mut length = 0;
-        let answer = reading_copy!(sleep_copy_make_packet, self, chunk, out.as_mut_ptr(), out.len(), &mut length);
+        let answer = reading_copy!(sleep_flat_copy_make_packet, self, chunk, out.as_mut_ptr(), out.len() as u64, &mut length);
         answer.result(())?;
         Ok(length as usize)
     }
@@ -792,20 +775,20 @@ impl<'a> Copied<'a> {
     /// The content bytes of the Header that a chunk is, as a rule chunk 0.
     pub fn header_of(&self, chunk: u64) -> Result<&'a [u8], Refusal> {
         let mut out = [0; 2];
-        reading_copy!(sleep_copy_header_of, self, chunk, out.as_mut_ptr()).result(())?;
+        reading_copy!(sleep_flat_copy_header_of, self, chunk, out.as_mut_ptr()).result(())?;
         Ok(part(self.chunk(chunk)?, out))
     }
 
     /// The Node that a chunk is, with parts of the data.
     pub fn node_of(&self, chunk: u64) -> Result<Node<'a>, Refusal> {
-        let read = reading_copy!(sleep_copy_node_of, self, chunk);
+        let read = reading_copy!(sleep_flat_copy_node_of, self, chunk);
         read.answer.result(())?;
         Ok(Node::of(self.chunk(chunk)?, &read.node))
     }
 
     /// The highest chunk number from 1 up whose record has this path.
     pub fn find(&self, path: &[u8]) -> Result<Option<u64>, Refusal> {
-        let sought = reading_copy!(sleep_copy_find, self, path.as_ptr(), path.len());
+        let sought = reading_copy!(sleep_flat_copy_find, self, path.as_ptr(), path.len() as u64);
         sought.answer.result(())?;
         Ok((sought.found != 0).then_some(sought.chunk))
     }
@@ -827,30 +810,27 @@ impl<B: AsRef<[u8]> + AsMut<[u8]>> CopyStore<B> {
     /// A copy of which nothing is known yet.
     pub fn make(&mut self) -> Result<(), Refusal> {
         let (t, b, d) = (self.tree.as_mut(), self.bitfield.as_mut(), self.data.as_mut());
-        let (tl, bl, dl) = (t.len(), b.len(), d.len());
-        unsafe { sleep_make_copy(t.as_mut_ptr(), tl, b.as_mut_ptr(), bl, d.as_mut_ptr(), dl, self.n, self.size) }.result(())
+        let (tl, bl, dl) = (t.len() as u64, b.len() as u64, d.len() as u64);
+        call!(sleep_flat_make_copy, t.as_mut_ptr(), tl, b.as_mut_ptr(), bl, d.as_mut_ptr(), dl, self.n, self.size).result(())
     }
 
     /// The packet of a chunk, under the root hash of the register: its entries are known then, and the chunk is held.
     pub fn take_in(&mut self, packet: &[u8], chunk: u64, root: &[u8; 32]) -> Result<(), Refusal> {
         let (t, b, d) = (self.tree.as_mut(), self.bitfield.as_mut(), self.data.as_mut());
-        let (tl, bl, dl) = (t.len(), b.len(), d.len());
+        let (tl, bl, dl) = (t.len() as u64, b.len() as u64, d.len() as u64);
         #[rustfmt::skip]
-        let answer = unsafe {
-            sleep_take_in(t.as_mut_ptr(), tl, b.as_mut_ptr(), bl, d.as_mut_ptr(), dl, self.n, self.size, packet.as_ptr(), packet.len(), chunk,
-                root.as_ptr())
-        };
+        let answer = call!(sleep_flat_take_in, t.as_mut_ptr(), tl, b.as_mut_ptr(), bl, d.as_mut_ptr(), dl, self.n, self.size,
+            packet.as_ptr(), packet.len() as u64, chunk, root.as_ptr());
         answer.result(())
     }
 
     /// Makes room: the chunk is no longer held, and its bytes are zeros; its entries stay known.
     pub fn release(&mut self, chunk: u64) -> Result<(), Refusal> {
         let (t, b, d) = (self.tree.as_ref(), self.bitfield.as_mut(), self.data.as_mut());
-        let (bl, dl) = (b.len(), d.len());
+        let (bl, dl) = (b.len() as u64, d.len() as u64);
         #[rustfmt::skip]
-        let answer = unsafe {
-            sleep_copy_release(t.as_ptr(), t.len(), b.as_mut_ptr(), bl, d.as_mut_ptr(), dl, self.n, self.size, chunk)
-        };
+        let answer = call!(sleep_flat_copy_release, t.as_ptr(), t.len() as u64, b.as_mut_ptr(), bl, d.as_mut_ptr(), dl, self.n, self.size,
+            chunk);
         answer.result(())
     }
 }
@@ -859,28 +839,24 @@ impl Table {
     /// No read waits, as if station 15 had been served.
     pub fn fresh() -> Table {
         let mut table = Table { numbers: [0; 161] };
-        unsafe { sleep_fresh(table.numbers.as_mut_ptr()) };
+        call!(sleep_flat_fresh, table.numbers.as_mut_ptr());
         table
     }
 
     /// A read that waits behind those of its station.
     pub fn enter(&mut self, station: u64, name: Name, chunk: u64) -> Result<(), Refusal> {
         let name = if name == Name::Metadata { 0 } else { 1 };
-        unsafe { sleep_enter(self.numbers.as_mut_ptr(), station, name, chunk) }.result(())
+        call!(sleep_flat_enter, self.numbers.as_mut_ptr(), station, name, chunk).result(())
     }
 
     /// The read whose turn it is, which leaves the table; `None` where no read waits.
     pub fn serve<'a>(&mut self, metadata: &Register<'a>, content: &Register<'a>) -> Option<Served<'a>> {
         let (m, c, mut out) = (metadata, content, [0; 2]);
         #[rustfmt::skip]
-        let said = unsafe {
-            sleep_serve(
-                self.numbers.as_mut_ptr(), m.tree.as_ptr(), m.tree.len(), m.signatures.as_ptr(), m.signatures.len(), m.bitfield.as_ptr(),
-                m.bitfield.len(), m.data.as_ptr(), m.data.len(), m.n, m.s, m.size, c.tree.as_ptr(), c.tree.len(), c.signatures.as_ptr(),
-                c.signatures.len(), c.bitfield.as_ptr(), c.bitfield.len(), c.data.as_ptr(), c.data.len(), c.n, c.s, c.size,
-                out.as_mut_ptr(),
-            )
-        };
+        let said = call!(sleep_flat_serve, self.numbers.as_mut_ptr(), m.tree.as_ptr(), m.tree.len() as u64, m.signatures.as_ptr(),
+            m.signatures.len() as u64, m.bitfield.as_ptr(), m.bitfield.len() as u64, m.data.as_ptr(), m.data.len() as u64, m.n, m.s, m.size,
+            c.tree.as_ptr(), c.tree.len() as u64, c.signatures.as_ptr(), c.signatures.len() as u64, c.bitfield.as_ptr(),
+            c.bitfield.len() as u64, c.data.as_ptr(), c.data.len() as u64, c.n, c.s, c.size, out.as_mut_ptr());
         if said.served == 0 {
             return None;
         }
@@ -920,8 +896,8 @@ impl<B: AsRef<[u8]> + AsMut<[u8]>> Store<B> {
 
     pub fn start(&mut self) -> Result<(), Refusal> {
         let (t, g, b, d) = (self.tree.as_mut(), self.signatures.as_mut(), self.bitfield.as_mut(), self.data.as_ref());
-        let (tl, gl, bl) = (t.len(), g.len(), b.len());
-        unsafe { sleep_start(t.as_mut_ptr(), tl, g.as_mut_ptr(), gl, b.as_mut_ptr(), bl, d.as_ptr(), d.len()) }.result(())?;
+        let (tl, gl, bl) = (t.len() as u64, g.len() as u64, b.len() as u64);
+        call!(sleep_flat_start, t.as_mut_ptr(), tl, g.as_mut_ptr(), gl, b.as_mut_ptr(), bl, d.as_ptr(), d.len() as u64).result(())?;
         (self.n, self.s, self.size) = (0, 0, 0);
         Ok(())
     }
@@ -930,12 +906,10 @@ impl<B: AsRef<[u8]> + AsMut<[u8]>> Store<B> {
     pub fn append(&mut self, chunk: &[u8]) -> Result<[u8; 32], Refusal> {
         let mut root = [0; 32];
         let (t, g, b, d) = (self.tree.as_mut(), self.signatures.as_ref(), self.bitfield.as_mut(), self.data.as_mut());
-        let (tl, bl, dl) = (t.len(), b.len(), d.len());
+        let (tl, bl, dl) = (t.len() as u64, b.len() as u64, d.len() as u64);
         #[rustfmt::skip]
-        let answer = unsafe {
-            sleep_append(t.as_mut_ptr(), tl, g.as_ptr(), g.len(), b.as_mut_ptr(), bl, d.as_mut_ptr(), dl, self.n, self.s, self.size,
-                chunk.as_ptr(), chunk.len(), root.as_mut_ptr())
-        };
+        let answer = call!(sleep_flat_append, t.as_mut_ptr(), tl, g.as_ptr(), g.len() as u64, b.as_mut_ptr(), bl, d.as_mut_ptr(), dl,
+            self.n, self.s, self.size, chunk.as_ptr(), chunk.len() as u64, root.as_mut_ptr());
         answer.result(())?;
         self.n += 1;
         self.size += chunk.len() as u64;
@@ -947,12 +921,10 @@ impl<B: AsRef<[u8]> + AsMut<[u8]>> Store<B> {
     pub fn append_list(&mut self, lengths: &[u64], bytes: &[u8]) -> Result<[u8; 32], Refusal> {
         let mut root = [0; 32];
         let (t, g, b, d) = (self.tree.as_mut(), self.signatures.as_mut(), self.bitfield.as_mut(), self.data.as_mut());
-        let (tl, gl, bl, dl) = (t.len(), g.len(), b.len(), d.len());
+        let (tl, gl, bl, dl) = (t.len() as u64, g.len() as u64, b.len() as u64, d.len() as u64);
         #[rustfmt::skip]
-        let answer = unsafe {
-            sleep_append_list(t.as_mut_ptr(), tl, g.as_mut_ptr(), gl, b.as_mut_ptr(), bl, d.as_mut_ptr(), dl, self.n, self.s, self.size,
-                lengths.as_ptr(), lengths.len(), bytes.as_ptr(), bytes.len(), root.as_mut_ptr())
-        };
+        let answer = call!(sleep_flat_append_list, t.as_mut_ptr(), tl, g.as_mut_ptr(), gl, b.as_mut_ptr(), bl, d.as_mut_ptr(), dl, self.n,
+            self.s, self.size, lengths.as_ptr(), lengths.len() as u64, bytes.as_ptr(), bytes.len() as u64, root.as_mut_ptr());
         answer.result(())?;
         self.n += lengths.len() as u64;
         self.s += lengths.len() as u64 - 1;
@@ -962,12 +934,10 @@ impl<B: AsRef<[u8]> + AsMut<[u8]>> Store<B> {
 
     pub fn store_signature(&mut self, signature: &[u8; 64]) -> Result<(), Refusal> {
         let (t, g, b, d) = (self.tree.as_ref(), self.signatures.as_mut(), self.bitfield.as_ref(), self.data.as_ref());
-        let gl = g.len();
+        let gl = g.len() as u64;
         #[rustfmt::skip]
-        let answer = unsafe {
-            sleep_store_signature(t.as_ptr(), t.len(), g.as_mut_ptr(), gl, b.as_ptr(), b.len(), d.as_ptr(), d.len(), self.n, self.s,
-                self.size, signature.as_ptr())
-        };
+        let answer = call!(sleep_flat_store_signature, t.as_ptr(), t.len() as u64, g.as_mut_ptr(), gl, b.as_ptr(), b.len() as u64,
+            d.as_ptr(), d.len() as u64, self.n, self.s, self.size, signature.as_ptr());
         answer.result(())?;
         self.s += 1;
         Ok(())
@@ -976,11 +946,10 @@ impl<B: AsRef<[u8]> + AsMut<[u8]>> Store<B> {
     /// Makes room: the chunk is no longer held, and its bytes are zeros.
     pub fn release(&mut self, chunk: u64) -> Result<(), Refusal> {
         let (t, g, b, d) = (self.tree.as_ref(), self.signatures.as_ref(), self.bitfield.as_mut(), self.data.as_mut());
-        let (bl, dl) = (b.len(), d.len());
+        let (bl, dl) = (b.len() as u64, d.len() as u64);
         #[rustfmt::skip]
-        let answer = unsafe {
-            sleep_release(t.as_ptr(), t.len(), g.as_ptr(), g.len(), b.as_mut_ptr(), bl, d.as_mut_ptr(), dl, self.n, self.s, self.size, chunk)
-        };
+        let answer = call!(sleep_flat_release, t.as_ptr(), t.len() as u64, g.as_ptr(), g.len() as u64, b.as_mut_ptr(), bl, d.as_mut_ptr(),
+            dl, self.n, self.s, self.size, chunk);
         answer.result(())
     }
 

@@ -30,7 +30,7 @@ from lent import NUMBER, Answer, Buffer, Comparison, Library, Serving, answer_of
 
 IMAGES = ('tree', 'signatures', 'bitfield', 'data')
 COPIED = ('tree', 'bitfield', 'data')
-EXPECTED = {Answer: answer_of, Comparison: comparison_of, Serving: serving_of, NUMBER: lambda answer: answer_of(answer)[:8], None: lambda answer: b''}
+EXPECTED = {Answer: answer_of, Comparison: comparison_of, Serving: serving_of, NUMBER: lambda answer: answer_of(answer)[:8]}
 
 
 def pieces_of(r):

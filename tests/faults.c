@@ -6,6 +6,7 @@
  *   FAULTS_KIND   kill: killed just before step FAULTS_AT; torn: a write at that step is half done, then killed; stop: stopped just before it;
  *                 full: from that step on nothing that needs room is done, a write half; log: the steps are appended to FAULTS_LOG
  *   FAULTS_AT     the number of a step
+ *   FAULTS_TIGHT  set: the disk is full from the beginning, but for the room that files have; besides FAULTS_KIND
  *   FAULTS_QUICK  set: a sync is a step as any other, and does not wait for the disk; what a sync is good for shows in the log alone
  *   FAULTS_PEAK   a path: at its end the program's peak of memory in KiB is written there
  *   FAULTS_LOG    the log's path. A record of it: a letter, then the path's length (4 bytes), the offset and the length (8 each), the length of the
@@ -45,6 +46,19 @@ static void path_of(int file, char out[PATH_MAX]) {
     if (!under(out)) out[0] = 0;
 }
 
+/* The path of a name in an open folder. */
+static void path_at(int folder, const char *name, char out[PATH_MAX]) {
+    char link[64], real[PATH_MAX];
+    out[0] = 0;
+    if (folder == AT_FDCWD || strchr(name, '/')) return;
+    snprintf(link, sizeof link, "/proc/self/fd/%d", folder);
+    ssize_t length = readlink(link, real, PATH_MAX - 1);
+    if (length < 0) return;
+    real[length] = 0;
+    if (snprintf(out, PATH_MAX, "%s/%s", real, name) >= PATH_MAX) abort();
+    if (!under(out)) out[0] = 0;
+}
+
 static void path_named(const char *name, char out[PATH_MAX]) {
     char folder[PATH_MAX];
     const char *slash = strrchr(name, '/');
@@ -76,21 +90,27 @@ static void put(int kind, const char *path, uint64_t offset, uint64_t length, co
 /* What becomes of a step: 0 is done, 1 finds the disk full. Does not come back where the program is killed before it. `torn` is set for a write that is
  * to be half done, and the program killed then. */
 static int meets(int kind, const char *path, uint64_t offset, uint64_t length, const void *data, uint32_t count, int *torn) {
-    const char *fault = getenv("FAULTS_KIND");
-    if (!path[0] || !fault) return 0;
+    const char *fault = getenv("FAULTS_KIND"), *at = getenv("FAULTS_AT");
+    int tight = path[0] && getenv("FAULTS_TIGHT") && (kind == CREATE || kind == WRITE || kind == LENGTH || kind == RESERVE);
+    if (!path[0] || !fault) return tight;
     if (!strcmp(fault, "log")) put(kind, path, offset, length, data, count);
-    const char *at = getenv("FAULTS_AT");
     unsigned long wanted = at ? strtoul(at, NULL, 10) : 0;
     step += 1;
     if (!strcmp(fault, "full")) return wanted && step >= wanted && kind != UNLINK && kind != REMOVE_FOLDER && kind != PUNCH;
-    if (step != wanted) return 0;
+    if (step != wanted) return tight;
     if (!strcmp(fault, "stop")) raise(SIGSTOP);
     if (!strcmp(fault, "kill")) raise(SIGKILL);
     if (!strcmp(fault, "torn")) {
         if (kind != WRITE) raise(SIGKILL);
         *torn = 1;
     }
-    return 0;
+    return tight;
+}
+
+/* Whether a file has room on the disk up to a place; asked where the disk is full from the beginning. */
+static int has_room(int file, uint64_t end) {
+    struct stat about;
+    return getenv("FAULTS_TIGHT") && !fstat(file, &about) && (uint64_t)about.st_blocks * 512 >= end;
 }
 
 static int full(int kind, const char *path, uint64_t offset, uint64_t length) {
@@ -101,6 +121,17 @@ static int full(int kind, const char *path, uint64_t offset, uint64_t length) {
 static int no_room(void) {
     errno = ENOSPC;
     return -1;
+}
+
+int openat(int folder, const char *name, int flags, ...) {
+    va_list more;
+    va_start(more, flags);
+    mode_t mode = flags & O_CREAT ? va_arg(more, mode_t) : 0;
+    va_end(more);
+    char path[PATH_MAX] = "";
+    if (flags & O_CREAT && faccessat(folder, name, F_OK, AT_SYMLINK_NOFOLLOW) != 0) path_at(folder, name, path);
+    if (full(CREATE, path, 0, 0)) return no_room();
+    return NEXT(openat)(folder, name, flags, mode);
 }
 
 static int opened(int (*next)(const char *, int, ...), const char *name, int flags, mode_t mode) {
@@ -130,7 +161,7 @@ static ssize_t written(ssize_t (*next)(int, const void *, size_t, off64_t), int 
     char path[PATH_MAX];
     int torn = 0;
     path_of(file, path);
-    if (meets(WRITE, path, offset, length, bytes, length, &torn)) {
+    if (meets(WRITE, path, offset, length, bytes, length, &torn) && !has_room(file, offset + length)) {
         if (length < 2) return no_room();
         return next(file, bytes, length / 2, offset);
     }
@@ -162,7 +193,7 @@ static int no_room_for_length(int file, off64_t length) {
     char path[PATH_MAX];
     struct stat about;
     path_of(file, path);
-    return full(LENGTH, path, 0, length) && !fstat(file, &about) && about.st_size < length;
+    return full(LENGTH, path, 0, length) && !fstat(file, &about) && about.st_size < length && !has_room(file, length);
 }
 
 int ftruncate(int file, off_t length) {
@@ -178,7 +209,7 @@ int ftruncate64(int file, off64_t length) {
 int fallocate(int file, int mode, off_t offset, off_t length) {
     char path[PATH_MAX];
     path_of(file, path);
-    if (full(mode & FALLOC_FL_PUNCH_HOLE ? PUNCH : RESERVE, path, offset, length)) return no_room();
+    if (full(mode & FALLOC_FL_PUNCH_HOLE ? PUNCH : RESERVE, path, offset, length) && !has_room(file, offset + length)) return no_room();
     return NEXT(fallocate)(file, mode, offset, length);
 }
 
@@ -198,6 +229,23 @@ int unlink(const char *name) {
     if (access(name, F_OK) == 0) path_named(name, path);
     full(UNLINK, path, 0, 0);
     return NEXT(unlink)(name);
+}
+
+int unlinkat(int folder, const char *name, int flags) {
+    char path[PATH_MAX] = "";
+    if (faccessat(folder, name, F_OK, AT_SYMLINK_NOFOLLOW) == 0) path_at(folder, name, path);
+    full(UNLINK, path, 0, 0);
+    return NEXT(unlinkat)(folder, name, flags);
+}
+
+int renameat(int folder, const char *from, int other, const char *to) {
+    char path[PATH_MAX], new_path[PATH_MAX];
+    int torn = 0;
+    if (folder != other) abort();
+    path_at(folder, from, path);
+    path_at(other, to, new_path);
+    if (meets(RENAME, path, 0, 0, new_path, strlen(new_path), &torn)) return no_room();
+    return NEXT(renameat)(folder, from, other, to);
 }
 
 /* The new name stands as the data of the record; both names are in one folder, or a program is not tested. */

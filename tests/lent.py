@@ -1,4 +1,4 @@
-"""The calls of include/sleep_register.h, on the library linked as a shared object, with buffers that show every byte written."""
+"""The calls of include/sleep_register.h, by the archive's own symbols, on the library linked as a shared object, with buffers that show every byte written."""
 
 import ctypes
 import sys
@@ -8,32 +8,8 @@ PLACES = {'tree': 1, 'bitfield': 2}
 OUTCOMES = {('equal',): 0, ('same chunk',): 0, ('roots differ',): 1, ('collision', 'at the roots'): 2}
 
 
-class Answer(ctypes.Structure):
-    _fields_ = [('number', NUMBER), ('place_kind', NUMBER), ('place', NUMBER)]
-
-
-class Comparison(ctypes.Structure):
-    _fields_ = [('outcome', NUMBER), ('answer', Answer)]
-
-
-class Serving(ctypes.Structure):
-    _fields_ = [('served', NUMBER), ('station', NUMBER), ('name', NUMBER), ('chunk', NUMBER), ('answer', Answer)]
-
-
-class Fields(ctypes.Structure):
-    """A sleep_node, as its 67 numbers."""
-    _fields_ = [('numbers', NUMBER * 67)]
-
-    def words(self):
-        return (self,)
-
-
-class NodeRead(ctypes.Structure):
-    _fields_ = [('answer', Answer), ('node', Fields)]
-
-
-class Found(ctypes.Structure):
-    _fields_ = [('found', NUMBER), ('chunk', NUMBER), ('answer', Answer)]
+# How many numbers a call answers, in the array that is lent to it last, for each struct of the header.
+Answer, Comparison, Found, Serving, NodeRead = 3, 4, 5, 7, 70
 
 
 def numbers(*values):
@@ -77,7 +53,7 @@ class Buffer:
         self.pointer = ctypes.c_void_p(ctypes.addressof(self.memory) + 16)
 
     def words(self):
-        return (self.pointer,) if self.array else (self.pointer, ctypes.c_size_t(len(self.before) // self.unit))
+        return (self.pointer,) if self.array else (self.pointer, NUMBER(len(self.before) // self.unit))
 
     def held(self):
         held = self.memory.raw
@@ -90,14 +66,25 @@ class Buffer:
         return self.after(*answer[1:]) if self.after and done else self.before
 
 
+class Fields(Buffer):
+    """A sleep_node, as its 67 numbers."""
+
+    def __init__(self, held):
+        super().__init__(bytes(held), array=True)
+
+
 class Library:
     def __init__(self, path):
         self.c = ctypes.CDLL(path)
 
     def call(self, name, given, gives=Answer):
-        """The bytes of what the call answers by value. `given` are buffers, numbers and fields."""
-        function = getattr(self.c, 'sleep_' + name)
-        function.restype = gives
-        words = [word for one in given for word in (one.words() if isinstance(one, (Buffer, Fields)) else (NUMBER(one),))]
-        said = function(*words)
-        return numbers(said) if gives is NUMBER else bytes(said) if gives else b''
+        """The bytes of what the call answers: a number, or the array that is lent for it, which holds anything before. `given` are buffers, numbers and fields."""
+        function = getattr(self.c, 'sleep_flat_' + name)
+        words = [word for one in given for word in (one.words() if isinstance(one, Buffer) else (NUMBER(one),))]
+        if gives is NUMBER:
+            function.restype = NUMBER
+            return numbers(function(*words))
+        answer = Buffer(b'\x5a' * 8 * gives, array=True)
+        function.restype = None
+        function(*words, *answer.words())
+        return answer.held()

@@ -494,7 +494,7 @@ def tables_differ(text):
     for n, row in of_index:
         if bytes.fromhex(row) != bitfield_of(int(n))[3104:3108]:
             return f"the Index of {n} chunks"
-    numbers = [row[0] for row in rows_of(text, "Number")]
+    numbers = [row[0] for row in rows_of(section(text, "## The numbers"), "Number")]
     return None if numbers == [str(number) for number in range(1, 23)] else "the numbers of what can be wrong"
 
 def drawing_differs(text):
@@ -637,7 +637,7 @@ def outside_differs(text):
 def packets_differ(text):
     """Each packet is the one of its register, and its check gives the chunk, for this n, k and root hash and for no damaged byte."""
     packets, checks = [], []
-    for word, *rest in example_lines(text, "### Packets"):
+    for word, *rest in example_lines(text, "### Packets of two registers"):
         if word == "packet":
             packets.append([int(rest[0]), int(rest[1]), None, []])
         elif word == "root":

@@ -434,7 +434,9 @@ static void measure_records(void) {
     n = s = size = 0;
 }
 
-int main(void) {
+/* With the word `figures` the figures are printed, and not held to the header's. */
+int main(int words, char **word) {
+    const int judged = words < 2 || strcmp(word[1], "figures") != 0;
     int failed = 0;
     measure_records();
     measure(HASH, 0);
@@ -449,7 +451,7 @@ int main(void) {
     measure_copies();
     for (int k = 0; k < CALLS; k++) {
         printf("%-24s %5zu of %5zu bytes of stack\n", calls[k].name, calls[k].taken, calls[k].most);
-        if (calls[k].taken > calls[k].most) failed = 1;
+        if (judged && calls[k].taken > calls[k].most) failed = 1;
     }
     return failed;
 }

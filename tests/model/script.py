@@ -20,6 +20,7 @@ import audits
 import copies
 import lists
 import old_roots
+import page
 import preview as previews
 import reads
 import registers
@@ -298,7 +299,7 @@ ON_TEXT = {'check': checked, 'walk': walked}
 
 if __name__ == '__main__':
     script = Script()
-    for module in (registers, lists, reads, audits, previews, old_roots, released, short_way, copies):
+    for module in (registers, lists, reads, audits, previews, old_roots, released, short_way, copies, page):
         module.cases(script)
     letters = {line.split(' ')[0]: line[:2] for line in script.lines}
     assert len(set(letters.values())) == len(letters)

@@ -93,7 +93,7 @@ def given(answer):
 
 class Tried:
     """Commands on one archive, each beside what the model makes of its files."""
-    counts = {}
+    counts, marked = {}, 0
 
     def __init__(self, rng, folder, inputs):
         self.rng, self.folder, self.inputs = rng, folder, inputs
@@ -151,7 +151,7 @@ class Tried:
             refusals = [answer[1:] for answer in answers if answer[0] == 'refused']
             if refusals:
                 raise Several(refusals)
-            return b''.join(b'%s: accepted, %s\n' % (name.encode(), shown_counts(r)) for name, r in zip(NAMES, registers))
+            return b''.join(b'%s: accepted, %s%s\n' % (name.encode(), shown_counts(r), shown_root(r)) for name, r in zip(NAMES, registers))
         self.command(['audit', self.folder], expected)
 
     def root(self):
@@ -185,19 +185,26 @@ class Tried:
         self.command(['get', self.folder, path], expected)
 
     def list(self):
+        """A record that is refused is marked, with its number and the refusal; the others are listed."""
         every = self.rng.random() < 0.5
         def expected(metadata, content):
-            missing = set(not_held(content, 0))
-            if metadata.n:
-                given(records.read_record(metadata, 0))
-            nodes = [given(records.read_record(metadata, chunk)) for chunk in reversed(range(1, metadata.n))]
-            seen, lines = set(), []
-            for node in nodes:
-                if every or node.path not in seen:
-                    lines.append(list_line(node, content.n, missing))
-                seen.add(node.path)
+            missing, seen, lines, marked = set(not_held(content, 0)), set(), [], []
+            for chunk in reversed(range(metadata.n)):
+                answer = records.read_record(metadata, chunk)
+                if answer[0] == 'refused':
+                    if answer[2] is None and answer[1] != 15:
+                        raise Refused(*answer[1:])
+                    marked.append(answer[1:])
+                    lines.append(None)
+                elif chunk and (every or answer[1].path not in seen):
+                    lines.append(list_line(answer[1], content.n, missing))
+                    seen.add(answer[1].path)
+            if marked:
+                raise Several(marked[::-1])
             return b''.join(reversed(lines))
-        self.command(['list', self.folder] + (['--all'] if every else []), expected)
+        ran = self.command(['list', self.folder] + (['--all'] if every else []), expected)
+        if ran.status == 1 and ran.refusals():
+            Tried.marked += len(ran.refusals())
 
     def missing(self):
         start, name = self.rng.choice([0, self.rng.randrange(40)]), self.rng.choice(NAMES)
@@ -222,7 +229,7 @@ class Tried:
         n, root = r.n + self.rng.choice([0, 0, 0, 1]), model.root_hash(r)[1]
         file = self.inputs.file(packet)
         def expected(*registers):
-            return b'%s: chunk %d of %d, %d bytes\n' % (file.encode(), chunk, n, len(given(model.check_packet(packet, n, chunk, root))))
+            return b'%s: chunk %d of %d, %s\n' % (file.encode(), chunk, n, plural(len(given(model.check_packet(packet, n, chunk, root))), b'byte'))
         self.command(['packet', 'check', file, '--chunks', str(n), '--number', str(chunk), '--root', root.hex()], expected)
 
     def compare(self, other):
@@ -295,12 +302,14 @@ class Tried:
 
     def release(self):
         chunks = [self.chunk_number() for _ in range(self.rng.choice([1, 1, 2, 5]))]
+        paths = [self.inputs.path() for _ in range(self.rng.choice([0, 0, 1, 2, 3]))]
         def expected(metadata, content):
+            named = [chunk_named(metadata, content, path) for path in names_as_found(metadata, paths)]
             content = copy.deepcopy(content)
-            for chunk in chunks:
+            for chunk in chunks + [dict(zip(names_as_found(metadata, paths), named))[path] for path in paths]:
                 given(model.release(content, chunk))
             return b'', (metadata, content)
-        self.command(['release', self.folder, *map(str, chunks)], expected, writes=True)
+        self.command(['release', self.folder, *map(str, chunks), *paths], expected, writes=True)
 
 
     def take(self, office):
@@ -331,10 +340,19 @@ class Several(Exception):
     """args: a list of refusals, or of None where the status alone is known."""
 
 
+def plural(count, word):
+    return b'%d %s%s' % (count, word, b'' if count == 1 else b's')
+
+
 def shown_counts(r):
     if is_copy(r):
-        return b'a partial copy of %d chunks, %d bytes' % (r.n, r.size)
-    return b'%d chunks, %d bytes, %d signatures%s' % (r.n, r.size, r.s, b', one is owed' if r.s < r.n else b'')
+        return b'a partial copy of %s, %s' % (plural(r.n, b'chunk'), plural(r.size, b'byte'))
+    return b'%s, %s, %s%s' % (plural(r.n, b'chunk'), plural(r.size, b'byte'), plural(r.s, b'signature'), b', one is owed' if r.s < r.n else b'')
+
+
+def shown_root(r):
+    answer = model.root_hash(r)
+    return b', root hash %s' % answer[1].hex().encode() if answer[0] == 'done' else b', and not all its roots are known'
 
 
 def not_held(r, start):
@@ -352,6 +370,15 @@ def list_line(node, n, missing):
     held = '-' if stat.offset is None or stat.offset >= n else 'no' if stat.offset in missing else 'held'
     shown = ['-' if number is None else str(number) for number in (stat.offset, stat.size)]
     return b'%7s %7s %-4s ' % (shown[0].encode(), shown[1].encode(), held.encode()) + node.path + b'\n'
+
+
+def names_as_found(metadata, paths):
+    """Several names are found by one walk from the latest record down, so what is wrong with one that stands later is told first."""
+    if len(paths) < 2:
+        return paths
+    found = {path: records.find(metadata, os.fsencode(path)) for path in set(paths)}
+    place = lambda path: -(found[path][1] + 1) if found[path][0] == 'done' and found[path][1] is not None else 0
+    return sorted(dict.fromkeys(paths), key=place)
 
 
 def chunk_named(metadata, content, path):
@@ -503,6 +530,7 @@ def main(rounds, seed):
             tried.compare(archive)
     total = sum(Tried.counts.values())
     by_status = [sum(count for (_, status), count in Tried.counts.items() if status == wanted) for wanted in (0, 1, 2)]
+    expect(Tried.marked or rounds < 5, 'no record was marked')
     print('answers: %d commands on random and damaged archives as the model says: %d done, %d refused or different, %d on no archive' % (total, *by_status))
 
 

@@ -1,5 +1,6 @@
 """Nothing lost: the program is killed at every write and every sync of each command that changes an archive, and the writes since the last sync are
-dropped, and the disk is full from there on. The next opening gives the archive before or after, both registers together, and its audit is done.
+dropped, and the disk is full from there on. A reading command then shows the archive before or after, both registers together, and changes nothing; a
+writing one leaves the files as before or after.
 
 usage: python3 tests/tool/faults.py [RANDOM [SEED]]
 
@@ -15,9 +16,11 @@ import copy
 import os
 import random
 import struct
+import subprocess
 import sys
 
-from program import FILES, JOURNAL, TARGET, UNSYNCED, done, expect, fresh, lay, run, under
+from program import FILES, JOURNAL, KEPT, KEYS, TARGET, UNSYNCED, done, expect, fresh, lay, parsed, run, under
+import sleep_model as model
 
 ROOM = os.path.join(TARGET, 'tests', 'tool', 'faults')
 FOLDER = os.path.join(ROOM, 'archives')  # all steps under it count
@@ -164,6 +167,9 @@ class Command:
         done(*words, faults={'UNDER': FOLDER, 'KIND': 'log', 'LOG': LOG})
         self.steps, self.after = logged(), under(FOLDER)
         expect(self.after != before, '%s changes nothing' % name)
+        self.audits = {'after': done('audit', ARCHIVE).out}
+        lay(FOLDER, before)
+        self.audits['before'] = run('audit', ARCHIVE).out
         self.check_ranges()
 
     def journal(self):
@@ -179,16 +185,32 @@ class Command:
         begun = begun[begun.index(('c', 'coats/' + UNSYNCED)):][:5]
         expected = [(letter, 'coats/' + UNSYNCED) for letter in 'cwsn'] + [('s', 'coats')]
         expect(begun == expected, '%s: changed before the journal is synced' % self.name, begun)
-        named, lengths = ranges_of(journal)
-        for file in FILES + ['metadata.key', 'content.key']:
+        states, ranges = parsed(journal)
+        for file in FILES + KEYS:
             path = 'coats/' + file
-            old, new = self.before.get(path, b'') or b'', self.after.get(path, b'') or b''
-            expect(len(new) == lengths.get(file, len(old)), '%s: another length than the journal has' % self.name, file)
+            found = [state.get(path) for state in (self.before, self.after)]
+            expect(states[file] == tuple(0 if now is None else len(now) + 1 for now in found), '%s: another length than the journal has' % self.name, file)
+            old, new = (now or b'' for now in found)
             differ = [k for k in range(len(new)) if k >= len(old) or old[k] != new[k]]
             inside = set()
-            for offset, length in named.get(file, []):
-                inside.update(range(offset, offset + length))
+            for _, kind, offset, length, before, after in (one for one in ranges if one[0] == file):
+                expect(kind not in (1, 4) or before == old[offset:offset + length], '%s: other old bytes: %s' % (self.name, file))
+                expect(kind not in (1, 2) or after == new[offset:offset + length], '%s: other new bytes: %s' % (self.name, file))
+                expect(kind != 4 or before == new[offset:offset + length], '%s: a witness changes: %s' % (self.name, file))
+                inside.update(range(offset, offset + length) if kind != 4 else [])
             expect(inside.issuperset(differ), '%s: changed outside the journal: %s' % (self.name, file))
+        self.check_witnesses(ranges)
+
+    def check_witnesses(self, ranges):
+        """The entries of both trees' roots, and the keys, stand in the journal where it doesn't change them."""
+        for name, key in zip(('metadata', 'content'), KEYS):
+            tree = self.before.get('coats/%s.tree' % name)
+            entries = [(32 + 40 * index, 40) for index in model.roots(((len(tree) - 32) // 40 + 1) // 2)] if tree else []
+            for file, places in ((name + '.tree', entries), (key, [(0, 32)] if 'coats/' + key in self.before else [])):
+                own = [one for one in ranges if one[0] == file]
+                for offset, length in places:
+                    changed_here = any(kind != 4 and at < offset + length and offset < at + long for _, kind, at, long, *_ in own)
+                    expect(changed_here or any((kind, at, long) == (4, offset, length) for _, kind, at, long, *_ in own), '%s: no witness' % self.name, file, offset)
 
     def killed(self, at, kind):
         lay(FOLDER, self.before)
@@ -209,7 +231,7 @@ class Command:
         lay(FOLDER, killed.lost(lambda step: [step]))
         if os.path.exists(LOG):
             os.remove(LOG)
-        run('audit', ARCHIVE, faults={'UNDER': FOLDER, 'KIND': 'log', 'LOG': LOG})
+        run('journal', ARCHIVE, '--finish', faults={'UNDER': FOLDER, 'KIND': 'log', 'LOG': LOG})
         steps = logged() if os.path.exists(LOG) else []
         for end in range(len(steps) + 1):
             for kept in (nothing, some_of(rng)):
@@ -221,8 +243,8 @@ class Command:
         return len(steps) + 1
 
     def torn_journals(self, rng):
-        """Of a journal that lost a block, an end or a bit nothing was applied where it has not got its name yet: the next opening drops it, and gives the
-        archive before. One that has its name may be half applied: it is told, and nothing is changed or read."""
+        """Of a journal that lost a block, an end or a bit nothing was applied where it has not got its name yet: the next change drops it. One that has its
+        name may be half applied: it is told, and nothing is changed; reading can pass over it, and it can be set aside."""
         journal = self.journal()
         for number in range(12):
             at, torn = rng.randrange(len(journal)), bytearray(journal)
@@ -235,12 +257,18 @@ class Command:
             lay(FOLDER, dict(self.before, **{'coats': None, 'coats/' + UNSYNCED: bytes(torn)}))
             self.check('a torn journal', 'before')
             if torn != journal:
-                left = dict(self.before, **{'coats': None, 'coats/' + JOURNAL: bytes(torn)})
-                lay(FOLDER, left)
-                for words in (['audit', ARCHIVE], self.words):
-                    ran = run(*words)
-                    expect(ran.status == 2 and b'damaged, or of another version; left as it is' in ran.err, '%s: a damaged journal' % self.name, ran)
-                expect(under(FOLDER) == left, '%s: changed beside a damaged journal' % self.name, ran)
+                self.told(dict(self.before, **{'coats': None, 'coats/' + JOURNAL: bytes(torn)}))
+
+    def told(self, left):
+        lay(FOLDER, left)
+        for words in (['audit', ARCHIVE], ['journal', ARCHIVE], self.words):
+            ran = run(*words)
+            expect(ran.status == 2 and b'nothing is touched' in ran.err and JOURNAL.encode() in ran.err, '%s: a damaged journal' % self.name, ran)
+        expect(run('audit', ARCHIVE, '--without-journal').out == self.audits['before'], '%s: not read' % self.name)
+        expect(under(FOLDER) == left, '%s: changed beside a damaged journal' % self.name, ran)
+        done('journal', ARCHIVE, '--drop')
+        expect(under(FOLDER) == dict({name: found for name, found in left.items() if name != 'coats/' + JOURNAL}, **{'coats/%s.dropped' % JOURNAL: left['coats/' + JOURNAL]}),
+               '%s: not set aside' % self.name)
 
     def recoveries(self):
         """Steps to be killed at: with the journal written and not synced, synced, named, its entry synced, and half applied."""
@@ -248,15 +276,21 @@ class Command:
         return [written + 1, written + 2, written + 3, written + 4, (written + 4 + len(self.steps)) // 2]
 
     def check(self, what, only=None):
-        """The next opening gives the archive before or after, and the audit is done."""
-        ran = run('audit', ARCHIVE)
+        """Reading shows the archive before or after, and changes nothing; then what was left is finished, and the files are those of that state."""
+        found = under(FOLDER)
+        read = run('audit', ARCHIVE)
+        expect(under(FOLDER) == found, '%s, %s: reading changed something' % (self.name, what), read)
+        ran = run('journal', ARCHIVE, '--finish')
         now = under(FOLDER)
+        if 'coats/metadata.tree' not in now and now is not None:
+            now.pop('coats/' + UNSYNCED, None)  # the next `new` drops it
         state = 'before' if self.is_before(now) else 'after' if now == self.after else 'neither'
         expect(state in ((only,) if only else ('before', 'after')), '%s, %s: %s' % (self.name, what, state), ran, sorted(now))
         if 'coats/metadata.tree' in now:
-            expect(ran.status == 0 and ran.out.count(b'accepted') == 2, '%s, %s: no audit' % (self.name, what), ran)
+            expect(ran.status == 0 and run('audit', ARCHIVE).out == self.audits[state], '%s, %s: no audit' % (self.name, what), ran)
+            expect(read.status == 0 and read.out == self.audits[state], '%s, %s: read as another state' % (self.name, what), read)
         else:
-            expect(ran.status == 2, '%s, %s: an archive of nothing' % (self.name, what), ran)
+            expect(read.status == 2, '%s, %s: an archive of nothing' % (self.name, what), read)
             done(*self.words)
             expect(under(FOLDER) == self.after, '%s, %s: made again, it is another' % (self.name, what))
         return state
@@ -271,10 +305,35 @@ class Command:
         expect(ran.status in (0, 2), '%s: full at step %d' % (self.name, at), ran)
         if b'nothing is changed\n' in ran.err:
             self.check_room('%s: full at step %d' % (self.name, at))
-        still = run('audit', ARCHIVE, faults={'UNDER': FOLDER, 'KIND': 'full', 'AT': 1})
+        still = run('journal', ARCHIVE, '--finish', faults={'UNDER': FOLDER, 'KIND': 'full', 'AT': 1})
         expect(still.status in (0, 2), '%s: opened while full at step %d' % (self.name, at), still)
         only = 'after' if ran.status == 0 or b'finishes it' in ran.err or b'the change is made' in ran.err else 'before' if b'nothing is changed' in ran.err else None
         return self.check('full at step %d' % at, only)
+
+    def tight(self):
+        """A release on a disk that is full writes its journal in the room that was kept, and is killed at each of its steps. Without that room, and any
+        other command, it changes nothing."""
+        full = {'UNDER': FOLDER, 'TIGHT': 1}
+        if self.words[0] != 'release':
+            return 0
+        for kept in (False, True):
+            self.lay_tight(kept)
+            ran = run(*self.words, faults=dict(full))
+            expect(ran.status == (0 if kept else 2) and under(FOLDER) == (self.after if kept else self.before), '%s: on a full disk' % self.name, ran)
+        at = 0
+        while ran.status != 0 or at == 0:
+            at += 1
+            self.lay_tight(True)
+            ran = run(*self.words, faults=dict(full, KIND='kill', AT=at))
+            expect(ran.status in (0, -9), '%s: on a full disk' % self.name, ran)
+            self.check('killed on a full disk at step %d' % at)
+        return 1
+
+    def lay_tight(self, kept):
+        lay(FOLDER, self.before)
+        if kept:
+            open(os.path.join(ARCHIVE, KEPT), 'wb').close()
+            subprocess.run(['fallocate', '-n', '-l', '65536', os.path.join(ARCHIVE, KEPT)], check=True)
 
     def check_room(self, what):
         """No file has room on the disk behind its end."""
@@ -283,21 +342,6 @@ class Command:
             if os.path.exists(path):
                 about = os.stat(path)
                 expect(about.st_blocks * 512 < about.st_size + 4096, what + ': reserved room is kept', file, about)
-
-
-def ranges_of(journal):
-    """The ranges and the new lengths that a journal names, by file."""
-    names = FILES + ['metadata.key', 'content.key']
-    at, ranges, lengths = 25, {}, {}
-    for _ in range(journal[24]):
-        number, length, count = struct.unpack_from('>BQI', journal, at)
-        lengths[names[number]], at = length, at + 13
-        for _ in range(count):
-            zeros, offset, long = struct.unpack_from('>BQQ', journal, at)
-            ranges.setdefault(names[number], []).append((offset, long))
-            at += 17 + (0 if zeros else long)
-    expect(at == len(journal) - 32, 'the journal has another form')
-    return ranges, lengths
 
 
 def made_again(command):
@@ -391,6 +435,7 @@ def main(count, seed):
     made, recovering, states = commands(rng), 0, {'before': 0, 'after': 0}
     for command in made[:2]:
         made_again(command)
+    print('faults: %d releases on a full disk, from room that was kept, killed at each step' % sum(command.tight() for command in made))
     for command in made:
         for at in range(1, len(command.steps) + 2):
             for kind in ('kill', 'torn'):
@@ -420,7 +465,7 @@ def randomly(made, rng, count):
         else:
             command.power_lost(at, nothing if kind == 'all' else some_of(rng))
         while rng.random() < 0.4:
-            run('audit', ARCHIVE, faults={'UNDER': FOLDER, 'KIND': rng.choice(['kill', 'torn', 'full']), 'AT': rng.randrange(1, 40)})
+            run('journal', ARCHIVE, '--finish', faults={'UNDER': FOLDER, 'KIND': rng.choice(['kill', 'torn', 'full']), 'AT': rng.randrange(1, 40)})
             again += 1
         command.check('%s at step %d' % (kind, at))
     return again

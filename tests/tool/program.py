@@ -3,6 +3,7 @@
 import os
 import re
 import shutil
+import stat
 import subprocess
 import sys
 
@@ -16,6 +17,7 @@ KINDS = ('tree', 'signatures', 'bitfield', 'data')
 FILES = [name + '.' + kind for name in ('metadata', 'content') for kind in KINDS]
 JOURNAL = 'sleep-archive.journal'
 UNSYNCED = JOURNAL + '.new'  # its name until all of it is synced
+KEPT = 'sleep-archive.room'  # room on the disk for the journal of a release; whether it is there is no part of an archive's state
 
 
 class Ran:
@@ -48,7 +50,7 @@ def run(*words, stdin=b'', cwd=None, faults=None):
 
 def expect(holds, what, *shown):
     if not holds:
-        raise SystemExit('\n'.join([what, *map(repr, shown)]))
+        raise SystemExit('\n'.join([what, *(repr(one)[:3000] for one in shown)]))
 
 
 def done(*words, **named):
@@ -64,8 +66,19 @@ def fresh(path):
     return path
 
 
+def what_is_at(path):
+    """The bytes of a plain file, where a link leads, or the kind of anything else, which is not opened."""
+    kind = stat.S_IFMT(os.lstat(path).st_mode)
+    if kind == stat.S_IFLNK:
+        return b'a link to ' + os.fsencode(os.readlink(path))
+    if kind != stat.S_IFREG:
+        return b'no plain file: %o' % kind
+    with open(path, 'rb') as file:
+        return file.read()
+
+
 def under(path):
-    """All that lies under a folder: folders as None, files as their bytes. None where there is no such folder."""
+    """All that lies under a folder but kept room: folders as None, files as their bytes. None where there is no such folder."""
     if not os.path.isdir(path):
         return None
     found = {}
@@ -73,8 +86,8 @@ def under(path):
         for name in folders:
             found[os.path.relpath(os.path.join(folder, name), path)] = None
         for name in files:
-            with open(os.path.join(folder, name), 'rb') as file:
-                found[os.path.relpath(os.path.join(folder, name), path)] = file.read()
+            if name != KEPT:
+                found[os.path.relpath(os.path.join(folder, name), path)] = what_is_at(os.path.join(folder, name))
     return found
 
 
@@ -90,3 +103,37 @@ def lay(path, found):
         else:
             with open(os.path.join(path, name), 'wb') as file:
                 file.write(found[name])
+
+
+# ---- journals, as docs/FORMAT.md has them ----
+KEYS = ['metadata.key', 'content.key']
+MAGIC = b'sleep-archive 2\n'
+
+
+def parsed(journal):
+    """The states of the ten files, before and after, and the ranges: file, kind, offset, length, old bytes, new bytes."""
+    expect(journal[:16] == MAGIC and int.from_bytes(journal[16:24], 'big') == len(journal), 'no journal', journal[:24])
+    numbers = [int.from_bytes(journal[24 + 8 * k:32 + 8 * k], 'big') for k in range(20)]
+    states = {name: (numbers[2 * k], numbers[2 * k + 1]) for k, name in enumerate(FILES + KEYS)}
+    at, ranges = 184, []
+    while at < len(journal) - 32:
+        number, kind = journal[at], journal[at + 1]
+        offset, length = (int.from_bytes(journal[at + k:at + k + 8], 'big') for k in (2, 10))
+        old = journal[at + 18:at + 18 + length] if kind in (1, 4) else b''
+        new = journal[at + 18 + len(old):at + 18 + len(old) + length] if kind in (1, 2) else b''
+        ranges.append(((FILES + KEYS)[number], kind, offset, length, old, new))
+        at += 18 + len(old) + len(new)
+    expect(at == len(journal) - 32, 'the journal has another form')
+    return states, ranges
+
+
+def encoded(states, ranges, length=None, sum_of=None):
+    """The bytes of a journal; `length` and `sum_of` are for wrong ones."""
+    import hashlib
+    names = FILES + KEYS
+    parts = [state.to_bytes(8, 'big') for name in names for state in states[name]]
+    for name, kind, offset, size, old, new in ranges:
+        parts += [bytes([names.index(name) if name in names else name, kind]), offset.to_bytes(8, 'big'), size.to_bytes(8, 'big'), old, new]
+    body = b''.join(parts)
+    whole = MAGIC + (216 + len(body) - 160 if length is None else length).to_bytes(8, 'big') + body
+    return whole + hashlib.blake2b(whole if sum_of is None else sum_of, digest_size=32).digest()

@@ -1,6 +1,7 @@
-"""README's session with the program, typed again: every line behind a dollar sign prints what README shows.
+"""The sessions of the pages, typed again: every line behind a dollar sign prints what its page shows. A page is typed from top to bottom in an
+empty folder; blocks marked `long` are left out.
 
-usage: python3 tests/tool/readme.py README.md
+usage: python3 tests/tool/readme.py PAGE..
 """
 
 import os
@@ -12,11 +13,11 @@ from program import PROGRAM, TARGET, environment, expect, fresh
 
 def session(page):
     """The lines typed, each with the lines printed."""
-    typed, inside, printed = [], False, None
+    typed, inside, left_out, printed = [], False, False, None
     for line in page.splitlines():
         if line.startswith('```'):
-            inside, printed = not inside, None
-        elif inside and line.startswith('$ '):
+            inside, left_out, printed = not inside, line[3:].strip() == 'long', None
+        elif inside and not left_out and line.startswith('$ '):
             printed = []
             typed.append((line[2:], printed))
         elif inside and printed is not None:
@@ -24,18 +25,19 @@ def session(page):
     return typed
 
 
-def main(path):
+def type_again(path):
     with open(path) as file:
         typed = session(file.read())
     folder = fresh(os.path.join(TARGET, 'tests', 'tool', 'readme'))
     paths = os.path.dirname(PROGRAM) + os.pathsep + os.environ['PATH']
-    os.umask(0o022)  # README's files have the mode 644, which their records hold
     for line, printed in typed:
         ran = subprocess.run(['sh', '-c', line], cwd=folder, env=dict(environment(), PATH=paths), stdout=subprocess.PIPE, stderr=subprocess.STDOUT)
-        expect(ran.returncode == 0 and ran.stdout.decode().splitlines() == printed, 'README shows another answer to: ' + line, ran)
-    expect(len(typed) > 5, 'README has no session')
-    print('readme: %d lines typed again, with the same answers' % len(typed))
+        expect(ran.returncode == 0 and ran.stdout.decode().splitlines() == printed, '%s shows another answer to: %s' % (path, line), ran)
+    expect(len(typed) > 5, path + ' has no session')
+    print('%s: %d lines typed again, with the same answers' % (path, len(typed)))
 
 
 if __name__ == '__main__':
-    main(sys.argv[1])
+    os.umask(0o022)  # the pages' files have the mode 644, which their records hold
+    for page in sys.argv[1:]:
+        type_again(page)

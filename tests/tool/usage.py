@@ -58,6 +58,20 @@ def wrong_words():
     wrong(2, '--of ARCHIVE is needed', 'copy', 'part', '--metadata', '1,2')
     wrong(2, '--content needs two numbers', 'copy', 'part', '--content', '13')
     wrong(2, '--number are needed', 'packet', 'take', 'coats', 'sleeve')
+    wrong(2, '--in needs files behind its folder', 'add', 'coats', 'sleeve', '--in', '/q')
+    wrong(2, '--in needs files behind its folder', 'needs', 'coats', 'sleeve', '--in', '/q')
+    wrong(2, '--in coat: a folder of an archive begins with a slash: /coat', 'add', 'coats', '--in', 'coat', 'sleeve')
+    wrong(2, '64 hexadecimal digits', 'packet', 'check', 'sleeve', '--chunks', '1', '--number', '0', '--root', 32 * '+f')
+    wrong(2, '--content 0,5: 0 chunks have at most 0 bytes', 'copy', 'part', '--content', '0,5')
+    wrong(2, '--content 1,100000000000: 1 chunk have at most 65536 bytes', 'copy', 'part', '--content', '1,100000000000')
+    wrong(2, '--metadata 2,131073: 2 chunks', 'copy', 'part', '--content', '1,1', '--metadata', '2,131073')
+    wrong(2, 'no command mend', 'help', 'mend')
+    wrong(2, '--wait needs a number, not soon', 'list', 'coats', '--wait', 'soon')
+    wrong(2, 'no option --without-journal', 'add', 'coats', 'sleeve', '--without-journal')
+    wrong(2, '--without-journal is for reading', 'packet', 'take', 'coats', 'sleeve', '--number', '0', '--without-journal')
+    wrong(2, 'no option --wait', 'group', '--wait', '1')
+    wrong(2, 'an archive and a command are needed', 'hold', 'coats')
+    wrong(2, '--drop or --finish, and not both', 'journal', 'coats', '--drop', '--finish')
     wrong(2, 'standard input', 'group', 'sleeve')
 
 
@@ -88,6 +102,7 @@ def refused():
     wrong(1, 'refused with 15', 'add', 'coats', '--as', '/' + 255 * 'x', 'sleeve')
     wrong(1, 'refused with 15', 'add', 'coats', '--as', '', 'sleeve')
     wrong(1, 'refused with 16: a set has 1 to 256 chunks', 'add', 'coats', *[word for k in range(257) for word in ('--as', '/%d' % k, 'sleeve')])
+    wrong(1, 'an archive\'s first one has a Header beside the records: at most 255 files', 'add', 'fresh', *[word for k in range(256) for word in ('--as', '/%d' % k, 'sleeve')])
     wrong(1, 'refused with 8', 'add', 'owing', 'sleeve')
     wrong(1, 'refused with 8', 'sign', 'coats', '--content', 'signature')
     wrong(1, 'refused with 9', 'get', 'coats', '3')
@@ -96,8 +111,9 @@ def refused():
     wrong(1, 'refused with 17', 'label', 'coats', '--key', 'sleeve')
     wrong(1, 'refused with 7', 'group', stdin=bytes(65537))
     wrong(1, 'refused with 12', 'packet', 'check', 'sleeve', '--chunks', '3', '--number', '0', '--root', 64 * '0')
-    wrong(1, 'refused with 18: a piece that is needed is not held here; at tree index 2, the leaf of chunk 1', 'get', 'gone', '1')
-    wrong(1, 'refused with 18', 'release', 'gone', '0', '1')
+    wrong(1, 'refused with 18: a piece that is needed is not held here: it was released, or never taken in; at tree index 2, the leaf of chunk 1', 'get', 'gone', '1')
+    wrong(1, 'chunk 1 of the content: refused with 18: a piece that is needed is not held here: it was released', 'release', 'gone', '0', '1')
+    wrong(1, '/nosuch: there is no such name', 'release', 'coats', '/sleeve', '/nosuch')
     wrong(1, 'refused with 12', 'packet', 'take', 'gone', 'sleeve', '--number', '0')
     wrong(1, 'refused with 2', 'copy', 'part', '--content', '1048577,5')
 
@@ -131,11 +147,18 @@ def helps():
     """The help names every command, on lines that a terminal has; a command's own help is its part of it."""
     page = done('--help').out.decode()
     expect(max(map(len, page.splitlines())) <= 78, 'a long line in the help')
-    for name in ('new', 'copy', 'add', 'sign', 'list', 'get', 'status', 'audit', 'compare', 'root', 'label', 'needs', 'release', 'missing', 'packet', 'group', 'ungroup'):
+    for name in ('new', 'copy', 'add', 'sign', 'list', 'get', 'status', 'audit', 'compare', 'root', 'label', 'needs', 'release', 'missing', 'packet', 'hold', 'journal', 'group', 'ungroup'):
         own = done(name, '--help').out.decode()
         heads = [line for line in own.splitlines() if line.startswith('  sleep-archive ')]
-        expect(heads and own in page + '\n' and done(name, '-h').out.decode() == own, 'no help on ' + name, own)
+        expect(heads and own in page and done(name, '-h').out.decode() == own == done('help', name).out.decode(), 'no help on ' + name, own)
         expect(all(line.split()[1] == name for line in heads) or 'group' in name, 'other help on ' + name, own)
+    expect('==' not in page and done('help').out.decode() == page, 'marks in the help, or another page')
+    for words in ('metadata files.', 'checks no signature', 'checked by\n      nobody', 'NFS without nolock', 'several names is not written'):
+        expect(words in page, 'unsaid: ' + words)
+    done('get', 'coats', '0', '-o', '-h', cwd=ROOM)
+    with open(os.path.join(ROOM, '-h'), 'rb') as file:
+        expect(file.read() == sleeve, 'the help was printed')
+    os.remove(os.path.join(ROOM, '-h'))
 
 
 def smaller():
@@ -149,7 +172,10 @@ def smaller():
     os.remove(os.path.join(ROOM, 'small', 'content.data'))
     os.mkfifo(os.path.join(ROOM, 'small', 'content.data'))
     ran = run('audit', 'small', cwd=ROOM)
-    expect(ran.status == 2 and b'content.data: no plain file' in ran.err, 'no plain file', ran)
+    expect(ran.status == 2 and b'content.data: a pipe, and no plain file' in ran.err, 'no plain file', ran)
+    os.mkfifo(os.path.join(ROOM, 'small', 'pipe'))
+    ran = run('audit', 'small/pipe', cwd=ROOM)
+    expect(ran.status == 2 and b'small/pipe: a file, and no folder' in ran.err, 'no folder', ran)
     shutil.rmtree(os.path.join(ROOM, 'small'))
 
 
@@ -167,15 +193,18 @@ def unheard():
 
 def odd_names():
     """Any bytes are a name: listed on one line, and found again."""
-    names = [b'/a\nb', b'/\xff\xfe', b'/\xc2\x9b1m', b'/caf\xc3\xa9', b'/back\\slash', b'/with space', b'/' + 254 * b'x']
+    names = [b'/a\nb', b'/\xff\xfe', b'/\x9b2J', b'/\xe2\x80\xaegpj.', b'/\xc2\x9b1m', b'/caf\xc3\xa9', b'/back\\slash', b'/with space', b'/' + 254 * b'x']
     words = [word for name in names for word in (b'--as', name, b'sleeve')]
     done('new', 'odd', cwd=ROOM)
     done('add', 'odd', *words, cwd=ROOM)
     listed = done('list', 'odd', cwd=ROOM).out.splitlines()
-    shown = [b'/a\\x0ab', b'/\xff\xfe', b'/\\xc2\\x9b1m', b'/caf\xc3\xa9', b'/back\\x5cslash', b'/with space', b'/' + 254 * b'x']
+    shown = [b'/a\\x0ab', b'/\\xff\\xfe', b'/\\x9b2J', b'/\\xe2\\x80\\xaegpj.', b'/\\xc2\\x9b1m', b'/caf\xc3\xa9', b'/back\\x5cslash', b'/with space', b'/' + 254 * b'x']
     expect([line.split(None, 3)[3] for line in listed] == shown, 'listed otherwise', listed)
     for name in names:
         expect(done('get', 'odd', name, cwd=ROOM).out == sleeve, 'another piece', name)
+    for words in (['get', 'odd', b'/\x1b[2J\x9b'], ['audit', b'no\x1b[2Jwhere'], ['add', 'odd', b'no\xe2\x80\xaefile'], [b'\x1b[2J'], ['get', 'odd', b'\x07'], ['new', b'\x1b/x']):
+        ran = run(*words, cwd=ROOM)
+        expect(ran.status and not set(ran.err[:-1]) & set(range(32)) and b'\x9b' not in ran.err and b'\xe2\x80\xae' not in ran.err, 'a terminal would obey', ran.err)
 
 
 def filters():
@@ -223,7 +252,7 @@ def locks():
         os.kill(writer.pid, signal.SIGCONT)
         outputs = [process.communicate() + (process.returncode,) for process in [writer] + others]
         expect([status for *_, status in outputs] == [0] * 4, 'not done at step %d' % at, outputs)
-        expect(outputs[1][0].count(b': %d chunks' % count) == 1, 'not what the writer left', outputs)
+        expect(outputs[1][0].count(b'content: %d chunk' % count) == 1, 'not what the writer left', outputs)
     expect(done('audit', 'busy', cwd=ROOM).out.count(b'accepted') == 2, 'not accepted')
 
 
@@ -238,9 +267,10 @@ def results():
         for words in (['get', 'coats', '1'], ['packet', 'make', 'coats', '1'], checking):
             wrong(2, name + ': a file of an archive; nothing is written', *words, '-o', name)
     write('result', b'good')
-    write('result.tmp', b'')
-    wrong(2, 'result.tmp: file exists', 'get', 'coats', '1', '-o', 'result')
-    os.remove(place('result.tmp'))
+    write('result.tmp', b'mine')
+    with open(place('long name'), 'wb') as file:
+        done('get', 'coats', '0', '-o', 255 * 'x', cwd=ROOM)
+    os.remove(place(255 * 'x'))
     os.chmod(place('result'), 0o600)
     kept = os.open(place('result'), os.O_RDONLY)
     done('get', 'coats', '0', '-o', 'result', cwd=ROOM)
@@ -248,10 +278,60 @@ def results():
         expect(file.read() == sleeve and os.stat(place('result')).st_mode & 0o777 == 0o600, 'another piece, or another mode')
     expect(os.read(kept, 9) == b'good', 'the file was cut')
     os.close(kept)
+    with open(place('result.tmp'), 'rb') as file:
+        expect(file.read() == b'mine', 'another file is written')
+    killed_results(place)
+    ways_out(place)
     done('get', 'coats', '0', '-o', '/dev/null', cwd=ROOM)
     expect(done('get', 'coats', '0', '-o', '-', cwd=ROOM).out == sleeve, 'not on standard output')
     wrong(2, 'drawings: is a directory', 'get', 'coats', '0', '-o', 'drawings')
     wrong(2, 'no such file or directory', 'get', 'coats', '0', '-o', 'no/such')
+
+
+def killed_results(place):
+    """A `get -o` that is killed leaves nothing in the way of the next one, nor do several at once stand in each other's."""
+    fresh(place('results'))
+    for _ in range(3):
+        limit = lambda: resource.setrlimit(resource.RLIMIT_FSIZE, (1000, 1000))  # the system ends a program that writes more
+        killed = subprocess.run([PROGRAM, 'get', 'coats', '0', '-o', 'results/piece'], cwd=ROOM, env=environment(), preexec_fn=limit)
+        expect(killed.returncode == -signal.SIGXFSZ, 'not killed', killed)
+        names = os.listdir(place('results'))
+        done('get', 'coats', '0', '-o', 'results/piece', cwd=ROOM)
+        os.remove(place('results/piece'))
+    expect(names, 'nothing was left, so nothing is shown')
+    several = [begun('get', 'coats', '0', '-o', 'results/piece') for _ in range(8)]
+    expect([one.wait() for one in several] == [0] * 8, 'not all are done')
+    with open(place('results/piece'), 'rb') as file:
+        expect(file.read() == sleeve, 'another piece')
+
+
+def ways_out(place):
+    """-o onto a link to a pipe or to standard output writes there, and the link stays; onto one that leads nowhere nothing is written."""
+    os.mkfifo(place('pipe'))
+    os.symlink('pipe', place('to a pipe'))
+    reader = subprocess.Popen(['cat', 'pipe'], cwd=ROOM, stdout=subprocess.PIPE)
+    done('get', 'coats', '0', '-o', 'to a pipe', cwd=ROOM)
+    expect(reader.communicate()[0] == sleeve and os.path.islink(place('to a pipe')), 'not through the link')
+    os.symlink('/proc/self/fd/1', place('stdout'))  # as /dev/stdout, which a wrong program would replace
+    expect(done('get', 'coats', '0', '-o', 'stdout', cwd=ROOM).out == sleeve, 'not on standard output')
+    ran = subprocess.run(['bash', '-c', '{ echo first; "$0" get coats 0 -o stdout; echo last; } > both; "$0" get coats 0 -o >(cat > beside); wait; sync', PROGRAM],
+                         cwd=ROOM, env=environment(), capture_output=True)
+    with open(place('both'), 'rb') as file:
+        expect(ran.returncode == 0 and file.read() == b'first\n' + sleeve + b'last\n', 'standard output is another file', ran)
+    expect(os.path.islink(place('stdout')), 'the link is replaced')
+    for name in ('pipe', 'to a pipe', 'both', 'stdout'):
+        os.remove(place(name))
+    os.symlink('nowhere', place('leads nowhere'))
+    wrong(2, 'leads nowhere: a link that leads nowhere; nothing is written', 'get', 'coats', '0', '-o', 'leads nowhere')
+    os.remove(place('leads nowhere'))
+
+
+def library_is_built_again():
+    """`make -C tools` builds the library again that is older than a crate's source."""
+    tools = os.path.join(os.path.dirname(TARGET), 'tools')
+    for newer in ('../crates.txt', '../crates/c_api/src/lib.rt'):
+        ran = subprocess.run(['make', '-n', '-C', tools, '-W', newer], capture_output=True)
+        expect(b'examples archive' in ran.stdout, 'an old library stays', newer, ran)
 
 
 def moved_folders():
@@ -268,7 +348,7 @@ def moved_folders():
     os.rename(place('there'), place('here'))
     os.close(handle)
     waiting.communicate()
-    counts = [done('status', name, cwd=ROOM).out.count(b'content: 1 chunks') for name in ('here', 'moved')]
+    counts = [done('status', name, cwd=ROOM).out.count(b'content: 1 chunk,') for name in ('here', 'moved')]
     expect((waiting.returncode, counts) == (0, [1, 0]), 'added to another folder', counts)
     untouched = under(place('here'))
     for at in (2, 12, 20):
@@ -384,18 +464,16 @@ def on_read_only_medium(folder, *words):
 
 
 def unwritable_medium():
-    """A journal that was left on a medium that can't be written ends the command, and is named. Without one, or with one that was not synced and so not
-    begun, an archive there is read as any other, and no command changes it."""
+    """An archive on a medium that can't be written is read as any other, with its journal too, and no command changes it."""
     folder = os.path.join(ROOM, 'medium')
-    for kind, at, left, status, says in (('kill', 20, JOURNAL, 2, b"left unfinished in sleep-archive.journal, and can't be finished now: this "),
-                                         ('torn', 9, UNSYNCED, 0, b''), ('kill', 1, None, 0, b'')):
+    for kind, at, left, chunks in (('kill', 16, JOURNAL, b'1 chunk,'), ('torn', 9, UNSYNCED, b'0 chunks'), ('kill', 1, None, b'0 chunks')):
         fresh(folder)
         done('new', folder)
         run('add', folder, 'sleeve', cwd=ROOM, faults={'UNDER': folder, 'KIND': kind, 'AT': at})
         before = under(folder)
         expect([name for name in before if name in (JOURNAL, UNSYNCED)] == [left] * (left is not None), 'another step', sorted(before))
         ran = on_read_only_medium(folder, 'audit', folder)
-        expect(ran.status == status and says in ran.err and (says or not ran.err), 'not named', ran)
+        expect(ran.status == 0 and b'content: accepted, ' + chunks in ran.out and not ran.err, 'not read', ran)
         ran = on_read_only_medium(folder, 'add', folder, os.path.join(ROOM, 'sleeve'))
         expect(ran.status == 2 and ran.err, 'not refused', ran)
         expect(under(folder) == before, 'changed', ran)
@@ -416,6 +494,7 @@ def main():
         if archive != 'owing':
             done('sign', archive, '--with', 'head -c 64 /dev/urandom', cwd=ROOM)
     done('release', 'gone', '1', cwd=ROOM)
+    done('new', 'fresh', cwd=ROOM)
     wrong_words()
     wrong_files()
     refused()
@@ -427,6 +506,7 @@ def main():
     odd_names()
     filters()
     locks()
+    library_is_built_again()
     moved_folders()
     unwritable_medium()
     many_zeros()

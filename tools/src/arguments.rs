@@ -29,13 +29,15 @@ pub struct Arguments {
 }
 
 impl Arguments {
-    /// Takes the words apart; `--` ends the options, and `--name=word` is `--name word`.
-    pub fn of(words: impl Iterator<Item = OsString>, rules: &[Rule]) -> Done<Arguments> {
+    /// Takes the words apart; `--` ends the options, and `--name=word` is `--name word`. With `own`, the first word ends them too: what stands behind it
+    /// is another program's.
+    pub fn of(words: impl Iterator<Item = OsString>, rules: &[&[Rule]], own: bool) -> Done<Arguments> {
         let (mut words, mut typed, mut ended) = (words, Vec::new(), false);
         while let Some(next) = words.next() {
             let bytes = next.as_encoded_bytes();
             if ended || bytes == b"-" || !bytes.starts_with(b"-") {
                 typed.push(Typed::Word(next));
+                ended |= own;
             } else if bytes == b"--" {
                 ended = true;
             } else {
@@ -47,11 +49,11 @@ impl Arguments {
 
     /// The words that are no options.
     pub fn words(&self) -> Vec<&OsStr> {
-        let word = |one| match one {
-            &Typed::Word(ref word) => Some(word.as_os_str()),
+        let words = self.typed.iter().filter_map(|one| match one {
+            Typed::Word(word) => Some(word.as_os_str()),
             Typed::Option(..) => None,
-        };
-        self.typed.iter().filter_map(word).collect()
+        });
+        words.collect()
     }
 
     pub fn has(&self, name: &str) -> bool {
@@ -91,14 +93,14 @@ impl Arguments {
     }
 }
 
-fn option(next: &OsStr, words: &mut impl Iterator<Item = OsString>, rules: &[Rule]) -> Done<Typed> {
+fn option(next: &OsStr, words: &mut impl Iterator<Item = OsString>, rules: &[&[Rule]]) -> Done<Typed> {
     let bytes = next.as_bytes();
     let (name, given) = match bytes.iter().position(|byte| *byte == b'=') {
         Some(at) if bytes.starts_with(b"--") => (&bytes[..at], Some(OsString::from_vec(bytes[at + 1..].to_vec()))),
         _ => (bytes, None),
     };
     let name = String::from_utf8_lossy(name);
-    let Some(rule) = rules.iter().find(|rule| rule.name == name) else {
+    let Some(rule) = rules.iter().copied().flatten().find(|rule| rule.name == name) else {
         return usage(format!("there is no option {name} here"));
     };
     match (rule.takes_word, given) {
@@ -118,5 +120,37 @@ pub fn number(word: &OsStr, what: &str) -> Done<u64> {
     match digits.and_then(|text| text.parse().ok()) {
         Some(number) => Ok(number),
         None => usage(format!("{what} needs a number, not {}", word.to_string_lossy())),
+    }
+}
+
+#[cfg(test)]
+mod tests {
+    use super::*;
+
+    fn typed(words: &[&str], own: bool) -> Done<Arguments> {
+        Arguments::of(words.iter().map(OsString::from), &[&[flag("--all"), word("-o")], &[flag("-h")]], own)
+    }
+
+    #[test]
+    fn options_and_words() {
+        let taken = typed(&["a", "--all", "-o", "-h", "--", "--all"], false).unwrap();
+        assert_eq!(taken.words(), ["a", "--all"]);
+        assert_eq!(taken.option("-o"), Some(OsStr::new("-h")));
+        assert!(taken.has("--all") && !taken.has("-h"));
+        assert!(typed(&["--none"], false).is_err() && typed(&["-o"], false).is_err() && typed(&["--all=1"], false).is_err());
+    }
+
+    #[test]
+    fn words_of_another_program() {
+        let taken = typed(&["--all", "a", "ls", "-l", "--", "-h"], true).unwrap();
+        assert_eq!(taken.words(), ["a", "ls", "-l", "--", "-h"]);
+    }
+
+    #[test]
+    fn numbers_are_digits() {
+        assert_eq!(number(OsStr::new("18446744073709551615"), "x").ok(), Some(u64::MAX));
+        for wrong in ["", "+1", "-1", "1 ", "18446744073709551616", "0x1"] {
+            assert!(number(OsStr::new(wrong), "x").is_err());
+        }
     }
 }

@@ -1,89 +1,54 @@
-//! An archive's folder: its files, its lock, and the counts that follow from the lengths of the files.
+//! An archive's folder, locked: its files, and their images with a change applied to them that was left unfinished.
+use crate::arguments::Arguments;
+use crate::below::{self, Access, Plain};
+use crate::commit;
+use crate::counts::{used_sizes, Counts, Which, FILES, HEADER};
 use crate::image::Image;
-use crate::journal;
 use crate::kept::{kinds, only_whole, Kept, Lent};
+use crate::left_over::{Found, Left, NAME};
+use crate::lock::{Lock, Patience, Use};
 use crate::sleep_register::{CopyStore, Store};
-use crate::system;
-use crate::words::{at_file, said, tell, Done, Trouble};
-use std::fs::{File, Metadata, OpenOptions};
+use crate::words::{at_file, in_file, Done, Trouble};
+use std::fs::File;
 use std::io;
-use std::io::IsTerminal;
-use std::os::fd::AsRawFd;
-use std::os::unix::fs::{MetadataExt, OpenOptionsExt};
 use std::path::{Path, PathBuf};
+use std::rc::Rc;
+use std::time::Duration;
 
-/// The files of an archive, by the numbers that a journal has for them.
-pub const FILES: [&str; 10] = [
-    "metadata.tree",
-    "metadata.signatures",
-    "metadata.bitfield",
-    "metadata.data",
-    "content.tree",
-    "content.signatures",
-    "content.bitfield",
-    "content.data",
-    "metadata.key",
-    "content.key",
-];
-pub const METADATA_KEY: usize = 8;
-pub const CONTENT_KEY: usize = 9;
+/// How many of the files are a register's; keys stand behind them.
+const OF_REGISTERS: usize = 8;
 
-pub const TREE: usize = 0;
-pub const SIGNATURES: usize = 1;
-pub const BITFIELD: usize = 2;
-pub const DATA: usize = 3;
-
-const HEADER: u64 = 32;
-const ENTRY: u64 = 40;
-const SIGNATURE: u64 = 64;
-const BITFIELD_ENTRY: u64 = 3328;
-const CHUNKS_PER_ENTRY: u64 = 8192;
-
-/// The two registers of an archive.
-#[derive(Clone, Copy, PartialEq, Eq, Debug)]
-pub enum Which {
-    Metadata,
-    Content,
+/// How an archive is to be opened.
+#[derive(Clone, Copy)]
+pub struct Opening {
+    pub purpose: Use,
+    pub wait: Option<Duration>,
+    /// A journal is not looked at.
+    past_journal: bool,
 }
 
-pub const BOTH: [Which; 2] = [Which::Metadata, Which::Content];
-
-impl Which {
-    pub fn name(self) -> &'static str {
-        match self {
-            Which::Metadata => "metadata",
-            Which::Content => "content",
-        }
+impl Opening {
+    pub fn reading(arguments: &Arguments) -> Done<Opening> {
+        Ok(Opening { purpose: Use::Reading, wait: waits(arguments)?, past_journal: arguments.has("--without-journal") })
     }
 
-    /// The number of the register's tree; its other files follow.
-    pub fn first_file(self) -> usize {
-        match self {
-            Which::Metadata => 0,
-            Which::Content => 4,
-        }
+    pub fn writing(arguments: &Arguments) -> Done<Opening> {
+        Ok(Opening { purpose: Use::Writing, wait: waits(arguments)?, past_journal: false })
+    }
+
+    /// The same, with whatever journal there is left to the caller.
+    pub fn past_journal(self) -> Opening {
+        Opening { past_journal: true, ..self }
+    }
+
+    /// The same, to read.
+    pub fn to_read(self) -> Opening {
+        Opening { purpose: Use::Reading, ..self }
     }
 }
 
-/// The used sizes of tree, signatures, bitfield and data, as docs/FORMAT.md has them.
-pub fn used_sizes(n: u64, s: u64, size: u64) -> [u64; 4] {
-    let entries = (2 * n).saturating_sub(1);
-    [HEADER + ENTRY * entries, HEADER + SIGNATURE * s, HEADER + BITFIELD_ENTRY * n.div_ceil(CHUNKS_PER_ENTRY), size]
-}
-
-/// What the lengths of a register's files say. A partial copy has no signatures file and no s.
-#[derive(Clone, Copy, Debug, PartialEq, Eq)]
-pub struct Counts {
-    pub n: u64,
-    pub s: Option<u64>,
-    pub size: u64,
-    lengths: [u64; 4],
-}
-
-#[derive(Clone, Copy, PartialEq, Eq)]
-pub enum Use {
-    Reading,
-    Writing,
+fn waits(arguments: &Arguments) -> Done<Option<Duration>> {
+    Ok(arguments.number("--wait")?.map(Duration::from_secs))
 }
 
 /// A folder that this program has locked.
@@ -91,103 +56,99 @@ pub struct Folder {
     /// Its name in messages.
     pub path: PathBuf,
     pub handle: File,
-    /// Its name by the handle, which stays with the folder that is locked wherever it is moved.
-    by_handle: PathBuf,
+    pub lock: Lock,
+    files: [Option<Rc<Plain>>; OF_REGISTERS],
+    /// A change that was left unfinished, and is read as done.
+    left: Option<Left>,
+    access: Access,
 }
 
 impl Folder {
-    /// Opens and locks a folder, and finishes a change that was left over.
-    pub fn open(path: &Path, purpose: Use) -> Done<Folder> {
+    /// Opens and locks a folder. A change that was left over is finished where it is to be written, and read as done where it is not.
+    pub fn open(path: &Path, opening: Opening) -> Done<Folder> {
+        let mut patience = Patience::new(path, opening.wait);
         loop {
-            let handle = File::open(path).map_err(|error| at_file(path, error))?;
-            if !handle.metadata().map_err(|error| at_file(path, error))?.is_dir() {
-                return Err(Trouble::File(format!("{}: a file, and no folder of an archive", path.display())));
-            }
-            let by_handle = PathBuf::from(format!("/proc/self/fd/{}", handle.as_raw_fd()));
-            let folder = Folder { path: path.to_owned(), handle, by_handle };
-            folder.lock(purpose == Use::Writing)?;
-            if folder.stands()? && !folder.left_over(purpose)? {
+            let handle = below::folder(path).map_err(|error| match error.kind() {
+                io::ErrorKind::NotADirectory => Trouble::File(format!("{}: a file, and no folder of an archive", path.display())),
+                _ => at_file(path, error),
+            })?;
+            let Some(lock) = Lock::take(path, &handle, opening.purpose, &mut patience)? else { continue };
+            let access = opening.purpose.access();
+            let mut folder = Folder { path: path.to_owned(), handle, lock, files: Default::default(), left: None, access };
+            if folder.ready(opening, &mut patience)? {
                 return Ok(folder);
             }
         }
     }
 
-    /// Whether the folder that is locked still has its name: while this program waited for the lock, another folder may have got it.
-    fn stands(&self) -> Done<bool> {
-        let same = |one: Metadata, other: Metadata| (one.dev(), one.ino()) == (other.dev(), other.ino());
-        let now = std::fs::metadata(&self.path).and_then(|named| Ok(same(named, self.handle.metadata()?)));
-        now.map_err(|error| at_file(&self.path, error))
-    }
-
-    /// The path of an entry, in the folder that is locked.
-    pub fn entry(&self, name: &str) -> PathBuf {
-        self.by_handle.join(name)
-    }
-
-    /// Waits for the lock, and says so on a terminal.
-    fn lock(&self, exclusive: bool) -> Done<()> {
-        let waiting = |error: &io::Error| error.raw_os_error() == Some(system::WOULD_BLOCK);
-        let result = match system::lock(&self.handle, exclusive, true) {
-            Err(error) if waiting(&error) => {
-                if io::stderr().is_terminal() {
-                    tell(&format!("{}: another program uses it; waiting", self.path.display()));
-                }
-                system::lock(&self.handle, exclusive, false)
-            }
-            other => other,
+    /// Opens the files, and sees to a journal. False where that took a while, or changed them, so that all must be looked at again.
+    fn ready(&mut self, opening: Opening, patience: &mut Patience) -> Done<bool> {
+        let found = match opening.past_journal {
+            true => Found::None,
+            false => Found::open(&self.path, &self.handle, opening.purpose, patience)?,
         };
-        result.map_err(|error| Trouble::File(format!("{}: can't be locked: {}", self.path.display(), said(&error))))
-    }
-
-    /// Sees to a journal that another run left. True where the lock was given up in between, so that all must be looked at again.
-    fn left_over(&self, purpose: Use) -> Done<bool> {
-        journal::drop_unsynced(self);
-        let Some(found) = journal::found(self)? else { return Ok(false) };
-        if purpose == Use::Writing {
-            journal::settle(self, &found)?;
+        let journal = match found {
+            Found::None => None,
+            Found::Gone => return Ok(false),
+            Found::Journal(journal) => Some(journal),
+        };
+        if opening.purpose == Use::Writing {
+            commit::drop_begun(self);
+        }
+        for (number, file) in self.files.iter_mut().enumerate() {
+            *file = below::open(&self.handle, FILES[number], self.access)
+                .map_err(|error| in_file(&self.path, FILES[number], error))?
+                .map(Rc::new);
+        }
+        let Some(journal) = journal else { return Ok(true) };
+        let left = Left::checked(&self.path, journal)?;
+        left.belongs(self)?;
+        if opening.purpose == Use::Writing {
+            commit::settle(self, &left)?;
             return Ok(false);
         }
-        drop(found);
-        system::unlock(&self.handle).map_err(|error| at_file(&self.path, error))?;
-        self.lock(true)?;
-        if !self.stands()? {
-            return Ok(true);
-        }
-        if let Some(found) = journal::found(self)? {
-            journal::settle(self, &found)?;
-        }
+        left.bear()?;
+        self.left = Some(left);
         Ok(true)
     }
 
     /// The name of a file in messages.
-    pub fn file(&self, number: usize) -> PathBuf {
-        self.path.join(FILES[number])
+    pub fn file(&self, name: &str) -> PathBuf {
+        self.path.join(name)
     }
 
-    /// A file and its length; nothing where there is none.
-    fn opened(&self, number: usize) -> Done<Option<(File, u64)>> {
-        let path = self.file(number);
-        let file = match OpenOptions::new().read(true).custom_flags(system::NOT_WAITING).open(self.entry(FILES[number])) {
-            Ok(file) => file,
-            Err(error) if error.kind() == io::ErrorKind::NotFound => return Ok(None),
-            Err(error) => return Err(at_file(&path, error)),
-        };
-        let about = file.metadata().map_err(|error| at_file(&path, error))?;
-        if !about.is_file() {
-            return Err(Trouble::File(format!("{}: no plain file", path.display())));
+    pub fn trouble(&self, name: &str, error: io::Error) -> Trouble {
+        in_file(&self.path, name, error)
+    }
+
+    /// A file of the archive as it lies there; nothing where there is none.
+    pub fn plain(&self, number: usize) -> Done<Option<Rc<Plain>>> {
+        match self.files.get(number) {
+            Some(file) => Ok(file.clone()),
+            None => {
+                let found = below::open(&self.handle, FILES[number], self.access).map_err(|error| self.trouble(FILES[number], error))?;
+                Ok(found.map(Rc::new))
+            }
         }
-        Ok(Some((file, about.len())))
     }
 
-    fn needed(&self, number: usize) -> Done<(File, u64)> {
-        let none = || Trouble::File(format!("{}: no archive: {} is missing", self.path.display(), FILES[number]));
-        self.opened(number)?.ok_or_else(none)
+    /// A file's length, with what was left over done; nothing where there is no such file.
+    pub fn length(&self, number: usize) -> Done<Option<u64>> {
+        match &self.left {
+            Some(left) => Ok(left.lengths(number)[1]),
+            None => Ok(self.plain(number)?.map(|plain| plain.about.length)),
+        }
     }
 
-    /// Whether any file of an archive is there.
+    /// Whether there is a journal, of whatever kind.
+    pub fn is_unfinished(&self) -> Done<bool> {
+        below::look(&self.handle, NAME).map(|found| found.is_some()).map_err(|error| self.trouble(NAME, error))
+    }
+
+    /// Whether anything of an archive is there.
     pub fn is_used(&self) -> Done<bool> {
-        for number in 0..FILES.len() {
-            if self.opened(number)?.is_some() {
+        for name in FILES.iter().chain(&[NAME]) {
+            if below::look(&self.handle, name).map_err(|error| self.trouble(name, error))?.is_some() {
                 return Ok(true);
             }
         }
@@ -196,81 +157,58 @@ impl Folder {
 
     /// The 32 bytes of a public key; nothing where there is no such file.
     pub fn key(&self, number: usize) -> Done<Option<[u8; 32]>> {
-        match self.opened(number)? {
-            None => Ok(None),
-            Some((file, _)) => crate::inputs::exactly_of::<32>(file, &self.file(number)).map(Some),
-        }
+        let Some(length) = self.length(number)? else { return Ok(None) };
+        let image = self.image(number, length)?;
+        let wrong = || Trouble::File(format!("{}: 32 bytes are needed, and it has {length}", self.file(FILES[number]).display()));
+        image.as_ref().try_into().map(Some).map_err(|_| wrong())
     }
 
     /// n, s and the data size, from the lengths of a register's files.
     pub fn count(&self, which: Which) -> Done<Counts> {
-        let first = which.first_file();
-        let mut lengths = [0; 4];
-        for kind in [TREE, BITFIELD, DATA] {
-            lengths[kind] = self.needed(first + kind)?.1;
+        let mut lengths = [None; 4];
+        for (kind, length) in lengths.iter_mut().enumerate() {
+            *length = self.length(which.first_file() + kind)?;
         }
-        let signed = self.opened(first + SIGNATURES)?;
-        lengths[SIGNATURES] = signed.as_ref().map_or(0, |(_, length)| *length);
-        let entries = self.entries(first + TREE, lengths[TREE], ENTRY)?;
-        if entries > 0 && entries % 2 == 0 {
-            return Err(self.wrong_length(first + TREE, lengths[TREE]));
-        }
-        let n = entries.div_ceil(2);
-        let s = signed.map(|(_, length)| self.entries(first + SIGNATURES, length, SIGNATURE)).transpose()?;
-        let kept = self.entries(first + BITFIELD, lengths[BITFIELD], BITFIELD_ENTRY)?;
-        if kept > n.div_ceil(CHUNKS_PER_ENTRY) {
-            return Err(self.wrong_length(first + BITFIELD, lengths[BITFIELD]));
-        }
-        Ok(Counts { n, s, size: lengths[DATA], lengths })
+        Counts::of(&self.path, which, lengths)
     }
 
-    /// How many entries of a size a file has behind its header.
-    fn entries(&self, number: usize, length: u64, entry: u64) -> Done<u64> {
-        match length.checked_sub(HEADER) {
-            Some(rest) if rest % entry == 0 => Ok(rest / entry),
-            _ => Err(self.wrong_length(number, length)),
+    /// A file to be read, with what was left over done.
+    fn image(&self, number: usize, length: u64) -> Done<Image> {
+        let placed = Image::to_read(self.plain(number)?, length).map_err(|error| self.trouble(FILES[number], error))?;
+        match &self.left {
+            Some(left) => left.applied(number, placed).map_err(|error| self.trouble(FILES[number], error)),
+            None => Ok(placed),
         }
-    }
-
-    fn wrong_length(&self, number: usize, length: u64) -> Trouble {
-        Trouble::File(format!(
-            "{}: {length} bytes, which no register's file has here: it is another file, or it was cut short or grew",
-            self.file(number).display()
-        ))
     }
 
     /// A register to be read.
     pub fn to_read(&self, which: Which) -> Done<Images> {
         let counts = self.count(which)?;
-        let images = self.images(which, counts, |kind, file| Image::to_read(file, counts.lengths[kind]))?;
+        let images = images(which, counts, |kind, number| self.image(number, counts.lengths[kind]))?;
         Ok(Images(kept(images, counts)))
+    }
+
+    fn image_to_write(&self, number: usize, room: u64) -> Done<Image> {
+        Image::to_write(self.plain(number)?, room).map_err(|error| self.trouble(FILES[number], error))
     }
 
     /// A register to be written, which does not grow.
     pub fn to_write(&self, which: Which) -> Done<Kept> {
         let counts = self.count(which)?;
-        let images = self.images(which, counts, |kind, file| Image::to_write(Some(file), counts.lengths[kind], 0))?;
-        Ok(kept(images, counts))
+        Ok(kept(images(which, counts, |_, number| self.image_to_write(number, 0))?, counts))
     }
 
     /// A whole register to be written, with room up to these lengths.
     pub fn to_grow(&self, which: Which, counts: Counts, room: [u64; 4]) -> Done<Store<Image>> {
-        let images = self.images(which, counts, |kind, file| Image::to_write(Some(file), counts.lengths[kind], room[kind]))?;
-        match kept(images, counts) {
+        match kept(images(which, counts, |kind, number| self.image_to_write(number, room[kind]))?, counts) {
             Kept::Whole(store) => Ok(store),
             Kept::Copy(_) => Err(only_whole(&format!("{}: {}", self.path.display(), which.name()))),
         }
     }
+}
 
-    fn images(&self, which: Which, counts: Counts, place: impl Fn(usize, File) -> io::Result<Image>) -> Done<Vec<Image>> {
-        let mut images = Vec::new();
-        for kind in kinds(counts.s.is_some()) {
-            let number = which.first_file() + kind;
-            let (file, _) = self.needed(number)?;
-            images.push(place(*kind, file).map_err(|error| at_file(&self.file(number), error))?);
-        }
-        Ok(images)
-    }
+fn images(which: Which, counts: Counts, place: impl Fn(usize, usize) -> Done<Image>) -> Done<Vec<Image>> {
+    kinds(counts.s.is_some()).iter().map(|kind| place(*kind, which.first_file() + kind)).collect()
 }
 
 /// The images of a register's files, in their order.
@@ -291,22 +229,25 @@ impl Images {
     pub fn lent(&self) -> Lent<'_> {
         self.0.lent()
     }
+
+    /// Makes a part of the data this process's own.
+    pub fn own(&mut self, offset: u64, length: u64) -> io::Result<()> {
+        let data = match &mut self.0 {
+            Kept::Whole(store) => &mut store.data,
+            Kept::Copy(store) => &mut store.data,
+        };
+        data.own(offset as usize, length as usize)
+    }
 }
 
 /// A register of zeros in memory alone, with room for the headers.
 pub fn unmade() -> io::Result<Store<Image>> {
-    let room = |length| Image::to_write(None, 0, length);
+    let room = |length| Image::to_write(None, length);
     Ok(Store { tree: room(HEADER)?, signatures: room(HEADER)?, bitfield: room(HEADER)?, data: room(0)?, n: 0, s: 0, size: 0 })
 }
 
 /// A copy of zeros in memory alone, with room for so many chunks and bytes.
 pub fn unmade_copy(n: u64, size: u64) -> io::Result<CopyStore<Image>> {
     let [tree, _, bitfield, data] = used_sizes(n, 0, size);
-    Ok(CopyStore {
-        tree: Image::to_write(None, 0, tree)?,
-        bitfield: Image::to_write(None, 0, bitfield)?,
-        data: Image::of_zeros(data)?,
-        n,
-        size,
-    })
+    Ok(CopyStore { tree: Image::to_write(None, tree)?, bitfield: Image::to_write(None, bitfield)?, data: Image::of_zeros(data)?, n, size })
 }

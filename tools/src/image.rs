@@ -1,23 +1,21 @@
 //! A file of an archive in memory: its bytes, mapped and private, and zeros behind them as room to grow. Nothing that is written here reaches the file.
 //!
 //! Pages of the file can be read and not written. The first write to one is a fault, whose handler notes the block of pages around it and lets it be
-//! written. So a page that is not noted has not been written, whatever a call does, and the noted ones are compared with the file byte by byte: what
-//! differs is what changed. Behind the file's old length every byte up to the new length has changed.
+//! written. So a page that is not noted has not been written, whatever a call does, and the noted ones can be compared with the file byte by byte.
 //!
 //! The system gives a process some 65,530 mappings, and every block that can be written among those that can't takes two. So blocks become larger as they
 //! become many: of 64 GiB there are never more than some 12,000.
-use crate::system;
-use std::fs::File;
+use crate::below::Plain;
+use crate::memory::{self, Bytes};
+use crate::signals;
+use std::cell::OnceCell;
 use std::io;
-use std::os::unix::fs::FileExt;
+use std::rc::Rc;
 use std::sync::atomic::{AtomicPtr, AtomicUsize, Ordering::SeqCst};
 use std::sync::Once;
 
 /// At most this many images can be written at the same time: four of each register.
 const WATCHED: usize = 8;
-
-/// Pages that differ in fewer bytes between two changed ones than this are written as one range.
-const GAP: usize = 32;
 
 /// The pages of the first blocks; after each `BLOCKS` of them blocks have four times as many.
 const BLOCK: usize = 16;
@@ -41,31 +39,29 @@ static WATCHES: [Watch; WATCHED] = [const {
 }; WATCHED];
 
 extern "C" fn first_write(signal: i32, information: *const u8, _: *const u8) {
-    let met = unsafe { system::address_met(information) };
+    let met = unsafe { signals::address_met(information) };
     let Some(watch) = WATCHES.iter().find(|watch| (watch.from.load(SeqCst)..watch.to.load(SeqCst)).contains(&met)) else {
-        system::by_default(signal); // no page of ours: the same fault again ends the program
+        signals::by_default(signal); // no page of ours: the same fault again ends the program
         return;
     };
     let (from, to) = (watch.from.load(SeqCst), watch.to.load(SeqCst));
     let noted = watch.noted.fetch_add(1, SeqCst);
-    let number = (met - from) / system::page() / block(noted) * block(noted);
+    let number = (met - from) / memory::page() / block(noted) * block(noted);
     unsafe { watch.notes.load(SeqCst).add(noted).write(number) };
-    let start = from + number * system::page();
-    if !system::let_write(start as *mut u8, (block(noted) * system::page()).min(to - start)) {
-        system::end_at_once(2, b"sleep-archive: no memory for the change; nothing is changed\n");
+    let start = from + number * memory::page();
+    if !memory::let_write(start as *mut u8, (block(noted) * memory::page()).min(to - start)) {
+        signals::end_at_once(2, b"sleep-archive: no memory for the change; nothing is changed\n");
     }
 }
 
 extern "C" fn lost_page(_: i32, _: *const u8, _: *const u8) {
-    system::end_at_once(2, b"sleep-archive: a file of the archive can't be read: it was cut short meanwhile, or the disk fails\n");
+    signals::end_at_once(2, b"sleep-archive: a file of the archive can't be read: it was cut short meanwhile, or the disk fails\n");
 }
 
-fn set_handlers() {
+/// From here on a mapped file that is cut short meanwhile is told in words.
+pub fn set_handlers() {
     static SET: Once = Once::new();
-    SET.call_once(|| {
-        system::on_fault(system::SEGMENT, first_write);
-        system::on_fault(system::BUS, lost_page);
-    });
+    SET.call_once(|| signals::on_faults(first_write, lost_page));
 }
 
 pub struct Image {
@@ -75,25 +71,20 @@ pub struct Image {
     length: usize,
     /// The bytes that the file has.
     old: usize,
-    file: Option<File>,
+    file: Option<Rc<Plain>>,
+    before: OnceCell<Bytes>,
     watch: Option<&'static Watch>,
 }
 
-/// Bytes of an image that its file doesn't have there.
-pub struct Range<'a> {
-    pub offset: u64,
-    pub bytes: &'a [u8],
-}
-
 impl Image {
-    /// The bytes of a file, and none behind them.
-    pub fn to_read(file: File, length: u64) -> io::Result<Image> {
-        Image::placed(Some(file), length, length)
+    /// The bytes of a file, and zeros behind them up to `length`; none of them is written but by `written` and `cleared`.
+    pub fn to_read(file: Option<Rc<Plain>>, length: u64) -> io::Result<Image> {
+        Image::placed(file, length)
     }
 
     /// The bytes of a file, and zeros up to `length`, all of which may be written. Without a file all are zeros.
-    pub fn to_write(file: Option<File>, old: u64, length: u64) -> io::Result<Image> {
-        let mut image = Image::placed(file, old, length.max(old))?;
+    pub fn to_write(file: Option<Rc<Plain>>, length: u64) -> io::Result<Image> {
+        let mut image = Image::placed(file, length)?;
         if image.old > 0 {
             image.watch()?;
         }
@@ -102,91 +93,115 @@ impl Image {
 
     /// Zeros that a call may write as zeros, and as nothing else: a large part is one run of memory in many places.
     pub fn of_zeros(length: u64) -> io::Result<Image> {
-        let image = Image::placed(None, 0, length)?;
-        system::place_zeros(image.start, image.mapped)?;
+        let image = Image::placed(None, length)?;
+        memory::place_zeros(image.start, image.mapped)?;
         Ok(image)
     }
 
-    fn placed(file: Option<File>, old: u64, length: u64) -> io::Result<Image> {
+    fn placed(file: Option<Rc<Plain>>, length: u64) -> io::Result<Image> {
         set_handlers();
         let too_long = |_| io::Error::other("the file is too long for this machine");
-        let (old, length) = (usize::try_from(old).map_err(too_long)?, usize::try_from(length).map_err(too_long)?);
-        let mapped = system::whole_pages(length.max(1));
-        let start = system::addresses(mapped)?;
-        let image = Image { start, mapped, length, old, file, watch: None };
-        let filled = system::whole_pages(old);
+        let old = usize::try_from(file.as_ref().map_or(0, |file| file.about.length)).map_err(too_long)?;
+        let length = usize::try_from(length).map_err(too_long)?.max(old);
+        let mapped = memory::whole_pages(length.max(1));
+        let start = memory::addresses(mapped)?;
+        let image = Image { start, mapped, length, old, file, before: OnceCell::new(), watch: None };
+        let filled = memory::whole_pages(old);
         if let (Some(file), true) = (&image.file, old > 0) {
-            system::place_file(start, filled, file)?;
+            memory::place_file(start, filled, &file.file)?;
         }
         if filled < mapped {
-            system::place_room(start.wrapping_add(filled), mapped - filled)?;
+            memory::place_room(start.wrapping_add(filled), mapped - filled)?;
         }
         Ok(image)
     }
 
     fn watch(&mut self) -> io::Result<()> {
-        let pages = system::whole_pages(self.old) / system::page();
-        let notes = system::whole_pages(pages * size_of::<usize>());
-        let room = system::addresses(notes)?;
-        system::place_room(room, notes)?;
+        let pages = memory::whole_pages(self.old) / memory::page();
+        let notes = memory::whole_pages(pages * size_of::<usize>());
+        let room = memory::addresses(notes)?;
+        memory::place_room(room, notes)?;
         let watch = WATCHES.iter().find(|watch| watch.notes.load(SeqCst).is_null()).ok_or_else(|| io::Error::other("too many images"))?;
         watch.notes.store(room.cast(), SeqCst);
         watch.noted.store(0, SeqCst);
         watch.from.store(self.start as usize, SeqCst);
-        watch.to.store(self.start as usize + pages * system::page(), SeqCst);
+        watch.to.store(self.start as usize + pages * memory::page(), SeqCst);
         self.watch = Some(watch);
         Ok(())
     }
 
-    /// The numbers of the file's pages that can have been written, from the lowest.
-    fn noted_pages(&self) -> Vec<std::ops::Range<usize>> {
+    /// The places of the file that can have been written, from the lowest: whole blocks of pages, up to the file's end.
+    pub fn noted(&self) -> Vec<std::ops::Range<usize>> {
         let Some(watch) = self.watch else { return Vec::new() };
         let noted = unsafe { std::slice::from_raw_parts(watch.notes.load(SeqCst), watch.noted.load(SeqCst)) };
-        let all = system::whole_pages(self.old) / system::page();
-        let mut blocks = noted.iter().enumerate().map(|(place, first)| (*first, all.min(first + block(place)))).collect::<Vec<_>>();
+        let place = |page: usize| self.old.min(page * memory::page());
+        let mut blocks = noted.iter().enumerate().map(|(at, first)| (place(*first), place(first + block(at)))).collect::<Vec<_>>();
         blocks.sort_unstable();
-        let mut pages = Vec::<std::ops::Range<usize>>::new();
+        let mut places = Vec::<std::ops::Range<usize>>::new();
         for (from, to) in blocks {
-            match pages.last_mut() {
+            match places.last_mut() {
                 Some(last) if from <= last.end => last.end = last.end.max(to),
-                _ => pages.push(from..to),
+                _ => places.push(from..to),
             }
         }
-        pages
+        places
     }
 
-    pub fn file(&self) -> Option<&File> {
+    pub fn file(&self) -> Option<&Rc<Plain>> {
         self.file.as_ref()
     }
 
-    /// What the file lacks of the first `length` bytes of this image, from the front.
-    pub fn changes(&self, length: u64) -> io::Result<Vec<Range<'_>>> {
-        let (now, mut ranges) = (self.as_ref(), Vec::<(usize, usize)>::new());
-        let mut before = vec![0; system::page()];
-        for number in self.noted_pages().into_iter().flatten() {
-            let from = number * system::page();
-            let to = self.old.min(from + system::page());
-            let before = &mut before[..to - from];
-            self.file.as_ref().expect("pages of a file").read_exact_at(before, from as u64)?;
-            if now[from..to] == *before {
-                continue;
-            }
-            for at in (from..to).filter(|at| now[*at] != before[at - from]) {
-                extend(&mut ranges, at, at + 1);
-            }
+    /// The bytes that the file has, whatever was written here.
+    pub fn before(&self) -> io::Result<&[u8]> {
+        if let (None, Some(plain)) = (self.before.get(), &self.file) {
+            let _ = self.before.set(Bytes::of(&plain.file, self.old as u64)?);
         }
-        if self.old < length as usize {
-            extend(&mut ranges, self.old, length as usize);
-        }
-        Ok(ranges.into_iter().map(|(from, to)| Range { offset: from as u64, bytes: &now[from..to] }).collect())
+        Ok(self.before.get().map_or(&[], |bytes| bytes.as_ref()))
     }
-}
 
-/// One more range behind the others, as a part of the last one where few bytes lie between.
-fn extend(ranges: &mut Vec<(usize, usize)>, from: usize, to: usize) {
-    match ranges.last_mut() {
-        Some(last) if from <= last.1 + GAP => last.1 = to,
-        _ => ranges.push((from, to)),
+    fn pages_of(&self, offset: usize, length: usize) -> (usize, usize) {
+        let from = offset / memory::page() * memory::page();
+        (from, memory::whole_pages(offset + length) - from)
+    }
+
+    /// Lets a part be written; what is written stays in this process.
+    fn opened(&mut self, offset: usize, length: usize) -> io::Result<&mut [u8]> {
+        let (from, pages) = self.pages_of(offset, length);
+        if length > 0 && !memory::let_write(self.start.wrapping_add(from), pages) {
+            return Err(io::Error::last_os_error());
+        }
+        Ok(&mut self.as_mut()[offset..offset + length])
+    }
+
+    /// Bytes in the place of others.
+    pub fn written(&mut self, offset: usize, bytes: &[u8]) -> io::Result<()> {
+        self.opened(offset, bytes.len())?.copy_from_slice(bytes);
+        Ok(())
+    }
+
+    /// Zeros in the place of others. Many take no memory.
+    pub fn cleared(&mut self, offset: usize, length: usize) -> io::Result<()> {
+        let (from, to) = (memory::whole_pages(offset), (offset + length) / memory::page() * memory::page());
+        if to < from + memory::page() {
+            self.opened(offset, length)?.fill(0);
+            return Ok(());
+        }
+        self.opened(offset, from - offset)?.fill(0);
+        self.opened(to, offset + length - to)?.fill(0);
+        memory::place_room(self.start.wrapping_add(from), to - from)
+    }
+
+    /// Makes a part this process's own, so that another program which writes the file can't change it from now on.
+    pub fn own(&mut self, offset: usize, length: usize) -> io::Result<()> {
+        for page in self.opened(offset, length)?.chunks_mut(memory::page()) {
+            let (first, last) = (page.as_mut_ptr(), page.len() - 1);
+            // A write of what is there makes the page private; the two ends of a part are on two pages at most.
+            unsafe {
+                first.write_volatile(first.read_volatile());
+                first.add(last).write_volatile(first.add(last).read_volatile());
+            }
+        }
+        Ok(())
     }
 }
 
@@ -208,9 +223,9 @@ impl Drop for Image {
         if let Some(watch) = self.watch {
             watch.from.store(0, SeqCst);
             watch.to.store(0, SeqCst);
-            let pages = system::whole_pages(self.old) / system::page();
-            system::give_back(watch.notes.swap(std::ptr::null_mut(), SeqCst).cast(), system::whole_pages(pages * size_of::<usize>()));
+            let pages = memory::whole_pages(self.old) / memory::page();
+            memory::give_back(watch.notes.swap(std::ptr::null_mut(), SeqCst).cast(), memory::whole_pages(pages * size_of::<usize>()));
         }
-        system::give_back(self.start, self.mapped);
+        memory::give_back(self.start, self.mapped);
     }
 }

@@ -1,5 +1,5 @@
 //! A register as a folder has it: whole, or, without a signatures file, a partial copy. Each has calls of its own, and most of them go by the same name.
-use crate::folder::{used_sizes, BITFIELD, DATA, SIGNATURES, TREE};
+use crate::counts::{used_sizes, BITFIELD, DATA, SIGNATURES, TREE};
 use crate::image::Image;
 use crate::sleep_register::{Copied, CopyStore, Node, Pair, Refusal, Register, Store};
 use crate::words::{Done, Trouble};

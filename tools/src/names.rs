@@ -1,14 +1,18 @@
 //! The commands that know pieces by their names, which stand in the records of the metadata register.
 use crate::arguments::{number, Arguments, Typed};
-use crate::folder::{used_sizes, Folder, Use, Which, CONTENT_KEY};
-use crate::inputs::{self, say};
-use crate::journal::{changes, commit};
+use crate::changes::changes;
+use crate::commit::{commit, Room};
+use crate::counts::{used_sizes, Which, CONTENT_KEY};
+use crate::folder::{Folder, Opening};
+use crate::inputs;
 use crate::kept::Kept;
+use crate::outputs::say;
+use crate::printable::shown;
 use crate::progress;
 use crate::reading::{needs_of, only, Archive};
 use crate::sleep_register::{write_header, write_node, Node, Refusal, Stat, NODE_ROOM};
-use crate::words::{at_file, hex, printable, refused, usage, Done, Trouble};
-use std::collections::HashSet;
+use crate::words::{at_file, counted, hex, refused, usage, Done, Trouble};
+use std::collections::{HashMap, HashSet};
 use std::ffi::{OsStr, OsString};
 use std::os::unix::ffi::OsStrExt;
 use std::os::unix::fs::MetadataExt;
@@ -28,12 +32,13 @@ struct Piece {
 
 /// The archive, and the files with their names: `--as NAME` is for the next file, `--in FOLDER` for all that follow.
 fn pieces(arguments: &Arguments) -> Done<(&OsStr, Vec<Piece>)> {
-    let (mut archive, mut pieces, mut folder, mut name) = (None, Vec::new(), None, None);
+    let (mut archive, mut pieces, mut folder, mut name, mut idle) = (None, Vec::new(), None, None, false);
     for typed in &arguments.typed {
         match typed {
-            Typed::Option("--in", word) => folder = Some(word.as_bytes()),
-            Typed::Option(_, _) if name.is_some() => return usage("--as needs a file behind its name"),
-            Typed::Option(_, word) => name = Some(word.as_bytes()),
+            Typed::Option("--in", word) => (folder, idle) = (Some(folder_in(word)?), true),
+            Typed::Option("--as", _) if name.is_some() => return usage("--as needs a file behind its name"),
+            Typed::Option("--as", word) => name = Some(word.as_bytes()),
+            Typed::Option(..) => {}
             Typed::Word(word) if archive.is_none() => archive = Some(word.as_os_str()),
             Typed::Word(file) => {
                 let name = match name.take() {
@@ -41,15 +46,25 @@ fn pieces(arguments: &Arguments) -> Done<(&OsStr, Vec<Piece>)> {
                     None => name_of(file, folder)?,
                 };
                 pieces.push(Piece { name, file: file.clone() });
+                idle = false;
             }
         }
     }
     distinct(&pieces)?;
     match (archive, name) {
         (_, Some(_)) => usage("--as needs a file behind its name"),
+        (Some(_), None) if idle && !pieces.is_empty() => usage("--in needs files behind its folder: it is for those that follow it"),
         (Some(archive), None) if !pieces.is_empty() => Ok((archive, pieces)),
         _ => usage("an archive and files are needed"),
     }
+}
+
+/// A folder of the archive, for the files that follow.
+fn folder_in(word: &OsStr) -> Done<&[u8]> {
+    if !word.as_bytes().starts_with(b"/") {
+        return usage(format!("--in {}: a folder of an archive begins with a slash: /{0}", shown(word.as_bytes())));
+    }
+    Ok(word.as_bytes())
 }
 
 /// Of two pieces with one name the first would be hidden, and standard input can be read once.
@@ -109,8 +124,8 @@ pub fn add(arguments: &Arguments) -> Done<()> {
         modes.push(mode);
     }
     progress::note("");
-    let folder = Folder::open(Path::new(path), Use::Writing)?;
-    progress::note(&format!("adding {} pieces, {} bytes", pieces.len(), set.bytes.len()));
+    let folder = Folder::open(Path::new(path), Opening::writing(arguments)?)?;
+    progress::note(&format!("adding {}, {}", counted(pieces.len() as u64, "piece"), counted(set.bytes.len() as u64, "byte")));
     let added = added(&folder, &pieces, &modes, &set);
     progress::note("");
     let (metadata, content) = added?;
@@ -140,7 +155,7 @@ fn added(folder: &Folder, pieces: &[Piece], modes: &[u32], set: &Set) -> Done<([
     let (metadata, metadata_root) = append(Which::Metadata, &records)?;
     let mut all = changes(folder, Which::Metadata, metadata.files())?;
     all.extend(changes(folder, Which::Content, content.files())?);
-    commit(folder, &all)?;
+    commit(folder, all, Room::Free)?;
     Ok((metadata_root, content_root))
 }
 
@@ -175,7 +190,8 @@ pub fn needs(arguments: &Arguments) -> Done<()> {
     if let Some(list) = arguments.option("--lengths") {
         let numbers = list.to_string_lossy().into_owned();
         let lengths = numbers.split(',').map(|one| number(OsStr::new(one), "--lengths")).collect::<Done<Vec<_>>>()?;
-        return needs_of(&Archive::open(only(&arguments.words(), "an archive")?)?, Which::Content, &lengths);
+        let archive = Archive::open(only(&arguments.words(), "an archive")?, Opening::reading(arguments)?)?;
+        return needs_of(&archive, Which::Content, &lengths);
     }
     let (path, pieces) = pieces(arguments)?;
     let (mut lengths, mut modes) = (Vec::new(), Vec::new());
@@ -194,60 +210,11 @@ pub fn needs(arguments: &Arguments) -> Done<()> {
         lengths.push(about.len());
         modes.push(about.mode());
     }
-    let archive = Archive::open(path)?;
+    let archive = Archive::open(path, Opening::reading(arguments)?)?;
     let (metadata, content) = (archive.register(Which::Metadata), archive.register(Which::Content));
     let records = records(&archive.folder, metadata.n() == 0, &pieces, &modes, &lengths, (content.n(), content.size()))?;
     needs_of(&archive, Which::Metadata, &records.lengths)?;
     needs_of(&archive, Which::Content, &lengths)
-}
-
-/// A name in a message.
-fn shown(name: &[u8]) -> String {
-    String::from_utf8_lossy(&printable(name)).into_owned()
-}
-
-/// The content chunks that are not held, rising.
-fn not_held(archive: &Archive) -> Done<Vec<u64>> {
-    let (register, mut missing, mut from) = (archive.register(Which::Content), Vec::new(), 0);
-    while let Some(chunk) = register.search(from).map_err(|reason| refused(&archive.named(Which::Content), reason))? {
-        missing.push(chunk);
-        from = chunk + 1;
-    }
-    Ok(missing)
-}
-
-/// `list`: the pieces by their names; of a name that was written again the last, unless all are asked for.
-pub fn list(arguments: &Arguments) -> Done<()> {
-    let archive = Archive::open(only(&arguments.words(), "an archive")?)?;
-    let (metadata, missing) = (archive.register(Which::Metadata), not_held(&archive)?);
-    let trouble = |reason| refused(&archive.named(Which::Metadata), reason);
-    if metadata.n() > 0 {
-        metadata.header_of(0).map_err(trouble)?;
-    }
-    let (mut seen, mut lines) = (HashSet::new(), Vec::new());
-    for chunk in (1..metadata.n()).rev() {
-        let node = metadata.node_of(chunk).map_err(trouble)?;
-        if arguments.has("--all") || seen.insert(node.path) {
-            let stat = node.stat.unwrap_or_default();
-            lines.push((node.path, stat.offset, stat.size));
-        }
-    }
-    let mut out = Vec::new();
-    let held = |chunk: u64| {
-        if chunk >= archive.register(Which::Content).n() {
-            "-"
-        } else if missing.binary_search(&chunk).is_ok() {
-            "no"
-        } else {
-            "held"
-        }
-    };
-    for (path, chunk, size) in lines.into_iter().rev() {
-        let number = |number: Option<u64>| number.map_or("-".to_string(), |number| number.to_string());
-        let line = format!("{:>7} {:>7} {:<4} ", number(chunk), number(size), chunk.map_or("-", held));
-        out.extend([line.as_bytes(), &printable(path), b"\n"].concat());
-    }
-    inputs::give(None, &out)
 }
 
 /// The content chunk that a name stands for.
@@ -255,12 +222,49 @@ pub fn chunk_named(archive: &Archive, name: &[u8]) -> Done<u64> {
     let metadata = archive.register(Which::Metadata);
     let trouble = |reason| refused(&archive.named(Which::Metadata), reason);
     let found = progress::during("finding the name", metadata.bytes(), || metadata.find(name)).map_err(trouble)?;
-    let Some(record) = found else { return Err(Trouble::Refused(format!("{}: there is no such name", shown(name)))) };
-    let stat = metadata.node_of(record).map_err(trouble)?.stat.unwrap_or_default();
-    let Some(chunk) = stat.offset else { return Err(Trouble::Refused(format!("{}: its record names no chunk", shown(name)))) };
+    let Some(record) = found else { return Err(no_such_name(name)) };
+    chunk_of(archive, &metadata.node_of(record).map_err(trouble)?)
+}
+
+fn no_such_name(name: &[u8]) -> Trouble {
+    Trouble::Refused(format!("{}: there is no such name", shown(name)))
+}
+
+/// The content chunk that a record tells of, where its place is the one that the record has.
+fn chunk_of(archive: &Archive, node: &Node) -> Done<u64> {
+    let (stat, name) = (node.stat.unwrap_or_default(), shown(node.path));
+    let Some(chunk) = stat.offset else { return Err(Trouble::Refused(format!("{name}: its record names no chunk"))) };
     let place = archive.register(Which::Content).place(chunk).map_err(|reason| refused(&archive.named(Which::Content), reason))?;
     if (stat.byte_offset, stat.size) != (Some(place.0), Some(place.1)) {
-        return Err(Trouble::Refused(format!("{}: its record tells another start or size than chunk {chunk} has", shown(name))));
+        return Err(Trouble::Refused(format!("{name}: its record tells another start or size than chunk {chunk} has")));
     }
     Ok(chunk)
+}
+
+/// The content chunks that many names stand for, by one walk over the records from the latest down: as far as finding each of them would go.
+pub fn chunks_named(archive: &Archive, names: &[&[u8]]) -> Done<HashMap<Vec<u8>, u64>> {
+    let metadata = archive.register(Which::Metadata);
+    let trouble = |reason| refused(&archive.named(Which::Metadata), reason);
+    let (mut sought, mut found) = (names.iter().copied().collect::<HashSet<_>>(), HashMap::new());
+    match metadata.n() {
+        0 => metadata.root_hash().map(|_| ()),
+        _ => metadata.header_of(0).map(|_| ()),
+    }
+    .map_err(trouble)?;
+    progress::during("finding the names", metadata.bytes(), || {
+        for record in (1..metadata.n()).rev() {
+            if sought.is_empty() {
+                break;
+            }
+            let node = metadata.node_of(record).map_err(trouble)?;
+            if sought.remove(node.path) {
+                found.insert(node.path.to_vec(), chunk_of(archive, &node)?);
+            }
+        }
+        Ok(())
+    })?;
+    match names.iter().find(|name| sought.contains(*name)) {
+        Some(name) => Err(no_such_name(name)),
+        None => Ok(found),
+    }
 }

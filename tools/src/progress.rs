@@ -9,7 +9,7 @@ const NEXT: Duration = Duration::from_millis(200);
 /// Bytes of files that this process has mapped and come to; nothing where the system doesn't tell.
 fn touched() -> Option<u64> {
     let numbers = std::fs::read_to_string("/proc/self/statm").ok()?;
-    Some(numbers.split(' ').nth(2)?.parse::<u64>().ok()? * crate::system::page() as u64)
+    Some(numbers.split(' ').nth(2)?.parse::<u64>().ok()? * crate::memory::page() as u64)
 }
 
 /// In place of the line before, where the terminal still takes it.

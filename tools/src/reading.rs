@@ -1,11 +1,15 @@
 //! The commands that read archives.
 use crate::arguments::{number, Arguments};
-use crate::folder::{Folder, Images, Use, Which, BOTH};
-use crate::inputs::{self, say};
+use crate::below;
+use crate::counts::{Which, BOTH};
+use crate::folder::{Folder, Images, Opening};
+use crate::inputs;
 use crate::kept::Lent;
+use crate::outputs::{self, say};
 use crate::progress;
-use crate::sleep_register::{self as proved, Comparison, Needs, Register, PACKET_EXTRA};
-use crate::words::{hex, refusal, refused, usage, Done, Trouble};
+use crate::sleep_register::{self as proved, Comparison, Needs, Register};
+use crate::words::{at_file, counted, hex, refusal, refused, usage, Done, Trouble};
+use std::cmp::Ordering;
 use std::ffi::OsStr;
 use std::fmt::Write;
 use std::path::Path;
@@ -21,8 +25,8 @@ pub struct Archive {
 }
 
 impl Archive {
-    pub fn open(path: &OsStr) -> Done<Archive> {
-        Archive::of(Folder::open(Path::new(path), Use::Reading)?)
+    pub fn open(path: &OsStr, opening: Opening) -> Done<Archive> {
+        Archive::of(Folder::open(Path::new(path), opening)?)
     }
 
     pub fn of(folder: Folder) -> Done<Archive> {
@@ -35,6 +39,23 @@ impl Archive {
             Which::Metadata => self.metadata.lent(),
             Which::Content => self.content.lent(),
         }
+    }
+
+    /// The bytes of a chunk, after their hash was compared. They are this process's own before they are hashed, so that what goes out is what was hashed,
+    /// whatever another program writes meanwhile that knows no lock.
+    pub fn read_own(&mut self, which: Which, chunk: u64) -> Done<&[u8]> {
+        let named = self.named(which);
+        let trouble = |reason| refused(&named, reason);
+        if let Ok((start, length)) = self.register(which).place(chunk) {
+            let images = if which == Which::Metadata { &mut self.metadata } else { &mut self.content };
+            images.own(start, length).map_err(|error| at_file(&self.folder.path, error))?;
+            let (bytes, place) = (self.register(which).read(chunk).map_err(trouble)?, self.register(which).place(chunk).map_err(trouble)?);
+            if place != (start, length) || bytes.len() as u64 != length {
+                return Err(Trouble::File(format!("{named}: another program changed it while it was read")));
+            }
+            return Ok(bytes);
+        }
+        self.register(which).read(chunk).map_err(trouble)
     }
 
     /// How a register is named in a message.
@@ -52,7 +73,7 @@ pub fn only<'a>(words: &[&'a OsStr], what: &str) -> Done<&'a OsStr> {
 }
 
 /// An archive, and which of its registers; both where none is named.
-fn archive_and_registers<'a>(arguments: &'a Arguments) -> Done<(&'a OsStr, Vec<Which>)> {
+fn archive_and_registers(arguments: &Arguments) -> Done<(&OsStr, Vec<Which>)> {
     let words = arguments.words();
     let which = match words.get(1).map(|word| word.as_encoded_bytes()) {
         None => BOTH.to_vec(),
@@ -69,19 +90,19 @@ fn archive_and_registers<'a>(arguments: &'a Arguments) -> Done<(&'a OsStr, Vec<W
 fn counts(register: &Lent) -> String {
     match register {
         Lent::Whole(Register { n, s, size, .. }) => {
-            let mut line = format!("{n} chunks, {size} bytes, {s} signatures");
+            let mut line = format!("{}, {}, {}", counted(*n, "chunk"), counted(*size, "byte"), counted(*s, "signature"));
             if s < n {
                 write!(line, ", one is owed").unwrap();
             }
             line
         }
-        Lent::Copy(copied) => format!("a partial copy of {} chunks, {} bytes", copied.n, copied.size),
+        Lent::Copy(copied) => format!("a partial copy of {}, {}", counted(copied.n, "chunk"), counted(copied.size, "byte")),
     }
 }
 
 /// `status`: what each register has, after the first checks.
 pub fn status(arguments: &Arguments) -> Done<()> {
-    let archive = Archive::open(only(&arguments.words(), "an archive")?)?;
+    let archive = Archive::open(only(&arguments.words(), "an archive")?, Opening::reading(arguments)?)?;
     for which in BOTH {
         let register = archive.register(which);
         let unknown = match (register, register.root_hash()) {
@@ -93,15 +114,23 @@ pub fn status(arguments: &Arguments) -> Done<()> {
     Ok(())
 }
 
+/// The root hash, to be held against one that is known from elsewhere.
+fn root_words(register: &Lent) -> String {
+    match register.root_hash() {
+        Ok(root) => format!(", root hash {}", hex(&root)),
+        Err(_) => ", and not all its roots are known".into(),
+    }
+}
+
 /// `audit`: whether the images are those of some chunks.
 pub fn audit(arguments: &Arguments) -> Done<()> {
     let (path, registers) = archive_and_registers(arguments)?;
-    let archive = Archive::open(path)?;
+    let archive = Archive::open(path, Opening::reading(arguments)?)?;
     let mut refusals = Vec::new();
     for which in registers {
         let register = archive.register(which);
         match progress::during(&format!("audit of {}", which.name()), register.bytes(), || register.audit()) {
-            Ok(()) => say(&format!("{}: accepted, {}", which.name(), counts(&register)))?,
+            Ok(()) => say(&format!("{}: accepted, {}{}", which.name(), counts(&register), root_words(&register)))?,
             Err(reason) => {
                 say(&format!("{}: {}", which.name(), refusal(reason)))?;
                 refusals.push(which.name());
@@ -117,9 +146,10 @@ pub fn audit(arguments: &Arguments) -> Done<()> {
 /// `compare`: whether two archives hold the same chunks.
 pub fn compare(arguments: &Arguments) -> Done<()> {
     let [first, second] = arguments.words()[..] else { return usage("two archives are needed") };
-    let (first, second) = (Archive::open(first)?, Archive::open(second)?);
+    let (first, second) = both(first, second, Opening::reading(arguments)?)?;
+    let second = second.as_ref().unwrap_or(&first);
     let whole = |archive: &'_ Archive, which| archive.register(which).whole(&archive.named(which)).map(|_| ());
-    BOTH.iter().try_for_each(|which| whole(&first, *which).and_then(|()| whole(&second, *which)))?;
+    BOTH.iter().try_for_each(|which| whole(&first, *which).and_then(|()| whole(second, *which)))?;
     let mut equal = true;
     for which in BOTH {
         let (one, other) = (first.register(which), second.register(which));
@@ -133,6 +163,23 @@ pub fn compare(arguments: &Arguments) -> Done<()> {
         return Ok(());
     }
     Err(Trouble::Refused("the archives are not the same".into()))
+}
+
+/// Two archives, locked in an order that is the same for whoever compares them; one where they are the same.
+fn both(first: &OsStr, second: &OsStr, opening: Opening) -> Done<(Archive, Option<Archive>)> {
+    let identity =
+        |path: &OsStr| below::at_path(Path::new(path)).map(|about| about.identity).map_err(|error| at_file(Path::new(path), error));
+    Ok(match identity(first)?.cmp(&identity(second)?) {
+        Ordering::Equal => (Archive::open(first, opening)?, None),
+        Ordering::Less => {
+            let first = Archive::open(first, opening)?;
+            (first, Some(Archive::open(second, opening)?))
+        }
+        Ordering::Greater => {
+            let second = Archive::open(second, opening)?;
+            (Archive::open(first, opening)?, Some(second))
+        }
+    })
 }
 
 fn outcome_words(outcome: Comparison) -> String {
@@ -161,10 +208,10 @@ fn root_of(archive: &Archive, which: Which, first: Option<u64>) -> Done<[u8; 32]
 /// `root`: the root hashes now, or of the first m chunks.
 pub fn root(arguments: &Arguments) -> Done<()> {
     let (path, registers) = archive_and_registers(arguments)?;
-    let (archive, first) = (Archive::open(path)?, arguments.number("--first")?);
+    let (archive, first) = (Archive::open(path, Opening::reading(arguments)?)?, arguments.number("--first")?);
     if arguments.has("--raw") {
         let [which] = registers[..] else { return usage("--raw needs metadata or content") };
-        return inputs::give(None, &root_of(&archive, which, first)?);
+        return outputs::give(None, &root_of(&archive, which, first)?);
     }
     let roots = registers.iter().map(|which| Ok((which, root_of(&archive, *which, first)?))).collect::<Done<Vec<_>>>()?;
     for (which, root) in roots {
@@ -178,7 +225,7 @@ pub fn label(arguments: &Arguments) -> Done<()> {
     let Some(key) = arguments.option("--key") else { return usage("--key is needed: the file that has the key, of at most 64 bytes") };
     let (key, _) = inputs::at_most(key, 65)?;
     let (path, registers) = archive_and_registers(arguments)?;
-    let (archive, first) = (Archive::open(path)?, arguments.number("--first")?);
+    let (archive, first) = (Archive::open(path, Opening::reading(arguments)?)?, arguments.number("--first")?);
     let label = |which: &Which| {
         let root = root_of(&archive, *which, first)?;
         proved::label(&root, &key).map_err(|reason| refused("--key", reason))
@@ -203,18 +250,17 @@ pub fn chunk_meant(archive: &Archive, word: &OsStr) -> Done<u64> {
 /// `get`: the bytes of a chunk, after their hash was compared.
 pub fn get(arguments: &Arguments) -> Done<()> {
     let [path, word] = arguments.words()[..] else { return usage("an archive and a chunk are needed") };
-    let archive = Archive::open(path)?;
+    let mut archive = Archive::open(path, Opening::reading(arguments)?)?;
     let (which, chunk) = match arguments.has("--metadata") {
         true => (Which::Metadata, number(word, "a chunk")?),
         false => (Which::Content, chunk_meant(&archive, word)?),
     };
-    let bytes = archive.register(which).read(chunk).map_err(|reason| refused(&archive.named(which), reason))?;
-    inputs::give(arguments.option("-o"), bytes)
+    outputs::give(arguments.option("-o"), archive.read_own(which, chunk)?)
 }
 
 /// `missing`: the numbers of the chunks that are not held.
 pub fn missing(arguments: &Arguments) -> Done<()> {
-    let archive = Archive::open(only(&arguments.words(), "an archive")?)?;
+    let archive = Archive::open(only(&arguments.words(), "an archive")?, Opening::reading(arguments)?)?;
     let which = if arguments.has("--metadata") { Which::Metadata } else { Which::Content };
     let (register, mut from) = (archive.register(which), arguments.number("--from")?.unwrap_or(0));
     let mut lines = String::new();
@@ -222,7 +268,7 @@ pub fn missing(arguments: &Arguments) -> Done<()> {
         writeln!(lines, "{chunk}").unwrap();
         from = chunk + 1;
     }
-    inputs::give(None, lines.as_bytes())
+    outputs::give(None, lines.as_bytes())
 }
 
 /// Prints what a register will need for chunks of these lengths.
@@ -236,71 +282,6 @@ pub fn needs_of(archive: &Archive, which: Which, lengths: &[u64]) -> Done<()> {
     }
     let name = which.name();
     say(&format!("{name}: {runs} compression runs: {leaves} for leaves, {parents} for parents, {root} for the root hash"))
-}
-
-/// `packet`: made of an archive's chunk; taken in by another archive; checked, or two compared, without an archive.
-pub fn packet(arguments: &Arguments) -> Done<()> {
-    let words = arguments.words();
-    let Some((kind, words)) = words.split_first() else { return usage("packet make, packet take, packet check or packet compare") };
-    match kind.as_encoded_bytes() {
-        b"make" => make_packet(arguments, words),
-        b"take" => crate::writing::take_packet(arguments, words),
-        b"check" => check_packet(arguments, words),
-        b"compare" => compare_packets(arguments, words),
-        _ => usage("packet make, packet take, packet check or packet compare"),
-    }
-}
-
-fn make_packet(arguments: &Arguments, words: &[&OsStr]) -> Done<()> {
-    let [path, chunk] = words[..] else { return usage("an archive and a chunk are needed") };
-    let archive = Archive::open(path)?;
-    let (which, chunk) = match arguments.has("--metadata") {
-        true => (Which::Metadata, number(chunk, "a chunk")?),
-        false => (Which::Content, chunk_meant(&archive, chunk)?),
-    };
-    let mut out = vec![0; inputs::LONGEST + PACKET_EXTRA];
-    let length = archive.register(which).make_packet(chunk, &mut out).map_err(|reason| refused(&archive.named(which), reason))?;
-    inputs::give(arguments.option("-o"), &out[..length])
-}
-
-/// What a packet is checked against: the count of chunks, the chunk number and the root hash.
-fn against(arguments: &Arguments) -> Done<(u64, u64, [u8; 32])> {
-    match (arguments.number("--chunks")?, arguments.number("--number")?, arguments.root("--root")?) {
-        (Some(n), Some(chunk), Some(root)) => Ok((n, chunk, root)),
-        _ => usage("--chunks, --number and --root are needed"),
-    }
-}
-
-/// A packet of a file; a longer one than any is cut, and refused as no packet.
-pub fn packet_in(file: &OsStr) -> Done<Vec<u8>> {
-    Ok(inputs::at_most(file, inputs::LONGEST + PACKET_EXTRA + 1)?.0)
-}
-
-fn check_packet(arguments: &Arguments, words: &[&OsStr]) -> Done<()> {
-    let file = only(words, "a packet's file")?;
-    let ((n, chunk, root), packet) = (against(arguments)?, packet_in(file)?);
-    let bytes = proved::check_packet(&packet, n, chunk, &root).map_err(|reason| refused(&file.to_string_lossy(), reason))?;
-    if let Some(out) = arguments.option("-o") {
-        inputs::give(Some(out), bytes)?;
-    }
-    say(&format!("{}: chunk {chunk} of {n}, {} bytes", file.to_string_lossy(), bytes.len()))
-}
-
-fn compare_packets(arguments: &Arguments, words: &[&OsStr]) -> Done<()> {
-    let [first, second] = words[..] else { return usage("two packets' files are needed") };
-    let (n, chunk, root) = against(arguments)?;
-    let words = match proved::compare_packets(&packet_in(first)?, &packet_in(second)?, n, chunk, &root) {
-        proved::Walked::SameChunk => {
-            return say("the same chunk");
-        }
-        proved::Walked::CollisionAtRoots => "other chunks under one root hash: two root messages have one hash".into(),
-        proved::Walked::CollisionAtIndex(index) => {
-            format!("other chunks under one root hash: two messages have one hash, at tree index {index}")
-        }
-        proved::Walked::FirstRefused(reason) => format!("{}: {}", first.to_string_lossy(), refusal(reason)),
-        proved::Walked::SecondRefused(reason) => format!("{}: {}", second.to_string_lossy(), refusal(reason)),
-    };
-    Err(Trouble::Refused(words))
 }
 
 /// `group` and `ungroup`: from standard input to standard output.
@@ -319,5 +300,5 @@ fn filter(arguments: &Arguments, call: fn(&[u8], &mut [u8]) -> Result<(), proved
     let (bytes, _) = inputs::at_most(OsStr::new("-"), inputs::LONGEST + 1)?;
     let mut out = vec![0; bytes.len()];
     call(&bytes, &mut out).map_err(|reason| refused("standard input", reason))?;
-    inputs::give(None, &out)
+    outputs::give(None, &out)
 }

@@ -1,4 +1,5 @@
 //! Plain words: what a refusal means, and troubles that end the program.
+use crate::printable::{harmless, Backslash};
 use crate::sleep_register::{Place, Refusal};
 use std::fmt::Write;
 use std::path::Path;
@@ -31,9 +32,10 @@ impl Trouble {
     }
 }
 
-/// A line for the person, whom it may not reach.
+/// A line for the person, whom it may not reach. Names of files may stand in it, so nothing of it moves a terminal.
 pub fn tell(line: &str) {
-    let _ = std::io::Write::write_all(&mut std::io::stderr(), format!("{line}\n").as_bytes());
+    let line = [&harmless(line.as_bytes(), Backslash::Kept)[..], b"\n"].concat();
+    let _ = std::io::Write::write_all(&mut std::io::stderr(), &line);
 }
 
 pub fn usage<T>(words: impl Into<String>) -> Done<T> {
@@ -43,6 +45,16 @@ pub fn usage<T>(words: impl Into<String>) -> Done<T> {
 /// What the system says of a file.
 pub fn at_file(path: &Path, error: std::io::Error) -> Trouble {
     Trouble::File(format!("{}: {}", path.display(), said(&error)))
+}
+
+/// The same of a file in an archive's folder.
+pub fn in_file(folder: &Path, name: &str, error: std::io::Error) -> Trouble {
+    at_file(&folder.join(name), error)
+}
+
+/// A count with its word, in the singular for one.
+pub fn counted(count: u64, word: &str) -> String {
+    format!("{count} {word}{}", if count == 1 { "" } else { "s" })
 }
 
 /// The system's words, without its number.
@@ -68,9 +80,9 @@ fn meaning(number: u64) -> &'static str {
         13 => "the packet does not stand under this root hash",
         14 => "there is no room for the result",
         15 => "no record: a name has 1 to 255 bytes and begins with a slash, and every other field has its bounds too",
-        16 => "a set has 1 to 256 chunks",
+        16 => "a set has 1 to 256 chunks, and an archive's first one has a Header beside the records: at most 255 files",
         17 => "the key is longer than 64 bytes",
-        18 => "a piece that is needed is not held here",
+        18 => "a piece that is needed is not held here: it was released, or never taken in",
         19 => "the packet contradicts what is known here",
         20 => "an entry that is needed is not known in this copy",
         21 => "there is no such station",
@@ -105,27 +117,28 @@ pub fn hex(bytes: &[u8]) -> String {
 
 /// Bytes given in hex.
 pub fn from_hex(words: &str) -> Option<Vec<u8>> {
-    if words.len() % 2 != 0 || !words.is_ascii() {
+    if !words.len().is_multiple_of(2) || !words.bytes().all(|byte| byte.is_ascii_hexdigit()) {
         return None;
     }
     (0..words.len()).step_by(2).map(|at| u8::from_str_radix(&words[at..at + 2], 16).ok()).collect()
 }
 
-/// A name as it can be printed on one line: control characters and backslashes as \xNN for each of their bytes.
-pub fn printable(name: &[u8]) -> Vec<u8> {
-    let mut line = Vec::new();
-    let escape = |line: &mut Vec<u8>, bytes: &[u8]| bytes.iter().for_each(|byte| line.extend(format!("\\x{byte:02x}").bytes()));
-    for part in name.utf8_chunks() {
-        for character in part.valid().chars() {
-            let mut bytes = [0; 4];
-            let bytes = character.encode_utf8(&mut bytes).as_bytes();
-            match character {
-                '\\' => escape(&mut line, bytes),
-                _ if character.is_control() => escape(&mut line, bytes),
-                _ => line.extend(bytes),
-            }
-        }
-        line.extend(part.invalid());
+#[cfg(test)]
+mod tests {
+    use super::*;
+
+    #[test]
+    fn hex_is_digits_alone() {
+        assert_eq!(from_hex("00ff7A"), Some(vec![0, 255, 122]));
+        assert_eq!(from_hex(&"+f".repeat(32)), None);
+        assert_eq!(from_hex("0"), None);
+        assert_eq!(from_hex("é"), None);
+        assert_eq!(from_hex(&hex(&[1, 2, 254])), Some(vec![1, 2, 254]));
     }
-    line
+
+    #[test]
+    fn one_is_singular() {
+        assert_eq!(counted(1, "chunk"), "1 chunk");
+        assert_eq!(counted(0, "chunk"), "0 chunks");
+    }
 }

@@ -40,19 +40,19 @@ use Rattle.append_needs.proofs.Chain.{Ready, ready-passed, ready-accept
 -- ---- n, s and the data size afterwards
 
 module _ (F : List ℕ → List ℕ) where
-  end-count : (r : Register) (xs : List Added) → withAll F r xs .n ≡ r .n + length (lengthsOf xs)
+  pub end-count : (r : Register) (xs : List Added) → withAll F r xs .n ≡ r .n + length (lengthsOf xs)
   unfolding withAll withOne signedRegister appendedRegister
   end-count r [] = sym (add-zero (r .n))
   end-count r (x ∷ xs) = end-count (withOne F r x) xs ∙ omega arith
 
-  end-size : (r : Register) (xs : List Added) → withAll F r xs .size ≡ r .size + total (lengthsOf xs)
+  pub end-size : (r : Register) (xs : List Added) → withAll F r xs .size ≡ r .size + total (lengthsOf xs)
   unfolding withAll withOne signedRegister appendedRegister total
   end-size r [] = sym (add-zero (r .size))
   end-size r (x ∷ xs) = end-size (withOne F r x) xs ∙ omega arith
 
 -- ---- leaves
 
-leaves-counted : (xs : List Added) → total (map leafRuns (lengthsOf xs)) ≡ total (map (λ (x : Added). runs [] (leafMessage (x .chunk))) xs)
+pub leaves-counted : (xs : List Added) → total (map leafRuns (lengthsOf xs)) ≡ total (map (λ (x : Added). runs [] (leafMessage (x .chunk))) xs)
 unfolding total
 leaves-counted [] = refl
 leaves-counted (x ∷ xs) = ap₂ _+_ (leafRuns-of (x .chunk)) (leaves-counted xs)
@@ -60,7 +60,7 @@ leaves-counted (x ∷ xs) = ap₂ _+_ (leafRuns-of (x .chunk)) (leaves-counted x
 -- ---- parents
 
 -- messages that all take the runs of a parent
-as-many : (g : ℕ → List ℕ) (i m : ℕ) → ((j : ℕ) → i ≤ j → j < i + m → runs [] (g j) ≡ parentRuns) → total (map (runs []) (run g i m)) ≡ m * parentRuns
+pub as-many : (g : ℕ → List ℕ) (i m : ℕ) → ((j : ℕ) → i ≤ j → j < i + m → runs [] (g j) ≡ parentRuns) → total (map (runs []) (run g i m)) ≡ m * parentRuns
 unfolding run total
 as-many g i zero h = sym (zero-mul parentRuns)
 as-many g i (suc m) h =
@@ -92,7 +92,7 @@ module _ (F : List ℕ → List ℕ) where
       ap (map (λ (x : Entry). x .hash)) (new-run t n c)
       ∙ ap (λ (l : List (List ℕ)). F (leafMessage c) ∷ l) (hashed-from t n (leaf F c) 0 (completed n))
 
-  after-one : (r : Register) (x : Added) → withOne F r x .n ≡ suc (r .n)
+  pub after-one : (r : Register) (x : Added) → withOne F r x .n ≡ suc (r .n)
   unfolding withOne signedRegister appendedRegister
   after-one r x = add-one (r .n)
 

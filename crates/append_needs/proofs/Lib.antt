@@ -6,3 +6,4 @@ pub mod Answers
 pub mod Chain
 pub mod Appends
 pub mod AtBlake2b
+pub mod Any

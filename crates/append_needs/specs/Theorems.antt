@@ -16,7 +16,8 @@ use Rattle.file_format.specs.Messages.{HashFunction, leafMessage, parentMessage
 use Rattle.file_format.specs.Entries.{Entry, leaf}
 use Rattle.file_format.specs.Stored.{storedRootMessage}
 use Rattle.file_format.specs.Slots.{Slot, allHeld, Within}
-use Rattle.file_format.specs.Belongs.{Register, Belongs}
+use Rattle.file_format.specs.Belongs.{Register, Lent, Belongs}
+use Rattle.checks.specs.Checks.{judged, registerChecks}
 use Rattle.audit.specs.Audit.{Accepted}
 use Rattle.writing.specs.Append.{appendVerdict, storedEntry, sibling, newEntries, appendedRegister}
 use Rattle.writing.specs.Sign.{signVerdict, signedRegister}
@@ -93,6 +94,16 @@ pub record Job (F : List ℕ → List ℕ) (r : Register) (ss : List Slot) (xs :
   -- and there is room for what it answers
   pub room : RoomFor r (needOf (r .n) (r .size) (lengthsOf xs))
 
+-- the call knows n and the data size alone, so its sizes and counts hold of a job on any register that passes the checks 2 to 6, whatever its entries
+-- are (a register of one chunk whose root says 70,000 passes them, and the call gives 9)
+pub record Work (r : Register) (xs : List Added) : Type 0 where
+  pub lent : Lent r
+  pub checked : judged (registerChecks r) done ≡ done
+  pub paid : r .s ≡ r .n
+  pub each : EachRight xs
+  pub taken : needVerdict (r .n) (r .size) (lengthsOf xs) ≡ done
+  pub room : RoomFor r (needOf (r .n) (r .size) (lengthsOf xs))
+
 -- what the needs are, where `end` is the register afterwards
 pub record Counted (F : List ℕ → List ℕ) (r : Register) (xs : List Added) (end : Register) (need : Need) : Type 0 where
   -- "the four file sizes afterwards, each signature counted"
@@ -128,3 +139,14 @@ pub record NeedsOfAppends (F : List ℕ → List ℕ) : Type 0 where
 -- for every function F from byte strings to 32 bytes; of BLAKE2b itself it says what the calls do
 abbrev pub NeedsOfAppendsForAll : Type 0
 NeedsOfAppendsForAll = (F : List ℕ → List ℕ) → HashFunction F → NeedsOfAppends F
+
+-- of a job on any such register: no call is refused, nothing is owed at the end, and the needs are its sizes and the runs of what was hashed
+pub record CountsOfWork (F : List ℕ → List ℕ) : Type 0 where
+  pub allDone : (r : Register) (xs : List Added) → Work r xs → AllDone F r xs
+  pub paid : (r : Register) (xs : List Added) → Work r xs → withAll F r xs .s ≡ withAll F r xs .n
+  pub counted : (r : Register) (xs : List Added) → Work r xs → Counted F r xs (withAll F r xs) (needOf (r .n) (r .size) (lengthsOf xs))
+  pub rooted : (r : Register) (xs : List Added) → Work r xs
+      → rootAnswer F (withAll F r xs) ≡ F (storedRootMessage (withAll F r xs .tree) (withAll F r xs .n))
+
+abbrev pub CountsOfWorkForAll : Type 0
+CountsOfWorkForAll = (F : List ℕ → List ℕ) → HashFunction F → CountsOfWork F

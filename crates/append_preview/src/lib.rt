@@ -1,7 +1,6 @@
 // "Writing nothing, give what an append would answer on a copy of the lent buffers, length for length: the root hash, or the refusal and
 // its place." All four images and the chunk are lent to be read; none is copied.
 use file_format::roots::Roots;
-use number_types::ChunkNumber;
 use refusals::Answer;
 use writing::Node;
 ghost use mathlib.Core.Path.{_≡_};
@@ -28,7 +27,7 @@ fn climbed(tree: &[u8], n: u64, leaf: Node) -> Node
     requires { ⌜ FilledFits (now tree) n (leaf .size) ⌝ }
     ensures { λ r. ⌜ entryOf r ≡ made nodeHash (now (tree .entry)) n (entryOf leaf) (completed n) ⌝ }
 {
-    let last = tree_index::completed(ChunkNumber(n));
+    let last = tree_index::completed(number_types::chunk_behind(n));
     let mut node = leaf;
     let mut d: u32 = 0;
     while d < last {

@@ -1,4 +1,4 @@
--- The audit: "2 to 6, then 10 at the lowest wrong tree index, then 11 at the lowest wrong byte of the bitfield file".
+-- The audit: 2 to 6, then 10 at the lowest wrong tree index, then 11 at the lowest wrong byte of the bitfield file.
 use Prim.Native.Nat.{ℕ, zero, suc, _+_, _-_, _*_}
 use mathlib.Core.Path.{_≡_}
 use mathlib.Core.Bool.{Bool, true, false, cond, _&&_}

@@ -8,7 +8,7 @@ use native.Mathlib.Nat.{le-refl}
 use native.Mathlib.Numerals.{add-one}
 use native.Mathlib.Decide.{decLt}
 use native.Mathlib.Omega.{arith}
-use Rattle.byte_strings.specs.Lowest.{Lowest, nowhere, first, lowest}
+use Rattle.byte_strings.specs.Lowest.{Lowest, nowhere, first, lowest, IsLowest, LowestForAll}
 
 -- one step of the search
 abbrev pub step : Bool → ℕ → Lowest → Lowest
@@ -55,3 +55,60 @@ lowest-agree f g i (suc k) h =
         → step b i (lowest f (suc i) k) ≡ step b i (lowest g (suc i) k)
     go false e r = refl
     go true e r = r e
+
+-- ---- what the search finds
+
+tested : (b : Bool) → (b ≡ true) ⊎ (b ≡ false)
+tested true = inl refl
+tested false = inr refl
+
+clash : {A : Type 0} (b : Bool) → b ≡ true → b ≡ false → A
+clash b p q = absurd (let z : _≡_ {A = ℕ} 0 1 = cc in omega arith)
+
+module _ (right : ℕ → Bool) where
+  -- all is right, or the first wrong number with all right before it
+  pub data Found (i k : ℕ) (l : Lowest) : Type 0 where
+    all : l ≡ nowhere → ((j : ℕ) → i ≤ j → j < i + k → right j ≡ true) → Found i k l
+    one : (j : ℕ) → l ≡ first j → i ≤ j → j < i + k → right j ≡ false → ((m : ℕ) → i ≤ m → m < j → right m ≡ true) → Found i k l
+
+  pub found-lowest : (i k : ℕ) → Found i k (lowest right i k)
+  unfolding lowest
+  found-lowest i zero = all refl (λ j h g. absurd (omega arith))
+  found-lowest i (suc k) = go (tested (right i)) (found-lowest (suc i) k)
+    where
+      go : (right i ≡ true) ⊎ (right i ≡ false) → Found (suc i) k (lowest right (suc i) k) → Found i (suc k) (lowest right i (suc k))
+      go (inr e) f = one i (ap (λ (b : Bool). step b i (lowest right (suc i) k)) e) (le-refl i) (omega arith) e (λ m h g. absurd (omega arith))
+      go (inl e) (all l h) =
+          all (ap (λ (b : Bool). step b i (lowest right (suc i) k)) e ∙ l)
+          (λ j p q. elim (here-or-behind i j p) [ inl r ↦ subst (λ (x : ℕ). right x ≡ true) r e | inr r ↦ h j r (omega arith) ])
+      go (inl e) (one j l p q w h) =
+          one j (ap (λ (b : Bool). step b i (lowest right (suc i) k)) e ∙ l) (omega arith) (omega arith) w
+          (λ m s t. elim (here-or-behind i m s) [ inl r ↦ subst (λ (x : ℕ). right x ≡ true) r e | inr r ↦ h m r t ])
+
+  -- a wrong number with all right before it is the only one
+  only-one : (i j m : ℕ) → i ≤ j → i ≤ m → right j ≡ false → right m ≡ false → ((x : ℕ) → i ≤ x → x < j → right x ≡ true)
+      → ((x : ℕ) → i ≤ x → x < m → right x ≡ true) → j ≡ m
+  only-one i j m p q w v h g =
+      elim (decLt j m) [
+        | yes l ↦ clash (right j) (g j p l) w
+        | no f ↦ elim (decLt m j) [ yes l ↦ clash (right m) (h m q l) v | no d ↦ omega arith ]
+      ]
+
+  is-lowest : (i k : ℕ) (l : Lowest) → Found i k l → IsLowest right i k l
+  is-lowest i k l (all e h) =
+      record {
+        none = (λ _. h, λ _. e);
+        some = λ j. (λ d. absurd (let z : _≡_ {A = ℕ} 0 1 = cc in omega arith), λ f. clash (right j) (h j (f .0) (f .1)) (f .2));
+      }
+  is-lowest i k l (one j e p q w h) =
+      record {
+        none = (λ d. absurd (let z : _≡_ {A = ℕ} 0 1 = cc in omega arith), λ g. clash (right j) (g j p q) w);
+        some = λ m. (
+          λ d. let r : j ≡ m = cc in
+              subst (λ (x : ℕ). (i ≤ x) × (x < i + k) × (right x ≡ false) × ((y : ℕ) → i ≤ y → y < x → right y ≡ true)) r (p, q, w, h),
+          λ f. e ∙ ap first (only-one i j m p (f .0) w (f .2) h (f .3)),
+        );
+      }
+
+pub lowest-for-all : LowestForAll
+lowest-for-all right i k = is-lowest right i k (lowest right i k) (found-lowest right i k)

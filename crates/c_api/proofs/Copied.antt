@@ -9,11 +9,10 @@ use Rattle.packet.specs.declared.making.Made.{Made}
 use Rattle.copy_checks.specs.Copy.{Copy}
 use Rattle.copy_packet.specs.Post.{CopyMadeAs}
 use Rattle.c_encoding.specs.Encoding.{encoded}
-use Rattle.c_encoding.specs.declared.answers.SleepAnswer.{SleepAnswer}
 use Rattle.c_api.specs.Partial.{CopyMakes}
 
 -- a packet made of a copy's chunk, from what its maker answers
-pub copy-makes : (c : Copy) (i : ℕ) (out : List ℕ) (long : ℕ) (answer : SleepAnswer) (m : Made) (after : List ℕ) (longAfter : ℕ)
+pub copy-makes : (c : Copy) (i : ℕ) (out : List ℕ) (long : ℕ) (answer : List ℕ) (m : Made) (after : List ℕ) (longAfter : ℕ)
     → CopyMadeAs nodeHash c i out m after → answer ≡ encoded (madeVerdict m) → longAfter ≡ unlessRefused (madeVerdict m) (madeBytes m) long
     → CopyMakes c i out long answer after longAfter
 copy-makes c i out long answer m after longAfter h a l =

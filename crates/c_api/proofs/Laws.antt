@@ -22,7 +22,6 @@ use Rattle.packet_compare.specs.Meaning.{walkOf}
 use Rattle.packet_compare.specs.declared.Walked.{Walked}
 use Rattle.c_encoding.specs.Encoding.{encoded}
 use Rattle.c_api.specs.Encoding.{packetPart, Makes, needNumbers, Needs, encodedComparison, encodedWalk}
-use Rattle.c_encoding.specs.declared.answers.SleepAnswer.{SleepAnswer}
 
 -- a packet, from the case that its check's answer is
 module _ (p : List ℕ) (n c : ℕ) (root : List ℕ) where
@@ -35,7 +34,7 @@ module _ (p : List ℕ) (n c : ℕ) (root : List ℕ) where
   packet-found l a e = ap (found 4) a ∙ ap (λ (v : Verdict). foundUnless v 4 (chunkLength p)) e
 
 -- a packet made, from what its maker answers
-pub makes : (r : Register) (c : ℕ) (out : List ℕ) (long : ℕ) (answer : SleepAnswer) (m : Made) (after : List ℕ) (longAfter : ℕ)
+pub makes : (r : Register) (c : ℕ) (out : List ℕ) (long : ℕ) (answer : List ℕ) (m : Made) (after : List ℕ) (longAfter : ℕ)
     → MadeAs nodeHash r c out m after → answer ≡ encoded (madeVerdict m) → longAfter ≡ unlessRefused (madeVerdict m) (madeBytes m) long
     → Makes r c out long answer after longAfter
 makes r c out long answer m after longAfter h a l =
@@ -46,7 +45,7 @@ makes r c out long answer m after longAfter h a l =
     }
 
 -- what a job needs, from the case that the answer is
-module _ (n size : ℕ) (ls before : List ℕ) (answer : SleepAnswer) (r : Needed) (h : NeedPost n size ls r) where
+module _ (n size : ℕ) (ls before : List ℕ) (answer : List ℕ) (r : Needed) (h : NeedPost n size ls r) where
   pub needs-refused : (x : Refusal) → r .answer ≡ Refused x → answer ≡ encoded (refusalOf x) → Needs n size ls before answer before
   needs-refused x e a =
       let v : refusalOf x ≡ needVerdict n size ls = sym (ap said e) ∙ h .answer in

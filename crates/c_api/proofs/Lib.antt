@@ -3,3 +3,4 @@ pub mod Laws
 pub mod Turns
 pub mod Told
 pub mod Copied
+pub mod Restored

@@ -1,44 +1,43 @@
 -- What the calls on records answer to C, from the case that their answer is.
 use Prim.Native.Nat.{ℕ}
 use mathlib.Core.Path.{_≡_, refl, sym, ap, ap₂, _∙_, subst}
-use mathlib.Core.List.{List, [], _∷_}
-use lib.ListN.{length}
+use mathlib.Core.List.{List, [], _∷_, _++_}
+use lib.ListN.{length, getD}
 use Rattle.refusals.specs.Verdict.{Verdict, done, refused, unlessRefused}
-use Rattle.refusals.specs.Meaning.{refusalOf}
+use Rattle.refusals.specs.Meaning.{said, refusalOf}
+use Rattle.refusals.specs.declared.Answer.{Answer}
 use Rattle.refusals.specs.declared.Refusal.{Refusal}
-use Rattle.number_types.specs.declared.ChunkNumber.{ChunkNumber}
 use Rattle.record_fields.specs.declared.rows.Part.{Part}
-use Rattle.record_format.specs.Post.{WrittenAs, writeVerdict, lengthUnless, writtenVerdict, writtenLength}
+use Rattle.record_format.specs.Post.{WrittenAs, writeVerdict, lengthUnless, writtenVerdict, writtenLength, headerTold}
 use Rattle.record_format.specs.declared.answers.Written.{Written}
 use Rattle.record_format.specs.declared.answers.Written.the-variants.{Refused, Length}
 use Rattle.record_format.specs.declared.headers.HeaderRead.{HeaderRead}
 use Rattle.record_format.specs.declared.headers.HeaderRead.the-variants.{Refused as NoHeader, Content}
-use Rattle.record_node.specs.Post.{NodeWrittenAs}
+use Rattle.record_node.specs.Post.{NodeWrittenAs, nodeTold}
 use Rattle.record_node.specs.declared.reading.Node.{Node}
 use Rattle.record_find.specs.Finding.{foundOf}
 use Rattle.record_find.specs.declared.finding.Found.{Found}
-use Rattle.record_find.specs.declared.finding.Found.the-variants.{Refused as NotFound, At, Nowhere}
-use Rattle.c_records.specs.Flat.{nodeIn}
+use Rattle.c_records.specs.Flat.{flatNode, nodeIn}
+use Rattle.c_records.specs.Numbers.{nodeNumbers, flatAt}
 use Rattle.c_records.specs.declared.FlatNode.{FlatNode}
 use Rattle.c_encoding.specs.Encoding.{encoded}
-use Rattle.c_api.specs.Metadata.{Told, Writes, WritesNode, encodedHeader, headerNumbers, encodedFound}
-use Rattle.c_encoding.specs.declared.answers.SleepAnswer.{SleepAnswer}
-use Rattle.c_api.specs.declared.metadata.SleepFound.{SleepFound}
+use Rattle.c_encoding.proofs.Laws.{three-of}
+use Rattle.c_api.specs.Metadata.{Told, Writes, WritesNode, GivesHeader, encodedNode, encodedFound}
 
 -- ---- writing
 
-pub told-refused : (w : Written) (x : Refusal) (long : ℕ) (a : SleepAnswer) → w ≡ Refused x → a ≡ encoded (refusalOf x) → Told w long a long
+pub told-refused : (w : Written) (x : Refusal) (long : ℕ) (a : List ℕ) → w ≡ Refused x → a ≡ encoded (refusalOf x) → Told w long a long
 told-refused w x long a e q =
     subst (λ (v : Written). Told v long a long) (sym e) (record { answers = q; number = refl })
 
-pub told-length : (w : Written) (k long : ℕ) (a : SleepAnswer) → w ≡ Length k → a ≡ encoded done → Told w long a k
+pub told-length : (w : Written) (k long : ℕ) (a : List ℕ) → w ≡ Length k → a ≡ encoded done → Told w long a k
 told-length w k long a e q = subst (λ (v : Written). Told v long a k) (sym e) (record { answers = q; number = refl })
 
 number-of : (v : Verdict) (k long : ℕ) → unlessRefused v (lengthUnless v k) long ≡ unlessRefused v k long
 number-of done k long = refl
 number-of (refused m at) k long = refl
 
-pub writes : (W : Type 0) (bytes out : List ℕ) (w : Written) (after : List ℕ) → WrittenAs W bytes out w after → (long longAfter : ℕ) (a : SleepAnswer)
+pub writes : (W : Type 0) (bytes out : List ℕ) (w : Written) (after : List ℕ) → WrittenAs W bytes out w after → (long longAfter : ℕ) (a : List ℕ)
     → Told w long a longAfter → Writes W bytes out long a after longAfter
 writes W bytes out w after h long longAfter a t =
     record {
@@ -51,36 +50,33 @@ writes W bytes out w after h long longAfter a t =
           ∙ number-of (writeVerdict (h .fits) (length bytes) (length out)) (length bytes) long;
     }
 
-pub writes-node : (d : List ℕ) (f : FlatNode) (n : Node) → n ≡ nodeIn f → (out : List ℕ) (w : Written) (after : List ℕ) → NodeWrittenAs d n out w after
-    → (long longAfter : ℕ) (a : SleepAnswer) → Told w long a longAfter → WritesNode d f out long a after longAfter
-writes-node d f n e out w after h long longAfter a t =
-    writes _ _ _ w after (subst (λ (m : Node). NodeWrittenAs d m out w after) e h) long longAfter a t
+pub writes-node : (d k : List ℕ) (f : FlatNode) (n : Node) → f ≡ flatAt k → n ≡ nodeIn f → (out : List ℕ) (w : Written) (after : List ℕ)
+    → NodeWrittenAs d n out w after → (long longAfter : ℕ) (a : List ℕ) → Told w long a longAfter → WritesNode d k out long a after longAfter
+writes-node d k f n p e out w after h long longAfter a t =
+    writes _ _ _ w after (subst (λ (m : Node). NodeWrittenAs d m out w after) (e ∙ ap nodeIn p) h) long longAfter a t
 
 -- ---- reading
 
-pub header-none : (r : HeaderRead) (x : Refusal) (before : List ℕ) (a : SleepAnswer) → r ≡ NoHeader x → a ≡ encoded (refusalOf x)
-    → (a ≡ encodedHeader r) × (before ≡ headerNumbers r before)
+pub header-none : (r : HeaderRead) (x : Refusal) (before : List ℕ) (a : List ℕ) → r ≡ NoHeader x → a ≡ encoded (refusalOf x)
+    → GivesHeader (headerTold r) before a before
 header-none r x before a e q =
-    (q ∙ ap encodedHeader (sym e), ap (λ (y : HeaderRead). headerNumbers y before) (sym e))
+    subst (λ (y : HeaderRead). GivesHeader (headerTold y) before a before) (sym e) (record { answers = q; numbers = refl })
 
-pub header-given : (r : HeaderRead) (p : Part) (before : List ℕ) (a : SleepAnswer) → r ≡ Content p → a ≡ encoded done
-    → (a ≡ encodedHeader r) × (p .at ∷ p .len ∷ [] ≡ headerNumbers r before)
+pub header-given : (r : HeaderRead) (p : Part) (before : List ℕ) (a : List ℕ) → r ≡ Content p → a ≡ encoded done
+    → GivesHeader (headerTold r) before a (p .at ∷ p .len ∷ [])
 header-given r p before a e q =
-    (q ∙ ap encodedHeader (sym e), ap (λ (y : HeaderRead). headerNumbers y before) (sym e))
+    subst (λ (y : HeaderRead). GivesHeader (headerTold y) before a (p .at ∷ p .len ∷ [])) (sym e) (record { answers = q; numbers = refl })
 
--- ---- finding
+pub header-same : (told other : Verdict × Part) (before a after : List ℕ) → told ≡ other → GivesHeader told before a after → GivesHeader other before a after
+header-same told other before a after e h = subst (λ (t : Verdict × Part). GivesHeader t before a after) e h
 
-abbrev with : ℕ → ℕ → SleepAnswer → SleepFound
-with found chunk answer = record { found = found; chunk = chunk; answer = answer }
+pub node-told : (r a : List ℕ) (v : Answer) (f : FlatNode) (n : Node) → r ≡ getD a 0 0 ∷ getD a 1 0 ∷ getD a 2 0 ∷ nodeNumbers f → a ≡ encoded (said v)
+    → f ≡ flatNode n → r ≡ encodedNode (nodeTold v n)
+node-told r a v f n e p q =
+    e ∙ ap (λ (x : FlatNode). getD a 0 0 ∷ getD a 1 0 ∷ getD a 2 0 ∷ nodeNumbers x) q
+    ∙ ap (λ (x : List ℕ). x ++ nodeNumbers (flatNode n)) (three-of a (said v) p)
 
-found-by : (f g : Found) (b c : ℕ) (a v : SleepAnswer) → f ≡ g → a ≡ v → with b c v ≡ encodedFound (foundOf g) → with b c a ≡ encodedFound (foundOf f)
-found-by f g b c a v e q h = ap (with b c) q ∙ h ∙ ap (λ (x : Found). encodedFound (foundOf x)) (sym e)
+-- ---- finding, from the case that the answer is
 
-pub found-refused : (f : Found) (x : Refusal) (a : SleepAnswer) → f ≡ NotFound x → a ≡ encoded (refusalOf x) → with 0 0 a ≡ encodedFound (foundOf f)
-found-refused f x a e q = found-by f (NotFound x) 0 0 a (encoded (refusalOf x)) e q refl
-
-pub found-at : (f : Found) (k : ChunkNumber) (a : SleepAnswer) → f ≡ At k → a ≡ encoded done → with 1 (k .0) a ≡ encodedFound (foundOf f)
-found-at f k a e q = found-by f (At k) 1 (k .0) a (encoded done) e q refl
-
-pub found-nowhere : (f : Found) (a : SleepAnswer) → f ≡ Nowhere → a ≡ encoded done → with 0 0 a ≡ encodedFound (foundOf f)
-found-nowhere f a e q = found-by f Nowhere 0 0 a (encoded done) e q refl
+pub found-by : (f g : Found) (x : List ℕ) → f ≡ g → x ≡ encodedFound (foundOf g) → x ≡ encodedFound (foundOf f)
+found-by f g x e h = h ∙ ap (λ (y : Found). encodedFound (foundOf y)) (sym e)

@@ -1,7 +1,7 @@
 -- The numbers that stand for what the calls on a table of waiting reads say.
 use Prim.Native.Nat.{ℕ}
 use mathlib.Core.Path.{_≡_}
-use mathlib.Core.List.{List}
+use mathlib.Core.List.{List, _∷_}
 use Rattle.refusals.specs.Verdict.{done, unlessRefused}
 use Rattle.blake2b.specs.Hash.{nodeHash}
 use Rattle.file_format.specs.Belongs.{Register}
@@ -12,11 +12,9 @@ use Rattle.station_table.specs.Table.{Read, Turn, nobody, turn, enterVerdict, e
 use Rattle.station_table.specs.Words.{storedAt, leftAt, tableOf}
 use Rattle.station_serving.specs.Serving.{numberOf, namedBy}
 use Rattle.c_encoding.specs.Encoding.{encoded, verdictOf, numbersUnless, asPart}
-use Rattle.c_encoding.specs.declared.answers.SleepAnswer.{SleepAnswer}
-use Rattle.c_api.specs.declared.waiting.SleepServing.{SleepServing}
 
 -- entering a read of station s: the answer, and the table's numbers before and after
-pub record Enters (s : ℕ) (r : Read) (before : List ℕ) (answer : SleepAnswer) (after : List ℕ) : Type 0 where
+pub record Enters (s : ℕ) (r : Read) (before answer after : List ℕ) : Type 0 where
   pub answers : answer ≡ encoded (enterVerdict (tableOf before) s)
   pub table : tableOf after ≡ entered (tableOf before) s r
   pub numbers : after ≡ unlessRefused (enterVerdict (tableOf before) s) (storedAt before s r) before
@@ -25,14 +23,11 @@ pub record Enters (s : ℕ) (r : Read) (before : List ℕ) (answer : SleepAnswer
 abbrev pub partOf : Register → Register → Read → Found
 partOf m c r = asPart (readFound nodeHash (named (namedBy (r .register)) m c) (r .chunk))
 
--- what a serving says: 0 where no read waits; else 1, the station, the register that its read names, the chunk, and what it is answered
-abbrev pub encodedNobody : SleepServing
-encodedNobody = record { served = 0; station = 0; name = 0; chunk = 0; answer = encoded done }
-
-abbrev pub encodedServing : Register → Register → Turn → SleepServing
-encodedServing m c nobody = encodedNobody
-encodedServing m c (turn s r) =
-    record { served = 1; station = s; name = numberOf (namedBy (r .register)); chunk = r .chunk; answer = encoded (verdictOf (partOf m c r)) }
+-- what a serving says, as seven numbers: 0 and zeros where no read waits; else 1, the station, the register that its read names, the chunk, and what it
+-- is answered
+abbrev pub encodedServing : Register → Register → Turn → List ℕ
+encodedServing m c nobody = 0 ∷ 0 ∷ 0 ∷ 0 ∷ encoded done
+encodedServing m c (turn s r) = 1 ∷ s ∷ numberOf (namedBy (r .register)) ∷ r .chunk ∷ encoded (verdictOf (partOf m c r))
 
 -- what the two numbers lent to it are after it
 abbrev pub numbersServed : Register → Register → Turn → List ℕ → List ℕ
@@ -40,7 +35,7 @@ numbersServed m c nobody before = before
 numbersServed m c (turn s r) before = numbersUnless (partOf m c r) before
 
 -- a serving from the registers m and c: the table's numbers and the two numbers before it, its answer, and both after it
-pub record Hands (m c : Register) (before two : List ℕ) (answer : SleepServing) (after twoAfter : List ℕ) : Type 0 where
+pub record Hands (m c : Register) (before two answer after twoAfter : List ℕ) : Type 0 where
   pub answers : answer ≡ encodedServing m c (next (tableOf before))
   pub part : twoAfter ≡ numbersServed m c (next (tableOf before)) two
   pub table : tableOf after ≡ served (tableOf before)

@@ -11,7 +11,12 @@ ghost use Rattle.c_encoding.specs.Number.{numberOf};
 // BLAKE2b with `length` bytes of output under a key: these and then zeros in `digest`, 64 bytes in all. It answers 0 or the number of its
 // refusal, which has no place. After a refusal `digest` is as it was.
 #[no_mangle]
-pub extern "C" fn sleep_hash(length: u64, key: &[u8], message: &[u8], digest: &mut [u8; 64]) -> u64
+pub extern "C" fn sleep_flat_hash(
+    length: u64,
+    key: &[u8],
+    message: &[u8],
+    digest: &mut [u8; 64],
+) -> u64
     ensures { λ r. ⌜ r ≡ numberOf (verdict length (List·length (now (key .entry)))) ⌝ }
     ensures { λ _. ⌜ now (digest .exit) ≡ unlessRefused (verdict length (List·length (now (key .entry)))) (Call·digest length (now (key .entry)) (now (message .entry))) (now (digest .entry)) ⌝ }
 {
@@ -23,7 +28,7 @@ pub extern "C" fn sleep_hash(length: u64, key: &[u8], message: &[u8], digest: &m
 
 // The same with 32 bytes of output, of a message that lies in two parts: with the empty key the hash of leaves, parents and roots.
 #[no_mangle]
-pub extern "C" fn sleep_hash_parts(
+pub extern "C" fn sleep_flat_hash_parts(
     key: &[u8],
     prefix: &[u8],
     body: &[u8],
@@ -41,7 +46,7 @@ pub extern "C" fn sleep_hash_parts(
 
 // The label of a root hash under a key, in `out`, which is as it was after a refusal. It answers as `sleep_hash` does.
 #[no_mangle]
-pub extern "C" fn sleep_label(root: &[u8; 32], key: &[u8], out: &mut [u8; 32]) -> u64
+pub extern "C" fn sleep_flat_label(root: &[u8; 32], key: &[u8], out: &mut [u8; 32]) -> u64
     ensures { λ r. ⌜ r ≡ numberOf (labelVerdict (now (key .entry))) ⌝ }
     ensures { λ _. ⌜ now (out .exit) ≡ unlessRefused (labelVerdict (now (key .entry))) (labelBytes (now (key .entry)) (now (root .entry))) (now (out .entry)) ⌝ }
 {
@@ -49,5 +54,5 @@ pub extern "C" fn sleep_label(root: &[u8; 32], key: &[u8], out: &mut [u8; 32]) -
     let bytes = labelled.bytes;
     let answer = labelled.answer;
     let told = c_encoding::give_hash(answer, bytes, out);
-    told.number
+    told[0]
 }

@@ -1,5 +1,4 @@
 // What a job will need. No register is lent.
-use c_encoding::SleepAnswer;
 use refusals::Answer;
 ghost use Rattle.c_api.specs.Encoding.{Needs};
 
@@ -7,13 +6,21 @@ ghost use Rattle.c_api.specs.Encoding.{Needs};
 // afterwards, then the compression runs for the new leaves, the completed parents and the root hash, and all runs together. They stand in
 // `out`, which is as it was after a refusal.
 #[no_mangle]
-pub extern "C" fn sleep_needs(n: u64, size: u64, lengths: &[u64], out: &mut [u64; 8]) -> SleepAnswer
-    ensures { λ r. ⌜ Needs n size (now (lengths .entry)) (now (out .entry)) r (now (out .exit)) ⌝ }
+pub extern "C" fn sleep_flat_needs(
+    n: u64,
+    size: u64,
+    lengths: &[u64],
+    out: &mut [u64; 8],
+    answer: &mut [u64; 3],
+)
+    ensures { λ _. ⌜ Needs n size (now (lengths .entry)) (now (out .entry)) (now (answer .exit)) (now (out .exit)) ⌝ }
 {
     let needed = append_needs::needs(n, size, lengths);
-    let answer = needed.answer;
-    match answer {
-        Answer::Refused(refusal) => c_encoding::refused(refusal),
+    let said = needed.answer;
+    match said {
+        Answer::Refused(refusal) => {
+            *answer = c_encoding::refused(refusal);
+        }
         Answer::Done => {
             *out = [
                 needed.tree,
@@ -25,7 +32,7 @@ pub extern "C" fn sleep_needs(n: u64, size: u64, lengths: &[u64], out: &mut [u64
                 needed.root,
                 needed.runs,
             ];
-            c_encoding::encode(Answer::Done)
+            *answer = c_encoding::encode(Answer::Done);
         }
     }
 }

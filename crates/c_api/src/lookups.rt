@@ -1,5 +1,4 @@
 // The lookups, the verified read and the search. Each gives two numbers, in `out`, which is as it was after a refusal.
-use c_encoding::SleepAnswer;
 use number_types::ByteOffset;
 use number_types::ChunkNumber;
 ghost use Rattle.blake2b.specs.Hash.{nodeHash};
@@ -11,7 +10,7 @@ ghost use Rattle.c_encoding.specs.Encoding.{Gives, asPart, asFound};
 
 // Where the bytes of a chunk begin in `content`, and how many they are.
 #[no_mangle]
-pub extern "C" fn sleep_place(
+pub extern "C" fn sleep_flat_place(
     tree: &[u8],
     signatures: &[u8],
     bitfield: &[u8],
@@ -21,12 +20,13 @@ pub extern "C" fn sleep_place(
     size: u64,
     chunk: u64,
     out: &mut [u64; 2],
-) -> SleepAnswer
-    ensures { λ r.
+    answer: &mut [u64; 3],
+)
+    ensures { λ _.
         ⌜
         Gives
         (placeOf (registerOf (now (tree .entry)) (now (signatures .entry)) (now (bitfield .entry)) (now (content .entry)) n s size) chunk)
-        (now (out .entry)) r (now (out .exit))
+        (now (out .entry)) (now (answer .exit)) (now (out .exit))
         ⌝ }
 {
     let found = lookup::place(
@@ -39,13 +39,13 @@ pub extern "C" fn sleep_place(
         size,
         ChunkNumber(chunk),
     );
-    c_encoding::give_place(found, out)
+    *answer = c_encoding::give_place(found, out);
 }
 
 // The chunk whose bytes contain an offset, and the offset less its start; never an empty chunk. At the data size n and 0, also in an empty
 // register.
 #[no_mangle]
-pub extern "C" fn sleep_byte(
+pub extern "C" fn sleep_flat_byte(
     tree: &[u8],
     signatures: &[u8],
     bitfield: &[u8],
@@ -55,12 +55,13 @@ pub extern "C" fn sleep_byte(
     size: u64,
     offset: u64,
     out: &mut [u64; 2],
-) -> SleepAnswer
-    ensures { λ r.
+    answer: &mut [u64; 3],
+)
+    ensures { λ _.
         ⌜
         Gives
         (byteAt (registerOf (now (tree .entry)) (now (signatures .entry)) (now (bitfield .entry)) (now (content .entry)) n s size) offset)
-        (now (out .entry)) r (now (out .exit))
+        (now (out .entry)) (now (answer .exit)) (now (out .exit))
         ⌝ }
 {
     let found = lookup::locate(
@@ -73,13 +74,13 @@ pub extern "C" fn sleep_byte(
         size,
         ByteOffset(offset),
     );
-    c_encoding::give_byte(found, out)
+    *answer = c_encoding::give_byte(found, out);
 }
 
 // A verified read: where the bytes of a chunk begin in `content` and how many they are, after its leaf hash was compared. The caller names
 // the register by lending it.
 #[no_mangle]
-pub extern "C" fn sleep_read(
+pub extern "C" fn sleep_flat_read(
     tree: &[u8],
     signatures: &[u8],
     bitfield: &[u8],
@@ -89,12 +90,13 @@ pub extern "C" fn sleep_read(
     size: u64,
     chunk: u64,
     out: &mut [u64; 2],
-) -> SleepAnswer
-    ensures { λ r.
+    answer: &mut [u64; 3],
+)
+    ensures { λ _.
         ⌜
         Gives
         (asPart (readFound nodeHash (registerOf (now (tree .entry)) (now (signatures .entry)) (now (bitfield .entry)) (now (content .entry)) n s size) chunk))
-        (now (out .entry)) r (now (out .exit))
+        (now (out .entry)) (now (answer .exit)) (now (out .exit))
         ⌝ }
 {
     let found = lookup::verify(
@@ -107,12 +109,12 @@ pub extern "C" fn sleep_read(
         size,
         ChunkNumber(chunk),
     );
-    c_encoding::give_part(found, out)
+    *answer = c_encoding::give_part(found, out);
 }
 
 // The first chunk from a given number on, below n, that is not held: 1 and its number, or 0 and 0 where there is none.
 #[no_mangle]
-pub extern "C" fn sleep_search(
+pub extern "C" fn sleep_flat_search(
     tree: &[u8],
     signatures: &[u8],
     bitfield: &[u8],
@@ -122,12 +124,13 @@ pub extern "C" fn sleep_search(
     size: u64,
     from: u64,
     out: &mut [u64; 2],
-) -> SleepAnswer
-    ensures { λ r.
+    answer: &mut [u64; 3],
+)
+    ensures { λ _.
         ⌜
         Gives
         (asFound (searchFor (registerOf (now (tree .entry)) (now (signatures .entry)) (now (bitfield .entry)) (now (content .entry)) n s size) from))
-        (now (out .entry)) r (now (out .exit))
+        (now (out .entry)) (now (answer .exit)) (now (out .exit))
         ⌝ }
 {
     let found = search::search(
@@ -140,5 +143,5 @@ pub extern "C" fn sleep_search(
         size,
         ChunkNumber(from),
     );
-    c_encoding::give_search(found, out)
+    *answer = c_encoding::give_search(found, out);
 }

@@ -1,7 +1,5 @@
 // The records of a metadata register, and the paths in them. The fields of a Node are numbers alone, whose parts lie in the bytes lent or, of a
 // chunk of a register, in the bytes of the chunk.
-use c_encoding::SleepAnswer;
-use c_records::FlatNode;
 use number_types::ChunkNumber;
 use record_find::Found;
 use record_format::HeaderRead;
@@ -9,31 +7,20 @@ use record_format::Written;
 use record_node::NodeRead;
 use refusals::Answer;
 ghost use mathlib.Core.Path.{_≡_};
+ghost use mathlib.Core.List.{_∷_};
+ghost use Rattle.refusals.specs.Meaning.{said as toldBy};
 ghost use Rattle.blake2b.specs.Hash.{nodeHash};
 ghost use Rattle.checks.specs.Lent.{registerOf};
-ghost use Rattle.record_format.specs.Post.{HeaderReadAs};
-ghost use Rattle.record_node.specs.Post.{NodeReadAs};
-ghost use Rattle.record_find.specs.ChunkRecords.{HeaderAs, NodeAs};
-ghost use Rattle.record_find.specs.Finding.{foundOf, FindAs};
-ghost use Rattle.c_api.specs.Metadata.{WritesHeader, WritesNode, Told, GivesHeader, encodedHeader, headerNumbers, GivesNode, encodedNode, encodedFound, FindsAs};
-
-// What reading a Node answers, and its fields, which are all 0 after a refusal.
-#[repr(C)]
-pub struct SleepNodeRead {
-    pub answer: SleepAnswer,
-    pub node: FlatNode,
-}
-
-// `found` is 1 where a record has the path, and `chunk` is its number then; else both are 0, as they are after a refusal.
-#[repr(C)]
-pub struct SleepFound {
-    pub found: u64,
-    pub chunk: u64,
-    pub answer: SleepAnswer,
-}
+ghost use Rattle.refusals.specs.Verdict.{none};
+ghost use Rattle.record_format.specs.Post.{headerTold, readHeader};
+ghost use Rattle.record_node.specs.Post.{nodeTold, readNode};
+ghost use Rattle.record_find.specs.ChunkRecords.{headerIn, nodeIn};
+ghost use Rattle.record_find.specs.Finding.{foundOf, findIn};
+ghost use Rattle.c_encoding.specs.Encoding.{encoded};
+ghost use Rattle.c_api.specs.Metadata.{WritesHeader, WritesNode, Told, GivesHeader, encodedNode, encodedFound};
 
 // What writing answers; the number of the bytes written into `length`, unless it is refused.
-fn give_length(written: Written, length: &mut u64) -> SleepAnswer
+fn give_length(written: Written, length: &mut u64) -> [u64; 3]
     ensures { λ r. ⌜ Told written (now (length .entry)) r (now (length .exit)) ⌝ }
 {
     match written {
@@ -47,40 +34,41 @@ fn give_length(written: Written, length: &mut u64) -> SleepAnswer
 
 // The Header with these content bytes, at the front of `out`, and how many bytes it has, in `length`.
 #[no_mangle]
-pub extern "C" fn sleep_write_header(
+pub extern "C" fn sleep_flat_write_header(
     content: &[u8],
     out: &mut [u8],
     length: &mut u64,
-) -> SleepAnswer
-    ensures { λ r.
+    answer: &mut [u64; 3],
+)
+    ensures { λ _.
         ⌜
-        WritesHeader (now (content .entry)) (now (out .entry)) (now (length .entry)) r (now (out .exit)) (now (length .exit))
+        WritesHeader (now (content .entry)) (now (out .entry)) (now (length .entry)) (now (answer .exit)) (now (out .exit)) (now (length .exit))
         ⌝ }
 {
-    give_length(record_format::write_header(content, out), length)
+    *answer = give_length(record_format::write_header(content, out), length);
 }
 
-// The Node with these fields, whose parts lie in `bytes`, at the front of `out`, and how many bytes it has, in `length`.
+// The Node whose fields are the numbers `node`, with parts that lie in `bytes`, at the front of `out`, and how many bytes it has, in `length`.
 #[no_mangle]
-pub extern "C" fn sleep_write_node(
+pub extern "C" fn sleep_flat_write_node(
     bytes: &[u8],
-    node: FlatNode,
+    node: &[u64; 67],
     out: &mut [u8],
     length: &mut u64,
-) -> SleepAnswer
-    ensures { λ r.
+    answer: &mut [u64; 3],
+)
+    ensures { λ _.
         ⌜
-        WritesNode (now (bytes .entry)) node (now (out .entry)) (now (length .entry)) r (now (out .exit)) (now (length .exit))
+        WritesNode (now (bytes .entry)) (now (node .entry)) (now (out .entry)) (now (length .entry)) (now (answer .exit)) (now (out .exit)) (now (length .exit))
         ⌝ }
 {
-    let fields = c_records::node_in(node);
-    give_length(record_node::write_node(bytes, fields, out), length)
+    let fields = c_records::node_in(c_records::flat_at(node));
+    *answer = give_length(record_node::write_node(bytes, fields, out), length);
 }
 
 // What reading a Header answers; where its content bytes lie, as two numbers, unless it is refused.
-pub fn give_header(read: HeaderRead, out: &mut [u64; 2]) -> SleepAnswer
-    ensures answers { λ r. ⌜ r ≡ encodedHeader read ⌝ }
-    ensures gives { λ _. ⌜ now (out .exit) ≡ headerNumbers read (now (out .entry)) ⌝ }
+pub fn give_header(read: HeaderRead, out: &mut [u64; 2]) -> [u64; 3]
+    ensures { λ r. ⌜ GivesHeader (headerTold read) (now (out .entry)) r (now (out .exit)) ⌝ }
 {
     match read {
         HeaderRead::Refused(refusal) => c_encoding::refused(refusal),
@@ -93,37 +81,33 @@ pub fn give_header(read: HeaderRead, out: &mut [u64; 2]) -> SleepAnswer
 
 // Where the content bytes of the Header lie that `bytes` are.
 #[no_mangle]
-pub extern "C" fn sleep_read_header(bytes: &[u8], out: &mut [u64; 2]) -> SleepAnswer
-    ensures { λ r. ⌜ GivesHeader (HeaderReadAs (now (bytes .entry))) (now (out .entry)) r (now (out .exit)) ⌝ }
+pub extern "C" fn sleep_flat_read_header(bytes: &[u8], out: &mut [u64; 2], answer: &mut [u64; 3])
+    ensures { λ _. ⌜ GivesHeader (readHeader none (now (bytes .entry))) (now (out .entry)) (now (answer .exit)) (now (out .exit)) ⌝ }
 {
-    give_header(record_format::read_header(bytes), out)
+    *answer = give_header(record_format::read_header(bytes), out);
 }
 
-// What reading a Node answers, with its fields as numbers.
-pub fn flat(read: NodeRead) -> SleepNodeRead
-    ensures { λ r. ⌜ r ≡ encodedNode (read .answer) (read .node) ⌝ }
+// What reading a Node answers, and behind it the 67 numbers of its fields, which are all 0 after a refusal.
+pub fn flat(read: NodeRead) -> [u64; 70]
+    ensures { λ r. ⌜ r ≡ encodedNode (nodeTold (read .answer) (read .node)) ⌝ }
 {
     let said = read.answer;
     let node = read.node;
     let answer = c_encoding::encode(said);
-    let fields = c_records::flat_node(node);
-    SleepNodeRead {
-        answer,
-        node: fields,
-    }
+    c_records::answered(answer, c_records::flat_node(node))
 }
 
 // The fields of the Node that `bytes` are.
 #[no_mangle]
-pub extern "C" fn sleep_read_node(bytes: &[u8]) -> SleepNodeRead
-    ensures { λ r. ⌜ GivesNode (NodeReadAs (now (bytes .entry))) r ⌝ }
+pub extern "C" fn sleep_flat_read_node(bytes: &[u8], answer: &mut [u64; 70])
+    ensures { λ _. ⌜ now (answer .exit) ≡ encodedNode (readNode none (now (bytes .entry))) ⌝ }
 {
-    flat(record_node::read_node(bytes))
+    *answer = flat(record_node::read_node(bytes));
 }
 
 // Where the content bytes of the Header lie that a chunk is, in the chunk.
 #[no_mangle]
-pub extern "C" fn sleep_header_of(
+pub extern "C" fn sleep_flat_header_of(
     tree: &[u8],
     signatures: &[u8],
     bitfield: &[u8],
@@ -133,12 +117,13 @@ pub extern "C" fn sleep_header_of(
     size: u64,
     chunk: u64,
     out: &mut [u64; 2],
-) -> SleepAnswer
-    ensures { λ r.
+    answer: &mut [u64; 3],
+)
+    ensures { λ _.
         ⌜
         GivesHeader
-        (HeaderAs nodeHash (registerOf (now (tree .entry)) (now (signatures .entry)) (now (bitfield .entry)) (now (content .entry)) n s size) chunk)
-        (now (out .entry)) r (now (out .exit))
+        (headerIn nodeHash (registerOf (now (tree .entry)) (now (signatures .entry)) (now (bitfield .entry)) (now (content .entry)) n s size) chunk)
+        (now (out .entry)) (now (answer .exit)) (now (out .exit))
         ⌝ }
 {
     let read = record_find::header_of(
@@ -151,12 +136,12 @@ pub extern "C" fn sleep_header_of(
         size,
         ChunkNumber(chunk),
     );
-    give_header(read, out)
+    *answer = give_header(read, out);
 }
 
 // The fields of the Node that a chunk is, with parts of the chunk.
 #[no_mangle]
-pub extern "C" fn sleep_node_of(
+pub extern "C" fn sleep_flat_node_of(
     tree: &[u8],
     signatures: &[u8],
     bitfield: &[u8],
@@ -165,15 +150,16 @@ pub extern "C" fn sleep_node_of(
     s: u64,
     size: u64,
     chunk: u64,
-) -> SleepNodeRead
-    ensures { λ r.
+    answer: &mut [u64; 70],
+)
+    ensures { λ _.
         ⌜
-        GivesNode
-        (NodeAs nodeHash (registerOf (now (tree .entry)) (now (signatures .entry)) (now (bitfield .entry)) (now (content .entry)) n s size) chunk)
-        r
+        now (answer .exit)
+        ≡ encodedNode
+        (nodeIn nodeHash (registerOf (now (tree .entry)) (now (signatures .entry)) (now (bitfield .entry)) (now (content .entry)) n s size) chunk)
         ⌝ }
 {
-    flat(record_find::node_of(
+    *answer = flat(record_find::node_of(
         tree,
         signatures,
         bitfield,
@@ -182,44 +168,31 @@ pub extern "C" fn sleep_node_of(
         s,
         size,
         ChunkNumber(chunk),
-    ))
+    ));
+}
+
+// Whether a record has the path, 1 or 0, the number of its chunk, which is 0 where none has or the search is refused, and the three numbers of an answer.
+fn with_found(found: u64, chunk: u64, said: Answer) -> [u64; 5]
+    ensures { λ r. ⌜ r ≡ found ∷ chunk ∷ encoded (toldBy said) ⌝ }
+{
+    let answer = c_encoding::encode(said);
+    [found, chunk, answer[0], answer[1], answer[2]]
 }
 
 // What a search answers, as numbers.
-pub fn found_as(found: Found) -> SleepFound
+pub fn found_as(found: Found) -> [u64; 5]
     ensures { λ r. ⌜ r ≡ encodedFound (foundOf found) ⌝ }
 {
     match found {
-        Found::Refused(refusal) => {
-            let answer = c_encoding::refused(refusal);
-            SleepFound {
-                found: 0,
-                chunk: 0,
-                answer,
-            }
-        }
-        Found::At(chunk) => {
-            let answer = c_encoding::encode(Answer::Done);
-            SleepFound {
-                found: 1,
-                chunk: chunk.0,
-                answer,
-            }
-        }
-        Found::Nowhere => {
-            let answer = c_encoding::encode(Answer::Done);
-            SleepFound {
-                found: 0,
-                chunk: 0,
-                answer,
-            }
-        }
+        Found::Refused(refusal) => with_found(0, 0, Answer::Refused(refusal)),
+        Found::At(chunk) => with_found(1, chunk.0, Answer::Done),
+        Found::Nowhere => with_found(0, 0, Answer::Done),
     }
 }
 
 // The highest chunk number from 1 up whose record has this path.
 #[no_mangle]
-pub extern "C" fn sleep_find(
+pub extern "C" fn sleep_flat_find(
     tree: &[u8],
     signatures: &[u8],
     bitfield: &[u8],
@@ -228,13 +201,14 @@ pub extern "C" fn sleep_find(
     s: u64,
     size: u64,
     path: &[u8],
-) -> SleepFound
-    ensures { λ r.
+    answer: &mut [u64; 5],
+)
+    ensures { λ _.
         ⌜
-        FindsAs
-        (FindAs nodeHash (registerOf (now (tree .entry)) (now (signatures .entry)) (now (bitfield .entry)) (now (content .entry)) n s size) (now (path .entry)))
-        r
+        now (answer .exit)
+        ≡ encodedFound
+        (findIn nodeHash (registerOf (now (tree .entry)) (now (signatures .entry)) (now (bitfield .entry)) (now (content .entry)) n s size) (now (path .entry)))
         ⌝ }
 {
-    found_as(record_find::find(tree, signatures, bitfield, content, n, s, size, path))
+    *answer = found_as(record_find::find(tree, signatures, bitfield, content, n, s, size, path));
 }

@@ -1,5 +1,4 @@
 // Packets: made from a register, and checked against a root hash by whoever has no register.
-use c_encoding::SleepAnswer;
 use number_types::ChunkNumber;
 use refusals::Answer;
 ghost use Rattle.checks.specs.Lent.{registerOf};
@@ -9,7 +8,7 @@ ghost use Rattle.c_api.specs.Encoding.{Makes, packetPart};
 // The packet of a chunk at the front of `out`, the rest as it was, and the packet's length in `length`. Both are as they were after a
 // refusal.
 #[no_mangle]
-pub extern "C" fn sleep_make_packet(
+pub extern "C" fn sleep_flat_make_packet(
     tree: &[u8],
     signatures: &[u8],
     bitfield: &[u8],
@@ -20,12 +19,13 @@ pub extern "C" fn sleep_make_packet(
     chunk: u64,
     out: &mut [u8],
     length: &mut u64,
-) -> SleepAnswer
-    ensures { λ r.
+    answer: &mut [u64; 3],
+)
+    ensures { λ _.
         ⌜
         Makes
         (registerOf (now (tree .entry)) (now (signatures .entry)) (now (bitfield .entry)) (now (content .entry)) n s size)
-        chunk (now (out .entry)) (now (length .entry)) r (now (out .exit)) (now (length .exit))
+        chunk (now (out .entry)) (now (length .entry)) (now (answer .exit)) (now (out .exit)) (now (length .exit))
         ⌝ }
 {
     let made = packet::make(
@@ -39,33 +39,36 @@ pub extern "C" fn sleep_make_packet(
         ChunkNumber(chunk),
         out,
     );
-    c_encoding::give_length(made, length)
+    *answer = c_encoding::give_length(made, length);
 }
 
 // The chunk's part of a packet that passes the check: where it begins in `packet` and how many bytes it has, in `out`, which is as it was
 // after a refusal.
 #[no_mangle]
-pub extern "C" fn sleep_check_packet(
+pub extern "C" fn sleep_flat_check_packet(
     packet: &[u8],
     n: u64,
     chunk: u64,
     root: &[u8; 32],
     out: &mut [u64; 2],
-) -> SleepAnswer
-    ensures { λ r.
+    answer: &mut [u64; 3],
+)
+    ensures { λ _.
         ⌜
         Gives
         (packetPart (now (packet .entry)) n chunk (now (root .entry)))
-        (now (out .entry)) r (now (out .exit))
+        (now (out .entry)) (now (answer .exit)) (now (out .exit))
         ⌝ }
 {
-    let answer = packet::check_answer(packet, n, ChunkNumber(chunk), root);
-    match answer {
-        Answer::Refused(refusal) => c_encoding::refused(refusal),
+    let said = packet::check_answer(packet, n, ChunkNumber(chunk), root);
+    match said {
+        Answer::Refused(refusal) => {
+            *answer = c_encoding::refused(refusal);
+        }
         Answer::Done => {
             let length = byte_strings::read_be32(packet, 0);
             *out = [4, length];
-            c_encoding::encode(Answer::Done)
+            *answer = c_encoding::encode(Answer::Done);
         }
     }
 }

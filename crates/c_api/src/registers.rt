@@ -1,6 +1,5 @@
 // The calls that start, write and audit a register, and its root hashes. A register is lent as its four images `tree`, `signatures`,
 // `bitfield` and `content` (the data), and told the chunk count `n`, the signature count `s` and the data size `size`.
-use c_encoding::SleepAnswer;
 use number_types::ChunkNumber;
 ghost use mathlib.Core.Path.{_≡_};
 ghost use Rattle.refusals.specs.Verdict.{unlessRefused};
@@ -19,21 +18,22 @@ ghost use Rattle.c_encoding.specs.Encoding.{encoded};
 
 // A register without chunks in four buffers.
 #[no_mangle]
-pub extern "C" fn sleep_start(
+pub extern "C" fn sleep_flat_start(
     tree: &mut [u8],
     signatures: &mut [u8],
     bitfield: &mut [u8],
     content: &[u8],
-) -> SleepAnswer
-    ensures answers { λ r. ⌜ r ≡ encoded (startVerdict (lent (now (tree .entry)) (now (signatures .entry)) (now (bitfield .entry)) (now (content .entry)))) ⌝ }
+    answer: &mut [u64; 3],
+)
+    ensures answers { λ _. ⌜ now (answer .exit) ≡ encoded (startVerdict (lent (now (tree .entry)) (now (signatures .entry)) (now (bitfield .entry)) (now (content .entry)))) ⌝ }
     ensures buffers { λ _. ⌜ lent (now (tree .exit)) (now (signatures .exit)) (now (bitfield .exit)) (now (content .exit)) ≡ afterStart (lent (now (tree .entry)) (now (signatures .entry)) (now (bitfield .entry)) (now (content .entry))) ⌝ }
 {
-    c_encoding::encode(writing::start(tree, signatures, bitfield, content))
+    *answer = c_encoding::encode(writing::start(tree, signatures, bitfield, content));
 }
 
 // One more chunk, whose predecessor's signature is stored; the new root hash in `root`.
 #[no_mangle]
-pub extern "C" fn sleep_append(
+pub extern "C" fn sleep_flat_append(
     tree: &mut [u8],
     signatures: &[u8],
     bitfield: &mut [u8],
@@ -43,20 +43,21 @@ pub extern "C" fn sleep_append(
     size: u64,
     chunk: &[u8],
     root: &mut [u8; 32],
-) -> SleepAnswer
-    ensures answers { λ r. ⌜ r ≡ encoded (appendVerdict (registerOf (now (tree .entry)) (now (signatures .entry)) (now (bitfield .entry)) (now (content .entry)) n s size) (now (chunk .entry))) ⌝ }
+    answer: &mut [u64; 3],
+)
+    ensures answers { λ _. ⌜ now (answer .exit) ≡ encoded (appendVerdict (registerOf (now (tree .entry)) (now (signatures .entry)) (now (bitfield .entry)) (now (content .entry)) n s size) (now (chunk .entry))) ⌝ }
     ensures gives { λ _. ⌜ now (root .exit) ≡ unlessRefused (appendVerdict (registerOf (now (tree .entry)) (now (signatures .entry)) (now (bitfield .entry)) (now (content .entry)) n s size) (now (chunk .entry))) (appendRoot nodeHash (registerOf (now (tree .entry)) (now (signatures .entry)) (now (bitfield .entry)) (now (content .entry)) n s size) (now (chunk .entry))) (now (root .entry)) ⌝ }
     ensures buffers { λ _. ⌜ lent (now (tree .exit)) (now (signatures .exit)) (now (bitfield .exit)) (now (content .exit)) ≡ afterAppend nodeHash (registerOf (now (tree .entry)) (now (signatures .entry)) (now (bitfield .entry)) (now (content .entry)) n s size) (now (chunk .entry)) ⌝ }
 {
     let appended = writing::append(tree, signatures, bitfield, content, n, s, size, chunk);
     let hash = appended.root;
-    let answer = appended.answer;
-    c_encoding::give_hash(answer, hash, root)
+    let said = appended.answer;
+    *answer = c_encoding::give_hash(said, hash, root);
 }
 
 // All chunks of a list, lent as their lengths and their bytes one behind the other, or none; the new root hash in `root`.
 #[no_mangle]
-pub extern "C" fn sleep_append_list(
+pub extern "C" fn sleep_flat_append_list(
     tree: &mut [u8],
     signatures: &mut [u8],
     bitfield: &mut [u8],
@@ -67,8 +68,9 @@ pub extern "C" fn sleep_append_list(
     lengths: &[u64],
     bytes: &[u8],
     root: &mut [u8; 32],
-) -> SleepAnswer
-    ensures answers { λ r. ⌜ r ≡ encoded (listVerdict (registerOf (now (tree .entry)) (now (signatures .entry)) (now (bitfield .entry)) (now (content .entry)) n s size) (now (lengths .entry)) (now (bytes .entry))) ⌝ }
+    answer: &mut [u64; 3],
+)
+    ensures answers { λ _. ⌜ now (answer .exit) ≡ encoded (listVerdict (registerOf (now (tree .entry)) (now (signatures .entry)) (now (bitfield .entry)) (now (content .entry)) n s size) (now (lengths .entry)) (now (bytes .entry))) ⌝ }
     ensures gives { λ _. ⌜ now (root .exit) ≡ unlessRefused (listVerdict (registerOf (now (tree .entry)) (now (signatures .entry)) (now (bitfield .entry)) (now (content .entry)) n s size) (now (lengths .entry)) (now (bytes .entry))) (listRoot nodeHash (registerOf (now (tree .entry)) (now (signatures .entry)) (now (bitfield .entry)) (now (content .entry)) n s size) (now (lengths .entry)) (now (bytes .entry))) (now (root .entry)) ⌝ }
     ensures buffers { λ _. ⌜ lent (now (tree .exit)) (now (signatures .exit)) (now (bitfield .exit)) (now (content .exit)) ≡ afterList nodeHash (registerOf (now (tree .entry)) (now (signatures .entry)) (now (bitfield .entry)) (now (content .entry)) n s size) (now (lengths .entry)) (now (bytes .entry)) ⌝ }
 {
@@ -84,13 +86,13 @@ pub extern "C" fn sleep_append_list(
         bytes,
     );
     let hash = appended.root;
-    let answer = appended.answer;
-    c_encoding::give_hash(answer, hash, root)
+    let said = appended.answer;
+    *answer = c_encoding::give_hash(said, hash, root);
 }
 
 // What an append of the chunk would answer on a copy of the images; its root hash in `root`.
 #[no_mangle]
-pub extern "C" fn sleep_preview(
+pub extern "C" fn sleep_flat_preview(
     tree: &[u8],
     signatures: &[u8],
     bitfield: &[u8],
@@ -100,19 +102,20 @@ pub extern "C" fn sleep_preview(
     size: u64,
     chunk: &[u8],
     root: &mut [u8; 32],
-) -> SleepAnswer
-    ensures answers { λ r. ⌜ r ≡ encoded (appendVerdict (registerOf (now (tree .entry)) (now (signatures .entry)) (now (bitfield .entry)) (now (content .entry)) n s size) (now (chunk .entry))) ⌝ }
+    answer: &mut [u64; 3],
+)
+    ensures answers { λ _. ⌜ now (answer .exit) ≡ encoded (appendVerdict (registerOf (now (tree .entry)) (now (signatures .entry)) (now (bitfield .entry)) (now (content .entry)) n s size) (now (chunk .entry))) ⌝ }
     ensures gives { λ _. ⌜ now (root .exit) ≡ unlessRefused (appendVerdict (registerOf (now (tree .entry)) (now (signatures .entry)) (now (bitfield .entry)) (now (content .entry)) n s size) (now (chunk .entry))) (appendRoot nodeHash (registerOf (now (tree .entry)) (now (signatures .entry)) (now (bitfield .entry)) (now (content .entry)) n s size) (now (chunk .entry))) (now (root .entry)) ⌝ }
 {
     let previewed = append_preview::preview(tree, signatures, bitfield, content, n, s, size, chunk);
     let hash = previewed.root;
-    let answer = previewed.answer;
-    c_encoding::give_hash(answer, hash, root)
+    let said = previewed.answer;
+    *answer = c_encoding::give_hash(said, hash, root);
 }
 
 // The signature of the newest chunk, which is owed where `s` is `n` - 1.
 #[no_mangle]
-pub extern "C" fn sleep_store_signature(
+pub extern "C" fn sleep_flat_store_signature(
     tree: &[u8],
     signatures: &mut [u8],
     bitfield: &[u8],
@@ -121,11 +124,12 @@ pub extern "C" fn sleep_store_signature(
     s: u64,
     size: u64,
     signature: &[u8; 64],
-) -> SleepAnswer
-    ensures answers { λ r. ⌜ r ≡ encoded (signVerdict (registerOf (now (tree .entry)) (now (signatures .entry)) (now (bitfield .entry)) (now (content .entry)) n s size)) ⌝ }
+    answer: &mut [u64; 3],
+)
+    ensures answers { λ _. ⌜ now (answer .exit) ≡ encoded (signVerdict (registerOf (now (tree .entry)) (now (signatures .entry)) (now (bitfield .entry)) (now (content .entry)) n s size)) ⌝ }
     ensures buffers { λ _. ⌜ lent (now (tree .exit)) (now (signatures .exit)) (now (bitfield .exit)) (now (content .exit)) ≡ afterSign (registerOf (now (tree .entry)) (now (signatures .entry)) (now (bitfield .entry)) (now (content .entry)) n s size) (now (signature .entry)) ⌝ }
 {
-    c_encoding::encode(writing::store_signature(
+    *answer = c_encoding::encode(writing::store_signature(
         tree,
         signatures,
         bitfield,
@@ -134,12 +138,12 @@ pub extern "C" fn sleep_store_signature(
         s,
         size,
         signature,
-    ))
+    ));
 }
 
 // A chunk that is held makes room: its data bit is cleared, and its bytes become zeros.
 #[no_mangle]
-pub extern "C" fn sleep_release(
+pub extern "C" fn sleep_flat_release(
     tree: &[u8],
     signatures: &[u8],
     bitfield: &mut [u8],
@@ -148,11 +152,12 @@ pub extern "C" fn sleep_release(
     s: u64,
     size: u64,
     chunk: u64,
-) -> SleepAnswer
-    ensures answers { λ r. ⌜ r ≡ encoded (releaseVerdict (registerOf (now (tree .entry)) (now (signatures .entry)) (now (bitfield .entry)) (now (content .entry)) n s size) chunk) ⌝ }
+    answer: &mut [u64; 3],
+)
+    ensures answers { λ _. ⌜ now (answer .exit) ≡ encoded (releaseVerdict (registerOf (now (tree .entry)) (now (signatures .entry)) (now (bitfield .entry)) (now (content .entry)) n s size) chunk) ⌝ }
     ensures buffers { λ _. ⌜ lent (now (tree .exit)) (now (signatures .exit)) (now (bitfield .exit)) (now (content .exit)) ≡ afterRelease (registerOf (now (tree .entry)) (now (signatures .entry)) (now (bitfield .entry)) (now (content .entry)) n s size) chunk ⌝ }
 {
-    c_encoding::encode(release::release(
+    *answer = c_encoding::encode(release::release(
         tree,
         signatures,
         bitfield,
@@ -161,12 +166,12 @@ pub extern "C" fn sleep_release(
         s,
         size,
         ChunkNumber(chunk),
-    ))
+    ));
 }
 
 // The root hash that the stored roots give, in `root`.
 #[no_mangle]
-pub extern "C" fn sleep_root_hash(
+pub extern "C" fn sleep_flat_root_hash(
     tree: &[u8],
     signatures: &[u8],
     bitfield: &[u8],
@@ -175,19 +180,20 @@ pub extern "C" fn sleep_root_hash(
     s: u64,
     size: u64,
     root: &mut [u8; 32],
-) -> SleepAnswer
-    ensures answers { λ r. ⌜ r ≡ encoded (rootVerdict (registerOf (now (tree .entry)) (now (signatures .entry)) (now (bitfield .entry)) (now (content .entry)) n s size)) ⌝ }
+    answer: &mut [u64; 3],
+)
+    ensures answers { λ _. ⌜ now (answer .exit) ≡ encoded (rootVerdict (registerOf (now (tree .entry)) (now (signatures .entry)) (now (bitfield .entry)) (now (content .entry)) n s size)) ⌝ }
     ensures gives { λ _. ⌜ now (root .exit) ≡ unlessRefused (rootVerdict (registerOf (now (tree .entry)) (now (signatures .entry)) (now (bitfield .entry)) (now (content .entry)) n s size)) (rootAnswer nodeHash (registerOf (now (tree .entry)) (now (signatures .entry)) (now (bitfield .entry)) (now (content .entry)) n s size)) (now (root .entry)) ⌝ }
 {
     let rooted = writing::root_hash(tree, signatures, bitfield, content, n, s, size);
     let hash = rooted.root;
-    let answer = rooted.answer;
-    c_encoding::give_hash(answer, hash, root)
+    let said = rooted.answer;
+    *answer = c_encoding::give_hash(said, hash, root);
 }
 
 // The root hash of the first `m` chunks, from the stored entries, in `root`.
 #[no_mangle]
-pub extern "C" fn sleep_old_root(
+pub extern "C" fn sleep_flat_old_root(
     tree: &[u8],
     signatures: &[u8],
     bitfield: &[u8],
@@ -197,19 +203,20 @@ pub extern "C" fn sleep_old_root(
     size: u64,
     m: u64,
     root: &mut [u8; 32],
-) -> SleepAnswer
-    ensures answers { λ r. ⌜ r ≡ encoded (prefixVerdict (registerOf (now (tree .entry)) (now (signatures .entry)) (now (bitfield .entry)) (now (content .entry)) n s size) m) ⌝ }
+    answer: &mut [u64; 3],
+)
+    ensures answers { λ _. ⌜ now (answer .exit) ≡ encoded (prefixVerdict (registerOf (now (tree .entry)) (now (signatures .entry)) (now (bitfield .entry)) (now (content .entry)) n s size) m) ⌝ }
     ensures gives { λ _. ⌜ now (root .exit) ≡ unlessRefused (prefixVerdict (registerOf (now (tree .entry)) (now (signatures .entry)) (now (bitfield .entry)) (now (content .entry)) n s size) m) (prefixRoot nodeHash (registerOf (now (tree .entry)) (now (signatures .entry)) (now (bitfield .entry)) (now (content .entry)) n s size) m) (now (root .entry)) ⌝ }
 {
     let rooted = prefix_root::prefix_root(tree, signatures, bitfield, content, n, s, size, m);
     let hash = rooted.root;
-    let answer = rooted.answer;
-    c_encoding::give_hash(answer, hash, root)
+    let said = rooted.answer;
+    *answer = c_encoding::give_hash(said, hash, root);
 }
 
 // Whether the used bytes of all four images are those of some chunks, held or released, and some signatures.
 #[no_mangle]
-pub extern "C" fn sleep_audit(
+pub extern "C" fn sleep_flat_audit(
     tree: &[u8],
     signatures: &[u8],
     bitfield: &[u8],
@@ -217,8 +224,9 @@ pub extern "C" fn sleep_audit(
     n: u64,
     s: u64,
     size: u64,
-) -> SleepAnswer
-    ensures { λ r. ⌜ r ≡ encoded (Audit.audit nodeHash (registerOf (now (tree .entry)) (now (signatures .entry)) (now (bitfield .entry)) (now (content .entry)) n s size)) ⌝ }
+    answer: &mut [u64; 3],
+)
+    ensures { λ _. ⌜ now (answer .exit) ≡ encoded (Audit.audit nodeHash (registerOf (now (tree .entry)) (now (signatures .entry)) (now (bitfield .entry)) (now (content .entry)) n s size)) ⌝ }
 {
-    c_encoding::encode(audit::audit(tree, signatures, bitfield, content, n, s, size))
+    *answer = c_encoding::encode(audit::audit(tree, signatures, bitfield, content, n, s, size));
 }

@@ -1,6 +1,5 @@
 // Reads of sixteen stations that wait for their turn, in a table of 161 numbers that the caller lends. Of a serving's registers, what
 // belongs to the metadata register begins with m, to the content register with c.
-use c_encoding::SleepAnswer;
 use lookup::Name;
 use number_types::ChunkNumber;
 use refusals::Answer;
@@ -14,45 +13,35 @@ ghost use Rattle.lookup.specs.Meaning.{nameOf, readFound};
 ghost use Rattle.station_table.specs.Post.{Begun};
 ghost use Rattle.station_serving.specs.Serving.{numberOf, namedBy};
 ghost use Rattle.c_encoding.specs.Encoding.{encoded, Gives, asPart};
-ghost use Rattle.c_api.specs.Waiting.{encodedNobody, Enters, Hands};
-
-// `served` is 0 where no read waits, and then all numbers are 0; else 1, with the station that is served, the name of the register
-// that is read (0 metadata, 1 content), the chunk number, and what the read is answered.
-#[repr(C)]
-pub struct SleepServing {
-    pub served: u64,
-    pub station: u64,
-    pub name: u64,
-    pub chunk: u64,
-    pub answer: SleepAnswer,
-}
+ghost use Rattle.c_api.specs.Waiting.{Enters, Hands};
 
 // A table for which nobody waits, as if station 15 had been served.
 #[no_mangle]
-pub extern "C" fn sleep_fresh(table: &mut [u64; 161]) -> SleepAnswer
-    ensures answers { λ r. ⌜ r ≡ encoded done ⌝ }
+pub extern "C" fn sleep_flat_fresh(table: &mut [u64; 161], answer: &mut [u64; 3])
+    ensures answers { λ _. ⌜ now (answer .exit) ≡ encoded done ⌝ }
     ensures begins { λ _. ⌜ Begun (now (table .exit)) ⌝ }
 {
     let begun = station_table::fresh();
     *table = begun;
-    c_encoding::encode(Answer::Done)
+    *answer = c_encoding::encode(Answer::Done);
 }
 
 // A read that waits from now on behind those of its station. The name 0 is the metadata register's, any other number the content register's.
 #[no_mangle]
-pub extern "C" fn sleep_enter(
+pub extern "C" fn sleep_flat_enter(
     table: &mut [u64; 161],
     station: u64,
     name: u64,
     chunk: u64,
-) -> SleepAnswer
-    ensures { λ r.
+    answer: &mut [u64; 3],
+)
+    ensures { λ _.
         ⌜
-        Enters station (record { register = numberOf (namedBy name); chunk = chunk }) (now (table .entry)) r (now (table .exit))
+        Enters station (record { register = numberOf (namedBy name); chunk = chunk }) (now (table .entry)) (now (answer .exit)) (now (table .exit))
         ⌝ }
 {
     let named = station_serving::named_by(name);
-    c_encoding::encode(station_serving::enter(table, station, named, ChunkNumber(chunk)))
+    *answer = c_encoding::encode(station_serving::enter(table, station, named, ChunkNumber(chunk)));
 }
 
 // A verified read of the register that is named.
@@ -74,8 +63,9 @@ fn read_named(
     csize: u64,
     chunk: u64,
     out: &mut [u64; 2],
-) -> SleepAnswer
-    ensures { λ r.
+    answer: &mut [u64; 3],
+)
+    ensures { λ _.
         ⌜
         Gives
         (asPart (readFound nodeHash
@@ -83,11 +73,11 @@ fn read_named(
         (registerOf (now (mtree .entry)) (now (msignatures .entry)) (now (mbitfield .entry)) (now (mdata .entry)) mn ms msize)
         (registerOf (now (ctree .entry)) (now (csignatures .entry)) (now (cbitfield .entry)) (now (cdata .entry)) cn cs csize))
         chunk))
-        (now (out .entry)) r (now (out .exit))
+        (now (out .entry)) (now (answer .exit)) (now (out .exit))
         ⌝ }
 {
     match name {
-        Name::Metadata => super::lookups::sleep_read(
+        Name::Metadata => super::lookups::sleep_flat_read(
             mtree,
             msignatures,
             mbitfield,
@@ -97,8 +87,9 @@ fn read_named(
             msize,
             chunk,
             out,
+            answer,
         ),
-        Name::Content => super::lookups::sleep_read(
+        Name::Content => super::lookups::sleep_flat_read(
             ctree,
             csignatures,
             cbitfield,
@@ -108,28 +99,16 @@ fn read_named(
             csize,
             chunk,
             out,
+            answer,
         ),
     }
 }
 
-// What is answered where no read waits.
-fn nobody() -> SleepServing
-    ensures { λ r. ⌜ r ≡ encodedNobody ⌝ }
-{
-    let answer = c_encoding::encode(Answer::Done);
-    SleepServing {
-        served: 0,
-        station: 0,
-        name: 0,
-        chunk: 0,
-        answer,
-    }
-}
-
-// A serving: the station whose turn it is, what its read is answered, and, in `out`, its part of the data of the register that it names.
-// The read leaves the table, also where it is refused; `out` is as it was then, and where no read waits.
+// A serving. Where no read waits the seven numbers of `answer` are 0; else they are 1, the station whose turn it is, the name of the register that
+// is read (0 metadata, 1 content), the chunk number, and the three of what the read is answered. In `out` is its part of the data of the register that
+// it names. The read leaves the table, also where it is refused; `out` is as it was then, and where no read waits.
 #[no_mangle]
-pub extern "C" fn sleep_serve(
+pub extern "C" fn sleep_flat_serve(
     table: &mut [u64; 161],
     mtree: &[u8],
     msignatures: &[u8],
@@ -146,23 +125,27 @@ pub extern "C" fn sleep_serve(
     cs: u64,
     csize: u64,
     out: &mut [u64; 2],
-) -> SleepServing
-    ensures { λ r.
+    answer: &mut [u64; 7],
+)
+    ensures { λ _.
         ⌜
         Hands
         (registerOf (now (mtree .entry)) (now (msignatures .entry)) (now (mbitfield .entry)) (now (mdata .entry)) mn ms msize)
         (registerOf (now (ctree .entry)) (now (csignatures .entry)) (now (cbitfield .entry)) (now (cdata .entry)) cn cs csize)
-        (now (table .entry)) (now (out .entry)) r (now (table .exit)) (now (out .exit))
+        (now (table .entry)) (now (out .entry)) (now (answer .exit)) (now (table .exit)) (now (out .exit))
         ⌝ }
 {
     let turn = station_table::next(table);
     station_table::leave(table);
     match turn {
-        Turn::Nobody => nobody(),
+        Turn::Nobody => {
+            *answer = [0, 0, 0, 0, 0, 0, 0];
+        }
         Turn::Of(station, register, chunk) => {
             let name = station_serving::named_by(register);
             let number = chunk.0;
-            let answer = read_named(
+            let mut told = [0, 0, 0];
+            read_named(
                 name,
                 mtree,
                 msignatures,
@@ -180,14 +163,10 @@ pub extern "C" fn sleep_serve(
                 csize,
                 number,
                 out,
+                &mut told,
             );
-            SleepServing {
-                served: 1,
-                station,
-                name: station_serving::number_of(name),
-                chunk: number,
-                answer,
-            }
+            let named = station_serving::number_of(name);
+            *answer = [1, station, named, number, told[0], told[1], told[2]];
         }
     }
 }

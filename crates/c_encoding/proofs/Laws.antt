@@ -2,6 +2,7 @@
 use Prim.Native.Nat.{ℕ}
 use mathlib.Core.Path.{_≡_, refl, sym, ap, ap₂, _∙_, subst}
 use mathlib.Core.List.{List, [], _∷_}
+use lib.ListN.{getD}
 use Rattle.refusals.specs.Verdict.{Spot, Verdict, done, refused, none, tree, bitfield, unlessRefused}
 use Rattle.refusals.specs.Meaning.{said, refusalOf, spotOf}
 use Rattle.refusals.specs.declared.Place.{Place}
@@ -15,7 +16,6 @@ use Rattle.packet.specs.declared.making.Made.{Made}
 use Rattle.packet.specs.declared.making.Made.the-variants.{Refused as NotMade, Length}
 use Rattle.c_encoding.specs.Number.{numberOf}
 use Rattle.c_encoding.specs.Encoding.{encoded, verdictOf, numbersUnless, Gives}
-use Rattle.c_encoding.specs.declared.answers.SleepAnswer.{SleepAnswer}
 
 -- the number and what is written, from what the verdict is
 pub done-by : (v : Verdict) (written before d : List ℕ) → v ≡ done → d ≡ written → (0 ≡ numberOf v) × (d ≡ unlessRefused v written before)
@@ -40,13 +40,13 @@ placed n p q e = ap (λ (x : Place). encoded (refused n (spotOf x))) (sym e)
 pub said-as : (a b : Answer) → a ≡ b → encoded (said b) ≡ encoded (said a)
 said-as a b e = ap (λ (x : Answer). encoded (said x)) (sym e)
 
-pub kept : (r : SleepAnswer) (a : Answer) (x : Refusal) (h before : List ℕ) → a ≡ Refused x → r ≡ encoded (refusalOf x)
+pub kept : (r : List ℕ) (a : Answer) (x : Refusal) (h before : List ℕ) → a ≡ Refused x → r ≡ encoded (refusalOf x)
     → (r ≡ encoded (said a)) × (before ≡ unlessRefused (said a) h before)
 kept r a x h before e p =
     (p ∙ ap (λ (y : Answer). encoded (said y)) (sym e), ap (λ (y : Answer). unlessRefused (said y) h before) (sym e))
 
 -- an answer's numbers are those of the verdict that it says
-pub coded : (r : SleepAnswer) (a v : Verdict) → r ≡ encoded a → a ≡ v → r ≡ encoded v
+pub coded : (r : List ℕ) (a v : Verdict) → r ≡ encoded a → a ≡ v → r ≡ encoded v
 coded r a v e p = e ∙ ap encoded p
 
 -- and what is given beside it
@@ -56,37 +56,47 @@ given-hash out a v h written before e p w =
     e ∙ ap₂ (λ (u : Verdict) (x : List ℕ). unlessRefused u x before) p w
 
 -- a call that gives two numbers, from the case that its answer is
-pub gives-refused : (r : SleepAnswer) (x : Refusal) (f : Found) (before : List ℕ) → r ≡ encoded (refusalOf x) → refusedAs x ≡ f
+pub gives-refused : (r : List ℕ) (x : Refusal) (f : Found) (before : List ℕ) → r ≡ encoded (refusalOf x) → refusedAs x ≡ f
     → Gives f before r before
 gives-refused r x f before e p =
     record { answers = e ∙ ap (λ (g : Found). encoded (verdictOf g)) p; numbers = ap (λ (g : Found). numbersUnless g before) p }
 
-pub gives-found : (r : SleepAnswer) (a b : ℕ) (f : Found) (before : List ℕ) → r ≡ encoded done → found a b ≡ f
+pub gives-found : (r : List ℕ) (a b : ℕ) (f : Found) (before : List ℕ) → r ≡ encoded done → found a b ≡ f
     → Gives f before r (a ∷ b ∷ [])
 gives-found r a b f before e p =
     record { answers = e ∙ ap (λ (g : Found). encoded (verdictOf g)) p; numbers = ap (λ (g : Found). numbersUnless g before) p }
 
 -- what is found is what the call's definition says
-pub gives-same : (r : SleepAnswer) (f g : Found) (before after : List ℕ) → f ≡ g → Gives f before r after → Gives g before r after
+pub gives-same : (r : List ℕ) (f g : Found) (before after : List ℕ) → f ≡ g → Gives f before r after → Gives g before r after
 gives-same r f g before after e p = subst (λ (x : Found). Gives x before r after) e p
 
+-- what is encoded, one by one
+pub one-by-one : (v : Verdict) → getD (encoded v) 0 0 ∷ getD (encoded v) 1 0 ∷ getD (encoded v) 2 0 ∷ [] ≡ encoded v
+one-by-one done = refl
+one-by-one (refused m none) = refl
+one-by-one (refused m (tree i)) = refl
+one-by-one (refused m (bitfield b)) = refl
+
+pub three-of : (r : List ℕ) (v : Verdict) → r ≡ encoded v → getD r 0 0 ∷ getD r 1 0 ∷ getD r 2 0 ∷ [] ≡ encoded v
+three-of r v e = ap (λ (x : List ℕ). getD x 0 0 ∷ getD x 1 0 ∷ getD x 2 0 ∷ []) e ∙ one-by-one v
+
 -- the number alone of what is encoded
-pub encoded-number : (v : Verdict) → encoded v .number ≡ numberOf v
+encoded-number : (v : Verdict) → getD (encoded v) 0 0 ≡ numberOf v
 encoded-number done = refl
 encoded-number (refused m none) = refl
 encoded-number (refused m (tree i)) = refl
 encoded-number (refused m (bitfield b)) = refl
 
-pub numbered : (r : SleepAnswer) (a v : Verdict) → r ≡ encoded a → a ≡ v → r .number ≡ numberOf v
-numbered r a v e p = ap (λ (x : SleepAnswer). x .number) e ∙ encoded-number a ∙ ap numberOf p
+pub numbered : (r : List ℕ) (a v : Verdict) → r ≡ encoded a → a ≡ v → getD r 0 0 ≡ numberOf v
+numbered r a v e p = ap (λ (x : List ℕ). getD x 0 0) e ∙ encoded-number a ∙ ap numberOf p
 
 -- a packet made, from the case that the answer is
-pub made-refused : (m : Made) (x : Refusal) (long : ℕ) (r : SleepAnswer) → m ≡ NotMade x → r ≡ encoded (refusalOf x)
+pub made-refused : (m : Made) (x : Refusal) (long : ℕ) (r : List ℕ) → m ≡ NotMade x → r ≡ encoded (refusalOf x)
     → (r ≡ encoded (madeVerdict m)) × (long ≡ unlessRefused (madeVerdict m) (madeBytes m) long)
 made-refused m x long r e a =
     (a ∙ ap (λ (y : Made). encoded (madeVerdict y)) (sym e), ap (λ (y : Made). unlessRefused (madeVerdict y) (madeBytes y) long) (sym e))
 
-pub made-length : (m : Made) (k long : ℕ) (r : SleepAnswer) → m ≡ Length k → r ≡ encoded done
+pub made-length : (m : Made) (k long : ℕ) (r : List ℕ) → m ≡ Length k → r ≡ encoded done
     → (r ≡ encoded (madeVerdict m)) × (k ≡ unlessRefused (madeVerdict m) (madeBytes m) long)
 made-length m k long r e a =
     (a ∙ ap (λ (y : Made). encoded (madeVerdict y)) (sym e), ap (λ (y : Made). unlessRefused (madeVerdict y) (madeBytes y) long) (sym e))

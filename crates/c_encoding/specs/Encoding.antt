@@ -6,15 +6,14 @@ use Rattle.refusals.specs.Verdict.{Spot, Verdict, none, tree, bitfield, done, r
 use Rattle.lookup.specs.Lookup.{Found, refusal, found}
 use Rattle.byte_strings.specs.Lowest.{nowhere, first}
 use Rattle.search.specs.Search.{Sought, refusal as unsought, answer as sought}
-use Rattle.c_encoding.specs.declared.answers.SleepAnswer.{SleepAnswer}
 
--- the number 0 where the call is done, else the refusal's; the place's kind is 0 for none, 1 for a tree index, 2 for a byte offset in the
--- bitfield file
-abbrev pub encoded : Verdict → SleepAnswer
-encoded done = record { number = 0; «place_kind» = 0; place = 0 }
-encoded (refused number none) = record { number = number; «place_kind» = 0; place = 0 }
-encoded (refused number (tree i)) = record { number = number; «place_kind» = 1; place = i }
-encoded (refused number (bitfield b)) = record { number = number; «place_kind» = 2; place = b }
+-- three numbers: 0 where the call is done, else the refusal's number; the place's kind, which is 0 for none, 1 for a tree index, 2 for a byte
+-- offset in the bitfield file; and the place
+abbrev pub encoded : Verdict → List ℕ
+encoded done = 0 ∷ 0 ∷ 0 ∷ []
+encoded (refused number none) = number ∷ 0 ∷ 0 ∷ []
+encoded (refused number (tree i)) = number ∷ 1 ∷ i ∷ []
+encoded (refused number (bitfield b)) = number ∷ 2 ∷ b ∷ []
 
 -- what a call that gives two numbers says: done, or its refusal
 abbrev pub verdictOf : Found → Verdict
@@ -27,7 +26,7 @@ numbersUnless (refusal number at) before = before
 numbersUnless (found a b) before = a ∷ b ∷ []
 
 -- a call that finds f: its answer, and the two numbers lent to it before and after
-pub record Gives (f : Found) (before : List ℕ) (answer : SleepAnswer) (after : List ℕ) : Type 0 where
+pub record Gives (f : Found) (before answer after : List ℕ) : Type 0 where
   pub answers : answer ≡ encoded (verdictOf f)
   pub numbers : after ≡ numbersUnless f before
 

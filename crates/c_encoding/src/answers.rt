@@ -1,64 +1,39 @@
-// What C is answered: three numbers by value.
+// What C is answered: three numbers.
 use refusals::Answer;
 use refusals::Place;
 use refusals::Refusal;
 ghost use mathlib.Core.Path.{_≡_};
-ghost use mathlib.Core.List.{[], _∷_};
 ghost use Rattle.refusals.specs.Verdict.{unlessRefused};
 ghost use Rattle.refusals.specs.Meaning.{said, refusalOf};
 ghost use Rattle.c_encoding.specs.Encoding.{encoded};
 ghost use Rattle.c_encoding.specs.Number.{numberOf};
 
-// `number` is 0 where the call is done, else the number of its refusal. `place_kind` is 0 where the refusal has no place, 1 where
-// `place` is a tree index, and 2 where it is a byte offset in the bitfield file.
-#[repr(C)]
-pub struct SleepAnswer {
-    pub number: u64,
-    pub place_kind: u64,
-    pub place: u64,
-}
-
-// The three numbers of a refusal.
-pub fn refused(refusal: Refusal) -> SleepAnswer
+// The three numbers of a refusal: its number; 0 where it has no place, 1 where that is a tree index, and 2 where it is a byte offset in the bitfield
+// file; and the place.
+pub fn refused(refusal: Refusal) -> [u64; 3]
     ensures { λ r. ⌜ r ≡ encoded (refusalOf refusal) ⌝ }
 {
     let number = refusal.number;
     let place = refusal.place;
     match place {
-        Place::Nowhere => SleepAnswer {
-            number,
-            place_kind: 0,
-            place: 0,
-        },
-        Place::Tree(index) => SleepAnswer {
-            number,
-            place_kind: 1,
-            place: index.0,
-        },
-        Place::Bitfield(offset) => SleepAnswer {
-            number,
-            place_kind: 2,
-            place: offset.0,
-        },
+        Place::Nowhere => [number, 0, 0],
+        Place::Tree(index) => [number, 1, index.0],
+        Place::Bitfield(offset) => [number, 2, offset.0],
     }
 }
 
-// The three numbers of an answer.
-pub fn encode(answer: Answer) -> SleepAnswer
+// The three numbers of an answer, which are 0 where the call is done.
+pub fn encode(answer: Answer) -> [u64; 3]
     ensures { λ r. ⌜ r ≡ encoded (said answer) ⌝ }
 {
     match answer {
-        Answer::Done => SleepAnswer {
-            number: 0,
-            place_kind: 0,
-            place: 0,
-        },
+        Answer::Done => [0, 0, 0],
         Answer::Refused(refusal) => refused(refusal),
     }
 }
 
 // The three numbers of an answer, and the hash beside it into `out` where the call is done.
-pub fn give_hash(answer: Answer, hash: [u8; 32], out: &mut [u8; 32]) -> SleepAnswer
+pub fn give_hash(answer: Answer, hash: [u8; 32], out: &mut [u8; 32]) -> [u64; 3]
     ensures answers { λ r. ⌜ r ≡ encoded (said answer) ⌝ }
     ensures gives { λ _. ⌜ now (out .exit) ≡ unlessRefused (said answer) hash (now (out .entry)) ⌝ }
 {

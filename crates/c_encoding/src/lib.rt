@@ -1,10 +1,9 @@
-// What C is answered, from what the library's calls answer: three numbers by value, and further numbers or a hash in what the caller lends,
+// What C is answered, from what the library's calls answer: three numbers, and further numbers or a hash in what the caller lends,
 // which is as it was after a refusal.
 mod answers;
 mod lookups;
 mod packets;
 
-pub use answers::SleepAnswer;
 pub use answers::encode;
 pub use answers::give_digest;
 pub use answers::give_hash;

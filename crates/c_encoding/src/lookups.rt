@@ -1,5 +1,4 @@
 // What the lookups, the verified read and the search answer: two numbers, in `out`, which is as it was after a refusal.
-use super::answers::SleepAnswer;
 use lookup::Located;
 use lookup::Placed;
 use lookup::Verified;
@@ -9,7 +8,7 @@ ghost use Rattle.search.specs.Meaning.{searchedOf};
 ghost use Rattle.c_encoding.specs.Encoding.{Gives, Ordered, asPart, asFound};
 
 // What a place lookup found: start and length.
-pub fn give_place(found: Placed, out: &mut [u64; 2]) -> SleepAnswer
+pub fn give_place(found: Placed, out: &mut [u64; 2]) -> [u64; 3]
     ensures { λ r. ⌜ Gives (placedOf found) (now (out .entry)) r (now (out .exit)) ⌝ }
 {
     match found {
@@ -22,7 +21,7 @@ pub fn give_place(found: Placed, out: &mut [u64; 2]) -> SleepAnswer
 }
 
 // What a byte lookup found: the chunk, and the offset less its start.
-pub fn give_byte(found: Located, out: &mut [u64; 2]) -> SleepAnswer
+pub fn give_byte(found: Located, out: &mut [u64; 2]) -> [u64; 3]
     ensures { λ r. ⌜ Gives (locatedOf found) (now (out .entry)) r (now (out .exit)) ⌝ }
 {
     match found {
@@ -35,7 +34,7 @@ pub fn give_byte(found: Located, out: &mut [u64; 2]) -> SleepAnswer
 }
 
 // What a search found: 1 and the chunk, or 0 and 0.
-pub fn give_search(found: Searched, out: &mut [u64; 2]) -> SleepAnswer
+pub fn give_search(found: Searched, out: &mut [u64; 2]) -> [u64; 3]
     ensures { λ r. ⌜ Gives (asFound (searchedOf found)) (now (out .entry)) r (now (out .exit)) ⌝ }
 {
     match found {
@@ -52,7 +51,7 @@ pub fn give_search(found: Searched, out: &mut [u64; 2]) -> SleepAnswer
 }
 
 // What a verified read found: where the part begins, and how many bytes it has. Inner: a part ends where it begins or behind.
-pub fn give_part(found: Verified, out: &mut [u64; 2]) -> SleepAnswer
+pub fn give_part(found: Verified, out: &mut [u64; 2]) -> [u64; 3]
     requires { ⌜ Ordered (verifiedOf found) ⌝ }
     ensures { λ r. ⌜ Gives (asPart (verifiedOf found)) (now (out .entry)) r (now (out .exit)) ⌝ }
 {

@@ -1,5 +1,4 @@
 // What making a packet answers.
-use super::answers::SleepAnswer;
 use packet::Made;
 use refusals::Answer;
 ghost use mathlib.Core.Path.{_≡_};
@@ -8,7 +7,7 @@ ghost use Rattle.packet.specs.Post.{madeVerdict, madeBytes};
 ghost use Rattle.c_encoding.specs.Encoding.{encoded};
 
 // The three numbers of the answer, and the packet's length into `length` where it is made.
-pub fn give_length(made: Made, length: &mut u64) -> SleepAnswer
+pub fn give_length(made: Made, length: &mut u64) -> [u64; 3]
     ensures answers { λ r. ⌜ r ≡ encoded (madeVerdict made) ⌝ }
     ensures gives { λ _. ⌜ now (length .exit) ≡ unlessRefused (madeVerdict made) (madeBytes made) (now (length .entry)) ⌝ }
 {

@@ -106,8 +106,7 @@ flat-restored n e =
 
 -- ---- eight of them
 
-pub eight : {A B : Type 0} (f : A → B) (xs : List A) (x : A) {a b c d e g h i : B} → a ≡ f (getD xs 0 x) → b ≡ f (getD xs 1 x) → c ≡ f (getD xs 2 x)
-    → d ≡ f (getD xs 3 x) → e ≡ f (getD xs 4 x) → g ≡ f (getD xs 5 x) → h ≡ f (getD xs 6 x) → i ≡ f (getD xs 7 x)
-    → a ∷ b ∷ c ∷ d ∷ e ∷ g ∷ h ∷ i ∷ [] ≡ run (λ j. f (getD xs j x)) 0 8
+pub eight : {A : Type 0} (f : ℕ → A) {a b c d e g h i : A} → a ≡ f 0 → b ≡ f 1 → c ≡ f 2 → d ≡ f 3 → e ≡ f 4 → g ≡ f 5 → h ≡ f 6 → i ≡ f 7
+    → a ∷ b ∷ c ∷ d ∷ e ∷ g ∷ h ∷ i ∷ [] ≡ run f 0 8
 unfolding run
-eight f xs x p q r s t u v w = cc
+eight f p q r s t u v w = cc

@@ -1,5 +1,9 @@
 // The fields of a Node as numbers alone, for languages that have no enums: a field that may be absent says by a number whether it is there.
 // From the library's fields to these, and back.
+mod numbers;
+
+pub use numbers::answered;
+pub use numbers::flat_at;
 use record_fields::Bytes;
 use record_fields::Number;
 use record_fields::Part;
@@ -13,34 +17,29 @@ ghost use Rattle.c_records.specs.Flat.{flatNumber, flatPart, flatBytes, 
 ghost use Rattle.c_records.specs.Flat.{numberIn, partIn, bytesIn, writerIn, writersIn, statIn, valueIn, nodeIn};
 
 // A number's field: `given` is 0 where it is absent, and `value` is 0 then.
-#[repr(C)]
 pub struct FlatNumber {
     pub given: u64,
     pub value: u64,
 }
 
 // A part of the bytes lent: where it begins, and how long it is.
-#[repr(C)]
 pub struct FlatPart {
     pub at: u64,
     pub length: u64,
 }
 
 // A part's field, all 0 where it is absent.
-#[repr(C)]
 pub struct FlatBytes {
     pub given: u64,
     pub part: FlatPart,
 }
 
-#[repr(C)]
 pub struct FlatWriter {
     pub key: FlatPart,
     pub permission: FlatBytes,
 }
 
 // A Stat's field, all 0 where it is absent.
-#[repr(C)]
 pub struct FlatStat {
     pub given: u64,
     pub mode: FlatNumber,
@@ -55,7 +54,6 @@ pub struct FlatStat {
 }
 
 // As many Writers as are counted.
-#[repr(C)]
 pub struct FlatNode {
     pub path: FlatPart,
     pub value: FlatStat,

@@ -1,5 +1,5 @@
 -- The entries of a copy as the code judges them, one by one. Assumes nothing.
-use Prim.Native.Nat.{ℕ, zero, suc, _+_, _-_, _*_, _/_, _%_, _^_, _≤_, _<_}
+use Prim.Native.Nat.{ℕ, zero, suc, _+_, _-_, _*_, _/_, _%_, _≤_, _<_}
 use mathlib.Core.Path.{_≡_, refl, sym, ap, ap₂, _∙_, subst}
 use mathlib.Core.Bool.{Bool, true, false, cond, not, _&&_, _||_}
 use mathlib.Core.List.{List}
@@ -7,7 +7,7 @@ use native.Mathlib.Nat.{zero-add}
 use native.Mathlib.Omega.{arith}
 use lib.Dec.{leb}
 use lib.ListN.{length, getD}
-use borrow.Author.Tests.{lt-leb}
+use borrow.Author.Tests.{lt-leb, leb-true, leb-false}
 use Rattle.byte_strings.specs.Lists.{part, run, sameList, allZero}
 use Rattle.byte_strings.proofs.Lists.{length-run, getD-run}
 use Rattle.byte_strings.specs.Lowest.{Lowest, nowhere, first}
@@ -30,14 +30,13 @@ use Rattle.audit.specs.BitfieldEntries.{BitsIn}
 use Rattle.audit.specs.TreeWalk.{leafFrom, FilesIn, AtLeaf}
 use Rattle.audit.proofs.Bytes.{tree-bit}
 use Rattle.audit.proofs.Entries.{entry-in, even-depth, odd-depth, parent-in}
-use Rattle.lookup.specs.Descent.{Ending, stopped, reached, chunkWithin, descent}
-use Rattle.lookup.specs.Lookup.{toChunk}
-use Rattle.copy_checks.specs.Copy.{Copy, unsigned}
-use Rattle.copy_checks.specs.Least.{firstUnknown, lowerOf, leastOf}
+use Rattle.lookup.specs.Descent.{Ending, stopped, reached, unknown}
+use Rattle.lookup.specs.Capped.{most, capped, cappedEnding}
+use Rattle.lookup.proofs.Capped.{capped-low, capped-high}
+use Rattle.copy_checks.specs.Copy.{Copy}
+use Rattle.copy_checks.specs.Descents.{copyToChunk}
+use Rattle.copy_checks.specs.Least.{lowerOf, leastOf}
 use Rattle.copy_checks.proofs.Least.{Lowering, lowering-none, lowering-next, lowering-all}
-use Rattle.copy_descent.specs.Reads.{reads, unknownToChunk}
-use Rattle.copy_descent.specs.Capped.{capped, cappedEnding}
-use Rattle.copy_descent.proofs.Capped.{capped-either}
 use Rattle.copy_audit.specs.Audit.{wrongUnless, heldLeaf, bothKnown, leafRightFrom, wrongFrom, wrongByLeaf, wrongByParent, wrongByKnown, wrongByUnknown, wrongBy, wrongEntryOfCopy}
 use Rattle.copy_audit.specs.Inner.{heldAt, AtNode, AtChunk, AtFamily}
 
@@ -110,32 +109,19 @@ start-past F t d size held k start h = go (leb (storedSize t (2 * k)) longestChu
 
 -- ---- a known leaf
 
--- a start that is told as 2^63 is past the data, and so is the start itself
-capped-leaf : (F : List ℕ → List ℕ) (t d : List ℕ) (size : ℕ) (held : Bool) (k start : ℕ) → size < 2 ^ 63
+-- a start that is told as the largest number that fits is past the data, and so is the start itself
+capped-leaf : (F : List ℕ → List ℕ) (t d : List ℕ) (size : ℕ) (held : Bool) (k start : ℕ) → size < most
     → leafFrom F t d size held k (capped start) ≡ leafFrom F t d size held k start
-capped-leaf F t d size held k start h =
-    capped-either (λ x. leafFrom F t d size held k x ≡ leafFrom F t d size held k start) start (λ l. refl)
-    (λ l. sym (start-past F t d size held k (2 ^ 63) h) ∙ start-past F t d size held k start (omega arith))
-
--- what an ending told with a capped start says of the ending
-stop-told : (j : ℕ) (e : Ending) → stopped j ≡ cappedEnding e → stopped j ≡ e
-unfolding cappedEnding
-stop-told j (stopped i) q = q
-stop-told j (reached k start) q = let z : _≡_ {A = ℕ} 0 1 = cc in absurd (omega arith)
-
-reach-told : (j s : ℕ) (e : Ending) → reached j s ≡ cappedEnding e → (start : ℕ) × (s ≡ capped start) × (reached j start ≡ e)
-unfolding cappedEnding
-reach-told j s (stopped i) q = let z : _≡_ {A = ℕ} 0 1 = cc in absurd (omega arith)
-reach-told j s (reached k start) q = (start, cc, ap (λ (x : ℕ). reached x start) cc)
-
--- by whether an unknown entry is met
-abbrev metOr : Lowest → Lowest → Lowest → Lowest
-metOr l a b = elim l [ nowhere ↦ a | first i ↦ b ]
+capped-leaf F t d size held k start h = go (leb start most) refl
+  where
+    go : (b : Bool) → leb start most ≡ b → leafFrom F t d size held k (capped start) ≡ leafFrom F t d size held k start
+    go true e = ap (leafFrom F t d size held k) (capped-low start (leb-true start most e))
+    go false e =
+        let l = leb-false start most e in
+        ap (leafFrom F t d size held k) (capped-high start (omega arith))
+        ∙ sym (start-past F t d size held k most h) ∙ start-past F t d size held k start (omega arith)
 
 module _ (F : List ℕ → List ℕ) (c : Copy) (k : ℕ) where
-  abbrev readBy : Lowest
-  readBy = firstUnknown (storedKnown (c .bitfield)) (reads (chunkWithin k) (c .tree) (c .n))
-
   -- the test of a leaf at the index i
   abbrev leafBy : ℕ → ℕ → Bool
   leafBy start i =
@@ -149,29 +135,31 @@ module _ (F : List ℕ → List ℕ) (c : Copy) (k : ℕ) where
   unfolding leafRightFrom leafFrom
   own-test start = ap (leafBy start) (index-leaf k)
 
-  pub leaf-unknown : (j i : ℕ) → first j ≡ readBy → i ≡ index 0 k → first i ≡ wrongByLeaf F c k
-  unfolding wrongByLeaf unknownToChunk
-  leaf-unknown j i e q = ap first q ∙ ap (λ (l : Lowest). metOr l (wrongFrom F c k (toChunk (unsigned c) k)) (first (index 0 k))) e
+  -- what is found wrong by an ending told with a capped start
+  told : c .size < most → (e : Ending) → wrongFrom F c k (cappedEnding e) ≡ wrongFrom F c k e
+  unfolding wrongFrom cappedEnding
+  told h (stopped i) = refl
+  told h (unknown i) = refl
+  told h (reached j start) =
+      ap (λ (r : Bool). wrongUnless r (index 0 k))
+      (own-test (capped start) ∙ capped-leaf F (c .tree) (c .content) (c .size) (storedHeld (c .bitfield) k) k start h ∙ sym (own-test start))
 
-  module _ (e : nowhere ≡ readBy) where
-    from-ending : wrongFrom F c k (descent (chunkWithin k) (c .tree) (c .n)) ≡ wrongByLeaf F c k
-    unfolding wrongByLeaf unknownToChunk toChunk
-    from-ending = ap (λ (l : Lowest). metOr l (wrongFrom F c k (toChunk (unsigned c) k)) (first (index 0 k))) e
+  by-ending : c .size < most → (e : Ending) → e ≡ cappedEnding (copyToChunk c k) → wrongFrom F c k e ≡ wrongByLeaf F c k
+  unfolding wrongByLeaf
+  by-ending h e q = ap (wrongFrom F c k) q ∙ told h (copyToChunk c k)
 
-    pub leaf-stopped : (i : ℕ) → stopped i ≡ cappedEnding (descent (chunkWithin k) (c .tree) (c .n)) → first i ≡ wrongByLeaf F c k
-    unfolding wrongFrom
-    leaf-stopped i q = ap (wrongFrom F c k) (stop-told i (descent (chunkWithin k) (c .tree) (c .n)) q) ∙ from-ending
+  pub leaf-unknown : c .size < most → (j i : ℕ) → unknown j ≡ cappedEnding (copyToChunk c k) → i ≡ index 0 k → first i ≡ wrongByLeaf F c k
+  unfolding wrongFrom
+  leaf-unknown h j i e q = ap first q ∙ by-ending h (unknown j) e
 
-    pub leaf-reached : (j s i : ℕ) (r : Bool) (l : Lowest) → c .size < 2 ^ 63 → reached j s ≡ cappedEnding (descent (chunkWithin k) (c .tree) (c .n))
-        → i ≡ index 0 k → r ≡ leafFrom F (c .tree) (c .content) (c .size) (storedHeld (c .bitfield) k) k s → l ≡ wrongUnless r i
-        → l ≡ wrongByLeaf F c k
-    unfolding wrongFrom
-    leaf-reached j s i r l h q qi qr ql =
-        let t = reach-told j s (descent (chunkWithin k) (c .tree) (c .n)) q in
-        let right : r ≡ leafRightFrom F c k (t .0) =
-        qr ∙ ap (leafFrom F (c .tree) (c .content) (c .size) (storedHeld (c .bitfield) k) k) (t .1)
-        ∙ capped-leaf F (c .tree) (c .content) (c .size) (storedHeld (c .bitfield) k) k (t .0) h ∙ sym (own-test (t .0)) in
-        ql ∙ ap₂ wrongUnless right qi ∙ ap (wrongFrom F c k) (t .2) ∙ from-ending
+  pub leaf-stopped : c .size < most → (i : ℕ) → stopped i ≡ cappedEnding (copyToChunk c k) → first i ≡ wrongByLeaf F c k
+  unfolding wrongFrom
+  leaf-stopped h i = by-ending h (stopped i)
+
+  pub leaf-reached : c .size < most → (j s i : ℕ) (r : Bool) → reached j s ≡ cappedEnding (copyToChunk c k) → i ≡ index 0 k
+      → r ≡ leafFrom F (c .tree) (c .content) (c .size) (storedHeld (c .bitfield) k) k s → wrongUnless r i ≡ wrongByLeaf F c k
+  unfolding wrongFrom
+  leaf-reached h j s i r q qi qr = ap₂ wrongUnless (qr ∙ sym (own-test s)) qi ∙ by-ending h (reached j s) q
 
 -- ---- an entry, whichever it is
 

@@ -18,12 +18,11 @@ use Rattle.file_format.specs.Sizes.{longestChunk, usedBitfield}
 use Rattle.file_format.specs.Messages.{leafMessage}
 use Rattle.file_format.specs.Stored.{storedHash, storedSize}
 use Rattle.audit.specs.Audit.{parentRight, holeRight, heldBits, refusedAt}
-use Rattle.lookup.specs.Descent.{Ending, stopped, reached}
-use Rattle.lookup.specs.Lookup.{toChunk}
-use Rattle.copy_checks.specs.Copy.{Copy, known, unsigned}
+use Rattle.lookup.specs.Descent.{Ending, stopped, reached, unknown}
+use Rattle.copy_checks.specs.Copy.{Copy, known}
+use Rattle.copy_checks.specs.Descents.{copyToChunk}
 use Rattle.copy_checks.specs.Least.{leastOf}
 use Rattle.copy_checks.specs.Checks.{partlyJudged}
-use Rattle.copy_descent.specs.Reads.{unknownToChunk}
 
 -- a wrong entry is the one at i where a test finds it so
 abbrev pub wrongUnless : Bool → ℕ → Lowest
@@ -47,14 +46,15 @@ module _ (F : List ℕ → List ℕ) where
       (sameList (storedHash (c .tree) (index 0 k)) (F (leafMessage (part (c .content) start (storedSize (c .tree) (index 0 k))))))
       (allZero (part (c .content) start (storedSize (c .tree) (index 0 k)))))
 
-  -- "It finds a known leaf's data by the place lookup's descent: a stop counts as a wrong entry at the stop"
+  -- "It finds a known leaf's data by the place lookup's descent: a stop counts as a wrong entry at the stop, and a leaf whose descent, the roots to its left
+  -- first, meets an unknown entry before a stop is itself wrong"
   unfoldable pub wrongFrom : Copy → ℕ → Ending → Lowest
   wrongFrom c k (stopped i) = first i
   wrongFrom c k (reached j start) = wrongUnless (leafRightFrom c k start) (index 0 k)
+  wrongFrom c k (unknown i) = first (index 0 k)
 
-  -- "and a leaf whose descent, the roots to its left first, meets an unknown entry before a stop is itself wrong"
   unfoldable pub wrongByLeaf : Copy → ℕ → Lowest
-  wrongByLeaf c k = elim (unknownToChunk c k) [ nowhere ↦ wrongFrom c k (toChunk (unsigned c) k) | first i ↦ first (index 0 k) ]
+  wrongByLeaf c k = wrongFrom c k (copyToChunk c k)
 
   -- "It judges a parent only where it and both children are known."
   unfoldable pub wrongByParent : Copy → ℕ → Lowest

@@ -1,7 +1,7 @@
 // The tree entries of a copy, one by one. All of these are inner: they require the files to hold the entries of n chunks and their bits.
 use copy_checks::Found;
-use copy_checks::Unknown;
 use lookup::Ending;
+use lookup::Sought;
 use number_types::ByteOffset;
 use number_types::ChunkNumber;
 use number_types::TreeIndex;
@@ -112,15 +112,13 @@ fn wrong_by_leaf(
         ⌜ foundOf r ≡ wrongByLeaf nodeHash (copyOf (now (tree .entry)) (now (bitfield .entry)) (now (content .entry)) n size) (c .0) ⌝ }
 {
     let leaf = tree_index::leaf_index(c);
-    match copy_descent::unknown_to_chunk(tree, bitfield, n, c) {
-        Unknown::At(_) => Found::At(leaf),
-        Unknown::Nothing => match copy_descent::ending_to_chunk(tree, n, c) {
-            Ending::Stopped(i) => Found::At(i),
-            Ending::Reached(_, start) => {
-                let right = leaf_right(tree, bitfield, content, n, size, c, start);
-                wrong_unless(right, leaf)
-            }
-        },
+    match lookup::from_roots(tree, bitfield, true, n, Sought::Chunk(c)) {
+        Ending::Stopped(i) => Found::At(i),
+        Ending::Unknown(_) => Found::At(leaf),
+        Ending::Reached(_, start) => {
+            let right = leaf_right(tree, bitfield, content, n, size, c, start);
+            wrong_unless(right, leaf)
+        }
     }
 }
 

@@ -10,7 +10,8 @@ use lib.Dec.{ltb}
 use lib.ListN.{length, getD, drop, drop-of-length-le}
 use lib.Seq.{drop-cons}
 use Rattle.byte_strings.specs.Lowest.{Lowest, nowhere, first}
-use Rattle.copy_checks.specs.Least.{firstUnknown, lowerOf, leastOf}
+use Rattle.lookup.specs.Unknown.{firstUnknown}
+use Rattle.copy_checks.specs.Least.{lowerOf, leastOf}
 
 -- ---- the first that is not known: what is left of the list decides
 

@@ -3,3 +3,4 @@ pub mod Least
 pub mod Roots
 pub mod Steps
 pub mod Signed
+pub mod Descents

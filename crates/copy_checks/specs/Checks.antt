@@ -9,8 +9,8 @@ use Rattle.file_format.specs.Headers.{treeHeader, bitfieldHeader}
 use Rattle.file_format.specs.Sizes.{usedTree, usedBitfield}
 use Rattle.checks.specs.Checks.{Check, judged, countRight, holds, headed, addsUp}
 use Rattle.audit.specs.Audit.{refusedAt}
+use Rattle.lookup.specs.Unknown.{firstUnknown}
 use Rattle.copy_checks.specs.Copy.{Copy, known}
-use Rattle.copy_checks.specs.Least.{firstUnknown}
 
 -- numbers 2, 4 and 5; "it has no signatures file and no s", so there is no 3
 unfoldable pub lentChecks : Copy → List Check

@@ -2,7 +2,6 @@
 use Prim.Native.Nat.{ℕ}
 use mathlib.Core.Bool.{Bool}
 use mathlib.Core.List.{List, []}
-use Rattle.byte_strings.specs.Lists.{Bytes}
 use Rattle.bitfield.specs.Known.{storedKnown}
 use Rattle.file_format.specs.Belongs.{Register}
 
@@ -29,12 +28,6 @@ filesLent tree bitfield content = record { tree = tree; bitfield = bitfield; con
 -- what a call is lent and told
 abbrev pub copyOf : List ℕ → List ℕ → List ℕ → ℕ → ℕ → Copy
 copyOf tree bitfield content n size = record { tree = tree; bitfield = bitfield; content = content; n = n; size = size }
-
--- lent files hold bytes
-pub record LentCopy (c : Copy) : Type 0 where
-  pub tree : Bytes (c .tree)
-  pub bitfield : Bytes (c .bitfield)
-  pub content : Bytes (c .content)
 
 -- "tree bits, which make an entry known": an entry is known where its stored tree bit is 1
 abbrev pub known : Copy → ℕ → Bool

@@ -1,14 +1,8 @@
--- The first or the lowest of tree indexes that a test finds.
-use Prim.Native.Nat.{ℕ}
-use mathlib.Core.Bool.{Bool, cond}
+-- The lowest of tree indexes.
+use mathlib.Core.Bool.{cond}
 use mathlib.Core.List.{List, [], _∷_}
 use lib.Dec.{ltb}
 use Rattle.byte_strings.specs.Lowest.{Lowest, nowhere, first}
-
--- the first of the indexes is that is not known
-unfoldable pub firstUnknown : (ℕ → Bool) → List ℕ → Lowest
-firstUnknown known [] = nowhere
-firstUnknown known (i ∷ is) = cond (known i) (firstUnknown known is) (first i)
 
 -- the lower of two
 unfoldable pub lowerOf : Lowest → Lowest → Lowest

@@ -1,4 +1,4 @@
--- What the code's search for an unknown entry finds, and its checks number by number.
+-- What the code's search for a lowest entry finds, and its checks number by number.
 use Prim.Native.Nat.{ℕ}
 use mathlib.Core.Bool.{Bool, _&&_}
 use mathlib.Core.List.{List}
@@ -8,18 +8,12 @@ use Rattle.file_format.specs.Sizes.{usedTree, usedBitfield}
 use Rattle.checks.specs.Checks.{holds, headed}
 use Rattle.copy_checks.specs.Copy.{Copy}
 use Rattle.copy_checks.specs.declared.Found.{Found}
-use Rattle.copy_checks.specs.declared.Found.the-variants.{At as FoundAt, Nothing as FoundNothing}
-use Rattle.copy_checks.specs.declared.Unknown.{Unknown}
-use Rattle.copy_checks.specs.declared.Unknown.the-variants.{At, Nothing}
+use Rattle.copy_checks.specs.declared.Found.the-variants.{At, Nothing}
 
 -- what each case stands for
 abbrev pub foundOf : Found → Lowest
-foundOf (FoundAt i) = first (i .0)
-foundOf FoundNothing = nowhere
-
-abbrev pub unknownOf : Unknown → Lowest
-unknownOf (At i) = first (i .0)
-unknownOf Nothing = nowhere
+foundOf (At i) = first (i .0)
+foundOf Nothing = nowhere
 
 -- number 4: all three files are long enough
 unfoldable pub longRight : Copy → Bool

@@ -1,5 +1,6 @@
 // Partial copies: which of a copy's roots is unknown, and the checks of a call on a copy. They only read, so that a refused call has changed
 // nothing.
+use lookup::Unknown;
 use number_types::TreeIndex;
 use refusals::Answer;
 ghost use mathlib.Core.Path.{_≡_};
@@ -12,16 +13,11 @@ ghost use Rattle.bitfield.specs.Known.{storedKnown};
 ghost use Rattle.checks.specs.Checks.{judged, addsUp};
 ghost use Rattle.file_format.specs.Inner.{RootsIn};
 ghost use Rattle.audit.specs.BitfieldEntries.{BitsIn};
+ghost use Rattle.lookup.specs.Unknown.{firstUnknown, unknownOf};
 ghost use Rattle.copy_checks.specs.Copy.{copyOf};
-ghost use Rattle.copy_checks.specs.Least.{firstUnknown, lowerOf};
+ghost use Rattle.copy_checks.specs.Least.{lowerOf};
 ghost use Rattle.copy_checks.specs.Checks.{lentChecks, sizeCheck, copyJudged, partlyJudged};
-ghost use Rattle.copy_checks.specs.Meaning.{foundOf, unknownOf, longRight, headsRight};
-
-// What a search for an entry that is not known finds.
-pub enum Unknown {
-    At(TreeIndex),
-    Nothing,
-}
+ghost use Rattle.copy_checks.specs.Meaning.{foundOf, longRight, headsRight};
 
 // The lowest tree index that a search finds.
 pub enum Found {

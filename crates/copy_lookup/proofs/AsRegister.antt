@@ -15,13 +15,15 @@ use Rattle.file_format.specs.Stored.{storedHash, storedSize}
 use Rattle.checks.specs.Checks.{Check, judged, registerChecks}
 use Rattle.checks.proofs.Judged.{judged-right, judged-done, judged-append}
 use Rattle.checks.proofs.Passed.{passes}
+use Rattle.lookup.specs.Descent.{Ending}
 use Rattle.lookup.specs.Lookup.{Found, found, foundUnless, startOf, stopRefused, toChunk, heldVerdict, heldPlaceOf}
 use Rattle.lookup.specs.Read.{chunkBytes, andThen, readVerdict}
 use Rattle.lookup.specs.Meaning.{readFound}
 use Rattle.copy_checks.specs.Copy.{Copy, unsigned}
-use Rattle.copy_checks.proofs.Steps.{Knowing, root-must, copy-passed}
+use Rattle.copy_checks.specs.Descents.{copyToChunk}
+use Rattle.copy_checks.proofs.Steps.{Knowing, copy-passed}
 use Rattle.copy_checks.proofs.Signed.{signed, signed-passes}
-use Rattle.copy_descent.specs.Reads.{unknownToChunk, chunkStop}
+use Rattle.copy_checks.proofs.Descents.{chunk-read, chunk-same}
 use Rattle.copy_lookup.specs.Lookups.{copyHeldVerdict, copyHeldPlaceOf}
 use Rattle.copy_lookup.specs.Reading.{copyReadVerdict, copyReadFound}
 
@@ -45,30 +47,50 @@ module _ (c : Copy) (i : ℕ) where
   abbrev gone : Verdict → Verdict
   gone next = cond (storedHeld (c .bitfield) i) next (refused 18 (tree (index 0 i)))
 
+  abbrev stopped : Verdict
+  stopped = stopRefused (copyToChunk c i)
+
+  -- of a chunk that has a place the descent is the register's
+  pub held-same : copyHeldVerdict c i ≡ done → copyToChunk c i ≡ toChunk (unsigned c) i
+  unfolding copyHeldVerdict
+  held-same e =
+      let b = judged-done nine (gone stopped) (copy-passed c (judged nine (gone stopped)) e .1) in
+      let d = held-must (storedHeld (c .bitfield) i) stopped 18 (tree (index 0 i)) (b .1) in
+      chunk-same c i (chunk-read c i (d .1))
+
   pub held-as : copyHeldVerdict c i ≡ done → heldVerdict (signed c) i ≡ done
-  unfolding copyHeldVerdict heldVerdict chunkStop toChunk
+  unfolding copyHeldVerdict heldVerdict toChunk
   held-as e =
       let stop : Verdict = stopRefused (toChunk (signed c) i) in
-      let a = copy-passed c (judged nine (gone (chunkStop c i))) e in
-      let b = judged-done nine (gone (chunkStop c i)) (a .1) in
-      let d = held-must (storedHeld (c .bitfield) i) (chunkStop c i) 18 (tree (index 0 i)) (b .1) in
-      let f = root-must (unknownToChunk c i) stop (d .1) in
+      let a = copy-passed c (judged nine (gone stopped)) e in
+      let b = judged-done nine (gone stopped) (a .1) in
+      let d = held-must (storedHeld (c .bitfield) i) stopped 18 (tree (index 0 i)) (b .1) in
       judged-append (registerChecks (signed c)) nine (gone stop)
       ∙ passes (signed c) (judged nine (gone stop)) (signed-passes c (a .0))
       ∙ judged-right nine (gone stop) (b .0)
-      ∙ ap (λ (x : Bool). cond x stop (refused 18 (tree (index 0 i)))) (d .0) ∙ f .1
+      ∙ ap (λ (x : Bool). cond x stop (refused 18 (tree (index 0 i)))) (d .0)
+      ∙ ap stopRefused (sym (held-same e)) ∙ d .1
+
+  -- its place is the register's
+  pub held-place-by : copyHeldPlaceOf c i ≡ foundUnless (copyHeldVerdict c i) (startOf (toChunk (unsigned c) i)) (storedSize (c .tree) (index 0 i))
+  unfolding copyHeldPlaceOf
+  held-place-by = go (copyHeldVerdict c i) refl
+    where
+      go : (v : Verdict) → copyHeldVerdict c i ≡ v
+          → foundUnless v (startOf (copyToChunk c i)) (storedSize (c .tree) (index 0 i)) ≡ foundUnless v (startOf (toChunk (unsigned c) i)) (storedSize (c .tree) (index 0 i))
+      go done e = ap (λ (x : Ending). found (startOf x) (storedSize (c .tree) (index 0 i))) (held-same e)
+      go (refused m at) e = refl
 
   pub held-place-done : (start size : ℕ) → found start size ≡ copyHeldPlaceOf c i → copyHeldVerdict c i ≡ done
-  unfolding copyHeldPlaceOf
   held-place-done start size e =
-      found-done (copyHeldVerdict c i) (startOf (toChunk (unsigned c) i)) (storedSize (c .tree) (index 0 i)) start size e
+      found-done (copyHeldVerdict c i) (startOf (toChunk (unsigned c) i)) (storedSize (c .tree) (index 0 i)) start size (e ∙ held-place-by)
 
   pub held-place-as : (start size : ℕ) → found start size ≡ copyHeldPlaceOf c i → found start size ≡ heldPlaceOf (signed c) i
-  unfolding copyHeldPlaceOf heldPlaceOf toChunk
+  unfolding heldPlaceOf toChunk
   held-place-as start size e =
       let v = held-place-done start size e in
       let at : Verdict → Found = λ x. foundUnless x (startOf (toChunk (signed c) i)) (storedSize (c .tree) (index 0 i)) in
-      e ∙ ap at v ∙ sym (ap at (held-as v))
+      e ∙ held-place-by ∙ ap at v ∙ sym (ap at (held-as v))
 
 module _ (F : List ℕ → List ℕ) (c : Copy) (i : ℕ) where
   pub read-as : copyReadVerdict F c i ≡ done → readVerdict F (signed c) i ≡ done

@@ -1,4 +1,3 @@
 -- The place lookup, the byte lookup and the read on a copy.
 pub mod Lookups
 pub mod Reading
-pub mod Inner

@@ -8,36 +8,36 @@ use Rattle.tree_index.specs.Tree.{index}
 use Rattle.bitfield.specs.Release.{storedHeld}
 use Rattle.file_format.specs.Stored.{storedSize}
 use Rattle.checks.specs.Checks.{judged}
-use Rattle.lookup.specs.Lookup.{Found, foundUnless, chunkOf, startOf, toChunk, toByte}
-use Rattle.copy_checks.specs.Copy.{Copy, unsigned}
+use Rattle.lookup.specs.Lookup.{Found, stopRefused, foundUnless, chunkOf, startOf}
+use Rattle.copy_checks.specs.Copy.{Copy}
+use Rattle.copy_checks.specs.Descents.{copyToChunk, copyToByte}
 use Rattle.copy_checks.specs.Checks.{copyJudged}
-use Rattle.copy_descent.specs.Reads.{chunkStop, byteStop}
 
 -- "9. The chunk number is not below n"
 unfoldable pub copyPlaceVerdict : Copy → ℕ → Verdict
-copyPlaceVerdict c i = copyJudged c (judged (record { number = 9; right = ltb i (c .n) } ∷ []) (chunkStop c i))
+copyPlaceVerdict c i = copyJudged c (judged (record { number = 9; right = ltb i (c .n) } ∷ []) (stopRefused (copyToChunk c i)))
 
 -- of a chunk that must be held: 18 just after 9
 unfoldable pub copyHeldVerdict : Copy → ℕ → Verdict
 copyHeldVerdict c i =
     copyJudged c
     (judged (record { number = 9; right = ltb i (c .n) } ∷ [])
-    (cond (storedHeld (c .bitfield) i) (chunkStop c i) (refused 18 (tree (index 0 i)))))
+    (cond (storedHeld (c .bitfield) i) (stopRefused (copyToChunk c i)) (refused 18 (tree (index 0 i)))))
 
 -- "9 remains for larger offsets" than the data size
 unfoldable pub copyByteVerdict : Copy → ℕ → Verdict
-copyByteVerdict c b = copyJudged c (judged (record { number = 9; right = leb b (c .size) } ∷ []) (byteStop c b))
+copyByteVerdict c b = copyJudged c (judged (record { number = 9; right = leb b (c .size) } ∷ []) (stopRefused (copyToByte c b)))
 
 -- start and length of chunk i
 unfoldable pub copyPlaceOf : Copy → ℕ → Found
 copyPlaceOf c i =
-    foundUnless (copyPlaceVerdict c i) (startOf (toChunk (unsigned c) i)) (storedSize (c .tree) (index 0 i))
+    foundUnless (copyPlaceVerdict c i) (startOf (copyToChunk c i)) (storedSize (c .tree) (index 0 i))
 
 unfoldable pub copyHeldPlaceOf : Copy → ℕ → Found
 copyHeldPlaceOf c i =
-    foundUnless (copyHeldVerdict c i) (startOf (toChunk (unsigned c) i)) (storedSize (c .tree) (index 0 i))
+    foundUnless (copyHeldVerdict c i) (startOf (copyToChunk c i)) (storedSize (c .tree) (index 0 i))
 
 -- the chunk whose bytes contain offset b, and b less its start; at the data size n and 0
 unfoldable pub copyByteAt : Copy → ℕ → Found
 copyByteAt c b =
-    foundUnless (copyByteVerdict c b) (chunkOf (toByte (unsigned c) b)) (b - startOf (toByte (unsigned c) b))
+    foundUnless (copyByteVerdict c b) (chunkOf (copyToByte c b)) (b - startOf (copyToByte c b))

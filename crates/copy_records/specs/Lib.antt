@@ -1,2 +1,3 @@
 -- The records of a copy's chunks, and the paths in them.
 pub mod Records
+pub mod Theorems

@@ -7,7 +7,11 @@ use record_node::NodeRead;
 use refusals::Answer;
 ghost use Rattle.blake2b.specs.Hash.{nodeHash};
 ghost use Rattle.copy_checks.specs.Copy.{copyOf};
-ghost use Rattle.copy_records.specs.Records.{CopyHeaderAs, CopyNodeAs, CopyPathAs};
+ghost use mathlib.Core.Path.{_≡_};
+ghost use Rattle.record_format.specs.Post.{headerTold};
+ghost use Rattle.record_node.specs.Post.{nodeTold};
+ghost use Rattle.record_find.specs.ChunkRecords.{comparedTold};
+ghost use Rattle.copy_records.specs.Records.{copyHeader, copyNode, copyPath};
 
 // The Header that a chunk is, as a rule chunk 0: where its content bytes lie in the chunk.
 pub fn header_of(
@@ -20,7 +24,7 @@ pub fn header_of(
 ) -> HeaderRead
     ensures { λ r.
         ⌜
-        CopyHeaderAs nodeHash (copyOf (now (tree .entry)) (now (bitfield .entry)) (now (content .entry)) n size) (chunk .0) r
+        headerTold r ≡ copyHeader nodeHash (copyOf (now (tree .entry)) (now (bitfield .entry)) (now (content .entry)) n size) (chunk .0)
         ⌝ }
 {
     match copy_lookup::verify(tree, bitfield, content, n, size, chunk) {
@@ -44,8 +48,8 @@ pub fn node_of(
 ) -> NodeRead
     ensures { λ r.
         ⌜
-        CopyNodeAs nodeHash (copyOf (now (tree .entry)) (now (bitfield .entry)) (now (content .entry)) n size) (chunk .0)
-        (r .answer) (r .node)
+        nodeTold (r .answer) (r .node)
+        ≡ copyNode nodeHash (copyOf (now (tree .entry)) (now (bitfield .entry)) (now (content .entry)) n size) (chunk .0)
         ⌝ }
 {
     match copy_lookup::verify(tree, bitfield, content, n, size, chunk) {
@@ -77,8 +81,9 @@ pub fn path_of(
 ) -> Compared
     ensures { λ r.
         ⌜
-        CopyPathAs nodeHash (copyOf (now (tree .entry)) (now (bitfield .entry)) (now (content .entry)) n size) (chunk .0)
-        (now (path .entry)) r
+        comparedTold r
+        ≡ copyPath nodeHash (copyOf (now (tree .entry)) (now (bitfield .entry)) (now (content .entry)) n size) (chunk .0)
+        (now (path .entry))
         ⌝ }
 {
     match copy_lookup::verify(tree, bitfield, content, n, size, chunk) {

@@ -4,29 +4,33 @@ use record_find::Compared;
 use record_find::Found;
 use record_format::HeaderRead;
 use refusals::Answer;
+ghost use mathlib.Core.Path.{_≡_};
 ghost use Prim.Native.Nat.{_-_};
 ghost use Rattle.blake2b.specs.Hash.{nodeHash};
-ghost use Rattle.record_find.specs.Finding.{foundOf};
+ghost use Rattle.record_find.specs.Finding.{foundOf, findDown};
 ghost use Rattle.copy_checks.specs.Copy.{copyOf};
-ghost use Rattle.copy_records.specs.Records.{CopyFinds, CopyFindAs};
+ghost use Rattle.copy_records.specs.Records.{copyJudge, copyFind};
 
 // The chunks from the latest down to chunk 1.
 fn search(tree: &[u8], bitfield: &[u8], content: &[u8], n: u64, size: u64, path: &[u8]) -> Found
     ensures { λ r.
         ⌜
-        CopyFinds nodeHash (copyOf (now (tree .entry)) (now (bitfield .entry)) (now (content .entry)) n size) (now (path .entry))
-        (n - 1) (foundOf r)
+        foundOf r
+        ≡ findDown
+        (copyJudge nodeHash (copyOf (now (tree .entry)) (now (bitfield .entry)) (now (content .entry)) n size)
+        (now (path .entry)))
+        (n - 1)
         ⌝ }
 {
-    let mut k = n;
-    while 1 < k {
-        k -= 1;
-        match super::chunks::path_of(tree, bitfield, content, n, size, ChunkNumber(k), path) {
+    let mut chunk = number_types::chunk_behind(n);
+    while 1 < chunk.0 {
+        chunk = ChunkNumber(chunk.0 - 1);
+        match super::chunks::path_of(tree, bitfield, content, n, size, chunk, path) {
             Compared::Refused(refusal) => {
                 return Found::Refused(refusal);
             }
             Compared::Same => {
-                return Found::At(ChunkNumber(k));
+                return Found::At(chunk);
             }
             Compared::Other => {}
         }
@@ -39,8 +43,9 @@ fn search(tree: &[u8], bitfield: &[u8], content: &[u8], n: u64, size: u64, path:
 pub fn find(tree: &[u8], bitfield: &[u8], content: &[u8], n: u64, size: u64, path: &[u8]) -> Found
     ensures { λ r.
         ⌜
-        CopyFindAs nodeHash (copyOf (now (tree .entry)) (now (bitfield .entry)) (now (content .entry)) n size) (now (path .entry))
-        (foundOf r)
+        foundOf r
+        ≡ copyFind nodeHash (copyOf (now (tree .entry)) (now (bitfield .entry)) (now (content .entry)) n size)
+        (now (path .entry))
         ⌝ }
 {
     match copy_checks::judge(tree, bitfield, content, n, size) {

@@ -2,7 +2,8 @@
 use number_types::ChunkNumber;
 use record_parts::Field;
 ghost use Rattle.blake2b.specs.Hash.{nodeHash};
-ghost use Rattle.record_parts.specs.Parts.{HeaderHanded, NodeHanded};
+ghost use mathlib.Core.Path.{_≡_};
+ghost use Rattle.record_parts.specs.Parts.{headerHanded, nodeHanded};
 ghost use Rattle.copy_checks.specs.Copy.{copyOf};
 ghost use Rattle.copy_lookup.specs.Reading.{copyReadPart};
 
@@ -18,9 +19,9 @@ pub fn node_part_of<'a>(
 ) -> &'a [u8]
     ensures { λ r.
         ⌜
-        NodeHanded field
+        now r
+        ≡ nodeHanded field
         (copyReadPart nodeHash (copyOf (now (tree .entry)) (now (bitfield .entry)) (now (content .entry)) n size) (chunk .0))
-        (now r)
         ⌝ }
 {
     let bytes = copy_lookup::read(tree, bitfield, content, n, size, chunk);
@@ -38,9 +39,9 @@ pub fn header_content_of<'a>(
 ) -> &'a [u8]
     ensures { λ r.
         ⌜
-        HeaderHanded
+        now r
+        ≡ headerHanded
         (copyReadPart nodeHash (copyOf (now (tree .entry)) (now (bitfield .entry)) (now (content .entry)) n size) (chunk .0))
-        (now r)
         ⌝ }
 {
     let bytes = copy_lookup::read(tree, bitfield, content, n, size, chunk);

@@ -11,7 +11,8 @@ use Rattle.lookup.proofs.Calls.{placing, found-refused}
 use Rattle.release.specs.Release.{releasedRegister}
 use Rattle.release.specs.Post.{Clears, Cleared}
 use Rattle.release.proofs.Calls.{release-fits as register-fits}
-use Rattle.copy_checks.specs.Copy.{Copy, filesOf, filesLent, unsigned}
+use Rattle.copy_checks.specs.Copy.{Copy, filesOf, filesLent}
+use Rattle.copy_checks.specs.Descents.{copyToChunk}
 use Rattle.copy_checks.proofs.Signed.{signed}
 use Rattle.copy_lookup.specs.Lookups.{copyHeldVerdict, copyHeldPlaceOf}
 use Rattle.copy_lookup.proofs.AsRegister.{held-place-done, held-place-as}
@@ -25,7 +26,7 @@ module _ (c : Copy) (i : ℕ) where
   pub release-not : (m : ℕ) (at : Spot) → refusal m at ≡ copyHeldPlaceOf c i → ReleasePost c i (refused m at) (filesOf c)
   unfolding copyReleaseVerdict copyAfterRelease copyHeldPlaceOf
   release-not m at e =
-      let v = found-refused (copyHeldVerdict c i) (startOf (toChunk (unsigned c) i)) (storedSize (c .tree) (index 0 i)) m at e in
+      let v = found-refused (copyHeldVerdict c i) (startOf (copyToChunk c i)) (storedSize (c .tree) (index 0 i)) m at e in
       record { answer = sym v; files = sym (ap (λ (x : Verdict). unlessRefused x (filesOf (releasedCopy c i)) (filesOf c)) v) }
 
   pub release-done : (start size : ℕ) (bits content : List ℕ) → found start size ≡ copyHeldPlaceOf c i

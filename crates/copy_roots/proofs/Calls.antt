@@ -21,7 +21,7 @@ use Rattle.search.specs.Search.{firstMissing, refusal, answer, soughtUnless}
 use Rattle.search.specs.Inner.{DataIn}
 use Rattle.search.proofs.Steps.{data-in}
 use Rattle.copy_checks.specs.Copy.{Copy, known}
-use Rattle.copy_checks.specs.Least.{firstUnknown}
+use Rattle.lookup.specs.Unknown.{firstUnknown}
 use Rattle.copy_checks.specs.Checks.{copyJudged}
 use Rattle.copy_checks.proofs.Steps.{Knowing, copy-passed, copy-passes, copy-refused-by, roots-in}
 use Rattle.copy_roots.specs.Roots.{copyRootVerdict, copyPrefixVerdict, rootUnless, copyRootAnswer, copyPrefixRoot, copySearch}

@@ -10,7 +10,7 @@ use Rattle.audit.specs.Audit.{refusedAt}
 use Rattle.prefix_root.specs.PrefixRoot.{ownChecks}
 use Rattle.search.specs.Search.{Sought, firstMissing, soughtUnless}
 use Rattle.copy_checks.specs.Copy.{Copy, known}
-use Rattle.copy_checks.specs.Least.{firstUnknown}
+use Rattle.lookup.specs.Unknown.{firstUnknown}
 use Rattle.copy_checks.specs.Checks.{copyJudged}
 
 -- the root hash: every root is known
@@ -32,6 +32,6 @@ module _ (F : List ℕ → List ℕ) where
   unfoldable pub copyPrefixRoot : Copy → ℕ → List ℕ
   copyPrefixRoot c m = rootUnless (copyPrefixVerdict c m) (c .tree) m
 
--- the search reads data bits and the Index alone; "20 at a root" is judged all the same, since 6 reads the roots
+-- the search reads data bits and the Index alone; 20 at a root is judged all the same, since 6 reads the roots
 unfoldable pub copySearch : Copy → ℕ → Sought
 copySearch c from = soughtUnless (copyJudged c done) (firstMissing (c .bitfield) (c .n) from)

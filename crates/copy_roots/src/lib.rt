@@ -1,6 +1,6 @@
 // The root hash, root hashes of earlier years and the search on a partial copy. Its files are lent to be read.
 use bitfield::Found;
-use copy_checks::Unknown;
+use lookup::Unknown;
 use number_types::ChunkNumber;
 use refusals::Answer;
 use search::Searched;
@@ -15,7 +15,7 @@ ghost use Rattle.audit.specs.Audit.{refusedAt};
 ghost use Rattle.audit.specs.BitfieldEntries.{BitsIn};
 ghost use Rattle.search.specs.Meaning.{searchedOf};
 ghost use Rattle.copy_checks.specs.Copy.{copyOf};
-ghost use Rattle.copy_checks.specs.Least.{firstUnknown};
+ghost use Rattle.lookup.specs.Unknown.{firstUnknown};
 ghost use Rattle.copy_roots.specs.Roots.{copyPrefixVerdict, copySearch};
 ghost use Rattle.copy_roots.specs.Post.{RootPost, PrefixRootPost, RootedPost};
 

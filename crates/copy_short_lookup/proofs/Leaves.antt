@@ -15,7 +15,7 @@ use Rattle.bitfield.specs.Append.{bitsPlace}
 use Rattle.bitfield.specs.Known.{storedKnown}
 use Rattle.audit.specs.Audit.{refusedAt}
 use Rattle.audit.specs.BitfieldEntries.{BitsIn}
-use Rattle.copy_checks.specs.Least.{firstUnknown}
+use Rattle.lookup.specs.Unknown.{firstUnknown}
 use Rattle.copy_checks.proofs.Least.{unknown-on, unknown-off, unknown-end}
 use Rattle.copy_checks.proofs.Roots.{tree-bit}
 use Rattle.copy_short_lookup.specs.Leaves.{leavesBelow}

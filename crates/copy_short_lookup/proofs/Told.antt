@@ -24,7 +24,7 @@ use Rattle.lookup.specs.Lookup.{Found, refusal, found}
 use Rattle.short_lookup.specs.ShortLookup.{leafFits, leafPassed, placeByLeaves, byteByLeaves, shortPlaceIn, shortByteIn, foundBehind}
 use Rattle.short_lookup.proofs.Answers.{lowest-says}
 use Rattle.short_lookup.proofs.Walks.{byte-end}
-use Rattle.copy_checks.specs.Least.{firstUnknown}
+use Rattle.lookup.specs.Unknown.{firstUnknown}
 use Rattle.copy_short_lookup.specs.Leaves.{leavesBelow, walkedTo, leavesToChunk, leavesToByte}
 use Rattle.copy_short_lookup.specs.Inner.{ShortIn, shortPlaceBehind, shortByteBehind, leavesAt, AtLeaf, ReadBy}
 

@@ -14,7 +14,7 @@ use Rattle.audit.specs.Audit.{refusedAt}
 use Rattle.audit.specs.BitfieldEntries.{BitsIn}
 use Rattle.lookup.specs.Lookup.{Found, refusal, found}
 use Rattle.short_lookup.specs.ShortLookup.{shortPlaceIn, shortByteIn, foundBehind}
-use Rattle.copy_checks.specs.Least.{firstUnknown}
+use Rattle.lookup.specs.Unknown.{firstUnknown}
 use Rattle.copy_short_lookup.specs.Leaves.{leavesBelow, leavesToChunk, leavesToByte}
 
 -- the files of a copy that passes the checks

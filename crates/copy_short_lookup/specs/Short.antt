@@ -11,7 +11,7 @@ use Rattle.lookup.specs.Lookup.{Found}
 use Rattle.search.specs.Search.{Sought, soughtUnless}
 use Rattle.short_lookup.specs.ShortLookup.{shortPlaceIn, shortByteIn, foundBehind}
 use Rattle.copy_checks.specs.Copy.{Copy, known}
-use Rattle.copy_checks.specs.Least.{firstUnknown}
+use Rattle.lookup.specs.Unknown.{firstUnknown}
 use Rattle.copy_checks.specs.Checks.{copyJudged}
 use Rattle.copy_short_lookup.specs.Leaves.{leavesToChunk, leavesToByte}
 
@@ -38,7 +38,7 @@ copyShortPlaceOf c i = foundBehind (copyShortPlaceVerdict c i) (shortPlaceIn (c 
 unfoldable pub copyShortByteAt : Copy → ℕ → Found
 copyShortByteAt c b = foundBehind (copyShortByteVerdict c b) (shortByteIn (c .tree) (c .n) (c .size) b)
 
--- the first chunk from a given number on, below n, whose data bit is 0, or none. It reads data bits alone; "20 at a root" is judged all the same, since 6
+-- the first chunk from a given number on, below n, whose data bit is 0, or none. It reads data bits alone; 20 at a root is judged all the same, since 6
 -- reads the roots
 unfoldable pub copyShortSearch : Copy → ℕ → Sought
 copyShortSearch c from = soughtUnless (copyJudged c done) (lowest (storedHeld (c .bitfield)) from (c .n - from))

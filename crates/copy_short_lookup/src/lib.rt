@@ -19,7 +19,7 @@ ghost use Rattle.audit.specs.BitfieldEntries.{BitsIn};
 ghost use Rattle.lookup.specs.Meaning.{placedOf, locatedOf};
 ghost use Rattle.search.specs.Meaning.{searchedOf};
 ghost use Rattle.copy_checks.specs.Copy.{copyOf};
-ghost use Rattle.copy_checks.specs.Least.{firstUnknown};
+ghost use Rattle.lookup.specs.Unknown.{firstUnknown};
 ghost use Rattle.copy_short_lookup.specs.Leaves.{leavesBelow};
 ghost use Rattle.copy_short_lookup.specs.Inner.{leavesAt, AtLeaf, ShortIn, shortPlaceBehind, shortByteBehind};
 ghost use Rattle.copy_short_lookup.specs.Short.{copyShortPlaceOf, copyShortByteAt, copyShortSearch};

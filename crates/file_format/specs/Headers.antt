@@ -13,14 +13,14 @@ front magic size name = be 4 magic ++ ((0 ∷ []) ++ (be 2 size ++ ((length name
 unfoldable pub header : ℕ → ℕ → List ℕ → List ℕ
 header magic size name = front magic size name ++ zeros (32 - length (front magic size name))
 
--- "bitfield 05025700, 3328, none, length 0", and "24 zeros follow the name length"
+-- the table: bitfield, magic 05025700, entry 3328, no name; and "24 zeros follow the name length"
 unfoldable pub bitfieldHeader : List ℕ
 bitfieldHeader = header 0x05025700 3328 []
 
--- "signatures 05025701, 64, Ed25519"
+-- the table: signatures, magic 05025701, entry 64, name Ed25519
 unfoldable pub signaturesHeader : List ℕ
 signaturesHeader = header 0x05025701 64 (69 ∷ 100 ∷ 50 ∷ 53 ∷ 53 ∷ 49 ∷ 57 ∷ [])
 
--- "tree 05025702, 40, BLAKE2b"
+-- the table: tree, magic 05025702, entry 40, name BLAKE2b
 unfoldable pub treeHeader : List ℕ
 treeHeader = header 0x05025702 40 (66 ∷ 76 ∷ 65 ∷ 75 ∷ 69 ∷ 50 ∷ 98 ∷ [])

@@ -1,5 +1,5 @@
 -- What inner functions require: that the entries which they read or write lie within the tree file. The limits of a chunk
--- sequence, the record `Within`, are not here but in Belongs.
+-- sequence, the record `Within`, are not here but in Slots.
 use Prim.Native.Nat.{ℕ, _+_, _≤_, _<_}
 use mathlib.Core.List.{List}
 use lib.ListN.{length, getD}

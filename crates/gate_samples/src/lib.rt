@@ -19,7 +19,7 @@ pub fn bytes_of(k: u64) -> [u8; 64] {
     bytes
 }
 
-// A register with chunks appended up to `upto`, each followed by its signature: chunk k is the first k % span bytes of bytes_of(k),
+// Inner: a register with chunks appended up to `upto`, each followed by its signature: chunk k is the first k % span bytes of bytes_of(k),
 // and its signature is bytes_of(k + 101).
 pub fn grow(
     tree: &mut [u8],

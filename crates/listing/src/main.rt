@@ -8,7 +8,7 @@ fn main() {
 }
 
 // No input of chunks is longer than 4 + 64 * 4 + 4,096 bytes. One byte more than that is read, and the rest would change nothing (the
-// library's law `cut-listing`). Every listing has room in 9,371 bytes, so none is refused.
+// library's `Limits`). Every listing has room in 9,371 bytes, so none is refused.
 fn list_on(input: &mut [u8], out: &mut [u8]) {
     let count = io::read_full(0, input);
     if let Listing::Written(len) = listing_lines::list(&input[0..count], out) {

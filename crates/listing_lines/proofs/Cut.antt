@@ -14,6 +14,7 @@ use Rattle.byte_strings.specs.Numbers.{number}
 use Rattle.checks.proofs.Judged.{both-right}
 use Rattle.listing_lines.specs.Input.{other, chunks, before, nextLength, chunkStands, chunksIn, inputOf}
 use Rattle.listing_lines.specs.Lines.{linesFor, listing}
+use Rattle.listing_lines.specs.Limits.{Limits}
 use Rattle.listing_lines.proofs.Chunks.{one-more, none-more}
 use Rattle.listing_lines.proofs.Begun.{input-many, input-counted}
 
@@ -59,3 +60,6 @@ cut-by xs false e =
 -- what is listed of the first 4,357 bytes is the listing of all
 pub cut-listing : (xs : List ℕ) → listing (take 4357 xs) ≡ listing xs
 cut-listing xs = cut-by xs (leb (length xs) 4357) refl
+
+pub limits : Limits
+limits = record { longer = λ xs h. long-other xs (omega arith); cut = cut-listing }

@@ -8,6 +8,7 @@ use Rattle.refusals.specs.Meaning.{refusalOf}
 use Rattle.byte_strings.specs.Lists.{put}
 use Rattle.checks.specs.Checks.{judged, holds}
 use Rattle.listing_lines.specs.Lines.{listing}
+use Rattle.listing_lines.specs.Limits.{mostListed}
 use Rattle.listing_lines.specs.declared.Listing.{Listing}
 use Rattle.listing_lines.specs.declared.Listing.the-variants.{Refused, Written}
 
@@ -25,9 +26,9 @@ listingBytes (Refused r) = 0
 listingBytes (Written k) = k
 
 -- the lines stand at the front of the buffer, with other bytes as they were, and their length is the answer; after a refusal no byte
--- changed. A buffer of 9,371 bytes has room for every listing.
+-- changed. A buffer of so many bytes has room for every listing.
 pub record Listed (input out : List ℕ) (answer : Listing) (after : List ℕ) : Type 0 where
   pub verdict : listingVerdict answer ≡ listVerdict input out
   pub long : listingBytes answer ≡ unlessRefused (listVerdict input out) (length (listing input)) 0
   pub buffer : after ≡ unlessRefused (listVerdict input out) (put out 0 (listing input)) out
-  pub most : length (listing input) ≤ 9371
+  pub most : length (listing input) ≤ mostListed

@@ -117,7 +117,7 @@ fn read_chunks(
     }
 }
 
-// The whole input: the count of its chunks and the chunks, onto a register that is started here.
+// Inner: the whole input: the count of its chunks and the chunks, onto a register that is started here.
 pub fn read(
     input: &[u8],
     tree: &mut [u8],

@@ -31,7 +31,7 @@ use Rattle.file_format.proofs.OfImage.{stored-span, stored-leaf-size, stored-st
 use Rattle.checks.specs.Checks.{judged, registerChecks}
 use Rattle.checks.proofs.Judged.{judged-append}
 use Rattle.checks.proofs.Passed.{Passed, passes, passed, same-of}
-use Rattle.lookup.specs.Descent.{Ending, stopped, reached, chunkWithin, byteWithin, descent}
+use Rattle.lookup.specs.Descent.{Ending, stopped, reached, unknown, always, chunkWithin, byteWithin, descent}
 use Rattle.lookup.specs.Lookup.{refusal, found, stopRefused, foundUnless, chunkOf, startOf, toChunk, byteEnding, toByte, placeVerdict, heldVerdict, byteVerdict, placeOf, byteAt}
 use Rattle.lookup.specs.Read.{chunkBytes, andThen, partUnless, readVerdict, readPart}
 use Rattle.lookup.specs.Theorems.{startIn, HasByte, Answers, AnswersForAll, Right, HoldsChunk, HoldsByte, Lies, Stops, LookupsStayInside, LookupsStayInsideForAll}
@@ -76,18 +76,18 @@ unfolding byteVerdict
 byte-verdict r b p h = nine-passed r (stopRefused (toByte r b)) p (le-leb b (r .size) h)
 
 -- where a byte lookup ends: at the data size, and below it
-pub at-end : (t : List ℕ) (n size b : ℕ) → b ≡ size → byteEnding t n size b ≡ reached n size
+pub at-end : (known : ℕ → Bool) (t : List ℕ) (n size b : ℕ) → b ≡ size → byteEnding known t n size b ≡ reached n size
 unfolding byteEnding
-at-end t n size b e = ap (λ (x : Bool). elim x [ true ↦ reached n size | false ↦ descent (byteWithin b) t n ]) (eq-eqb b size e)
+at-end known t n size b e = ap (λ (x : Bool). elim x [ true ↦ reached n size | false ↦ descent known (byteWithin b) t n ]) (eq-eqb b size e)
 
-pub not-at-end : (t : List ℕ) (n size b : ℕ) → (b ≡ size → ⊥) → byteEnding t n size b ≡ descent (byteWithin b) t n
+pub not-at-end : (known : ℕ → Bool) (t : List ℕ) (n size b : ℕ) → (b ≡ size → ⊥) → byteEnding known t n size b ≡ descent known (byteWithin b) t n
 unfolding byteEnding
-not-at-end t n size b h = ap (λ (x : Bool). elim x [ true ↦ reached n size | false ↦ descent (byteWithin b) t n ]) (ne-eqb b size h)
+not-at-end known t n size b h = ap (λ (x : Bool). elim x [ true ↦ reached n size | false ↦ descent known (byteWithin b) t n ]) (ne-eqb b size h)
 
 byte-at-end : (r : Register) → Passed r → byteAt r (r .size) ≡ found (r .n) 0
 unfolding byteAt toByte stopRefused
 byte-at-end r p =
-    let e = at-end (r .tree) (r .n) (r .size) (r .size) refl in
+    let e = at-end always (r .tree) (r .n) (r .size) (r .size) refl in
     ap (λ (v : Verdict). foundUnless v (chunkOf (toByte r (r .size))) (r .size - startOf (toByte r (r .size))))
     (byte-verdict r (r .size) p (omega arith) ∙ ap stopRefused e)
     ∙ ap (λ (x : Ending). found (chunkOf x) (r .size - startOf x)) e
@@ -105,22 +105,26 @@ no-byte r b p h =
 pub any-start : (t : List ℕ) (n : ℕ) → Steps t n (λ p s. Unit {0})
 any-start t n d k s h a = tt
 
+-- in a register nothing is unknown
+pub never-unknown : true ≡ false → ⊥
+never-unknown e = let z : _≡_ {A = ℕ} 0 1 = cc in omega arith
+
 few : (n : ℕ) → n ≤ mostChunks → n < 2 ^ 21
 few n h = omega arith
 
 module _ (r : Register) (p : Passed r) where
   chunk-lands : (At : ℕ → ℕ → Type 0) → Steps (r .tree) (r .n) At → At 0 0 → (c : ℕ) → c < r .n
-      → Ends (r .tree) (r .n) (λ p s. p ≤ c) (λ p s. c < p) At (toChunk r c)
+      → Ends always (r .tree) (r .n) (λ p s. p ≤ c) (λ p s. c < p) At (toChunk r c)
   unfolding toChunk
   chunk-lands At g a c h =
-      ends (chunkWithin c) (r .tree) (r .n) (λ p s. p ≤ c) (λ p s. c < p) At (chunk-order c) g (few (r .n) (p .count)) a (omega arith) h
+      ends always (chunkWithin c) (r .tree) (r .n) (λ p s. p ≤ c) (λ p s. c < p) At (chunk-order c) g (few (r .n) (p .count)) a (omega arith) h
 
   byte-lands : (At : ℕ → ℕ → Type 0) → Steps (r .tree) (r .n) At → At 0 0 → (b : ℕ) → b < r .size
-      → Ends (r .tree) (r .n) (λ p s. s ≤ b) (λ p s. b < s) At (toByte r b)
+      → Ends always (r .tree) (r .n) (λ p s. s ≤ b) (λ p s. b < s) At (toByte r b)
   unfolding toByte
   byte-lands At g a b h =
-      subst (Ends (r .tree) (r .n) (λ p s. s ≤ b) (λ p s. b < s) At) (sym (not-at-end (r .tree) (r .n) (r .size) b (λ e. omega arith)))
-      (ends (byteWithin b) (r .tree) (r .n) (λ p s. s ≤ b) (λ p s. b < s) At (byte-order b) g (few (r .n) (p .count)) a (omega arith)
+      subst (Ends always (r .tree) (r .n) (λ p s. s ≤ b) (λ p s. b < s) At) (sym (not-at-end always (r .tree) (r .n) (r .size) b (λ e. omega arith)))
+      (ends always (byteWithin b) (r .tree) (r .n) (λ p s. s ≤ b) (λ p s. b < s) At (byte-order b) g (few (r .n) (p .count)) a (omega arith)
       (subst (λ (e : ℕ). b < e) (sym (p .adds)) h))
 
   -- a leaf that is reached, whatever was sought
@@ -147,14 +151,14 @@ module _ (r : Register) (p : Passed r) where
   unfolding chunkBytes
   stays-inside = record { chunk = at-chunk; byte = at-byte; chunkStops = chunk-stops; byteStops = byte-stops; end = byte-at-end r p; noByte = λ b. no-byte r b p; read = in-read }
     where
-      to-chunk : (c : ℕ) → c < r .n → (x : Ending) → toChunk r c ≡ x → Ends (r .tree) (r .n) (λ p s. p ≤ c) (λ p s. c < p) (λ p s. Unit {0}) x
+      to-chunk : (c : ℕ) → c < r .n → (x : Ending) → toChunk r c ≡ x → Ends always (r .tree) (r .n) (λ p s. p ≤ c) (λ p s. c < p) (λ p s. Unit {0}) x
       to-chunk c h x e =
-          subst (Ends (r .tree) (r .n) (λ p s. p ≤ c) (λ p s. c < p) (λ p s. Unit {0})) e
+          subst (Ends always (r .tree) (r .n) (λ p s. p ≤ c) (λ p s. c < p) (λ p s. Unit {0})) e
           (chunk-lands (λ p s. Unit {0}) (any-start (r .tree) (r .n)) tt c h)
 
-      to-byte : (b : ℕ) → b < r .size → (x : Ending) → toByte r b ≡ x → Ends (r .tree) (r .n) (λ p s. s ≤ b) (λ p s. b < s) (λ p s. Unit {0}) x
+      to-byte : (b : ℕ) → b < r .size → (x : Ending) → toByte r b ≡ x → Ends always (r .tree) (r .n) (λ p s. s ≤ b) (λ p s. b < s) (λ p s. Unit {0}) x
       to-byte b h x e =
-          subst (Ends (r .tree) (r .n) (λ p s. s ≤ b) (λ p s. b < s) (λ p s. Unit {0})) e
+          subst (Ends always (r .tree) (r .n) (λ p s. s ≤ b) (λ p s. b < s) (λ p s. Unit {0})) e
           (byte-lands (λ p s. Unit {0}) (any-start (r .tree) (r .n)) tt b h)
 
       at-chunk : (c : ℕ) → c < r .n → (k start : ℕ) → toChunk r c ≡ reached k start → (k ≡ c) × Lies r k start
@@ -248,8 +252,9 @@ module _ (F : List ℕ → List ℕ) (hf : HashFunction F) (ss : List Slot) (w :
   pub to-chunk : (c : ℕ) → c < r .n → toChunk r c ≡ reached c (span cs 0 c)
   to-chunk c h = must (toChunk r c) (chunk-lands r p (λ k s. s ≡ span cs 0 k) starts (sym (span-none cs 0)) c h)
     where
-      must : (x : Ending) → Ends (r .tree) (r .n) (λ p s. p ≤ c) (λ p s. c < p) (λ k s. s ≡ span cs 0 k) x → x ≡ reached c (span cs 0 c)
+      must : (x : Ending) → Ends always (r .tree) (r .n) (λ p s. p ≤ c) (λ p s. c < p) (λ k s. s ≡ span cs 0 k) x → x ≡ reached c (span cs 0 c)
       must (stopped i) l = absurd (never-stops l)
+      must (unknown i) l = absurd (never-unknown l)
       must (reached k s) l =
           let e : k ≡ c = omega (arith, l .met .low, l .met .high) in
           ap₂ reached e (starts-at l ∙ ap (span cs 0) e)
@@ -258,9 +263,10 @@ module _ (F : List ℕ → List ℕ) (hf : HashFunction F) (ss : List Slot) (w :
   to-byte : (x : ℕ) → x < r .size → (k : ℕ) × HasByte cs x k × (toByte r x ≡ reached k (startIn cs k))
   to-byte x h = must (toByte r x) (byte-lands r p (λ k s. s ≡ span cs 0 k) starts (sym (span-none cs 0)) x h)
     where
-      must : (y : Ending) → Ends (r .tree) (r .n) (λ p s. s ≤ x) (λ p s. x < s) (λ k s. s ≡ span cs 0 k) y
+      must : (y : Ending) → Ends always (r .tree) (r .n) (λ p s. s ≤ x) (λ p s. x < s) (λ k s. s ≡ span cs 0 k) y
           → (k : ℕ) × HasByte cs x k × (y ≡ reached k (startIn cs k))
       must (stopped i) l = absurd (never-stops l)
+      must (unknown i) l = absurd (never-unknown l)
       must (reached k s) l =
           let in-r : k < r .n = omega (arith, l .met .inside) in
           let below : k < length cs = subst (λ (n : ℕ). k < n) counted in-r in

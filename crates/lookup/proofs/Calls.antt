@@ -19,18 +19,20 @@ use Rattle.bitfield.proofs.Release.{entry-below}
 use Rattle.file_format.specs.Sizes.{usedBitfield}
 use Rattle.file_format.specs.Messages.{leafMessage}
 use Rattle.file_format.specs.Stored.{storedSize, storedHash, storedRootSizes}
-use Rattle.file_format.specs.Inner.{EntryIn}
+use Rattle.file_format.specs.Inner.{EntryIn, RootsIn}
 use Rattle.file_format.specs.Belongs.{Register}
 use Rattle.checks.specs.Checks.{Check, judged, registerChecks}
 use Rattle.checks.proofs.Judged.{judged-append, judged-refused}
 use Rattle.checks.proofs.Passed.{all-must, all-pass, passes, passed}
-use Rattle.lookup.specs.Descent.{Ending, stopped, reached, chunkWithin, byteWithin, descent}
+use Rattle.lookup.specs.Descent.{Ending, stopped, reached, unknown, always, chunkWithin, byteWithin, descent}
 use Rattle.lookup.specs.Lookup.{Found, refusal, found, stopRefused, foundUnless, chunkOf, startOf, toChunk, byteEnding, toByte, placeVerdict, heldVerdict, byteVerdict, placeOf, heldPlaceOf, byteAt}
 use Rattle.lookup.specs.Inner.{Searched, SearchedFor, SearchedHeld, placeIn, heldPlaceIn, byteIn}
+use Rattle.lookup.specs.Capped.{cappedEnding}
 use Rattle.lookup.specs.Read.{chunkBytes, andThen, partUnless, readVerdict, readPart}
 use Rattle.lookup.specs.Meaning.{LiesAt, PlacedIn, hashJudged, readFound}
-use Rattle.lookup.proofs.Descents.{Ends, ends, byte-order}
+use Rattle.lookup.proofs.Descents.{Ends, ends, chunk-order, byte-order}
 use Rattle.lookup.proofs.Visits.{filled-entry}
+use Rattle.lookup.proofs.Capped.{capped-low}
 use Rattle.lookup.proofs.Answers.{any-start, at-end, not-at-end, stays-inside}
 
 -- ---- after the checks 2 to 6
@@ -54,7 +56,7 @@ unfolding placeOf placeVerdict
 place-refused r c =
     found-refused-before r (record { number = 9; right = ltb c (r .n) } ∷ []) (stopRefused (toChunk r c)) (startOf (toChunk r c)) (storedSize (r .tree) (index 0 c))
 
-pub place-passed : (r : Register) (c : ℕ) → done ≡ judged (registerChecks r) done → placeIn (r .tree) (r .n) c ≡ placeOf r c
+pub place-passed : (r : Register) (c : ℕ) → done ≡ judged (registerChecks r) done → placeIn always (r .tree) (r .n) c ≡ placeOf r c
 unfolding placeOf placeVerdict placeIn toChunk
 place-passed r c =
     found-passed r (record { number = 9; right = ltb c (r .n) } ∷ []) (stopRefused (toChunk r c)) (startOf (toChunk r c)) (storedSize (r .tree) (index 0 c))
@@ -68,7 +70,7 @@ unfolding heldPlaceOf heldVerdict
 held-refused r c =
     found-refused-before r (record { number = 9; right = ltb c (r .n) } ∷ []) (held-next r c) (startOf (toChunk r c)) (storedSize (r .tree) (index 0 c))
 
-pub held-passed : (r : Register) (c : ℕ) → done ≡ judged (registerChecks r) done → heldPlaceIn (r .tree) (r .bitfield) (r .n) c ≡ heldPlaceOf r c
+pub held-passed : (r : Register) (c : ℕ) → done ≡ judged (registerChecks r) done → heldPlaceIn always (r .tree) (r .n) (r .bitfield) c ≡ heldPlaceOf r c
 unfolding heldPlaceOf heldVerdict heldPlaceIn toChunk
 held-passed r c =
     found-passed r (record { number = 9; right = ltb c (r .n) } ∷ []) (held-next r c) (startOf (toChunk r c)) (storedSize (r .tree) (index 0 c))
@@ -78,21 +80,26 @@ unfolding byteAt byteVerdict
 byte-refused r b =
     found-refused-before r (record { number = 9; right = leb b (r .size) } ∷ []) (stopRefused (toByte r b)) (chunkOf (toByte r b)) (b - startOf (toByte r b))
 
-pub byte-passed : (r : Register) (b : ℕ) → done ≡ judged (registerChecks r) done → byteIn (r .tree) (r .n) (r .size) b ≡ byteAt r b
+pub byte-passed : (r : Register) (b : ℕ) → done ≡ judged (registerChecks r) done → byteIn always (r .tree) (r .n) (r .size) b ≡ byteAt r b
 unfolding byteAt byteVerdict byteIn toByte
 byte-passed r b =
     found-passed r (record { number = 9; right = leb b (r .size) } ∷ []) (stopRefused (toByte r b)) (chunkOf (toByte r b)) (b - startOf (toByte r b))
 
-pub searched : (r : Register) → done ≡ judged (registerChecks r) done → r .size < 2 ^ 64 → SearchedFor (r .tree) (r .n) (r .size)
+-- a register's bits are asked for by 18 alone
+pub searched : (r : Register) → done ≡ judged (registerChecks r) done → r .size < 2 ^ 64 → SearchedFor false (r .tree) (r .bitfield) (r .n) (r .size)
 searched r e h =
     let p = passed r done (sym e) .0 in
     record {
-      searched = record { roots = record { count = p .count; inside = p .tree }; fits = subst (λ (x : ℕ). x < 2 ^ 64) (sym (p .adds)) h };
+      searched =
+          record {
+            files = record { roots = record { count = p .count; inside = p .tree }; bitfield = λ _. p .bitfield };
+            fits = subst (λ (x : ℕ). x < 2 ^ 64) (sym (p .adds)) h;
+          };
       adds = p .adds;
     }
 
-pub searched-held : (r : Register) → done ≡ judged (registerChecks r) done → r .size < 2 ^ 64 → SearchedHeld (r .tree) (r .bitfield) (r .n)
-searched-held r e h = record { searched = searched r e h .searched; bits = passed r done (sym e) .0 .bitfield }
+pub searched-held : (r : Register) → done ≡ judged (registerChecks r) done → r .size < 2 ^ 64 → SearchedHeld false (r .tree) (r .bitfield) (r .n)
+searched-held r e h = record { searched = searched r e h .searched; held = passed r done (sym e) .0 .bitfield }
 
 -- ---- the lookups
 
@@ -115,95 +122,137 @@ module _ (ok : Bool) (next : Verdict) (a b : ℕ) where
 ended : (ok : Bool) (x : Ending) (a b : ℕ) → ok ≡ true → (y : Ending) → y ≡ x → foundUnless (stopRefused y) a b ≡ answer ok (stopRefused x) a b
 ended ok x a b e y f = behind-nine ok (stopRefused x) a b e (stopRefused y) (ap stopRefused (sym f))
 
-module _ (t : List ℕ) (n c : ℕ) where
-  abbrev ending : Ending
-  ending = descent (chunkWithin c) t n
+-- a start that is told as one which fits is told as it is
+capped-reached : (e : Ending) → ((k s : ℕ) → e ≡ reached k s → s < 2 ^ 64) → cappedEnding e ≡ e
+unfolding cappedEnding
+capped-reached (stopped i) h = refl
+capped-reached (unknown i) h = refl
+capped-reached (reached k s) h = ap (reached k) (capped-low s (let l = h k s refl in omega arith))
 
-  pub place-above : n ≤ c → refusal 9 none ≡ placeIn t n c
+module _ (known : ℕ → Bool) (t : List ℕ) (n c : ℕ) where
+  abbrev ending : Ending
+  ending = descent known (chunkWithin c) t n
+
+  -- behind 6 no start is capped
+  pub chunk-told : {partly : Bool} {bits : List ℕ} → Searched partly t bits n → c < n → cappedEnding ending ≡ ending
+  unfolding storedRootSizes
+  chunk-told p h = capped-reached ending inside
+    where
+      inside : (k s : ℕ) → ending ≡ reached k s → s < 2 ^ 64
+      inside k s e =
+          let few : n ≤ 1048576 = p .files .roots .count in
+          let l = subst (Ends known t n (λ q x. q ≤ c) (λ q x. c < q) (λ q x. Unit {0})) e
+          (ends known (chunkWithin c) t n (λ q x. q ≤ c) (λ q x. c < q) (λ q x. Unit {0}) (chunk-order c) (any-start t n) (omega arith) tt (omega arith) h) in
+          omega (arith, l .met .to, p .fits)
+
+  pub place-above : n ≤ c → refusal 9 none ≡ placeIn known t n c
   unfolding placeIn
   place-above h = at-nine (ltb c n) (stopRefused ending) (startOf ending) (storedSize t (index 0 c)) (le-ltb c n h)
 
-  pub place-stopped : c < n → (i : ℕ) → stopped i ≡ descent (chunkWithin c) t n → refusal 10 (tree i) ≡ placeIn t n c
-  unfolding placeIn stopRefused
-  place-stopped h i = ended (ltb c n) ending (startOf ending) (storedSize t (index 0 c)) (lt-ltb c n h) (stopped i)
+  pub place-ended : c < n → (x : Ending) → x ≡ ending → {z : ℕ} → z ≡ storedSize t (index 0 c) → foundUnless (stopRefused x) (startOf x) z ≡ placeIn known t n c
+  unfolding placeIn
+  place-ended h x e f =
+      ap₂ (λ (s y : ℕ). foundUnless (stopRefused x) s y) (ap startOf e) f
+      ∙ ended (ltb c n) ending (startOf ending) (storedSize t (index 0 c)) (lt-ltb c n h) x e
 
-  pub place-reached : c < n → (k s z : ℕ) → reached k s ≡ descent (chunkWithin c) t n → z ≡ storedSize t (index 0 c) → found s z ≡ placeIn t n c
-  unfolding placeIn stopRefused
-  place-reached h k s z e f =
-      ap₂ found (ap startOf e) f ∙ ended (ltb c n) ending (startOf ending) (storedSize t (index 0 c)) (lt-ltb c n h) (reached k s) e
+  pub place-stopped : c < n → (i : ℕ) → stopped i ≡ ending → refusal 10 (tree i) ≡ placeIn known t n c
+  unfolding stopRefused
+  place-stopped h i e = place-ended h (stopped i) e refl
+
+  pub place-unknown : c < n → (i : ℕ) → unknown i ≡ ending → refusal 20 (tree i) ≡ placeIn known t n c
+  unfolding stopRefused
+  place-unknown h i e = place-ended h (unknown i) e refl
+
+  pub place-reached : c < n → (k s z : ℕ) → reached k s ≡ ending → z ≡ storedSize t (index 0 c) → found s z ≡ placeIn known t n c
+  unfolding stopRefused
+  place-reached h k s z e f = place-ended h (reached k s) e f
 
   -- ---- of a chunk that must be held, in a bitfield file
   module _ (bits : List ℕ) where
     abbrev held-ending : Verdict
-    held-ending = cond (storedHeld bits c) (stopRefused (descent (chunkWithin c) t n)) (refused 18 (tree (index 0 c)))
+    held-ending = cond (storedHeld bits c) (stopRefused ending) (refused 18 (tree (index 0 c)))
 
-    held-is : (b : Bool) → storedHeld bits c ≡ b → held-ending ≡ cond b (stopRefused (descent (chunkWithin c) t n)) (refused 18 (tree (index 0 c)))
-    held-is b e = ap (λ (x : Bool). cond x (stopRefused (descent (chunkWithin c) t n)) (refused 18 (tree (index 0 c)))) e
+    held-is : (b : Bool) → storedHeld bits c ≡ b → held-ending ≡ cond b (stopRefused ending) (refused 18 (tree (index 0 c)))
+    held-is b e = ap (λ (x : Bool). cond x (stopRefused ending) (refused 18 (tree (index 0 c)))) e
 
-    pub held-above : n ≤ c → refusal 9 none ≡ heldPlaceIn t bits n c
+    pub held-above : n ≤ c → refusal 9 none ≡ heldPlaceIn known t n bits c
     unfolding heldPlaceIn
     held-above h = at-nine (ltb c n) held-ending (startOf ending) (storedSize t (index 0 c)) (le-ltb c n h)
 
-    pub held-gone : c < n → false ≡ storedHeld bits c → refusal 18 (tree (index 0 c)) ≡ heldPlaceIn t bits n c
+    pub held-gone : c < n → false ≡ storedHeld bits c → refusal 18 (tree (index 0 c)) ≡ heldPlaceIn known t n bits c
     unfolding heldPlaceIn
     held-gone h e =
         behind-nine (ltb c n) held-ending (startOf ending) (storedSize t (index 0 c)) (lt-ltb c n h) (refused 18 (tree (index 0 c))) (held-is false (sym e))
 
     -- of one that is held the place lookup's
-    pub held-here : c < n → true ≡ storedHeld bits c → placeIn t n c ≡ heldPlaceIn t bits n c
+    pub held-here : c < n → true ≡ storedHeld bits c → placeIn known t n c ≡ heldPlaceIn known t n bits c
     unfolding heldPlaceIn placeIn
     held-here h e =
         sym (behind-nine (ltb c n) (stopRefused ending) (startOf ending) (storedSize t (index 0 c)) (lt-ltb c n h) (stopRefused ending) refl)
         ∙ behind-nine (ltb c n) held-ending (startOf ending) (storedSize t (index 0 c)) (lt-ltb c n h) (stopRefused ending) (held-is true (sym e))
 
-    -- its data bit lies within the file
-    pub bit-in : usedBitfield n ≤ length bits → c < n → bitsPlace (c / 8192 + 1) ≤ length bits
-    unfolding usedBitfield bitsPlace
-    bit-in p h = omega (arith, entry-below n c h)
+-- its data bit lies within the file
+pub bit-in : (n c : ℕ) (bits : List ℕ) → usedBitfield n ≤ length bits → c < n → bitsPlace (c / 8192 + 1) ≤ length bits
+unfolding usedBitfield bitsPlace
+bit-in n c bits p h = omega (arith, entry-below n c h)
 
-  -- the leaf of a chunk that is there lies within the tree file
-  pub leaf-in : Searched t n → c < n → (c < 2097152) × EntryIn t (index 0 c)
-  leaf-in p h =
-      let few : n ≤ 1048576 = p .roots .count in
-      (omega arith, filled-entry t n (index 0 c) (p .roots .count) (p .roots .inside) (end-filled n 0 c (omega (arith, mul-one (c + 1)))))
+-- the leaf of a chunk that is there lies within the tree file
+pub leaf-in : {t : List ℕ} {n : ℕ} (c : ℕ) → RootsIn t n → c < n → (c < 2097152) × EntryIn t (index 0 c)
+leaf-in {t} {n} c p h =
+    let few : n ≤ 1048576 = p .count in
+    (omega arith, filled-entry t n (index 0 c) (p .count) (p .inside) (end-filled n 0 c (omega (arith, mul-one (c + 1)))))
 
-module _ (t : List ℕ) (n size b : ℕ) where
+module _ (known : ℕ → Bool) (t : List ℕ) (n size b : ℕ) where
   abbrev byte-ending : Ending
-  byte-ending = byteEnding t n size b
+  byte-ending = byteEnding known t n size b
 
-  pub byte-above : size < b → refusal 9 none ≡ byteIn t n size b
+  abbrev walked : Ending
+  walked = descent known (byteWithin b) t n
+
+  pub byte-above : size < b → refusal 9 none ≡ byteIn known t n size b
   unfolding byteIn
   byte-above h = at-nine (leb b size) (stopRefused byte-ending) (chunkOf byte-ending) (b - startOf byte-ending) (lt-leb b size h)
 
-  byte-ended : b ≤ size → (x : Ending) → x ≡ byte-ending → foundUnless (stopRefused x) (chunkOf x) (b - startOf x) ≡ byteIn t n size b
+  byte-ended : b ≤ size → (x : Ending) → x ≡ byte-ending → foundUnless (stopRefused x) (chunkOf x) (b - startOf x) ≡ byteIn known t n size b
   unfolding byteIn
   byte-ended h x e =
       ap (λ (y : Ending). foundUnless (stopRefused x) (chunkOf y) (b - startOf y)) e
       ∙ ended (leb b size) byte-ending (chunkOf byte-ending) (b - startOf byte-ending) (le-leb b size h) x e
 
-  pub byte-end : b ≡ size → found n 0 ≡ byteIn t n size b
+  pub byte-end : b ≡ size → found n 0 ≡ byteIn known t n size b
   unfolding stopRefused
   byte-end e =
       let z : 0 ≡ b - size = omega arith in
-      ap (found n) z ∙ byte-ended (omega arith) (reached n size) (sym (at-end t n size b e))
+      ap (found n) z ∙ byte-ended (omega arith) (reached n size) (sym (at-end known t n size b e))
 
-  pub byte-stopped : b ≤ size → (b ≡ size → ⊥) → (i : ℕ) → stopped i ≡ descent (byteWithin b) t n → refusal 10 (tree i) ≡ byteIn t n size b
-  unfolding stopRefused
-  byte-stopped h d i e = byte-ended h (stopped i) (e ∙ sym (not-at-end t n size b d))
+  byte-walked : b ≤ size → (b ≡ size → ⊥) → (x : Ending) → x ≡ walked → foundUnless (stopRefused x) (chunkOf x) (b - startOf x) ≡ byteIn known t n size b
+  byte-walked h d x e = byte-ended h x (e ∙ sym (not-at-end known t n size b d))
 
-  pub byte-reached : b ≤ size → (b ≡ size → ⊥) → (k s : ℕ) → reached k s ≡ descent (byteWithin b) t n → found k (b - s) ≡ byteIn t n size b
+  pub byte-stopped : b ≤ size → (b ≡ size → ⊥) → (i : ℕ) → stopped i ≡ walked → refusal 10 (tree i) ≡ byteIn known t n size b
   unfolding stopRefused
-  byte-reached h d k s e = byte-ended h (reached k s) (e ∙ sym (not-at-end t n size b d))
+  byte-stopped h d i = byte-walked h d (stopped i)
+
+  pub byte-unknown : b ≤ size → (b ≡ size → ⊥) → (i : ℕ) → unknown i ≡ walked → refusal 20 (tree i) ≡ byteIn known t n size b
+  unfolding stopRefused
+  byte-unknown h d i = byte-walked h d (unknown i)
+
+  pub byte-reached : b ≤ size → (b ≡ size → ⊥) → (k s : ℕ) → reached k s ≡ walked → found k (b - s) ≡ byteIn known t n size b
+  unfolding stopRefused
+  byte-reached h d k s = byte-walked h d (reached k s)
 
   -- the chunk that is reached does not begin behind the byte
-  pub byte-from : SearchedFor t n size → b ≤ size → (b ≡ size → ⊥) → (k s : ℕ) → reached k s ≡ descent (byteWithin b) t n → s ≤ b
+  pub byte-from : {partly : Bool} {bits : List ℕ} → SearchedFor partly t bits n size → b ≤ size → (b ≡ size → ⊥) → (k s : ℕ) → reached k s ≡ walked → s ≤ b
   unfolding storedRootSizes
   byte-from p h d k s e =
       let below : b < size = lt-of-not-le (λ l. d (omega arith)) in
-      let few : n ≤ 1048576 = p .searched .roots .count in
-      subst (Ends t n (λ q x. x ≤ b) (λ q x. b < x) (λ q x. Unit {0})) (sym e)
-      (ends (byteWithin b) t n (λ q x. x ≤ b) (λ q x. b < x) (λ q x. Unit {0}) (byte-order b) (any-start t n) (omega arith) tt (omega arith)
+      let few : n ≤ 1048576 = p .searched .files .roots .count in
+      subst (Ends known t n (λ q x. x ≤ b) (λ q x. b < x) (λ q x. Unit {0})) (sym e)
+      (ends known (byteWithin b) t n (λ q x. x ≤ b) (λ q x. b < x) (λ q x. Unit {0}) (byte-order b) (any-start t n) (omega arith) tt (omega arith)
       (subst (λ (x : ℕ). b < x) (sym (p .adds)) below)) .met .low
+
+  -- so its start is told as it is
+  pub byte-told : {partly : Bool} {bits : List ℕ} → SearchedFor partly t bits n size → b ≤ size → (b ≡ size → ⊥) → size < 2 ^ 64 → cappedEnding walked ≡ walked
+  byte-told p h d z = capped-reached walked (λ k s e. let l = byte-from p h d k s (sym e) in omega arith)
 
 -- ---- the reads
 
@@ -218,6 +267,7 @@ found-refused (refused k s) a b m at e = cc
 pub done-reached : (x : Ending) → stopRefused x ≡ done → (k : ℕ) × (s : ℕ) × (x ≡ reached k s)
 unfolding stopRefused
 done-reached (stopped i) e = let z : _≡_ {A = ℕ} 0 1 = cc in absurd (omega arith)
+done-reached (unknown i) e = let z : _≡_ {A = ℕ} 0 1 = cc in absurd (omega arith)
 done-reached (reached k s) e = (k, s, refl)
 
 pub done-first : (v : Verdict) (x : Verdict) → andThen v x ≡ done → v ≡ done

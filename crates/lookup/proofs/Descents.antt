@@ -1,5 +1,6 @@
 -- Where a descent ends, and by which way it came there. Two things vary: the order in which what is sought is met (a chunk number, a byte
--- offset), and what is known of where blocks begin (nothing of any tree file; their starts in one that belongs to a chunk sequence).
+-- offset), and what is known of where blocks begin (nothing of any tree file; their starts in one that belongs to a chunk sequence). An unknown entry
+-- that a descent names is not known.
 -- Assumes nothing.
 use Prim.Native.Nat.{ℕ, zero, suc, _+_, _-_, _*_, _/_, _%_, _^_, _≤_, _<_}
 use mathlib.Core.Path.{_≡_, refl, sym, ap, ap₂, _∙_, subst}
@@ -19,7 +20,7 @@ use Rattle.tree_index.proofs.Roots.{bit, no-root, one-root}
 use Rattle.tree_index.proofs.Cover.{high-bits}
 use Rattle.file_format.specs.Sizes.{longestChunk}
 use Rattle.file_format.specs.Stored.{storedSize, storedRootSizes}
-use Rattle.lookup.specs.Descent.{Ending, stopped, reached, chunkWithin, byteWithin, descend, fromRoots, descent}
+use Rattle.lookup.specs.Descent.{Ending, stopped, reached, unknown, ifKnown, chunkWithin, byteWithin, descend, fromRoots, descent}
 use Rattle.lookup.specs.Theorems.{Right, Visits, fromRoot, toLeft, toRight}
 
 -- What is sought is met from a place on (`Lo p s`: not before chunk p, whose bytes begin at s), and before one (`Hi p s`).
@@ -54,9 +55,10 @@ pub record Halted (t : List ℕ) (n : ℕ) (Lo Hi At : ℕ → ℕ → Type 0) (
   pub met : Met t n Lo Hi At d k start
   pub wrong : Right t d k → ⊥
 
-abbrev pub Ends : (t : List ℕ) (n : ℕ) (Lo Hi At : ℕ → ℕ → Type 0) → Ending → Type 0
-Ends t n Lo Hi At (stopped i) = Halted t n Lo Hi At i
-Ends t n Lo Hi At (reached k start) = Landed t n Lo Hi At k start
+abbrev pub Ends : (known : ℕ → Bool) (t : List ℕ) (n : ℕ) (Lo Hi At : ℕ → ℕ → Type 0) → Ending → Type 0
+Ends known t n Lo Hi At (stopped i) = Halted t n Lo Hi At i
+Ends known t n Lo Hi At (reached k start) = Landed t n Lo Hi At k start
+Ends known t n Lo Hi At (unknown i) = known i ≡ false
 
 -- the children of a block: where they begin and end
 pub left-first : (d k : ℕ) → 2 * k * 2 ^ d ≡ k * 2 ^ suc d
@@ -71,15 +73,23 @@ left-inside d k n h = omega (arith, right-end d k, block-end d (2 * k + 1))
 pub twice : (d : ℕ) → 2 ^ suc d ≡ 2 ^ d + 2 ^ d
 twice d = omega (arith, pow-succ' 2 d)
 
-module _ (within : ℕ → ℕ → ℕ → ℕ → Bool) (t : List ℕ) (n : ℕ) (Lo Hi At : ℕ → ℕ → Type 0) (order : Order within Lo Hi) (step : Steps t n At) where
+module _ (known : ℕ → Bool) (within : ℕ → ℕ → ℕ → ℕ → Bool) (t : List ℕ) (n : ℕ) (Lo Hi At : ℕ → ℕ → Type 0) (order : Order within Lo Hi) (step : Steps t n At) where
   abbrev size : ℕ → ℕ → ℕ
   size d k = storedSize t (index d k)
 
   abbrev Here : Ending → Type 0
-  Here = Ends t n Lo Hi At
+  Here = Ends known t n Lo Hi At
+
+  -- an entry is read, and what follows holds where it is known
+  read : (i : ℕ) (e : Ending) → Here e → Here (ifKnown (known i) i e)
+  read i e h = go (known i) refl
+    where
+      go : (b : Bool) → known i ≡ b → Here (ifKnown b i e)
+      go true f = h
+      go false f = f
 
   abbrev Down : ℕ → Type 0
-  Down d = (k s : ℕ) → Met t n Lo Hi At d k s → Here (descend within t d k s)
+  Down d = (k s : ℕ) → Met t n Lo Hi At d k s → Here (descend known within t d k s)
 
   down : (d : ℕ) → Down d
   unfolding descend
@@ -89,10 +99,13 @@ module _ (within : ℕ → ℕ → ℕ → ℕ → Bool) (t : List ℕ) (n : ℕ
       pick true e = record { met = m; fits = leb-true (size 0 k) longestChunk e }
       pick false e =
           record { d = 0; k = k; start = s; here = refl; met = m; wrong = λ f. omega (arith, leb-false (size 0 k) longestChunk e) }
-  down (suc d) k s m = pick (down d) (eqb (size (suc d) k) (size d (2 * k) + size d (2 * k + 1))) refl
+  down (suc d) k s m =
+      let sum : Bool = eqb (size (suc d) k) (size d (2 * k) + size d (2 * k + 1)) in
+      let e : Ending = elim sum [ true ↦ child (within d (2 * k) s (size d (2 * k))) | false ↦ stopped (index (suc d) k) ] in
+      read (index d (2 * k)) (ifKnown (known (index d (2 * k + 1))) (index d (2 * k + 1)) e) (read (index d (2 * k + 1)) e (pick (down d) sum refl))
     where
       child : Bool → Ending
-      child b = elim b [ true ↦ descend within t d (2 * k) s | false ↦ descend within t d (2 * k + 1) (s + size d (2 * k)) ]
+      child b = elim b [ true ↦ descend known within t d (2 * k) s | false ↦ descend known within t d (2 * k + 1) (s + size d (2 * k)) ]
 
       first : At (2 * k * 2 ^ d) s
       first = subst (λ (x : ℕ). At x s) (sym (left-first d k)) (m .at)
@@ -138,11 +151,12 @@ module _ (within : ℕ → ℕ → ℕ → ℕ → Bool) (t : List ℕ) (n : ℕ
   abbrev orElse : Bool → Ending → Ending → Ending
   orElse b x y = elim b [ true ↦ x | false ↦ y ]
 
-  first-root : (d k s : ℕ) (is : List ℕ) → fromRoots within t (index d k ∷ is) s
-      ≡ orElse (within d k s (size d k)) (descend within t d k s) (fromRoots within t is (s + size d k))
+  first-root : (d k s : ℕ) (is : List ℕ) → fromRoots known within t (index d k ∷ is) s
+      ≡ ifKnown (known (index d k)) (index d k) (orElse (within d k s (size d k)) (descend known within t d k s) (fromRoots known within t is (s + size d k)))
   unfolding fromRoots
   first-root d k s is =
-      ap₂ (λ (e b : ℕ). orElse (within e b s (size d k)) (descend within t e b s) (fromRoots within t is (s + size d k))) (depth-index d k) (block-index d k)
+      ap₂ (λ (e b : ℕ). ifKnown (known (index d k)) (index d k) (orElse (within e b s (size d k)) (descend known within t e b s) (fromRoots known within t is (s + size d k))))
+      (depth-index d k) (block-index d k)
 
   abbrev sum : List ℕ → ℕ
   sum is = total (map (storedSize t) is)
@@ -153,7 +167,7 @@ module _ (within : ℕ → ℕ → ℕ → ℕ → Bool) (t : List ℕ) (n : ℕ
   -- what is left of the roots, behind those before
   abbrev Among : ℕ → Type 0
   Among d = (before : List ℕ) → roots n ≡ before ++ rootsBelow d n → At (n / 2 ^ d * 2 ^ d) (sum before) → Lo (n / 2 ^ d * 2 ^ d) (sum before)
-      → Here (fromRoots within t (rootsBelow d n) (sum before))
+      → Here (fromRoots known within t (rootsBelow d n) (sum before))
 
   among-roots : Hi n (sum (roots n)) → (d : ℕ) → Among d
   unfolding rootsBelow total storedRootSizes
@@ -172,7 +186,7 @@ module _ (within : ℕ → ℕ → ℕ → ℕ → Bool) (t : List ℕ) (n : ℕ
       s = sum before
 
       choose : Among d → (k : ℕ) → k + 1 ≡ q → k * 2 ^ d ≡ n / 2 ^ suc d * 2 ^ suc d → roots n ≡ before ++ (index d k ∷ rest)
-          → (b : Bool) → within d k s (size d k) ≡ b → Here (orElse b (descend within t d k s) (fromRoots within t rest (s + size d k)))
+          → (b : Bool) → within d k s (size d k) ≡ b → Here (orElse b (descend known within t d k s) (fromRoots known within t rest (s + size d k)))
       choose rec k e f these b w = go b w
         where
           inside : (k + 1) * 2 ^ d ≤ n
@@ -184,7 +198,7 @@ module _ (within : ℕ → ℕ → ℕ → ℕ → Bool) (t : List ℕ) (n : ℕ
           next : sum (before ++ (index d k ∷ [])) ≡ s + size d k
           next = sum-append before (index d k ∷ []) ∙ ap (λ (x : ℕ). s + x) (add-zero (size d k))
 
-          go : (b : Bool) → within d k s (size d k) ≡ b → Here (orElse b (descend within t d k s) (fromRoots within t rest (s + size d k)))
+          go : (b : Bool) → within d k s (size d k) ≡ b → Here (orElse b (descend known within t d k s) (fromRoots known within t rest (s + size d k)))
           go true w =
               down d k s
               (record {
@@ -196,16 +210,16 @@ module _ (within : ℕ → ℕ → ℕ → ℕ → Bool) (t : List ℕ) (n : ℕ
                 visited = fromRoot before rest d k these;
               })
           go false w =
-              subst (λ (x : ℕ). Here (fromRoots within t rest x)) next
+              subst (λ (x : ℕ). Here (fromRoots known within t rest x)) next
               (rec (before ++ (index d k ∷ [])) (these ∙ sym (append-assoc before (index d k ∷ []) rest))
               (subst (At (q * 2 ^ d)) (sym next) (subst (λ (x : ℕ). At (x * 2 ^ d) (s + size d k)) e (step d k s inside at-k)))
               (subst (Lo (q * 2 ^ d)) (sym next) (subst (λ (x : ℕ). Lo (x * 2 ^ d) (s + size d k)) e (order .no d k s (size d k) w))))
 
-      pick : Among d → (q % 2 ≡ 0) ⊎ (q % 2 ≡ 1) → Here (fromRoots within t (rootOf d n ++ rest) s)
+      pick : Among d → (q % 2 ≡ 0) ⊎ (q % 2 ≡ 1) → Here (fromRoots known within t (rootOf d n ++ rest) s)
       pick rec (inl e) =
           let high : n / 2 ^ suc d * 2 ^ suc d ≡ q * 2 ^ d = omega (arith, high-bits d n, ap (λ (x : ℕ). x * 2 ^ d) e, zero-mul (2 ^ d)) in
           let none : rootOf d n ++ rest ≡ rest = ap (λ (l : List ℕ). l ++ rest) (no-root d n e) in
-          subst (λ (l : List ℕ). Here (fromRoots within t l s)) (sym none)
+          subst (λ (l : List ℕ). Here (fromRoots known within t l s)) (sym none)
           (rec before (same ∙ ap (λ (l : List ℕ). before ++ l) none) (subst (λ (x : ℕ). At x s) high at) (subst (λ (x : ℕ). Lo x s) high lo))
       pick rec (inr e) =
           let k : ℕ = q - 1 in
@@ -214,12 +228,13 @@ module _ (within : ℕ → ℕ → ℕ → ℕ → Bool) (t : List ℕ) (n : ℕ
           let begins : k * 2 ^ d ≡ n / 2 ^ suc d * 2 ^ suc d =
           omega (arith, high-bits d n, ap (λ (x : ℕ). x * 2 ^ d) e, one-mul (2 ^ d), ap (λ (x : ℕ). x * 2 ^ d) up, block-end d k)
           in
-          subst (λ (l : List ℕ). Here (fromRoots within t l s)) (sym one)
+          subst (λ (l : List ℕ). Here (fromRoots known within t l s)) (sym one)
           (subst Here (sym (first-root d k s rest))
-          (choose rec k up begins (same ∙ ap (λ (l : List ℕ). before ++ l) one) (within d k s (size d k)) refl))
+          (read (index d k) (orElse (within d k s (size d k)) (descend known within t d k s) (fromRoots known within t rest (s + size d k)))
+          (choose rec k up begins (same ∙ ap (λ (l : List ℕ). before ++ l) one) (within d k s (size d k)) refl)))
 
   -- a descent among the roots of n chunks
-  pub ends : n < 2 ^ 21 → At 0 0 → Lo 0 0 → Hi n (total (storedRootSizes t n)) → Here (descent within t n)
+  pub ends : n < 2 ^ 21 → At 0 0 → Lo 0 0 → Hi n (total (storedRootSizes t n)) → Here (descent known within t n)
   unfolding descent roots storedRootSizes total
   ends h at lo hi =
       let first : n / 2 ^ 21 * 2 ^ 21 ≡ 0 = ap (λ (x : ℕ). x * 2 ^ 21) (div-eq-of-lt h) ∙ zero-mul (2 ^ 21) in

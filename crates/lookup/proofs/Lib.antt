@@ -1,6 +1,9 @@
 -- Laws of descents and of what lookups and reads answer.
 pub mod Descents
 pub mod Visits
-pub mod Searches
+pub mod Unknown
+pub mod Steps
+pub mod ReadOrder
+pub mod Capped
 pub mod Answers
 pub mod Calls

@@ -16,7 +16,7 @@ use Rattle.file_format.specs.Sizes.{mostChunks, longestChunk, usedTree}
 use Rattle.file_format.specs.Stored.{storedSize}
 use Rattle.file_format.specs.Inner.{EntryIn}
 use Rattle.file_format.proofs.OfImage.{entry-inside}
-use Rattle.lookup.specs.Descent.{Ending, stopped, reached, chunkWithin, descend}
+use Rattle.lookup.specs.Descent.{Ending, stopped, reached, always, chunkWithin, descend}
 use Rattle.lookup.specs.Inner.{StandsAt, Turned, Onward}
 use Rattle.lookup.proofs.Descents.{left-inside, right-end}
 
@@ -92,16 +92,16 @@ by-parents P h = by-coordinates (λ i. 0 < depth i → P i (leftChild i) (rightC
 module _ (within : ℕ → ℕ → ℕ → ℕ → Bool) (t : List ℕ) (s : ℕ) where
   -- the descent from the node at i
   abbrev from : ℕ → Ending
-  from i = descend within t (depth i) (block i) s
+  from i = descend always within t (depth i) (block i) s
 
-  at-index : (s' d k : ℕ) → descend within t (depth (index d k)) (block (index d k)) s' ≡ descend within t d k s'
-  at-index s' d k = ap₂ (λ (e b : ℕ). descend within t e b s') (depth-index d k) (block-index d k)
+  at-index : (s' d k : ℕ) → descend always within t (depth (index d k)) (block (index d k)) s' ≡ descend always within t d k s'
+  at-index s' d k = ap₂ (λ (e b : ℕ). descend always within t e b s') (depth-index d k) (block-index d k)
 
   pub at-leaf : (i : ℕ) → depth i ≡ 0 → storedSize t i ≤ longestChunk → from i ≡ reached (block i) s
   unfolding descend
   at-leaf = by-coordinates (λ i. depth i ≡ 0 → storedSize t i ≤ longestChunk → from i ≡ reached (block i) s) go
     where
-      here : (k : ℕ) → storedSize t (index 0 k) ≤ longestChunk → descend within t 0 k s ≡ reached k s
+      here : (k : ℕ) → storedSize t (index 0 k) ≤ longestChunk → descend always within t 0 k s ≡ reached k s
       here k l = ap (λ (b : Bool). elim b [ true ↦ reached k s | false ↦ stopped (index 0 k) ]) (le-leb (storedSize t (index 0 k)) longestChunk l)
 
       go : (d k : ℕ) → depth (index d k) ≡ 0 → storedSize t (index d k) ≤ longestChunk → from (index d k) ≡ reached (block (index d k)) s
@@ -112,7 +112,7 @@ module _ (within : ℕ → ℕ → ℕ → ℕ → Bool) (t : List ℕ) (s : ℕ
   unfolding descend
   at-long-leaf = by-coordinates (λ i. depth i ≡ 0 → longestChunk < storedSize t i → from i ≡ stopped i) go
     where
-      here : (k : ℕ) → longestChunk < storedSize t (index 0 k) → descend within t 0 k s ≡ stopped (index 0 k)
+      here : (k : ℕ) → longestChunk < storedSize t (index 0 k) → descend always within t 0 k s ≡ stopped (index 0 k)
       here k l = ap (λ (b : Bool). elim b [ true ↦ reached k s | false ↦ stopped (index 0 k) ]) (lt-leb (storedSize t (index 0 k)) longestChunk l)
 
       go : (d k : ℕ) → depth (index d k) ≡ 0 → longestChunk < storedSize t (index d k) → from (index d k) ≡ stopped (index d k)
@@ -121,7 +121,7 @@ module _ (within : ℕ → ℕ → ℕ → ℕ → Bool) (t : List ℕ) (s : ℕ
 
   -- a parent, its children, and which of them is taken
   abbrev taken : ℕ → ℕ → Bool → Ending
-  taken d k b = elim b [ true ↦ descend within t d (2 * k) s | false ↦ descend within t d (2 * k + 1) (s + storedSize t (index d (2 * k))) ]
+  taken d k b = elim b [ true ↦ descend always within t d (2 * k) s | false ↦ descend always within t d (2 * k + 1) (s + storedSize t (index d (2 * k))) ]
 
   pub at-wrong-sum : (i : ℕ) → 0 < depth i → (storedSize t i ≡ storedSize t (leftChild i) + storedSize t (rightChild i) → ⊥) → from i ≡ stopped i
   unfolding descend
@@ -132,7 +132,7 @@ module _ (within : ℕ → ℕ → ℕ → ℕ → Bool) (t : List ℕ) (s : ℕ
       (ne-eqb (storedSize t (index (suc d) k)) (storedSize t (index d (2 * k)) + storedSize t (index d (2 * k + 1))) h))
 
   right-sum : (d k : ℕ) → storedSize t (index (suc d) k) ≡ storedSize t (index d (2 * k)) + storedSize t (index d (2 * k + 1))
-      → descend within t (suc d) k s ≡ taken d k (within d (2 * k) s (storedSize t (index d (2 * k))))
+      → descend always within t (suc d) k s ≡ taken d k (within d (2 * k) s (storedSize t (index d (2 * k))))
   unfolding descend
   right-sum d k h =
       ap (λ (b : Bool). elim b [ true ↦ taken d k (within d (2 * k) s (storedSize t (index d (2 * k)))) | false ↦ stopped (index (suc d) k) ])
@@ -143,18 +143,18 @@ module _ (within : ℕ → ℕ → ℕ → ℕ → Bool) (t : List ℕ) (s : ℕ
 
   pub goes-left : (i : ℕ) → 0 < depth i → storedSize t i ≡ storedSize t (leftChild i) + storedSize t (rightChild i)
       → within (depth (leftChild i)) (block (leftChild i)) s (storedSize t (leftChild i)) ≡ true
-      → descend within t (depth (leftChild i)) (block (leftChild i)) s ≡ from i
+      → descend always within t (depth (leftChild i)) (block (leftChild i)) s ≡ from i
   goes-left =
       by-parents (λ i l r. storedSize t i ≡ storedSize t l + storedSize t r → within (depth l) (block l) s (storedSize t l) ≡ true
-      → descend within t (depth l) (block l) s ≡ from i)
+      → descend always within t (depth l) (block l) s ≡ from i)
       (λ d k h e. at-index s d (2 * k) ∙ sym (at-index s (suc d) k ∙ right-sum d k h ∙ ap (taken d k) (within-index d (2 * k) true e)))
 
   pub goes-right : (i : ℕ) → 0 < depth i → storedSize t i ≡ storedSize t (leftChild i) + storedSize t (rightChild i)
       → within (depth (leftChild i)) (block (leftChild i)) s (storedSize t (leftChild i)) ≡ false
-      → descend within t (depth (rightChild i)) (block (rightChild i)) (s + storedSize t (leftChild i)) ≡ from i
+      → descend always within t (depth (rightChild i)) (block (rightChild i)) (s + storedSize t (leftChild i)) ≡ from i
   goes-right =
       by-parents (λ i l r. storedSize t i ≡ storedSize t l + storedSize t r → within (depth l) (block l) s (storedSize t l) ≡ false
-      → descend within t (depth r) (block r) (s + storedSize t l) ≡ from i)
+      → descend always within t (depth r) (block r) (s + storedSize t l) ≡ from i)
       (λ d k h e. at-index (s + storedSize t (index d (2 * k))) d (2 * k + 1)
       ∙ sym (at-index s (suc d) k ∙ right-sum d k h ∙ ap (taken d k) (within-index d (2 * k) false e)))
 
@@ -203,7 +203,7 @@ module _ (within : ℕ → ℕ → ℕ → ℕ → Bool) {t : List ℕ} {s i l r
 
   -- another sum: the descent stops here
   abbrev Ended : Type 0
-  Ended = (stopped i ≡ descend within t (depth i) (block i) s) × (0 < depth i → storedSize t i ≡ storedSize t (leftChild i) + storedSize t (rightChild i) → ⊥)
+  Ended = (stopped i ≡ descend always within t (depth i) (block i) s) × (0 < depth i → storedSize t i ≡ storedSize t (leftChild i) + storedSize t (rightChild i) → ⊥)
 
   wrong : (size ≡ first + second → ⊥) → Ended
   wrong h =
@@ -221,7 +221,7 @@ module _ (within : ℕ → ℕ → ℕ → ℕ → Bool) {t : List ℕ} {s i l r
   -- the child at x, whose bytes begin at y
   abbrev Child : ℕ → ℕ → Type 0
   Child x y =
-      (descend within t (depth x) (block x) y ≡ descend within t (depth i) (block i) s) × ((StandsAt t x y × (depth x < depth i)) × Onward within t i s x y)
+      (descend always within t (depth x) (block x) y ≡ descend always within t (depth i) (block i) s) × ((StandsAt t x y × (depth x < depth i)) × Onward within t i s x y)
 
   onward : (x y : ℕ) (b : Bool) → storedSize t i ≡ storedSize t (leftChild i) + storedSize t (rightChild i)
       → within (depth (leftChild i)) (block (leftChild i)) s (storedSize t (leftChild i)) ≡ b → Turned b t i s x y → Onward within t i s x y

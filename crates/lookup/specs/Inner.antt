@@ -1,5 +1,5 @@
--- The steps of a descent as the code takes them, and what its inner functions require.
-use Prim.Native.Nat.{ℕ, _+_, _-_, _*_, _^_, _≤_, _<_}
+-- The steps of a descent as the code takes them, and what its inner functions require. `partly` says that the files are a copy's.
+use Prim.Native.Nat.{ℕ, _+_, _-_, _*_, _^_, _/_, _≤_, _<_}
 use mathlib.Core.Path.{_≡_}
 use mathlib.Core.Bool.{Bool, true, false, cond}
 use mathlib.Core.List.{List, [], _∷_}
@@ -7,18 +7,20 @@ use lib.ListN.{length}
 use lib.Dec.{leb, ltb}
 use Rattle.refusals.specs.Verdict.{tree as atTree, refused}
 use Rattle.byte_strings.specs.Lists.{total}
-use Rattle.tree_index.specs.Tree.{index, depth, block, leftChild, rightChild}
+use Rattle.tree_index.specs.Tree.{index, depth, block, leftChild, rightChild, filled}
+use Rattle.bitfield.specs.Append.{bitsPlace}
+use Rattle.bitfield.specs.Known.{storedKnown}
 use Rattle.bitfield.specs.Release.{storedHeld}
 use Rattle.file_format.specs.Sizes.{mostChunks, usedTree, usedBitfield}
 use Rattle.file_format.specs.Stored.{storedSize, storedRootSizes}
 use Rattle.file_format.specs.Inner.{RootsIn}
 use Rattle.checks.specs.Checks.{judged}
-use Rattle.lookup.specs.Descent.{Ending, stopped, reached, chunkWithin, byteWithin, descend, descent}
+use Rattle.lookup.specs.Descent.{Ending, stopped, reached, unknown, always, chunkWithin, byteWithin, descend, descent}
 use Rattle.lookup.specs.Lookup.{Found, stopRefused, foundUnless, chunkOf, startOf, byteEnding}
 use Rattle.lookup.specs.declared.descent.Sought.{Sought}
 use Rattle.lookup.specs.declared.descent.Sought.the-variants.{Chunk, Byte}
 use Rattle.lookup.specs.declared.descent.Ending.{Ending as CodeEnding}
-use Rattle.lookup.specs.declared.descent.Ending.the-variants.{Stopped, Reached}
+use Rattle.lookup.specs.declared.descent.Ending.the-variants.{Stopped, Reached, Unknown}
 use Rattle.lookup.specs.declared.descent.Step.{Step}
 use Rattle.lookup.specs.declared.descent.Step.the-variants.{End, Down}
 
@@ -31,6 +33,34 @@ withinOf (Byte b) = byteWithin (b .0)
 abbrev pub endingOf : CodeEnding → Ending
 endingOf (Stopped i) = stopped (i .0)
 endingOf (Reached c start) = reached (c .0) (start .0)
+endingOf (Unknown i) = unknown (i .0)
+
+-- which entries are known: in a copy those whose tree bit is 1, in a register all
+abbrev pub knownIf : Bool → List ℕ → ℕ → Bool
+knownIf true bits = storedKnown bits
+knownIf false bits = always
+
+-- in a copy the bit of an entry lies in the bitfield file
+abbrev pub BitIn : Bool → List ℕ → ℕ → Type 0
+BitIn partly bits i = partly ≡ true → bitsPlace (i / 16384 + 1) ≤ length bits
+
+-- the bits of a node's children do
+pub record ChildrenIn (partly : Bool) (bits : List ℕ) (i : ℕ) : Type 0 where
+  pub small : i < 4194304
+  pub left : 0 < depth i → BitIn partly bits (leftChild i)
+  pub right : 0 < depth i → BitIn partly bits (rightChild i)
+
+-- The files hold the entries of n chunks and, in a copy, their bits.
+pub record FilesIn (partly : Bool) (tree bits : List ℕ) (n : ℕ) : Type 0 where
+  pub roots : RootsIn tree n
+  pub bitfield : partly ≡ true → usedBitfield n ≤ length bits
+
+-- A descent may go on from tree index i, whose bytes begin at `start`: it is an entry of some count of chunks that the files hold, and its bytes' end fits.
+pub record Standing (partly : Bool) (tree bits : List ℕ) (i start : ℕ) : Type 0 where
+  pub n : ℕ
+  pub files : FilesIn partly tree bits n
+  pub entry : filled n i ≡ true
+  pub fits : start + storedSize tree i < 2 ^ 64
 
 -- A descent may visit the node at tree index i, whose bytes begin at `start`: the entries of all chunks up to the end of its block lie within
 -- the tree file, and the offsets of its bytes fit.
@@ -39,43 +69,44 @@ pub record StandsAt (tree : List ℕ) (i start : ℕ) : Type 0 where
   pub inside : usedTree ((block i + 1) * 2 ^ depth i) ≤ length tree
   pub fits : start + storedSize tree i < 2 ^ 64
 
--- A search may begin among the roots of n chunks: their entries lie within the tree file, and the sum of their lengths fits.
-pub record Searched (tree : List ℕ) (n : ℕ) : Type 0 where
-  pub roots : RootsIn tree n
+-- A search may begin among the roots of n chunks, and the sum of their lengths fits.
+pub record Searched (partly : Bool) (tree bits : List ℕ) (n : ℕ) : Type 0 where
+  pub files : FilesIn partly tree bits n
   pub fits : total (storedRootSizes tree n) < 2 ^ 64
 
 -- the same for a data size that the lengths of the roots add up to
-pub record SearchedFor (tree : List ℕ) (n size : ℕ) : Type 0 where
-  pub searched : Searched tree n
+pub record SearchedFor (partly : Bool) (tree bits : List ℕ) (n size : ℕ) : Type 0 where
+  pub searched : Searched partly tree bits n
   pub adds : total (storedRootSizes tree n) ≡ size
 
--- the same where the data bits of n chunks lie within the bitfield file
-pub record SearchedHeld (tree bitfield : List ℕ) (n : ℕ) : Type 0 where
-  pub searched : Searched tree n
-  pub bits : usedBitfield n ≤ length bitfield
+-- the same where the data bits of n chunks lie within the bitfield file, also of a register
+pub record SearchedHeld (partly : Bool) (tree bits : List ℕ) (n : ℕ) : Type 0 where
+  pub searched : Searched partly tree bits n
+  pub held : usedBitfield n ≤ length bits
 
--- what the lookups give in a register that passes the checks 2 to 6
-unfoldable pub placeIn : List ℕ → ℕ → ℕ → Found
-placeIn tree n c =
-    foundUnless (judged (record { number = 9; right = ltb c n } ∷ []) (stopRefused (descent (chunkWithin c) tree n)))
-    (startOf (descent (chunkWithin c) tree n)) (storedSize tree (index 0 c))
+-- what the lookups give behind the checks of a call
+module _ (known : ℕ → Bool) (tree : List ℕ) (n : ℕ) where
+  unfoldable pub placeIn : ℕ → Found
+  placeIn c =
+      foundUnless (judged (record { number = 9; right = ltb c n } ∷ []) (stopRefused (descent known (chunkWithin c) tree n)))
+      (startOf (descent known (chunkWithin c) tree n)) (storedSize tree (index 0 c))
 
-unfoldable pub heldPlaceIn : List ℕ → List ℕ → ℕ → ℕ → Found
-heldPlaceIn tree bitfield n c =
-    foundUnless
-    (judged (record { number = 9; right = ltb c n } ∷ [])
-    (cond (storedHeld bitfield c) (stopRefused (descent (chunkWithin c) tree n)) (refused 18 (atTree (index 0 c)))))
-    (startOf (descent (chunkWithin c) tree n)) (storedSize tree (index 0 c))
+  unfoldable pub heldPlaceIn : List ℕ → ℕ → Found
+  heldPlaceIn bits c =
+      foundUnless
+      (judged (record { number = 9; right = ltb c n } ∷ [])
+      (cond (storedHeld bits c) (stopRefused (descent known (chunkWithin c) tree n)) (refused 18 (atTree (index 0 c)))))
+      (startOf (descent known (chunkWithin c) tree n)) (storedSize tree (index 0 c))
 
-unfoldable pub byteIn : List ℕ → ℕ → ℕ → ℕ → Found
-byteIn tree n size b =
-    foundUnless (judged (record { number = 9; right = leb b size } ∷ []) (stopRefused (byteEnding tree n size b)))
-    (chunkOf (byteEnding tree n size b)) (b - startOf (byteEnding tree n size b))
+  unfoldable pub byteIn : ℕ → ℕ → Found
+  byteIn size b =
+      foundUnless (judged (record { number = 9; right = leb b size } ∷ []) (stopRefused (byteEnding known tree n size b)))
+      (chunkOf (byteEnding known tree n size b)) (b - startOf (byteEnding known tree n size b))
 
--- where the descent ends that goes on from a step
+-- where the descent ends that goes on from a step, where every entry is known
 abbrev pub followed : (ℕ → ℕ → ℕ → ℕ → Bool) → List ℕ → Step → Ending
 followed within tree (End e) = endingOf e
-followed within tree (Down j start) = descend within tree (depth (j .0)) (block (j .0)) (start .0)
+followed within tree (Down j start) = descend always within tree (depth (j .0)) (block (j .0)) (start .0)
 
 -- a step down comes to a child that may be visited, and whose depth is less
 abbrev pub Lower : List ℕ → ℕ → Step → Type 0
@@ -100,6 +131,6 @@ Way within tree i start (Down j from) = Onward within tree i start (j .0) (from 
 
 -- what a visit of the node at i finds
 pub record Visited (within : ℕ → ℕ → ℕ → ℕ → Bool) (tree : List ℕ) (i start : ℕ) (step : Step) : Type 0 where
-  pub same : followed within tree step ≡ descend within tree (depth i) (block i) start
+  pub same : followed within tree step ≡ descend always within tree (depth i) (block i) start
   pub lower : Lower tree i step
   pub way : Way within tree i start step

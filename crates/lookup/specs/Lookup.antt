@@ -1,6 +1,6 @@
 -- The place lookup and the byte lookup.
 use Prim.Native.Nat.{ℕ, _-_}
-use mathlib.Core.Bool.{true, false, cond}
+use mathlib.Core.Bool.{Bool, true, false, cond}
 use mathlib.Core.List.{List, [], _∷_, _++_}
 use lib.Dec.{leb, ltb, eqb}
 use Rattle.refusals.specs.Verdict.{Spot, Verdict, tree, done, refused}
@@ -9,17 +9,18 @@ use Rattle.bitfield.specs.Release.{storedHeld}
 use Rattle.file_format.specs.Stored.{storedSize}
 use Rattle.file_format.specs.Belongs.{Register}
 use Rattle.checks.specs.Checks.{judged, registerChecks}
-use Rattle.lookup.specs.Descent.{Ending, stopped, reached, chunkWithin, byteWithin, descent}
+use Rattle.lookup.specs.Descent.{Ending, stopped, reached, unknown, always, chunkWithin, byteWithin, descent}
 
 -- what a lookup answers: a refusal, or two numbers
 pub data Found : Type 0 where
   refusal : ℕ → Spot → Found
   found : ℕ → ℕ → Found
 
--- "10. A lookup stops": the place is the tree index where it does
+-- "10. A lookup stops": the place is the tree index where it does; 20 where it would read an unknown entry, which is the place
 unfoldable pub stopRefused : Ending → Verdict
 stopRefused (stopped i) = refused 10 (tree i)
 stopRefused (reached k start) = done
+stopRefused (unknown i) = refused 20 (tree i)
 
 -- a lookup's answer, from its verdict and what it gives where that is done
 abbrev pub foundUnless : Verdict → ℕ → ℕ → Found
@@ -30,22 +31,24 @@ foundUnless (refused m at) a b = refusal m at
 abbrev pub chunkOf : Ending → ℕ
 chunkOf (stopped i) = 0
 chunkOf (reached k start) = k
+chunkOf (unknown i) = 0
 
 abbrev pub startOf : Ending → ℕ
 startOf (stopped i) = 0
 startOf (reached k start) = start
+startOf (unknown i) = 0
 
 -- the descent to chunk c
 unfoldable pub toChunk : Register → ℕ → Ending
-toChunk r c = descent (chunkWithin c) (r .tree) (r .n)
+toChunk r c = descent always (chunkWithin c) (r .tree) (r .n)
 
 -- where a byte lookup ends, in a tree file of n chunks: the descent to the byte at offset b. "From now on a byte lookup at the data size answers
 -- chunk number n and 0, also in an empty register": no walk is made there, where a chunk behind the last would begin
-unfoldable pub byteEnding : List ℕ → ℕ → ℕ → ℕ → Ending
-byteEnding t n size b = elim (eqb b size) [ true ↦ reached n size | false ↦ descent (byteWithin b) t n ]
+unfoldable pub byteEnding : (ℕ → Bool) → List ℕ → ℕ → ℕ → ℕ → Ending
+byteEnding known t n size b = elim (eqb b size) [ true ↦ reached n size | false ↦ descent known (byteWithin b) t n ]
 
 unfoldable pub toByte : Register → ℕ → Ending
-toByte r b = byteEnding (r .tree) (r .n) (r .size) b
+toByte r b = byteEnding always (r .tree) (r .n) (r .size) b
 
 -- "9. The chunk number is not below n"
 unfoldable pub placeVerdict : Register → ℕ → Verdict

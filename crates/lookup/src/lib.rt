@@ -3,13 +3,11 @@ mod descent;
 mod places;
 mod reading;
 
-// `Ending`, `Sought`, `Step`, `descend`, `is_within` and `visit`, and the functions ending in `_in` and `_placed`, are inner: a copy's calls share them.
+// `Ending`, `Sought`, `Unknown`, `from_roots`, and the functions ending in `_in` and `_placed`, are inner: a copy's calls share them.
 pub use descent::Ending;
 pub use descent::Sought;
-pub use descent::Step;
-pub use descent::descend;
-pub use descent::is_within;
-pub use descent::visit;
+pub use descent::Unknown;
+pub use descent::from_roots;
 pub use places::Located;
 pub use places::Placed;
 pub use places::held_place;

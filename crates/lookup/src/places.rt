@@ -9,7 +9,7 @@ use refusals::Refusal;
 ghost use mathlib.Core.Path.{_≡_};
 ghost use Rattle.checks.specs.Lent.{registerOf};
 ghost use Rattle.lookup.specs.Lookup.{placeOf, heldPlaceOf, byteAt};
-ghost use Rattle.lookup.specs.Inner.{Searched, SearchedFor, SearchedHeld, placeIn, heldPlaceIn, byteIn};
+ghost use Rattle.lookup.specs.Inner.{knownIf, Searched, SearchedFor, SearchedHeld, placeIn, heldPlaceIn, byteIn};
 ghost use Rattle.lookup.specs.Meaning.{placedOf, locatedOf};
 
 // What a place lookup answers: where the chunk's bytes begin, and how many they are.
@@ -25,10 +25,10 @@ pub enum Located {
     In(ChunkNumber, u64),
 }
 
-// Inner: the place of a chunk, in a register that passes the checks 2 to 6.
-pub fn place_in(tree: &[u8], n: u64, chunk: ChunkNumber) -> Placed
-    requires { ⌜ Searched (now tree) n ⌝ }
-    ensures { λ r. ⌜ placedOf r ≡ placeIn (now (tree .entry)) n (chunk .0) ⌝ }
+// Inner: the place of a chunk, in a register that passes the checks 2 to 6 or a copy that passes its own.
+pub fn place_in(tree: &[u8], bitfield: &[u8], partly: bool, n: u64, chunk: ChunkNumber) -> Placed
+    requires { ⌜ Searched partly (now tree) (now bitfield) n ⌝ }
+    ensures { λ r. ⌜ placedOf r ≡ placeIn (knownIf partly (now (bitfield .entry))) (now (tree .entry)) n (chunk .0) ⌝ }
 {
     if n <= chunk.0 {
         return Placed::Refused(Refusal {
@@ -36,9 +36,13 @@ pub fn place_in(tree: &[u8], n: u64, chunk: ChunkNumber) -> Placed
             place: Place::Nowhere,
         });
     }
-    match super::descent::from_roots(tree, n, Sought::Chunk(chunk)) {
+    match super::descent::from_roots(tree, bitfield, partly, n, Sought::Chunk(chunk)) {
         Ending::Stopped(i) => Placed::Refused(Refusal {
             number: 10,
+            place: Place::Tree(i),
+        }),
+        Ending::Unknown(i) => Placed::Refused(Refusal {
+            number: 20,
             place: Place::Tree(i),
         }),
         Ending::Reached(_, start) => Placed::At(
@@ -69,15 +73,25 @@ pub fn place(
 {
     match checks::judge(tree, signatures, bitfield, content, n, s, size) {
         Answer::Refused(refusal) => Placed::Refused(refusal),
-        Answer::Done => place_in(tree, n, chunk),
+        Answer::Done => place_in(tree, bitfield, false, n, chunk),
     }
 }
 
-// Inner: the place of a chunk that is held, in a register that passes the checks 2 to 6. Its data bit is looked at behind 9, so that it lies
-// within the bitfield file, and before anything is walked.
-pub fn held_place_in(tree: &[u8], bitfield: &[u8], n: u64, chunk: ChunkNumber) -> Placed
-    requires { ⌜ SearchedHeld (now tree) (now bitfield) n ⌝ }
-    ensures { λ r. ⌜ placedOf r ≡ heldPlaceIn (now (tree .entry)) (now (bitfield .entry)) n (chunk .0) ⌝ }
+// Inner: the place of a chunk that is held, in a register that passes the checks 2 to 6 or a copy that passes its own. Its data bit is looked at behind 9,
+// so that it lies within the bitfield file, and before anything is walked.
+pub fn held_place_in(
+    tree: &[u8],
+    bitfield: &[u8],
+    partly: bool,
+    n: u64,
+    chunk: ChunkNumber,
+) -> Placed
+    requires { ⌜ SearchedHeld partly (now tree) (now bitfield) n ⌝ }
+    ensures { λ r.
+        ⌜
+        placedOf r ≡
+        heldPlaceIn (knownIf partly (now (bitfield .entry))) (now (tree .entry)) n (now (bitfield .entry)) (chunk .0)
+        ⌝ }
 {
     if n <= chunk.0 {
         return Placed::Refused(Refusal {
@@ -91,7 +105,7 @@ pub fn held_place_in(tree: &[u8], bitfield: &[u8], n: u64, chunk: ChunkNumber) -
             place: Place::Tree(tree_index::leaf_index(chunk)),
         });
     }
-    place_in(tree, n, chunk)
+    place_in(tree, bitfield, partly, n, chunk)
 }
 
 // Start and length of a chunk that is held: what a read and a release decide by. The place lookup's refusals, with 18 just after 9.
@@ -115,14 +129,22 @@ pub fn held_place(
 {
     match checks::judge(tree, signatures, bitfield, content, n, s, size) {
         Answer::Refused(refusal) => Placed::Refused(refusal),
-        Answer::Done => held_place_in(tree, bitfield, n, chunk),
+        Answer::Done => held_place_in(tree, bitfield, false, n, chunk),
     }
 }
 
-// Inner: the chunk of a byte, in a register that passes the checks 2 to 6. At the data size nothing is walked.
-pub fn locate_in(tree: &[u8], n: u64, size: u64, offset: ByteOffset) -> Located
-    requires { ⌜ SearchedFor (now tree) n size ⌝ }
-    ensures { λ r. ⌜ locatedOf r ≡ byteIn (now (tree .entry)) n size (offset .0) ⌝ }
+// Inner: the chunk of a byte, in a register that passes the checks 2 to 6 or a copy that passes its own. At the data size nothing is walked.
+pub fn locate_in(
+    tree: &[u8],
+    bitfield: &[u8],
+    partly: bool,
+    n: u64,
+    size: u64,
+    offset: ByteOffset,
+) -> Located
+    requires { ⌜ SearchedFor partly (now tree) (now bitfield) n size ⌝ }
+    ensures { λ r.
+        ⌜ locatedOf r ≡ byteIn (knownIf partly (now (bitfield .entry))) (now (tree .entry)) n size (offset .0) ⌝ }
 {
     if size < offset.0 {
         return Located::Refused(Refusal {
@@ -133,9 +155,13 @@ pub fn locate_in(tree: &[u8], n: u64, size: u64, offset: ByteOffset) -> Located
     if offset.0 == size {
         return Located::In(number_types::chunk_behind(n), 0);
     }
-    match super::descent::from_roots(tree, n, Sought::Byte(offset)) {
+    match super::descent::from_roots(tree, bitfield, partly, n, Sought::Byte(offset)) {
         Ending::Stopped(i) => Located::Refused(Refusal {
             number: 10,
+            place: Place::Tree(i),
+        }),
+        Ending::Unknown(i) => Located::Refused(Refusal {
+            number: 20,
             place: Place::Tree(i),
         }),
         Ending::Reached(chunk, start) => Located::In(chunk, offset.0 - start.0),
@@ -164,6 +190,6 @@ pub fn locate(
 {
     match checks::judge(tree, signatures, bitfield, content, n, s, size) {
         Answer::Refused(refusal) => Located::Refused(refusal),
-        Answer::Done => locate_in(tree, n, size, offset),
+        Answer::Done => locate_in(tree, bitfield, false, n, size, offset),
     }
 }

@@ -1,4 +1,4 @@
--- Demand 2, of packets: "lookups and packets answer as 01 defines them". On a register that belongs to chunks, held or released, the packet made of a
+-- Demand 2, of packets: "Lookups and packets answer as document 01 defines them." On a register that belongs to chunks, held or released, the packet made of a
 -- chunk that is held passes the check under their root hash, whatever else is released, and the check gives the very chunk back.
 --
 -- The notions in it: `HashFunction` (files, Messages), `Slot` and `Within` (files, Slots), `Register` and `Belongs` (files, Belongs), `rootHashFor` (files, Images),

@@ -34,7 +34,7 @@ pub record PrefixRoots (F : List ℕ → List ℕ) : Type 0 where
   -- the same of a register of which it is only known that it belongs to chunks and is not refused
   pub answers : (r : Register) (ss : List Slot) → Within ss → Belongs F r ss → (m : ℕ) → prefixVerdict r m ≡ done
       → prefixRoot F r m ≡ rootHashFor F (take m ss)
-  -- of every register that is not refused, whatever its bytes: of no chunks it is "the hash of 02 alone"
+  -- of every register that is not refused, whatever its bytes: of no chunks it is the hash of "02 alone"
   pub empty : (r : Register) → prefixVerdict r 0 ≡ done → prefixRoot F r 0 ≡ F (2 ∷ [])
   -- and of all chunks what the call for the root hash says, refusals too
   pub all : (r : Register) → (prefixVerdict r (r .n) ≡ rootVerdict r) × (prefixRoot F r (r .n) ≡ rootAnswer F r)

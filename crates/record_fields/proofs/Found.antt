@@ -135,6 +135,7 @@ module _ (d : List ℕ) (at k longest : ℕ) (kind : k < 16) (bound : longest < 
     };
     inside = tt;
     tag = λ t. omega (arith, t, ap (λ (s : List ℕ). getD s 0 256) (drop-of-length-le d h));
+    ends = tt;
   }
 
   pub bytes-row-other : at < length d → (getD d at 0 ≡ 8 * k + 2 → ⊥) → BytesRead d at k longest (ReadBytes NoBytes at)
@@ -147,6 +148,7 @@ module _ (d : List ℕ) (at k longest : ℕ) (kind : k < 16) (bound : longest < 
     };
     inside = tt;
     tag = λ t. n (sym (ap (λ (s : List ℕ). getD s 0 256) (front d at (getD d at 0) h refl)) ∙ t);
+    ends = tt;
   }
 
   module _ (h : at < length d) (e : getD d at 0 ≡ 8 * k + 2) where
@@ -183,6 +185,7 @@ module _ (d : List ℕ) (at k longest : ℕ) (kind : k < 16) (bound : longest < 
           };
           inside = omega (arith, f .inside);
           tag = tt;
+          ends = refl;
         }
 
 pub next-inside : (d : List ℕ) (at : ℕ) (v : Varint) (x next : ℕ) → v ≡ Is x next → DigitsRead d 9 (at + 1) v → next ≤ length d

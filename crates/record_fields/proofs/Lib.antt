@@ -5,3 +5,5 @@ pub mod Fields
 pub mod Found
 pub mod Unique
 pub mod Put
+pub mod Fronts
+pub mod Placed

@@ -2,12 +2,12 @@
 use Prim.Native.Nat.{ℕ, _+_, _*_, _<_, _≤_}
 use mathlib.Core.Path.{_≡_}
 use mathlib.Core.Bool.{cond}
-use mathlib.Core.List.{List}
+use mathlib.Core.List.{List, _++_}
 use mathlib.Core.Option.{Option, none, some}
 use lib.Dec.{ltb}
 use lib.ListN.{length, getD, drop}
 use Rattle.byte_strings.specs.Lists.{part, put}
-use Rattle.record_fields.specs.Varints.{digits, Fits}
+use Rattle.record_fields.specs.Varints.{digits, varint, Fits}
 use Rattle.record_fields.specs.Reading.{Begins, BeginsNot, Any}
 use Rattle.record_fields.specs.Fields.{numberField, partField, givenField, Short, Most, Longest, Later}
 use Rattle.record_fields.specs.declared.varints.Varint.{Varint}
@@ -27,6 +27,11 @@ use Rattle.record_fields.specs.declared.rows.BytesRow.the-variants.{Bad 
 abbrev pub numberOf : Number → Option ℕ
 numberOf Absent = none
 numberOf (Given x) = some x
+
+-- and the case that stands for a field
+abbrev pub numberTold : Option ℕ → Number
+numberTold none = Absent
+numberTold (some x) = Given x
 
 -- the bytes that a part of the bytes lent stands for
 abbrev pub partOf : List ℕ → Part → List ℕ
@@ -48,6 +53,20 @@ BytesInside d (GivenBytes p) = Inside d p
 abbrev pub sizeOf : Bytes → ℕ
 sizeOf NoBytes = 0
 sizeOf (GivenBytes p) = p .len
+
+-- ---- where a part lies: behind the tag and the length of its field
+
+-- what stands before the bytes of a part
+abbrev pub headOf : ℕ → List ℕ → List ℕ
+headOf k bs = varint (8 * k + 2) ++ varint (length bs)
+
+-- the part of a field that is written at a place
+abbrev pub partPlaced : ℕ → ℕ → List ℕ → Part
+partPlaced at k bs = record { at = at + length (headOf k bs); len = length bs }
+
+abbrev pub bytesPlaced : ℕ → ℕ → Option (List ℕ) → Bytes
+bytesPlaced at k none = NoBytes
+bytesPlaced at k (some bs) = GivenBytes (partPlaced at k bs)
 
 -- ---- reading
 
@@ -80,11 +99,17 @@ abbrev pub NoTag : ℕ → List ℕ → Bytes → Type 0
 NoTag k s NoBytes = getD s 0 256 ≡ 8 * k + 2 → ⊥
 NoTag k s (GivenBytes p) = Unit {0}
 
+-- a part ends where its field does
+abbrev pub EndsAt : Bytes → ℕ → Type 0
+EndsAt NoBytes next = Unit {0}
+EndsAt (GivenBytes p) next = p .at + p .len ≡ next
+
 -- a part that was read, with its field: it lies in the bytes lent
 pub record PartUpto (d : List ℕ) (at k longest : ℕ) (o : Bytes) (next : ℕ) : Type 0 where
   pub read : Upto (partField k) (Longest longest) (Later k) d at (bytesOf d o) next
   pub inside : BytesInside d o
   pub tag : NoTag k (drop at d) o
+  pub ends : EndsAt o next
 
 abbrev pub BytesRead : List ℕ → ℕ → ℕ → ℕ → BytesRow → Type 0
 BytesRead d at k longest BadBytes = NoPart k longest (drop at d)

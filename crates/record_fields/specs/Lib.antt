@@ -2,4 +2,5 @@
 pub mod Varints
 pub mod Reading
 pub mod Fields
+pub mod Fronts
 pub mod Inner

@@ -38,7 +38,7 @@ fn joined(low: u64, high: Varint) -> Varint
     }
 }
 
-// The number that stands in at most k + 1 bytes at a place.
+// Inner: the number that stands in at most k + 1 bytes at a place.
 pub fn digits(d: &[u8], at: usize, k: usize) -> Varint
     requires { ⌜ at ≤ length (now d) ⌝ }
     ensures { λ r. ⌜ DigitsRead (now (d .entry)) k at r ⌝ }

@@ -1,74 +1,54 @@
 -- The record of a chunk: "It refuses with 15, after that chunk's own read, a chunk that is no such record, the place being its leaf's tree index".
 use Prim.Native.Nat.{ℕ}
-use mathlib.Core.Path.{_≡_}
+use mathlib.Core.Bool.{Bool, true, false}
 use mathlib.Core.List.{List}
-use Rattle.refusals.specs.Verdict.{Verdict, tree, done, refused}
-use Rattle.refusals.specs.Meaning.{said, refusalOf}
-use Rattle.refusals.specs.declared.Answer.{Answer}
-use Rattle.refusals.specs.declared.Answer.the-variants.{Done, Refused}
+use Rattle.refusals.specs.Verdict.{Spot, Verdict, tree, done, refused}
+use Rattle.refusals.specs.Meaning.{refusalOf}
+use Rattle.byte_strings.specs.Lists.{sameList}
 use Rattle.tree_index.specs.Tree.{index}
 use Rattle.file_format.specs.Belongs.{Register}
 use Rattle.lookup.specs.Read.{readVerdict, readPart}
-use Rattle.record_format.specs.Records.{headerBytes, HeaderWithin, Node, nodeBytes, NodeWithin}
-use Rattle.record_format.specs.Theorems.{Accepted, Rejected}
-use Rattle.record_format.specs.Post.{HeaderAt}
-use Rattle.record_format.specs.declared.headers.HeaderRead.{HeaderRead}
-use Rattle.record_format.specs.declared.headers.HeaderRead.the-variants.{Refused as NoHeader, Content}
-use Rattle.record_node.specs.Post.{NodeAt, noNode}
+use Rattle.record_fields.specs.declared.rows.Part.{Part}
+use Rattle.record_format.specs.Records.{Node}
+use Rattle.record_format.specs.From.{nodeFrom}
+use Rattle.record_format.specs.Post.{toldOf, noPart, readHeader}
+use Rattle.record_node.specs.Post.{noNode, readNode}
 use Rattle.record_node.specs.declared.reading.Node.{Node as CodeNode}
 use Rattle.record_find.specs.declared.chunks.Compared.{Compared}
 use Rattle.record_find.specs.declared.chunks.Compared.the-variants.{Refused as NotCompared, Same, Other}
 
--- ---- the bytes of a chunk whose leaf has index i
+-- whether the path of the Node that bytes are has the same bytes as the one sought; no beside a refusal
+abbrev pub readPath : List ℕ → Spot → List ℕ → Verdict × Bool
+readPath path spot d = toldOf spot false (λ (n : Node). sameList (n .path) path) (nodeFrom d)
 
--- number 15 at the leaf: the bytes are no such record
-abbrev pub NoRecord : {A : Type 0} → (A → List ℕ) → (A → Type 0) → List ℕ → ℕ → Verdict → Type 0
-NoRecord write Within d i v = (v ≡ refused 15 (tree i)) × Rejected write Within d
+-- what each case of the answer tells
+abbrev pub comparedTold : Compared → Verdict × Bool
+comparedTold (NotCompared x) = (refusalOf x, false)
+comparedTold Same = (done, true)
+comparedTold Other = (done, false)
 
-abbrev pub HeaderJudged : List ℕ → ℕ → HeaderRead → Type 0
-HeaderJudged d i (NoHeader x) = NoRecord headerBytes HeaderWithin d i (refusalOf x)
-HeaderJudged d i (Content p) = HeaderAt d p
+-- the read comes first: its own refusal, or what is told of the bytes read
+abbrev pub afterRead : {P : Type 0} → P → Verdict → Verdict × P → Verdict × P
+afterRead beside (refused m spot) told = (refused m spot, beside)
+afterRead beside done told = told
 
--- beside a refusal stands a Node that says nothing
-abbrev pub BesideNode : Answer → CodeNode → Type 0
-BesideNode Done n = Unit {0}
-BesideNode (Refused x) n = n ≡ noNode
+-- of chunk c, whose read answers v and gives the bytes d: a register's chunk, or a copy's
+module _ (v : Verdict) (d : List ℕ) (c : ℕ) where
+  abbrev pub headerAfter : Verdict × Part
+  headerAfter = afterRead noPart v (readHeader (tree (index 0 c)) d)
 
-abbrev pub NodeSaid : List ℕ → ℕ → Answer → CodeNode → Type 0
-NodeSaid d i Done n = NodeAt d n
-NodeSaid d i (Refused x) n = NoRecord nodeBytes NodeWithin d i (refusalOf x)
+  abbrev pub nodeAfter : Verdict × CodeNode
+  nodeAfter = afterRead noNode v (readNode (tree (index 0 c)) d)
 
-abbrev pub NodeJudged : List ℕ → ℕ → Answer → CodeNode → Type 0
-NodeJudged d i answer n = NodeSaid d i answer n × BesideNode answer n
-
--- whether the Node's path has the same bytes as the one sought
-abbrev pub PathJudged : List ℕ → ℕ → List ℕ → Compared → Type 0
-PathJudged d i path (NotCompared x) = NoRecord nodeBytes NodeWithin d i (refusalOf x)
-PathJudged d i path Same = (n : Node) × (Accepted nodeBytes NodeWithin d n × (n .path ≡ path))
-PathJudged d i path Other = (n : Node) × (Accepted nodeBytes NodeWithin d n × (n .path ≡ path → ⊥))
-
--- ---- the read comes first
-
--- the read's own refusal, or what is said of the bytes read
-abbrev pub ReadThen : Verdict → Verdict → Type 0 → Type 0
-ReadThen (refused m at) v judged = v ≡ refused m at
-ReadThen done v judged = judged
-
-abbrev pub headerVerdict : HeaderRead → Verdict
-headerVerdict (NoHeader x) = refusalOf x
-headerVerdict (Content p) = done
-
-abbrev pub comparedVerdict : Compared → Verdict
-comparedVerdict (NotCompared x) = refusalOf x
-comparedVerdict Same = done
-comparedVerdict Other = done
+  abbrev pub pathAfter : List ℕ → Verdict × Bool
+  pathAfter path = afterRead false v (readPath path (tree (index 0 c)) d)
 
 module _ (F : List ℕ → List ℕ) (r : Register) (c : ℕ) where
-  abbrev pub HeaderAs : HeaderRead → Type 0
-  HeaderAs x = ReadThen (readVerdict F r c) (headerVerdict x) (HeaderJudged (readPart F r c) (index 0 c) x)
+  abbrev pub headerIn : Verdict × Part
+  headerIn = headerAfter (readVerdict F r c) (readPart F r c) c
 
-  abbrev pub NodeAs : Answer → CodeNode → Type 0
-  NodeAs answer n = ReadThen (readVerdict F r c) (said answer) (NodeSaid (readPart F r c) (index 0 c) answer n) × BesideNode answer n
+  abbrev pub nodeIn : Verdict × CodeNode
+  nodeIn = nodeAfter (readVerdict F r c) (readPart F r c) c
 
-  abbrev pub PathAs : List ℕ → Compared → Type 0
-  PathAs path x = ReadThen (readVerdict F r c) (comparedVerdict x) (PathJudged (readPart F r c) (index 0 c) path x)
+  abbrev pub pathIn : List ℕ → Verdict × Bool
+  pathIn path = pathAfter (readVerdict F r c) (readPart F r c) c path

@@ -13,8 +13,9 @@ ghost use Rattle.refusals.specs.Meaning.{refusalOf};
 ghost use Rattle.tree_index.specs.Tree.{index};
 ghost use Rattle.blake2b.specs.Hash.{nodeHash};
 ghost use Rattle.checks.specs.Lent.{registerOf};
-ghost use Rattle.record_node.specs.Post.{noNode};
-ghost use Rattle.record_find.specs.ChunkRecords.{HeaderJudged, NodeJudged, PathJudged, HeaderAs, NodeAs, PathAs, BesideNode};
+ghost use Rattle.record_format.specs.Post.{headerTold, readHeader};
+ghost use Rattle.record_node.specs.Post.{nodeTold, readNode};
+ghost use Rattle.record_find.specs.ChunkRecords.{comparedTold, readPath, headerIn, nodeIn, pathIn};
 
 // Whether the path of a chunk's Node is the one sought.
 pub enum Compared {
@@ -38,7 +39,7 @@ fn no_record(chunk: ChunkNumber) -> Refusal
 // Inner: the Header that a chunk's bytes are.
 pub fn header_at(bytes: &[u8], chunk: ChunkNumber) -> HeaderRead
     requires { ⌜ chunk .0 < 2097152 ⌝ }
-    ensures { λ r. ⌜ HeaderJudged (now (bytes .entry)) (index 0 (chunk .0)) r ⌝ }
+    ensures { λ r. ⌜ headerTold r ≡ readHeader (tree (index 0 (chunk .0))) (now (bytes .entry)) ⌝ }
 {
     match record_format::read_header(bytes) {
         HeaderRead::Refused(_) => HeaderRead::Refused(no_record(chunk)),
@@ -49,7 +50,7 @@ pub fn header_at(bytes: &[u8], chunk: ChunkNumber) -> HeaderRead
 // Inner: the Node that a chunk's bytes are.
 pub fn node_at(bytes: &[u8], chunk: ChunkNumber) -> NodeRead
     requires { ⌜ chunk .0 < 2097152 ⌝ }
-    ensures { λ r. ⌜ NodeJudged (now (bytes .entry)) (index 0 (chunk .0)) (r .answer) (r .node) ⌝ }
+    ensures { λ r. ⌜ nodeTold (r .answer) (r .node) ≡ readNode (tree (index 0 (chunk .0))) (now (bytes .entry)) ⌝ }
 {
     let read = record_node::read_node(bytes);
     let answer = read.answer;
@@ -72,7 +73,7 @@ pub fn node_at(bytes: &[u8], chunk: ChunkNumber) -> NodeRead
 // Inner: whether the Node that a chunk's bytes are has a path.
 pub fn path_at(bytes: &[u8], chunk: ChunkNumber, path: &[u8]) -> Compared
     requires { ⌜ chunk .0 < 2097152 ⌝ }
-    ensures { λ r. ⌜ PathJudged (now (bytes .entry)) (index 0 (chunk .0)) (now (path .entry)) r ⌝ }
+    ensures { λ r. ⌜ comparedTold r ≡ readPath (now (path .entry)) (tree (index 0 (chunk .0))) (now (bytes .entry)) ⌝ }
 {
     let read = record_node::read_node(bytes);
     let answer = read.answer;
@@ -104,9 +105,10 @@ pub fn header_of(
 ) -> HeaderRead
     ensures { λ r.
         ⌜
-        HeaderAs nodeHash
+        headerTold r
+        ≡ headerIn nodeHash
         (registerOf (now (tree .entry)) (now (signatures .entry)) (now (bitfield .entry)) (now (content .entry)) n s size)
-        (chunk .0) r
+        (chunk .0)
         ⌝ }
 {
     match lookup::verify(tree, signatures, bitfield, content, n, s, size, chunk) {
@@ -132,9 +134,10 @@ pub fn node_of(
 ) -> NodeRead
     ensures { λ r.
         ⌜
-        NodeAs nodeHash
+        nodeTold (r .answer) (r .node)
+        ≡ nodeIn nodeHash
         (registerOf (now (tree .entry)) (now (signatures .entry)) (now (bitfield .entry)) (now (content .entry)) n s size)
-        (chunk .0) (r .answer) (r .node)
+        (chunk .0)
         ⌝ }
 {
     match lookup::verify(tree, signatures, bitfield, content, n, s, size, chunk) {
@@ -168,9 +171,10 @@ pub fn path_of(
 ) -> Compared
     ensures { λ r.
         ⌜
-        PathAs nodeHash
+        comparedTold r
+        ≡ pathIn nodeHash
         (registerOf (now (tree .entry)) (now (signatures .entry)) (now (bitfield .entry)) (now (content .entry)) n s size)
-        (chunk .0) (now (path .entry)) r
+        (chunk .0) (now (path .entry))
         ⌝ }
 {
     match lookup::verify(tree, signatures, bitfield, content, n, s, size, chunk) {

@@ -4,10 +4,11 @@ use number_types::ChunkNumber;
 use record_format::HeaderRead;
 use refusals::Answer;
 use refusals::Refusal;
+ghost use mathlib.Core.Path.{_≡_};
 ghost use Prim.Native.Nat.{_-_};
 ghost use Rattle.blake2b.specs.Hash.{nodeHash};
 ghost use Rattle.checks.specs.Lent.{registerOf};
-ghost use Rattle.record_find.specs.Finding.{foundOf, Finds, FindAs};
+ghost use Rattle.record_find.specs.Finding.{foundOf, judgeIn, findDown, findIn};
 
 // What a search answers: a refusal, the chunk found, or that no record has the path.
 pub enum Found {
@@ -29,30 +30,23 @@ fn search(
 ) -> Found
     ensures { λ r.
         ⌜
-        Finds nodeHash
+        foundOf r
+        ≡ findDown
+        (judgeIn nodeHash
         (registerOf (now (tree .entry)) (now (signatures .entry)) (now (bitfield .entry)) (now (content .entry)) n s size)
-        (now (path .entry)) (n - 1) (foundOf r)
+        (now (path .entry)))
+        (n - 1)
         ⌝ }
 {
-    let mut k = n;
-    while 1 < k {
-        k -= 1;
-        match super::chunks::path_of(
-            tree,
-            signatures,
-            bitfield,
-            content,
-            n,
-            s,
-            size,
-            ChunkNumber(k),
-            path,
-        ) {
+    let mut chunk = number_types::chunk_behind(n);
+    while 1 < chunk.0 {
+        chunk = ChunkNumber(chunk.0 - 1);
+        match super::chunks::path_of(tree, signatures, bitfield, content, n, s, size, chunk, path) {
             Compared::Refused(refusal) => {
                 return Found::Refused(refusal);
             }
             Compared::Same => {
-                return Found::At(ChunkNumber(k));
+                return Found::At(chunk);
             }
             Compared::Other => {}
         }
@@ -74,9 +68,10 @@ pub fn find(
 ) -> Found
     ensures { λ r.
         ⌜
-        FindAs nodeHash
+        foundOf r
+        ≡ findIn nodeHash
         (registerOf (now (tree .entry)) (now (signatures .entry)) (now (bitfield .entry)) (now (content .entry)) n s size)
-        (now (path .entry)) (foundOf r)
+        (now (path .entry))
         ⌝ }
 {
     match checks::judge(tree, signatures, bitfield, content, n, s, size) {

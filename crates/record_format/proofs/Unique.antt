@@ -43,7 +43,7 @@ most-word k = go (ltb k 4)
     go true = omega arith
     go false = omega arith
 
-row-word : (k : ℕ) (o : Option ℕ) → Most (mostOf k) o → Most 18446744073709551615 o
+pub row-word : (k : ℕ) (o : Option ℕ) → Most (mostOf k) o → Most 18446744073709551615 o
 row-word k none h = tt
 row-word k (some x) h = omega (arith, most-word k)
 
@@ -84,7 +84,7 @@ stat-unique s r v w e = same-rows s r (rows-unique 1 (rowsOf s) (rowsOf r) refl 
 writerOf : List ℕ → Option (List ℕ) → Writer
 writerOf k p = record { key = k; permission = p }
 
-same-writer : (w v : Writer) → w .key ≡ v .key → w .permission ≡ v .permission → w ≡ v
+pub same-writer : (w v : Writer) → w .key ≡ v .key → w .permission ≡ v .permission → w ≡ v
 unfolding writerOf
 same-writer w v p q = ap (λ (k : List ℕ). writerOf k (w .permission)) p ∙ ap (writerOf (v .key)) q
 
@@ -140,7 +140,7 @@ writers-unique (w ∷ ws) (v ∷ vs) s t g h f l e =
 headerOf : List ℕ → List ℕ → Header
 headerOf t c = record { type = t; content = c }
 
-same-header : (h g : Header) → h .type ≡ g .type → h .content ≡ g .content → h ≡ g
+pub same-header : (h g : Header) → h .type ≡ g .type → h .content ≡ g .content → h ≡ g
 unfolding headerOf
 same-header h g p q = ap (λ (t : List ℕ). headerOf t (h .content)) p ∙ ap (headerOf (g .type)) q
 
@@ -148,7 +148,7 @@ ten : length hyperdrive ≡ 10
 unfolding hyperdrive
 ten = refl
 
-named : (h : Header) → HeaderWithin h → length (h .type) < 2 ^ 64
+pub named : (h : Header) → HeaderWithin h → length (h .type) < 2 ^ 64
 named h u = omega (arith, ap length (u .named), ten)
 
 pub header-unique : (h g : Header) → HeaderWithin h → HeaderWithin g → headerBytes h ≡ headerBytes g → h ≡ g
@@ -161,7 +161,7 @@ header-unique h g v w e =
 
 -- ---- Node
 
-value-sized : (o : Option Stat) → Sized (statPart o)
+pub value-sized : (o : Option Stat) → Sized (statPart o)
 value-sized none = tt
 value-sized (some s) = omega (arith, stat-size s)
 
@@ -180,7 +180,7 @@ value-unique (some s) (some r) v w e = ap {B = Option Stat} some (stat-unique s 
 nodeOf : List ℕ → Option Stat → Option (List ℕ) → List Writer → Option ℕ → Node
 nodeOf p v t w s = record { path = p; value = v; trie = t; writers = w; writersSequence = s }
 
-same-node : (n m : Node) → n .path ≡ m .path → n .value ≡ m .value → n .trie ≡ m .trie → n .writers ≡ m .writers → n .writersSequence ≡ m .writersSequence → n ≡ m
+pub same-node : (n m : Node) → n .path ≡ m .path → n .value ≡ m .value → n .trie ≡ m .trie → n .writers ≡ m .writers → n .writersSequence ≡ m .writersSequence → n ≡ m
 unfolding nodeOf
 same-node n m a b c d e = go
   where
@@ -188,13 +188,13 @@ same-node n m a b c d e = go
     go = cc
 
 -- what stands behind each field of a Node
-last-later : (o : Option ℕ) → Later 4 (numberField 5 o)
+pub last-later : (o : Option ℕ) → Later 4 (numberField 5 o)
 last-later o = subst (Later 4) (append-nil (numberField 5 o)) (later-number 4 5 o [] (omega arith) (omega arith) (later-nil 5 (omega arith)))
 
-trie-later : (n : Node) → Later 3 (writersBytes (n .writers) ++ numberField 5 (n .writersSequence))
+pub trie-later : (n : Node) → Later 3 (writersBytes (n .writers) ++ numberField 5 (n .writersSequence))
 trie-later n = writers-later 3 (n .writers) (numberField 5 (n .writersSequence)) (omega arith) (last-later (n .writersSequence))
 
-value-later : (n : Node) → Later 2 (partField 3 (n .trie) ++ (writersBytes (n .writers) ++ numberField 5 (n .writersSequence)))
+pub value-later : (n : Node) → Later 2 (partField 3 (n .trie) ++ (writersBytes (n .writers) ++ numberField 5 (n .writersSequence)))
 value-later n = later-part 2 3 (n .trie) (writersBytes (n .writers) ++ numberField 5 (n .writersSequence)) (omega arith) (omega arith) (trie-later n)
 
 pub node-unique : (n m : Node) → NodeWithin n → NodeWithin m → nodeBytes n ≡ nodeBytes m → n ≡ m
@@ -212,7 +212,6 @@ node-unique n m v w e =
 
 restored : {A : Type 0} (write : A → List ℕ) (Within : A → Type 0) → ((a b : A) → Within a → Within b → write a ≡ write b → a ≡ b) → Restored write Within
 restored write Within one = record {
-  written = λ d a h. h .bytes;
   read = λ a b v h. one b a (h .within) v (h .bytes);
   one = one;
 }

@@ -5,11 +5,13 @@ use mathlib.Core.Bool.{Bool, true, false, cond}
 use mathlib.Core.List.{List, [], _∷_, _++_}
 use lib.ListN.{length}
 use lib.Dec.{leb}
-use Rattle.refusals.specs.Verdict.{Verdict, none, done, refused}
+use mathlib.Core.Option.{Option, none as absent, some}
+use Rattle.refusals.specs.Verdict.{Spot, Verdict, none, done, refused}
 use Rattle.refusals.specs.Meaning.{refusalOf}
 use Rattle.byte_strings.specs.Lists.{put}
-use Rattle.record_fields.specs.Inner.{numberOf, partOf, Inside}
+use Rattle.record_fields.specs.Inner.{numberOf, numberTold, partOf, Inside}
 use Rattle.record_format.specs.Records.{Header, headerBytes, hyperdrive, HeaderWithin, Stat as StatFields, StatWithin, statBytes}
+use Rattle.record_format.specs.From.{headerFrom}
 use Rattle.record_format.specs.Theorems.{Accepted, Rejected}
 use Rattle.record_fields.specs.declared.rows.Part.{Part}
 use Rattle.record_format.specs.declared.answers.Written.{Written}
@@ -73,14 +75,38 @@ HeaderWrittenAs content out answer after = WrittenAs (HeaderWithin (headerOf con
 unfoldable pub headerStart : List ℕ
 headerStart = 10 ∷ 10 ∷ (hyperdrive ++ (18 ∷ 32 ∷ []))
 
--- a Header that was read: its content is a part of the bytes
-pub record HeaderAt (d : List ℕ) (p : Part) : Type 0 where
-  pub inside : Inside d p
-  pub accepted : Accepted headerBytes HeaderWithin d (headerOf (partOf d p))
+-- ---- reading: number 15 at a place where bytes are no such record, with what stands `beside` a refusal; else what is told of the record
 
-abbrev pub HeaderReadAs : List ℕ → HeaderRead → Type 0
-HeaderReadAs d (NoHeader r) = (refusalOf r ≡ refused 15 none) × Rejected headerBytes HeaderWithin d
-HeaderReadAs d (Content p) = HeaderAt d p
+abbrev pub toldOf : {A P : Type 0} → Spot → P → (A → P) → Option A → Verdict × P
+toldOf spot beside tell absent = (refused 15 spot, beside)
+toldOf spot beside tell (some a) = (done, tell a)
+
+-- nothing, which stands beside a refusal; and the content bytes, which are the last 32
+abbrev pub noPart : Part
+noPart = record { at = 0; len = 0 }
+
+abbrev pub contentPart : Part
+contentPart = record { at = 14; len = 32 }
+
+abbrev pub readHeader : Spot → List ℕ → Verdict × Part
+readHeader spot d = toldOf spot noPart (λ h. contentPart) (headerFrom d)
+
+-- what each case of the answer tells
+abbrev pub headerTold : HeaderRead → Verdict × Part
+headerTold (NoHeader r) = (refusalOf r, noPart)
+headerTold (Content p) = (done, p)
+
+-- the part is the content of the Header that the bytes are
+abbrev pub ContentPlaced : Type 0
+ContentPlaced = (d : List ℕ) (h : Header) → headerFrom d ≡ some h → Inside d contentPart × (partOf d contentPart ≡ h .content)
+
+-- "writing what was read restores the bytes": the content bytes of a Header that was read, written into room for them, give its bytes and their
+-- number
+abbrev pub HeadersWrittenBack : Type 0
+HeadersWrittenBack =
+    (d : List ℕ) (p : Part) → headerTold (Content p) ≡ readHeader none d
+    → (out : List ℕ) (answer : Written) (after : List ℕ) → HeaderWrittenAs (partOf d p) out answer after → length d ≤ length out
+    → (answer ≡ Length (length d)) × (after ≡ put out 0 d)
 
 -- ---- Stat
 
@@ -95,6 +121,20 @@ statOf s = record {
   byteOffset = numberOf (s .«byte_offset»);
   mtime = numberOf (s .mtime);
   ctime = numberOf (s .ctime);
+}
+
+-- and the cases that stand for fields
+abbrev pub statTold : StatFields → Stat
+statTold s = record {
+  mode = numberTold (s .mode);
+  uid = numberTold (s .uid);
+  gid = numberTold (s .gid);
+  size = numberTold (s .size);
+  blocks = numberTold (s .blocks);
+  offset = numberTold (s .offset);
+  «byte_offset» = numberTold (s .byteOffset);
+  mtime = numberTold (s .mtime);
+  ctime = numberTold (s .ctime);
 }
 
 abbrev pub StatReadAs : List ℕ → StatRead → Type 0

@@ -3,7 +3,8 @@ use super::answers::Written;
 use record_fields::Part;
 use refusals::Refusal;
 ghost use mathlib.Core.Path.{_≡_};
-ghost use Rattle.record_format.specs.Post.{headerStart, HeaderReadAs, HeaderWrittenAs};
+ghost use Rattle.refusals.specs.Verdict.{none};
+ghost use Rattle.record_format.specs.Post.{headerStart, headerTold, readHeader, HeaderWrittenAs};
 
 // What reading a Header answers: a refusal, or where its content bytes are.
 pub enum HeaderRead {
@@ -22,7 +23,7 @@ fn first_bytes() -> [u8; 14]
 
 // The Header that bytes are, or number 15.
 pub fn read_header(bytes: &[u8]) -> HeaderRead
-    ensures { λ r. ⌜ HeaderReadAs (now (bytes .entry)) r ⌝ }
+    ensures { λ r. ⌜ headerTold r ≡ readHeader none (now (bytes .entry)) ⌝ }
 {
     if bytes.len() != 46 {
         return HeaderRead::Refused(super::answers::refusal(15));

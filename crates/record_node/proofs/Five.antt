@@ -4,18 +4,18 @@ use mathlib.Core.Path.{_≡_, refl, sym, ap, _∙_, subst}
 use mathlib.Core.List.{List, [], _++_, append-assoc, append-nil}
 use mathlib.Core.Option.{Option, none, some}
 use native.Mathlib.Omega.{arith}
-use lib.ListN.{length, take, drop, length-drop, drop-of-length-le}
-use Rattle.refusals.specs.Verdict.{refused}
+use lib.ListN.{length, take, drop, length-append, length-drop, drop-of-length-le}
+use Rattle.refusals.specs.Verdict.{Verdict, refused}
 use Rattle.refusals.specs.Verdict as verdicts
-use Rattle.refusals.specs.Meaning.{said}
 use Rattle.refusals.specs.declared.Answer.{Answer}
-use Rattle.refusals.specs.declared.Answer.the-variants.{Done, Refused}
+use Rattle.refusals.specs.declared.Answer.the-variants.{Done}
 use Rattle.byte_strings.specs.Lists.{part}
 use Rattle.record_fields.specs.Reading.{Begins, BeginsNot, both, Both}
 use Rattle.record_fields.specs.Fields.{numberField, partField, Most, Longest, Later}
-use Rattle.record_fields.specs.Inner.{Upto, PartUpto, BytesRead, NumberRead, numberOf, partOf, bytesOf, Inside, BytesInside}
+use Rattle.record_fields.specs.Inner.{Upto, PartUpto, BytesRead, NumberRead, numberOf, numberTold, partOf, bytesOf, Inside, BytesInside, bytesPlaced}
 use Rattle.record_fields.specs.declared.rows.Part.{Part}
 use Rattle.record_fields.specs.declared.rows.Number.{Number}
+use Rattle.record_fields.specs.declared.rows.Number.the-variants.{Absent as NoNumber, Given as GivenNumber}
 use Rattle.record_fields.specs.declared.rows.Bytes.{Bytes}
 use Rattle.record_fields.specs.declared.rows.Bytes.the-variants.{Absent as NoBytes, Given as GivenBytes}
 use Rattle.record_fields.specs.declared.rows.BytesRow.{BytesRow}
@@ -24,15 +24,18 @@ use Rattle.record_fields.specs.declared.rows.NumberRow.{NumberRow}
 use Rattle.record_fields.specs.declared.rows.NumberRow.the-variants.{Bad as BadNumber, Read as ReadNumber}
 use Rattle.record_fields.proofs.Reading.{Leads, first-not, then-not, then-read}
 use Rattle.record_fields.proofs.Fields.{later-nil, later-part, later-number}
+use Rattle.record_fields.proofs.Placed.{upto-next, bytes-placed}
 use Rattle.record_format.specs.Records.{Stat, statBytes, StatWithin, Writer, writersBytes, WritersWithin, Node, NodeWithin, nodeBytes, statPart, PathWithin, ValueWithin}
 use Rattle.record_format.specs.Theorems.{Accepted, Rejected}
-use Rattle.record_format.specs.Post.{Decides, statOf, StatReadAs}
+use Rattle.record_format.specs.Post.{Decides, statOf, statTold, toldOf, StatReadAs}
 use Rattle.record_format.specs.declared.stats.Stat.{Stat as CodeStat}
 use Rattle.record_format.specs.declared.stats.StatRead.{StatRead}
 use Rattle.record_format.specs.declared.stats.StatRead.the-variants.{Bad as BadStat, Read as ReadStat}
 use Rattle.record_format.proofs.Unique.{stat-size, writers-later}
-use Rattle.record_node.specs.Post.{writersOf, valueOf, nodeOf, noNode, NodeAt, NodeReadAs, WritersInside}
-use Rattle.record_node.specs.Inner.{WritersFew, WritersUpto, WritersRead, threeParts, PartsLongest, PartsUpto, PartsRead, tailBytes, TailWithin, TailAt, TailRead, RawFields, rawBytes, RawWithin, RawAt, RawRead, PathLies, WithPathAs, ValueReadAs}
+use Rattle.record_format.proofs.From.{each-read}
+use Rattle.record_node.specs.Post.{writersOf, valueOf, nodeOf, allPlaced, valueTold, nodePlaced, noNode, nodeTold, readNode, WritersInside}
+use Rattle.record_node.specs.Inner.{WritersFew, WritersUpto, WritersRead, threeParts, PartsLongest, PartsUpto, PartsRead, tailBytes, TailWithin, TailAt, TailRead, RawFields, rawBytes, RawWithin, RawAt, RawRead, PathLies, WithPathAs, ValueReadAs, NodeAt}
+use Rattle.record_node.proofs.Keyed.{given-part}
 use Rattle.record_node.specs.declared.writers.Writers.{Writers}
 use Rattle.record_node.specs.declared.writers.Row.{Row}
 use Rattle.record_node.specs.declared.writers.Row.the-variants.{Bad as BadWriters, Upto as ReadWriters}
@@ -95,7 +98,14 @@ module _ (d : List ℕ) where
             read =
                 then-read (partField 1) (Longest 255) (Later 1) last-two LastLongest (Later 3) first-leads d 0 (one .read)
                 (then-read (partField 2) (Longest 99) (Later 2) (partField 3) (Longest 1024) (Later 3) second-leads d second (two .read) (three .read));
+            first = bytes-placed d 0 1 255 path second (omega arith) one;
+            third = bytes-placed d third 3 1024 trie fourth (two .read .inside) three ∙ ap (λ (n : ℕ). bytesPlaced n 3 (bytesOf d trie)) reached;
           }
+        where
+          reached : third ≡ length (partField 1 (bytesOf d path) ++ partField 2 (bytesOf d value))
+          reached =
+              let none : 0 ≤ length d = omega arith in
+              omega (arith, upto-next none (one .read), upto-next (one .read .inside) (two .read), length-append (partField 1 (bytesOf d path)) (partField 2 (bytesOf d value)))
 
 -- ---- the last two fields
 
@@ -136,7 +146,7 @@ module _ (d : List ℕ) (at : ℕ) where
       pub tail-read : length d ≤ end → TailRead d at (ReadTail sequence) ws
       tail-read l =
           let q : end ≡ length d = omega (arith, both-of .inside) in
-          record { inside = read .inside; read = subst (λ (n : ℕ). Upto tailBytes TailWithin (Later 5) d at (writersOf d ws, numberOf sequence) n) q both-of }
+          record { inside = read .inside; read = subst (λ (n : ℕ). Upto tailBytes TailWithin (Later 5) d at (writersOf d ws, numberOf sequence) n) q both-of; placed = read .placed }
 
 -- ---- all five
 
@@ -166,7 +176,7 @@ module _ (d : List ℕ) where
         n (r .1) (w .1) (sym (o .1))
 
     pub raw-read : (u : Last) (ws : Writers) (sequence : Number) → u ≡ ReadTail sequence → TailRead d fourth u ws → RawRead d (ReadRaw path value trie sequence) ws
-    raw-read u ws sequence f h = record { parts = three .inside; writers = tail .inside; accepted = record { within = all .begins .within; bytes = sym bytes }; only = only }
+    raw-read u ws sequence f h = record { parts = three .inside; writers = tail .inside; accepted = record { within = all .begins .within; bytes = sym bytes }; only = only; first = three .first; third = three .third; fourth = placed }
       where
         tail : TailAt d fourth ws (numberOf sequence)
         tail = subst (λ (x : Last). TailRead d fourth x ws) f h
@@ -176,6 +186,12 @@ module _ (d : List ℕ) where
 
         all : Upto rawBytes RawWithin (Later 5) d 0 found (length d)
         all = then-read threeParts PartsLongest (Later 3) tailBytes TailWithin (Later 5) tail-leads d 0 (three .read) (tail .read)
+
+        placed : ws ≡ allPlaced (length (threeParts (bytesOf d path, (bytesOf d value, bytesOf d trie)))) (writersOf d ws)
+        placed =
+            let none : 0 ≤ length d = omega arith in
+            let n : fourth ≡ length (threeParts (bytesOf d path, (bytesOf d value, bytesOf d trie))) = omega (arith, upto-next none (three .read)) in
+            tail .placed ∙ ap (λ (m : ℕ). allPlaced m (writersOf d ws)) n
 
         whole : length d ≤ length d
         whole = omega arith
@@ -214,7 +230,7 @@ module _ (d : List ℕ) (field : Bytes) where
 
   module _ (p : Part) (e : field ≡ GivenBytes p) where
     pub path-given : PathLies d p → WithPathAs d field (ReadPath p)
-    path-given w = (w, ap (bytesOf d) e)
+    path-given w = (w, e)
 
     pub path-wrong : BytesInside d field → (PathLies d p → ⊥) → WithPathAs d field BadPath
     path-wrong i n q w f =
@@ -245,6 +261,35 @@ module _ (d : List ℕ) (field : Bytes) where
   pub value-none : field ≡ NoBytes → ValueReadAs d field (ReadValue NoValue)
   value-none e = (tt, sym (ap (bytesOf d) e))
 
+codeNode : Part → Value → Bytes → Writers → Number → CodeNode
+codeNode p v t w s = record { path = p; value = v; trie = t; writers = w; sequence = s }
+
+same-fields : (n m : CodeNode) → n .path ≡ m .path → n .value ≡ m .value → n .trie ≡ m .trie → n .writers ≡ m .writers → n .sequence ≡ m .sequence → n ≡ m
+unfolding codeNode
+same-fields n m a b c d e = go
+  where
+    go : codeNode (n .path) (n .value) (n .trie) (n .writers) (n .sequence) ≡ codeNode (m .path) (m .value) (m .trie) (m .writers) (m .sequence)
+    go = cc
+
+number-back : (o : Number) → numberTold (numberOf o) ≡ o
+number-back NoNumber = refl
+number-back (GivenNumber x) = refl
+
+codeStat : (a b c d e f g h i : Number) → CodeStat
+codeStat a b c d e f g h i = record { mode = a; uid = b; gid = c; size = d; blocks = e; offset = f; «byte_offset» = g; mtime = h; ctime = i }
+
+stat-back : (s : CodeStat) → statTold (statOf s) ≡ s
+unfolding codeStat
+stat-back s = go (number-back (s .mode)) (number-back (s .uid)) (number-back (s .gid)) (number-back (s .size)) (number-back (s .blocks)) (number-back (s .offset))
+    (number-back (s .«byte_offset»)) (number-back (s .mtime)) (number-back (s .ctime))
+  where
+    go : {a b c d e f g h i j k l m n o p q r : Number} → a ≡ j → b ≡ k → c ≡ l → d ≡ m → e ≡ n → f ≡ o → g ≡ p → h ≡ q → i ≡ r → codeStat a b c d e f g h i ≡ codeStat j k l m n o p q r
+    go t1 t2 t3 t4 t5 t6 t7 t8 t9 = cc
+
+value-back : (v : Value) → valueTold (valueOf v) ≡ v
+value-back NoValue = refl
+value-back (GivenValue s) = ap {B = Value} GivenValue (stat-back s)
+
 module _ (d : List ℕ) (path value trie : Bytes) (ws : Writers) (sequence : Number) (g : RawAt d path value trie ws (numberOf sequence)) where
   same : (n : Node) → NodeWithin n → nodeBytes n ≡ d → rawOf n ≡ ((bytesOf d path, (bytesOf d value, bytesOf d trie)), (writersOf d ws, numberOf sequence))
   same n w e = g .only (rawOf n) (raw-within n w) (raw-bytes n ∙ e)
@@ -266,6 +311,7 @@ module _ (d : List ℕ) (path value trie : Bytes) (ws : Writers) (sequence : Num
     all-right u v i j =
         let p = subst (WithPathAs d path) f h in
         let s = subst (ValueReadAs d value) i j in
+        let named : bytesOf d path ≡ some (partOf d q) = ap (bytesOf d) (p .1) in
         let fields : CodeNode = record { path = q; value = v; trie = trie; writers = ws; sequence = sequence } in
         record {
           inside = record { path = p .0 .inside; trie = g .parts .1 .1; writers = g .writers };
@@ -280,17 +326,25 @@ module _ (d : List ℕ) (path value trie : Bytes) (ws : Writers) (sequence : Num
             };
             bytes =
                 sym (raw-bytes (nodeOf d fields))
-                ∙ ap (λ (a : Option (List ℕ)). rawBytes ((a, (statPart (valueOf v), bytesOf d trie)), (writersOf d ws, numberOf sequence))) (sym (p .1))
+                ∙ ap (λ (a : Option (List ℕ)). rawBytes ((a, (statPart (valueOf v), bytesOf d trie)), (writersOf d ws, numberOf sequence))) (sym named)
                 ∙ ap (λ (a : Option (List ℕ)). rawBytes ((bytesOf d path, (a, bytesOf d trie)), (writersOf d ws, numberOf sequence))) (s .1)
                 ∙ g .accepted .bytes;
           };
+          placed =
+              same-fields fields (nodePlaced (nodeOf d fields)) (given-part (sym (p .1) ∙ g .first ∙ ap (bytesPlaced 0 1) named)) (sym (value-back v))
+              (g .third ∙ ap (λ (a : Option (List ℕ)). bytesPlaced (length (partField 1 a ++ partField 2 (bytesOf d value))) 3 (bytesOf d trie)) named
+              ∙ ap (λ (a : Option (List ℕ)). bytesPlaced (length (partField 1 (some (partOf d q)) ++ partField 2 a)) 3 (bytesOf d trie)) (sym (s .1)))
+              (g .fourth ∙ ap (λ (a : Option (List ℕ)). allPlaced (length (threeParts (a, (bytesOf d value, bytesOf d trie)))) (writersOf d ws)) named
+              ∙ ap (λ (a : Option (List ℕ)). allPlaced (length (threeParts (some (partOf d q), (a, bytesOf d trie)))) (writersOf d ws)) (sym (s .1)))
+              (sym (number-back sequence));
         }
 
--- ---- a refusal
+-- ---- a refusal, and a Node
 
-pub refused-node : (d : List ℕ) (a : Answer) (n : CodeNode) → (said a ≡ refused 15 verdicts.none) × (n ≡ noNode) → Rejected nodeBytes NodeWithin d → NodeReadAs d a n
-refused-node d Done n h x = let z : _≡_ {A = ℕ} 0 1 = go (h .0) in absurd (omega arith)
-  where
-    go : verdicts.done ≡ refused 15 verdicts.none → _≡_ {A = ℕ} 0 1
-    go e = cc
-refused-node d (Refused r) n h x = (h, x)
+pub refused-node : (d : List ℕ) (a : Answer) (n : CodeNode) → nodeTold a n ≡ (refused 15 verdicts.none, noNode) → Rejected nodeBytes NodeWithin d → nodeTold a n ≡ readNode verdicts.none d
+refused-node d a n h x = h ∙ ap (toldOf verdicts.none noNode nodePlaced) (sym (each-read .nodes .rejects d x))
+
+pub given-node : (d : List ℕ) (n : CodeNode) → NodeAt d n → nodeTold Done n ≡ readNode verdicts.none d
+given-node d n h =
+    ap {B = Verdict × CodeNode} (λ (m : CodeNode). (verdicts.done, m)) (h .placed)
+    ∙ ap (toldOf verdicts.none noNode nodePlaced) (sym (each-read .nodes .accepts d (nodeOf d n) (h .accepted)))

@@ -11,7 +11,7 @@ use Rattle.byte_strings.specs.Lists.{part}
 use Rattle.byte_strings.proofs.Lists.{part-left, length-part}
 use Rattle.record_fields.specs.Reading.{Begins, BeginsNot, both, Both}
 use Rattle.record_fields.specs.Fields.{partField, givenField, Longest, Later}
-use Rattle.record_fields.specs.Inner.{Upto, PartUpto, NoPart, BytesRead, partOf, bytesOf, Inside, BytesInside}
+use Rattle.record_fields.specs.Inner.{Upto, PartUpto, NoPart, BytesRead, partOf, bytesOf, Inside, BytesInside, headOf, partPlaced, bytesPlaced}
 use Rattle.record_fields.specs.declared.rows.Part.{Part}
 use Rattle.record_fields.specs.declared.rows.Bytes.{Bytes}
 use Rattle.record_fields.specs.declared.rows.Bytes.the-variants.{Absent as NoBytes, Given as GivenBytes}
@@ -20,10 +20,11 @@ use Rattle.record_fields.specs.declared.rows.BytesRow.the-variants.{Bad as BadB
 use Rattle.record_fields.proofs.Reading.{Leads, first-not, then-not, then-read}
 use Rattle.record_fields.proofs.Fields.{part-tag, later-nil, later-part}
 use Rattle.record_fields.proofs.Unique.{given-unique}
+use Rattle.record_fields.proofs.Placed.{upto-next, part-placed, bytes-placed}
 use Rattle.record_format.specs.Records.{Writer, WriterWithin, writerBytes, writersBytes, WritersWithin}
 use Rattle.record_format.specs.Theorems.{Accepted, Rejected}
 use Rattle.record_format.proofs.Unique.{later-untagged, writer-size}
-use Rattle.record_node.specs.Post.{writerOf, WriterInside}
+use Rattle.record_node.specs.Post.{writerOf, WriterInside, writerPlaced}
 use Rattle.record_node.specs.Inner.{WithKeyAs, WriterAt, WriterReadAs, OneAt, OneRead}
 use Rattle.record_node.specs.declared.writers.Writer.{Writer as CodeWriter}
 use Rattle.record_node.specs.declared.writers.WriterRead.{WriterRead}
@@ -40,6 +41,13 @@ given-part e = cc
 
 pub row-next : (d : List ℕ) (at k longest : ℕ) (v : BytesRow) (o : Bytes) (next : ℕ) → v ≡ ReadBytes o next → BytesRead d at k longest v → next ≤ length d
 row-next d at k longest v o next e g = subst (BytesRead d at k longest) e g .read .inside
+
+codeWriter : Part → Bytes → CodeWriter
+codeWriter k p = record { key = k; permission = p }
+
+same-parts : (w v : CodeWriter) → w .key ≡ v .key → w .permission ≡ v .permission → w ≡ v
+unfolding codeWriter
+same-parts w v p q = ap (λ (k : Part). codeWriter k (w .permission)) p ∙ ap (codeWriter (v .key)) q
 
 -- ---- a key and a permission
 
@@ -99,16 +107,28 @@ module _ (d : List ℕ) (at : ℕ) where
               let y : w .key ≡ partOf d b = cc in
               k b (sym q) (sym (length-part d (b .at) (b .len) (subst (BytesInside d) (sym q) (one .inside))) ∙ sym (ap length y) ∙ i .key)
 
-      key-read : length d ≤ end → (w : CodeWriter) → WithKeyAs key permission (ReadWriter w) → WriterAt d at w
+      key-read : at ≤ length d → length d ≤ end → (w : CodeWriter) → WithKeyAs key permission (ReadWriter w) → WriterAt d at w
       unfolding writerBytes
-      key-read l w k = record {
+      key-read start l w k = record {
         inside = record { key = key-inside; permission = subst (BytesInside d) (k .1 .1) (other .inside) };
         accepted = record {
           within = record { key = length-part d (w .key .at) (w .key .len) key-inside ∙ k .1 .0; permission = subst (λ (o : Bytes). Longest 16 (bytesOf d o)) (k .1 .1) (other .read .begins .within) };
           bytes = written;
         };
+        placed = same-parts w (writerPlaced at (writerOf d w)) key-placed permission-placed;
       }
         where
+          given : PartUpto d at 1 32 (GivenBytes (w .key)) second
+          given = subst (λ (o : Bytes). PartUpto d at 1 32 o second) (k .0) one
+
+          key-placed : w .key ≡ partPlaced at 1 (partOf d (w .key))
+          key-placed = part-placed d at 1 32 (w .key) second start given
+
+          permission-placed : w .permission ≡ bytesPlaced (at + length (givenField 1 (partOf d (w .key)))) 2 (bytesOf d (w .permission))
+          permission-placed =
+              bytes-placed d second 2 16 (w .permission) end (given .read .inside) (subst (λ (o : Bytes). PartUpto d second 2 16 o end) (k .1 .1) other)
+              ∙ ap (λ (n : ℕ). bytesPlaced n 2 (bytesOf d (w .permission))) (upto-next start (given .read))
+
           key-inside : Inside d (w .key)
           key-inside = subst (BytesInside d) (k .0) (one .inside)
 
@@ -120,9 +140,9 @@ module _ (d : List ℕ) (at : ℕ) where
               ap two (sym fields) ∙ sym (append-nil (two (bytesOf d key, bytesOf d permission))) ∙ ap (λ (t : List ℕ). two (bytesOf d key, bytesOf d permission) ++ t) (sym (drop-of-length-le d l))
               ∙ sym (all .begins .made)
 
-      pub writer-whole : length d ≤ end → (r : WriterRead) → WithKeyAs key permission r → WriterReadAs d at r
-      writer-whole l BadWriter k = key-none k
-      writer-whole l (ReadWriter w) k = key-read l w k
+      pub writer-whole : at ≤ length d → length d ≤ end → (r : WriterRead) → WithKeyAs key permission r → WriterReadAs d at r
+      writer-whole start l BadWriter k = key-none k
+      writer-whole start l (ReadWriter w) k = key-read start l w k
 
 -- ---- a Writer as a part
 
@@ -202,14 +222,18 @@ module _ (d : List ℕ) (at : ℕ) where
           (sym (given .read .begins .made) ∙ k ∙ append-assoc (givenField 4 (writerBytes w)) (writersBytes ws) t) in
           subst (WriterReadAs x (p .at)) h i w (u .0) (sym (b .0) ∙ sym front ∙ ap (drop (p .at)) (sym q))
 
-      pub one-read : (e : List ℕ) → e ≡ take (p .at + p .len) d → (r : WriterRead) (w : CodeWriter) → r ≡ ReadWriter w → WriterReadAs e (p .at) r → OneRead d at (ReadRow w next)
-      one-read x q r w h i =
+      pub one-read : at ≤ length d → (e : List ℕ) → e ≡ take (p .at + p .len) d → (r : WriterRead) (w : CodeWriter) → r ≡ ReadWriter w → WriterReadAs e (p .at) r → OneRead d at (ReadRow w next)
+      one-read start x q r w h i =
           let a : WriterAt (take (p .at + p .len) d) (p .at) w = subst (λ (y : List ℕ). WriterAt y (p .at) w) q (subst (WriterReadAs x (p .at)) h i) in
           let s : writerOf (take (p .at + p .len) d) w ≡ writerOf d w = same-writer d (p .at + p .len) part-inside w (a .inside) in
+          let whole : partOf d p ≡ writerBytes (writerOf d w) = sym front ∙ sym (a .accepted .bytes) ∙ ap writerBytes s in
           record {
             inside = wider-writer d (p .at + p .len) part-inside w (a .inside);
             within = subst WriterWithin s (a .accepted .within);
             made =
-                given .read .begins .made ∙ ap (λ (b : List ℕ). givenField 4 b ++ drop next d) (sym front ∙ sym (a .accepted .bytes) ∙ ap writerBytes s);
+                given .read .begins .made ∙ ap (λ (b : List ℕ). givenField 4 b ++ drop next d) whole;
             ends = given .read .inside;
+            placed =
+                a .placed ∙ ap (writerPlaced (p .at)) s
+                ∙ ap (λ (n : ℕ). writerPlaced n (writerOf d w)) (ap (λ (y : Part). y .at) (part-placed d at 4 70 p next start given) ∙ ap (λ (b : List ℕ). at + length (headOf 4 b)) whole);
           }

@@ -4,3 +4,4 @@ pub mod Keyed
 pub mod Bounds
 pub mod Five
 pub mod Placed
+pub mod Lying

@@ -1,25 +1,26 @@
 -- Writers one behind the other. Assumes nothing.
 use Prim.Native.Nat.{ℕ, zero, suc, _+_, _-_, _*_, _^_, _<_, _≤_}
-use mathlib.Core.Path.{_≡_, refl, sym, ap, _∙_, subst}
+use mathlib.Core.Path.{_≡_, refl, sym, ap, ap₂, _∙_, subst}
 use mathlib.Core.Logic.{_⊎_, ⊎-elim}
 use mathlib.Core.List.{List, [], _∷_, _++_, append-assoc, append-nil}
 use mathlib.Core.Option.{some}
 use native.Mathlib.Omega.{arith}
 use native.Mathlib.Numerals.{add-one}
 use native.Mathlib.Nat.{zero-add}
-use lib.ListN.{length, getD, set, drop, replicate, length-set, length-append}
-use lib.Seq.{getD-set-same, getD-set-other}
+use lib.ListN.{length, getD, set, drop, replicate, length-set, length-append, length-drop}
+use lib.Seq.{getD-set-same, getD-set-other, set-at}
 use Rattle.byte_strings.specs.Lists.{run}
 use Rattle.byte_strings.proofs.Lists.{run-suc, run-ext, length-run}
 use Rattle.record_fields.specs.Reading.{Begins, BeginsNot}
 use Rattle.record_fields.specs.Fields.{partField, givenField, Later}
-use Rattle.record_fields.specs.Inner.{Upto}
+use Rattle.record_fields.specs.Inner.{Upto, headOf}
 use Rattle.record_fields.proofs.Digits.{two}
 use Rattle.record_format.specs.Records.{Writer, WriterWithin, writerBytes, writersBytes, WritersWithin}
 use Rattle.record_format.proofs.Unique.{Untagged, later-untagged, writer-tag, first-same, writers-unique, writer-size}
-use Rattle.record_node.specs.Post.{writerOf, noWriter, WriterInside}
+use Rattle.record_node.specs.Post.{writerOf, noWriter, WriterInside, writerPlaced, writersPlaced}
 use Rattle.record_node.specs.Inner.{OneAt, OneRead, WritersFew, WritersUpto, WritersRead}
 use Rattle.record_node.specs.declared.writers.Writer.{Writer as CodeWriter}
+use Rattle.record_node.specs.declared.writers.Writers.{Writers}
 use Rattle.record_node.specs.declared.writers.Row.{Row}
 use Rattle.record_node.specs.declared.writers.Row.the-variants.{Bad as BadWriters, Upto as ReadWriters}
 use Rattle.record_node.specs.declared.writers.WriterRow.{WriterRow}
@@ -108,17 +109,39 @@ pub record Grown (d : List ℕ) (at : ℕ) (list : List CodeWriter) (count next 
   pub within : (j : ℕ) → j < count → WriterWithin (listed d list j)
   pub made : drop at d ≡ writersBytes (run (listed d list) 0 count) ++ drop next d
   pub ends : next ≤ length d
+  pub reached : next ≡ at + length (writersBytes (run (listed d list) 0 count))
+  pub placed : list ≡ writersPlaced at (run (listed d list) 0 count) ++ replicate (8 - count) noWriter
 
-pub grown-none : (d : List ℕ) (at : ℕ) (w : CodeWriter) → at ≤ length d → Grown d at (replicate 8 w) 0 at
-unfolding run writersBytes
-grown-none d at w h = record {
+pub grown-none : (d : List ℕ) (at : ℕ) (w : CodeWriter) → w ≡ noWriter → at ≤ length d → Grown d at (replicate 8 w) 0 at
+unfolding run writersBytes writersPlaced
+grown-none d at w e h = record {
   few = omega arith;
   size = refl;
   inside = λ j l. absurd (omega arith);
   within = λ j l. absurd (omega arith);
   made = refl;
   ends = h;
+  reached = omega arith;
+  placed = ap (replicate 8) e;
 }
+
+-- one more behind others, and its place
+pub placed-length : (at : ℕ) (ws : List Writer) → length (writersPlaced at ws) ≡ length ws
+unfolding writersPlaced
+placed-length at [] = refl
+placed-length at (w ∷ ws) = ap suc (placed-length (at + length (givenField 4 (writerBytes w))) ws)
+
+placed-snoc : (at : ℕ) (ws : List Writer) (w : Writer) → writersPlaced at (ws ++ (w ∷ [])) ≡ writersPlaced at ws ++ (writerPlaced (at + length (writersBytes ws) + length (headOf 4 (writerBytes w))) w ∷ [])
+unfolding writersPlaced writersBytes
+placed-snoc at [] w = let e : at ≡ at + 0 = omega arith in ap (λ (n : ℕ). writerPlaced (n + length (headOf 4 (writerBytes w))) w ∷ []) e
+placed-snoc at (v ∷ ws) w =
+    let field = givenField 4 (writerBytes v) in
+    let e : at + length field + length (writersBytes ws) ≡ at + length (field ++ writersBytes ws) = omega (arith, length-append field (writersBytes ws)) in
+    ap (λ (xs : List CodeWriter). writerPlaced (at + length (headOf 4 (writerBytes v))) v ∷ xs)
+    (placed-snoc (at + length field) ws w ∙ ap (λ (n : ℕ). writersPlaced (at + length field) ws ++ (writerPlaced (n + length (headOf 4 (writerBytes w))) w ∷ [])) e)
+
+nobody-more : (n : ℕ) → n < 8 → replicate (8 - n) noWriter ≡ noWriter ∷ replicate (8 - (n + 1)) noWriter
+nobody-more n h = let e : 8 - n ≡ suc (8 - (n + 1)) = omega arith in ap (λ (m : ℕ). replicate m noWriter) e
 
 module _ (d : List ℕ) (at : ℕ) (list : List CodeWriter) (count next : ℕ) (g : Grown d at list count next) where
   ws : List Writer
@@ -150,7 +173,11 @@ module _ (d : List ℕ) (at : ℕ) (list : List CodeWriter) (count next : ℕ) (
       };
       inside = g .ends;
     };
+    placed = ap₂ {C = Writers} (λ (n : ℕ) (xs : List CodeWriter). record { count = n; list = xs }) (sym many) (g .placed ∙ ap (λ (n : ℕ). writersPlaced at ws ++ replicate (8 - n) noWriter) (sym many));
   }
+    where
+      many : length (run (listed d list) 0 count) ≡ count
+      many = length-run (listed d list) 0 count
 
   module _ (r : WriterRow) (w : CodeWriter) (end : ℕ) (e : r ≡ ReadRow w end) (o : OneRead d next r) where
     one : OneAt d next w end
@@ -182,13 +209,42 @@ module _ (d : List ℕ) (at : ℕ) (list : List CodeWriter) (count next : ℕ) (
       each : (P : CodeWriter → Type 0) → P w → ((j : ℕ) → j < count → P (getD list j noWriter)) → (j : ℕ) → j < count + 1 → P (getD (set list count w) j noWriter)
       each P p h j l = ⊎-elim (λ (a : j < count). subst P (sym (others j a)) (h j a)) (λ (b : count ≤ j). let q : count ≡ j = omega arith in subst (λ (n : ℕ). P (getD (set list count w) n noWriter)) q (subst P (sym same) p)) (two j count)
 
-      bytes : writersBytes (run (listed d (set list count w)) 0 (count + 1)) ≡ writersBytes ws ++ givenField 4 (writerBytes (writerOf d w))
+      one-more : run (listed d (set list count w)) 0 (count + 1) ≡ ws ++ (writerOf d w ∷ [])
       unfolding ws
-      bytes =
-          writers-next (listed d (set list count w)) count
-          ∙ ap (λ (xs : List Writer). writersBytes xs ++ givenField 4 (writerBytes (listed d (set list count w) count)))
+      one-more =
+          ap (run (listed d (set list count w)) 0) (add-one count) ∙ run-last (listed d (set list count w)) count
+          ∙ ap (λ (xs : List Writer). xs ++ (listed d (set list count w) count ∷ []))
           (run-ext (listed d (set list count w)) (listed d list) 0 count (λ j a b. ap (writerOf d) (others j (omega (arith, b)))))
-          ∙ ap (λ (x : CodeWriter). writersBytes (run (listed d list) 0 count) ++ givenField 4 (writerBytes (writerOf d x))) same
+          ∙ ap (λ (x : CodeWriter). run (listed d list) 0 count ++ (writerOf d x ∷ [])) same
+
+      bytes : writersBytes (run (listed d (set list count w)) 0 (count + 1)) ≡ writersBytes ws ++ givenField 4 (writerBytes (writerOf d w))
+      bytes = ap writersBytes one-more ∙ writers-snoc ws (writerOf d w)
+
+      field : List ℕ
+      field = givenField 4 (writerBytes (writerOf d w))
+
+      further : end ≡ next + length field
+      unfolding field
+      further =
+          omega (arith, one .ends, g .ends, ap length (one .made), length-append field (drop end d), length-drop next d, length-drop end d)
+
+      ended : end ≡ at + length (writersBytes (run (listed d (set list count w)) 0 (count + 1)))
+      unfolding ws field
+      ended = omega (arith, further, g .reached, ap length bytes, length-append (writersBytes ws) field)
+
+      front-long : length (writersPlaced at ws) ≡ count
+      unfolding ws
+      front-long = placed-length at ws ∙ length-run (listed d list) 0 count
+
+      put-there : set list count w ≡ writersPlaced at (run (listed d (set list count w)) 0 (count + 1)) ++ replicate (8 - (count + 1)) noWriter
+      unfolding ws
+      put-there =
+          ap (λ (xs : List CodeWriter). set xs count w) (g .placed ∙ ap (λ (xs : List CodeWriter). writersPlaced at ws ++ xs) (nobody-more count (omega (arith, below, g .size))))
+          ∙ set-at (writersPlaced at ws) noWriter (replicate (8 - (count + 1)) noWriter) w count front-long
+          ∙ sym (append-assoc (writersPlaced at ws) (w ∷ []) (replicate (8 - (count + 1)) noWriter))
+          ∙ ap (λ (x : CodeWriter). (writersPlaced at ws ++ (x ∷ [])) ++ replicate (8 - (count + 1)) noWriter)
+          (one .placed ∙ ap (λ (n : ℕ). writerPlaced (n + length (headOf 4 (writerBytes (writerOf d w)))) (writerOf d w)) (g .reached))
+          ∙ ap (λ (xs : List CodeWriter). xs ++ replicate (8 - (count + 1)) noWriter) (sym (placed-snoc at ws (writerOf d w)) ∙ ap (writersPlaced at) (sym one-more))
 
       pub grown-more : Grown d at (set list count w) (count + 1) end
       unfolding ws
@@ -201,4 +257,6 @@ module _ (d : List ℕ) (at : ℕ) (list : List CodeWriter) (count next : ℕ) (
             g .made ∙ ap (λ (s : List ℕ). writersBytes ws ++ s) (one .made)
             ∙ sym (append-assoc (writersBytes ws) (givenField 4 (writerBytes (writerOf d w))) (drop end d)) ∙ ap (λ (s : List ℕ). s ++ drop end d) (sym bytes);
         ends = one .ends;
+        reached = ended;
+        placed = put-there;
       }

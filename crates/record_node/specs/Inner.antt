@@ -6,13 +6,13 @@ use mathlib.Core.Option.{Option, none, some}
 use lib.ListN.{length, getD, take, drop}
 use Rattle.record_fields.specs.Reading.{BeginsNot, both, Both}
 use Rattle.record_fields.specs.Fields.{numberField, partField, givenField, Most, Longest, Later}
-use Rattle.record_fields.specs.Inner.{Upto, numberOf, partOf, bytesOf, Inside, BytesInside}
+use Rattle.record_fields.specs.Inner.{Upto, numberOf, partOf, bytesOf, Inside, BytesInside, headOf, bytesPlaced}
 use Rattle.record_fields.specs.declared.rows.Part.{Part}
 use Rattle.record_fields.specs.declared.rows.Bytes.{Bytes}
 use Rattle.record_fields.specs.declared.rows.Bytes.the-variants.{Absent as NoBytes, Given as GivenBytes}
-use Rattle.record_format.specs.Records.{Stat, Writer, WriterWithin, writerBytes, writersBytes, WritersWithin, PathWithin, ValueWithin, statPart}
+use Rattle.record_format.specs.Records.{Stat, Writer, WriterWithin, writerBytes, writersBytes, WritersWithin, PathWithin, ValueWithin, statPart, Node, NodeWithin, nodeBytes}
 use Rattle.record_format.specs.Theorems.{Accepted, Rejected}
-use Rattle.record_node.specs.Post.{writerOf, writersOf, valueOf, WriterInside, WritersInside, NodeFits}
+use Rattle.record_node.specs.Post.{writerOf, writersOf, valueOf, nodeOf, WriterInside, WritersInside, NodeInside, NodeFits, writerPlaced, allPlaced, nodePlaced}
 use Rattle.record_node.specs.declared.writers.Writer.{Writer as CodeWriter}
 use Rattle.record_node.specs.declared.writers.Writers.{Writers}
 use Rattle.record_node.specs.declared.writers.WriterRead.{WriterRead}
@@ -44,6 +44,7 @@ WithKeyAs key permission (ReadWriter w) = (key ≡ GivenBytes (w .key)) × ((w .
 pub record WriterAt (d : List ℕ) (at : ℕ) (w : CodeWriter) : Type 0 where
   pub inside : WriterInside d w
   pub accepted : Accepted writerBytes WriterWithin (drop at d) (writerOf d w)
+  pub placed : w ≡ writerPlaced at (writerOf d w)
 
 abbrev pub WriterReadAs : List ℕ → ℕ → WriterRead → Type 0
 WriterReadAs d at BadWriter = Rejected writerBytes WriterWithin (drop at d)
@@ -55,6 +56,7 @@ pub record OneAt (d : List ℕ) (at : ℕ) (w : CodeWriter) (next : ℕ) : Type 
   pub within : WriterWithin (writerOf d w)
   pub made : drop at d ≡ givenField 4 (writerBytes (writerOf d w)) ++ drop next d
   pub ends : next ≤ length d
+  pub placed : w ≡ writerPlaced (at + length (headOf 4 (writerBytes (writerOf d w)))) (writerOf d w)
 
 abbrev pub OneRead : List ℕ → ℕ → WriterRow → Type 0
 OneRead d at BadRow = BeginsNot writersBytes WritersWithin (Later 4) (drop at d)
@@ -68,6 +70,7 @@ WritersFew ws = WritersWithin ws × length ws ≤ 8
 pub record WritersUpto (d : List ℕ) (at : ℕ) (ws : Writers) (next : ℕ) : Type 0 where
   pub inside : WritersInside d ws
   pub read : Upto writersBytes WritersFew (Later 4) d at (writersOf d ws) next
+  pub placed : ws ≡ allPlaced at (writersOf d ws)
 
 abbrev pub WritersRead : List ℕ → ℕ → Row → Writers → Type 0
 WritersRead d at BadWriters ws = BeginsNot writersBytes WritersFew (Later 4) (drop at d)
@@ -84,6 +87,8 @@ PartsLongest = Both (Longest 255) (Both (Longest 99) (Longest 1024))
 pub record PartsUpto (d : List ℕ) (path value trie : Bytes) (next : ℕ) : Type 0 where
   pub inside : BytesInside d path × (BytesInside d value × BytesInside d trie)
   pub read : Upto threeParts PartsLongest (Later 3) d 0 (bytesOf d path, (bytesOf d value, bytesOf d trie)) next
+  pub first : path ≡ bytesPlaced 0 1 (bytesOf d path)
+  pub third : trie ≡ bytesPlaced (length (partField 1 (bytesOf d path) ++ partField 2 (bytesOf d value))) 3 (bytesOf d trie)
 
 abbrev pub PartsRead : List ℕ → Parts → Type 0
 PartsRead d BadParts = BeginsNot threeParts PartsLongest (Later 3) (drop 0 d)
@@ -98,6 +103,7 @@ TailWithin = Both WritersFew (Most 18446744073709551615)
 pub record TailAt (d : List ℕ) (at : ℕ) (ws : Writers) (o : Option ℕ) : Type 0 where
   pub inside : WritersInside d ws
   pub read : Upto tailBytes TailWithin (Later 5) d at (writersOf d ws, o) (length d)
+  pub placed : ws ≡ allPlaced at (writersOf d ws)
 
 -- nothing may be left
 abbrev pub TailRead : List ℕ → ℕ → Last → Writers → Type 0
@@ -120,6 +126,9 @@ pub record RawAt (d : List ℕ) (path value trie : Bytes) (ws : Writers) (o : Op
   pub writers : WritersInside d ws
   pub accepted : Accepted rawBytes RawWithin d ((bytesOf d path, (bytesOf d value, bytesOf d trie)), (writersOf d ws, o))
   pub only : (r : RawFields) → RawWithin r → rawBytes r ≡ d → r ≡ ((bytesOf d path, (bytesOf d value, bytesOf d trie)), (writersOf d ws, o))
+  pub first : path ≡ bytesPlaced 0 1 (bytesOf d path)
+  pub third : trie ≡ bytesPlaced (length (partField 1 (bytesOf d path) ++ partField 2 (bytesOf d value))) 3 (bytesOf d trie)
+  pub fourth : ws ≡ allPlaced (length (threeParts (bytesOf d path, (bytesOf d value, bytesOf d trie)))) (writersOf d ws)
 
 abbrev pub RawRead : List ℕ → Plain → Writers → Type 0
 RawRead d BadRaw ws = Rejected rawBytes RawWithin d
@@ -152,12 +161,19 @@ ValueFits v = ValueWithin (valueOf v)
 -- the path must be there
 abbrev pub WithPathAs : List ℕ → Bytes → PathRead → Type 0
 WithPathAs d field BadPath = (p : List ℕ) → PathWithin p → bytesOf d field ≡ some p → ⊥
-WithPathAs d field (ReadPath q) = PathLies d q × (bytesOf d field ≡ some (partOf d q))
+WithPathAs d field (ReadPath q) = PathLies d q × (field ≡ GivenBytes q)
 
 -- a part that is there must be a Stat
 abbrev pub ValueReadAs : List ℕ → Bytes → ValueRead → Type 0
 ValueReadAs d field BadValue = (o : Option Stat) → ValueWithin o → statPart o ≡ bytesOf d field → ⊥
 ValueReadAs d field (ReadValue v) = ValueWithin (valueOf v) × (statPart (valueOf v) ≡ bytesOf d field)
+
+-- ---- a Node that was read
+
+pub record NodeAt (d : List ℕ) (n : CodeNode) : Type 0 where
+  pub inside : NodeInside d n
+  pub accepted : Accepted nodeBytes NodeWithin d (nodeOf d n)
+  pub placed : n ≡ nodePlaced (nodeOf d n)
 
 -- ---- putting
 

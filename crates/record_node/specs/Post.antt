@@ -1,20 +1,19 @@
 -- The calls on Nodes: the fields that their parts stand for, what they answer, and what stands in the lent buffer afterwards.
-use Prim.Native.Nat.{ℕ, _<_, _≤_}
-use mathlib.Core.Path.{_≡_}
-use mathlib.Core.List.{List}
+use Prim.Native.Nat.{ℕ, _+_, _-_, _<_, _≤_}
+use mathlib.Core.List.{List, [], _∷_, _++_}
 use mathlib.Core.Option.{Option, none as absent, some}
-use lib.ListN.{getD, replicate}
+use lib.ListN.{length, getD, replicate}
 use Rattle.byte_strings.specs.Lists.{run}
-use Rattle.refusals.specs.Verdict.{none, refused}
-use Rattle.refusals.specs.Meaning.{said, refusalOf}
+use Rattle.refusals.specs.Verdict.{Spot, Verdict}
+use Rattle.refusals.specs.Meaning.{said}
 use Rattle.refusals.specs.declared.Answer.{Answer}
-use Rattle.refusals.specs.declared.Answer.the-variants.{Done, Refused}
 use Rattle.record_fields.specs.declared.rows.Number.the-variants.{Absent as NoNumber}
 use Rattle.record_fields.specs.declared.rows.Bytes.the-variants.{Absent as NoBytes}
-use Rattle.record_fields.specs.Inner.{numberOf, partOf, bytesOf, Inside, BytesInside}
-use Rattle.record_format.specs.Records.{Stat, Writer, Node, NodeWithin, nodeBytes}
-use Rattle.record_format.specs.Theorems.{Accepted, Rejected}
-use Rattle.record_format.specs.Post.{statOf, WrittenAs}
+use Rattle.record_fields.specs.Fields.{partField, givenField}
+use Rattle.record_fields.specs.Inner.{numberOf, numberTold, partOf, bytesOf, Inside, BytesInside, headOf, partPlaced, bytesPlaced}
+use Rattle.record_format.specs.Records.{Stat, Writer, writerBytes, Node, NodeWithin, nodeBytes, statPart}
+use Rattle.record_format.specs.From.{nodeFrom}
+use Rattle.record_format.specs.Post.{statOf, statTold, noPart, toldOf, WrittenAs}
 use Rattle.record_format.specs.declared.answers.Written.{Written}
 use Rattle.record_node.specs.declared.writers.Writer.{Writer as CodeWriter}
 use Rattle.record_node.specs.declared.writers.Writers.{Writers}
@@ -66,25 +65,56 @@ pub record NodeInside (d : List ℕ) (n : CodeNode) : Type 0 where
   pub trie : BytesInside d (n .trie)
   pub writers : WritersInside d (n .writers)
 
--- ---- reading
+-- ---- where the parts of a Node lie in its bytes: where its fields do
 
-pub record NodeAt (d : List ℕ) (n : CodeNode) : Type 0 where
-  pub inside : NodeInside d n
-  pub accepted : Accepted nodeBytes NodeWithin d (nodeOf d n)
+-- the parts of a Writer whose bytes begin at a place
+abbrev pub writerPlaced : ℕ → Writer → CodeWriter
+writerPlaced at w = record { key = partPlaced at 1 (w .key); permission = bytesPlaced (at + length (givenField 1 (w .key))) 2 (w .permission) }
+
+-- of Writers whose fields begin at a place
+unfoldable pub writersPlaced : ℕ → List Writer → List CodeWriter
+writersPlaced at [] = []
+writersPlaced at (w ∷ ws) = writerPlaced (at + length (headOf 4 (writerBytes w))) w ∷ writersPlaced (at + length (givenField 4 (writerBytes w))) ws
+
+-- nobody stands behind the count
+abbrev pub allPlaced : ℕ → List Writer → Writers
+allPlaced at ws = record { count = length ws; list = writersPlaced at ws ++ replicate (8 - length ws) noWriter }
+
+-- where the trie's field begins, and where the Writers' do
+abbrev pub trieAt : Node → ℕ
+trieAt n = length (partField 1 (some (n .path)) ++ partField 2 (statPart (n .value)))
+
+abbrev pub writersAt : Node → ℕ
+writersAt n = length (partField 1 (some (n .path)) ++ (partField 2 (statPart (n .value)) ++ partField 3 (n .trie)))
+
+abbrev pub valueTold : Option Stat → Value
+valueTold absent = NoValue
+valueTold (some s) = GivenValue (statTold s)
+
+abbrev pub nodePlaced : Node → CodeNode
+nodePlaced n = record {
+  path = partPlaced 0 1 (n .path);
+  value = valueTold (n .value);
+  trie = bytesPlaced (trieAt n) 3 (n .trie);
+  writers = allPlaced (writersAt n) (n .writers);
+  sequence = numberTold (n .writersSequence);
+}
+
+-- ---- reading
 
 -- a Node that says nothing, which stands beside a refusal
 abbrev pub noWriters : Writers
 noWriters = record { count = 0; list = replicate 8 noWriter }
 
 abbrev pub noNode : CodeNode
-noNode = record { path = record { at = 0; len = 0 }; value = NoValue; trie = NoBytes; writers = noWriters; sequence = NoNumber }
+noNode = record { path = noPart; value = NoValue; trie = NoBytes; writers = noWriters; sequence = NoNumber }
 
-abbrev pub NoNodeAs : Answer → CodeNode → Type 0
-NoNodeAs answer n = (said answer ≡ refused 15 none) × (n ≡ noNode)
+abbrev pub readNode : Spot → List ℕ → Verdict × CodeNode
+readNode spot d = toldOf spot noNode nodePlaced (nodeFrom d)
 
-abbrev pub NodeReadAs : List ℕ → Answer → CodeNode → Type 0
-NodeReadAs d (Refused r) n = NoNodeAs (Refused r) n × Rejected nodeBytes NodeWithin d
-NodeReadAs d Done n = NodeAt d n
+-- what an answer and the Node beside it tell
+abbrev pub nodeTold : Answer → CodeNode → Verdict × CodeNode
+nodeTold answer n = (said answer, n)
 
 -- ---- writing
 

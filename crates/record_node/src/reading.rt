@@ -13,7 +13,8 @@ ghost use mathlib.Core.Path.{_≡_};
 ghost use Prim.Native.Nat.{_≤_};
 ghost use lib.ListN.{length};
 ghost use Rattle.record_fields.specs.Inner.{numberOf, BytesInside};
-ghost use Rattle.record_node.specs.Post.{noWriters, NoNodeAs, NodeReadAs};
+ghost use Rattle.refusals.specs.Verdict.{none, refused};
+ghost use Rattle.record_node.specs.Post.{noWriters, noNode, nodeTold, readNode};
 ghost use Rattle.record_node.specs.Inner.{PartsRead, TailRead, RawRead, RawAt, WithPathAs, ValueReadAs};
 
 // A Stat, there or absent.
@@ -204,7 +205,7 @@ fn read_value(d: &[u8], field: Bytes) -> ValueRead
 
 // Number 15, and a Node that says nothing.
 pub fn no_node() -> NodeRead
-    ensures { λ r. ⌜ NoNodeAs (r .answer) (r .node) ⌝ }
+    ensures { λ r. ⌜ nodeTold (r .answer) (r .node) ≡ (refused 15 none, noNode) ⌝ }
 {
     let writers = no_writers();
     let node = Node {
@@ -230,7 +231,7 @@ fn judged(
     sequence: Number,
 ) -> NodeRead
     requires { ⌜ RawAt (now d) first second trie writers (numberOf sequence) ⌝ }
-    ensures { λ r. ⌜ NodeReadAs (now (d .entry)) (r .answer) (r .node) ⌝ }
+    ensures { λ r. ⌜ nodeTold (r .answer) (r .node) ≡ readNode none (now (d .entry)) ⌝ }
 {
     match with_path(d, first) {
         PathRead::Bad => no_node(),
@@ -255,7 +256,7 @@ fn judged(
 
 // The Node that bytes are, or number 15.
 pub fn read_node(bytes: &[u8]) -> NodeRead
-    ensures { λ r. ⌜ NodeReadAs (now (bytes .entry)) (r .answer) (r .node) ⌝ }
+    ensures { λ r. ⌜ nodeTold (r .answer) (r .node) ≡ readNode none (now (bytes .entry)) ⌝ }
 {
     let found = five_fields(bytes);
     let plain = found.plain;

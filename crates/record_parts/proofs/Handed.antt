@@ -4,12 +4,15 @@ use mathlib.Core.Path.{_≡_, refl, sym, ap, _∙_, subst}
 use mathlib.Core.Bool.{Bool, true, false, cond}
 use mathlib.Core.Logic.{⊎-elim}
 use mathlib.Core.List.{List, [], _++_}
-use mathlib.Core.Option.{some}
+use mathlib.Core.Option.{none, some}
 use native.Mathlib.Omega.{arith}
 use native.Mathlib.Nat.{zero-add}
 use lib.Dec.{ltb}
 use lib.ListN.{length, getD, take, drop, List·getD-eq-default}
 use borrow.Author.Tests.{lt-ltb, le-ltb}
+use Rattle.refusals.specs.Verdict.{Verdict}
+use Rattle.refusals.specs.Verdict as verdicts
+use Rattle.refusals.specs.Meaning.{spotOf}
 use Rattle.refusals.specs.declared.Answer.{Answer}
 use Rattle.refusals.specs.declared.Answer.the-variants.{Done, Refused}
 use Rattle.refusals.specs.declared.Refusal.{Refusal}
@@ -17,22 +20,25 @@ use Rattle.byte_strings.specs.Lists.{part, run}
 use Rattle.byte_strings.proofs.Lists.{getD-run, length-run}
 use Rattle.record_fields.specs.Varints.{digits}
 use Rattle.record_fields.specs.Fields.{partField}
-use Rattle.record_fields.specs.Inner.{bytesOf, partOf, BytesInside}
+use Rattle.record_fields.specs.Fronts.{orNothing}
+use Rattle.record_fields.specs.Inner.{bytesOf, partOf, Inside, BytesInside}
 use Rattle.record_fields.proofs.Digits.{two}
 use Rattle.record_fields.specs.declared.rows.Part.{Part}
 use Rattle.record_fields.specs.declared.rows.Bytes.{Bytes}
 use Rattle.record_fields.specs.declared.rows.Bytes.the-variants.{Absent, Given}
-use Rattle.record_format.specs.Records.{Header, HeaderWithin, headerBytes, Writer, Node, nodeBytes}
-use Rattle.record_format.specs.Theorems.{Accepted, Rejected}
-use Rattle.record_format.specs.Post.{HeaderReadAs, headerOf}
+use Rattle.record_format.specs.Records.{Header, headerBytes, Writer, Node, nodeBytes}
+use Rattle.record_format.specs.From.{headerFrom, nodeFrom}
+use Rattle.record_format.specs.Post.{toldOf, noPart, contentPart, readHeader, headerTold}
 use Rattle.record_format.specs.declared.headers.HeaderRead.{HeaderRead}
 use Rattle.record_format.specs.declared.headers.HeaderRead.the-variants.{Refused as NoHeader, Content}
-use Rattle.record_format.proofs.Unique.{header-unique, node-unique}
-use Rattle.record_node.specs.Post.{writerOf, writersOf, writerAt, noWriter, noWriters, nodeOf, noNode, WriterInside, WritersInside, NodeInside, NodeReadAs}
+use Rattle.record_format.proofs.From.{each-read}
+use Rattle.record_format.proofs.Whole.{told-refused, told-some, content-placed}
+use Rattle.record_node.specs.Post.{writerOf, writersOf, writerAt, noWriter, noWriters, nodeOf, nodePlaced, noNode, nodeTold, readNode, WriterInside, WritersInside, NodeInside}
 use Rattle.record_node.specs.declared.writers.Writer.{Writer as CodeWriter}
 use Rattle.record_node.specs.declared.writers.Writers.{Writers}
 use Rattle.record_node.specs.declared.reading.Node.{Node as CodeNode}
-use Rattle.record_parts.specs.Parts.{orNothing, nobody, fieldOf, contentOf, HeaderHanded, NodeHanded, NothingIsNone}
+use Rattle.record_node.proofs.Lying.{nodes-placed}
+use Rattle.record_parts.specs.Parts.{nobody, fieldOf, contentOf, handed, headerHanded, nodeHanded, NothingIsNone}
 use Rattle.record_parts.specs.Chosen.{writerIn, chosenOf}
 use Rattle.record_parts.specs.declared.Field.{Field}
 use Rattle.record_parts.specs.declared.Field.the-variants.{Path, Trie, Key, Permission}
@@ -132,47 +138,61 @@ module _ (d : List ℕ) where
       by (Key j) = refl
       by (Permission j) = refl
 
-  read-inside : (a : Answer) (n : CodeNode) → NodeReadAs d a n → NodeInside d n
-  read-inside Done n h = h .inside
-  read-inside (Refused x) n h = subst (NodeInside d) (sym (h .0 .1)) no-inside
+  -- what was read: no Node, or one whose parts lie in the bytes
+  module _ (a : Answer) (n : CodeNode) (h : nodeTold a n ≡ readNode verdicts.none d) where
+    refused-as : (x : Refusal) → a ≡ Refused x → (nodeFrom d ≡ none) × (n ≡ noNode)
+    refused-as x e =
+        let o = told-refused verdicts.none verdicts.none noNode nodePlaced (nodeFrom d) (x .number) (spotOf (x .place)) n (sym (ap (λ (y : Answer). nodeTold y n) e) ∙ h) in
+        (o, ap (λ (y : Verdict × CodeNode). y .1) (h ∙ ap (toldOf verdicts.none noNode nodePlaced) o))
 
-  pub chosen-inside : (a : Answer) (n : CodeNode) → NodeReadAs d a n → (f : Field) (o : Bytes) → o ≡ chosenOf n f → BytesInside d o
-  chosen-inside a n h f o e = subst (BytesInside d) (sym e) (field-inside n (read-inside a n h) f)
+    read-as : a ≡ Done → (m : Node) × ((nodeFrom d ≡ some m) × (n ≡ nodePlaced m))
+    read-as e = told-some verdicts.none verdicts.none noNode nodePlaced (nodeFrom d) n (sym (ap (λ (y : Answer). nodeTold y n) e) ∙ h)
 
-  handed : (a : Answer) (n : CodeNode) → NodeReadAs d a n → (f : Field) → NodeHanded f d (orNothing (bytesOf d (chosenOf n f)))
-  handed Done n h f =
-      record {
-        given = λ m q.
-            field-bytes n (h .inside) f
-            ∙ ap (fieldOf f) (node-unique (nodeOf d n) m (h .accepted .within) (q .within) (h .accepted .bytes ∙ sym (q .bytes)));
-        nothing = λ q. absurd (q (nodeOf d n) (h .accepted .within) (h .accepted .bytes));
-      }
-  handed (Refused x) n h f =
-      record {
-        given = λ m q. absurd (h .1 m (q .within) (q .bytes));
-        nothing = λ q. ap (λ (k : CodeNode). orNothing (bytesOf d (chosenOf k f))) (h .0 .1) ∙ no-bytes f;
-      }
+    read-inside : NodeInside d n
+    read-inside = by a refl
+      where
+        by : (y : Answer) → a ≡ y → NodeInside d n
+        by Done e = let m = read-as e in subst (NodeInside d) (sym (m .1 .1)) (nodes-placed d (m .0) (m .1 .0) .fits .inside)
+        by (Refused x) e = subst (NodeInside d) (sym (refused-as x e .1)) no-inside
 
-  pub node-handed : (a : Answer) (n : CodeNode) → NodeReadAs d a n → (f : Field) (o : Bytes) → o ≡ chosenOf n f → (r : List ℕ) → r ≡ orNothing (bytesOf d o) → NodeHanded f d r
-  node-handed a n h f o e r q = subst (NodeHanded f d) (sym (q ∙ ap (λ (x : Bytes). orNothing (bytesOf d x)) e)) (handed a n h f)
+    handed-as : (f : Field) → orNothing (bytesOf d (chosenOf n f)) ≡ nodeHanded f d
+    handed-as f = by a refl
+      where
+        by : (y : Answer) → a ≡ y → orNothing (bytesOf d (chosenOf n f)) ≡ nodeHanded f d
+        by Done e =
+            let m = read-as e in
+            field-bytes n read-inside f ∙ ap (λ (k : CodeNode). fieldOf f (nodeOf d k)) (m .1 .1) ∙ ap (fieldOf f) (nodes-placed d (m .0) (m .1 .0) .fields)
+            ∙ ap (handed (fieldOf f)) (sym (m .1 .0))
+        by (Refused x) e =
+            ap (λ (k : CodeNode). orNothing (bytesOf d (chosenOf k f))) (refused-as x e .1) ∙ no-bytes f ∙ ap (handed (fieldOf f)) (sym (refused-as x e .0))
+
+    pub chosen-inside : (f : Field) (o : Bytes) → o ≡ chosenOf n f → BytesInside d o
+    chosen-inside f o e = subst (BytesInside d) (sym e) (field-inside n read-inside f)
+
+    pub node-handed : (f : Field) (o : Bytes) → o ≡ chosenOf n f → (r : List ℕ) → r ≡ orNothing (bytesOf d o) → r ≡ nodeHanded f d
+    node-handed f o e r q = q ∙ ap (λ (x : Bytes). orNothing (bytesOf d x)) e ∙ handed-as f
 
   -- ---- the content of a Header
 
-  pub header-none : (x : HeaderRead) (y : Refusal) → x ≡ NoHeader y → HeaderReadAs d x → (r : List ℕ) → r ≡ [] → HeaderHanded d r
-  header-none x y e h r q =
-      let g = subst (HeaderReadAs d) e h in
-      record { given = λ m a. absurd (g .1 m (a .within) (a .bytes)); nothing = λ a. q }
+  abbrev content : Header → Part
+  content h = contentPart
 
-  pub header-inside : (x : HeaderRead) (p : Part) → x ≡ Content p → HeaderReadAs d x → p .at + p .len ≤ length d
-  header-inside x p e h = subst (HeaderReadAs d) e h .inside
+  module _ (x : HeaderRead) (h : headerTold x ≡ readHeader verdicts.none d) where
+    pub header-none : (y : Refusal) → x ≡ NoHeader y → (r : List ℕ) → r ≡ [] → r ≡ headerHanded d
+    header-none y e r q =
+        q ∙ ap (handed contentOf) (sym (told-refused verdicts.none verdicts.none noPart content (headerFrom d) (y .number) (spotOf (y .place)) noPart (sym (ap headerTold e) ∙ h)))
 
-  pub header-handed : (x : HeaderRead) (p : Part) → x ≡ Content p → HeaderReadAs d x → (r : List ℕ) → r ≡ partOf d p → HeaderHanded d r
-  header-handed x p e h r q =
-      let g = subst (HeaderReadAs d) e h .accepted in
-      record {
-        given = λ m a. q ∙ ap contentOf (header-unique (headerOf (partOf d p)) m (g .within) (a .within) (g .bytes ∙ sym (a .bytes)));
-        nothing = λ a. absurd (a (headerOf (partOf d p)) (g .within) (g .bytes));
-      }
+    module _ (p : Part) (e : x ≡ Content p) where
+      header-as : (m : Header) × ((headerFrom d ≡ some m) × (p ≡ contentPart))
+      header-as = told-some verdicts.none verdicts.none noPart content (headerFrom d) p (sym (ap headerTold e) ∙ h)
+
+      pub header-inside : p .at + p .len ≤ length d
+      header-inside = let m = header-as in subst (Inside d) (sym (m .1 .1)) (content-placed d (m .0) (m .1 .0) .0)
+
+      pub header-handed : (r : List ℕ) → r ≡ partOf d p → r ≡ headerHanded d
+      header-handed r q =
+          let m = header-as in
+          q ∙ ap (partOf d) (m .1 .1) ∙ content-placed d (m .0) (m .1 .0) .1 ∙ ap (handed contentOf) (sym (m .1 .0))
 
 -- ---- no bytes are no record
 
@@ -182,4 +202,4 @@ begins bs t e = let z : _≡_ {A = ℕ} 0 1 = cc in omega arith
 
 pub nothing-is-none : NothingIsNone
 unfolding headerBytes nodeBytes
-nothing-is-none = record { header = λ h w e. begins (h .type) _ e; node = λ n w e. begins (n .path) _ e }
+nothing-is-none = record { header = each-read .headers .rejects [] (λ h w e. begins (h .type) _ e); node = each-read .nodes .rejects [] (λ n w e. begins (n .path) _ e) }

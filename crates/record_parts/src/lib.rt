@@ -12,8 +12,9 @@ ghost use mathlib.Core.Path.{_≡_};
 ghost use Rattle.blake2b.specs.Hash.{nodeHash};
 ghost use Rattle.checks.specs.Lent.{registerOf};
 ghost use Rattle.lookup.specs.Read.{readPart};
+ghost use Rattle.record_fields.specs.Fronts.{orNothing};
 ghost use Rattle.record_fields.specs.Inner.{bytesOf, BytesInside};
-ghost use Rattle.record_parts.specs.Parts.{orNothing, HeaderHanded, NodeHanded};
+ghost use Rattle.record_parts.specs.Parts.{headerHanded, nodeHanded};
 ghost use Rattle.record_parts.specs.Chosen.{writerIn, chosenOf};
 
 // A part of a Node; of a Writer's, by its place among them, from 0.
@@ -80,7 +81,7 @@ fn taken<'a>(bytes: &'a [u8], part: Bytes) -> &'a [u8]
 
 // A part of the Node that bytes are.
 pub fn node_part<'a>(bytes: &'a [u8], field: Field) -> &'a [u8]
-    ensures { λ r. ⌜ NodeHanded field (now (bytes .entry)) (now r) ⌝ }
+    ensures { λ r. ⌜ now r ≡ nodeHanded field (now (bytes .entry)) ⌝ }
 {
     let read = record_node::read_node(bytes);
     let node = read.node;
@@ -89,7 +90,7 @@ pub fn node_part<'a>(bytes: &'a [u8], field: Field) -> &'a [u8]
 
 // The content bytes of the Header that bytes are.
 pub fn header_content<'a>(bytes: &'a [u8]) -> &'a [u8]
-    ensures { λ r. ⌜ HeaderHanded (now (bytes .entry)) (now r) ⌝ }
+    ensures { λ r. ⌜ now r ≡ headerHanded (now (bytes .entry)) ⌝ }
 {
     match record_format::read_header(bytes) {
         HeaderRead::Refused(_) => taken(bytes, Bytes::Absent),
@@ -111,11 +112,11 @@ pub fn node_part_of<'a>(
 ) -> &'a [u8]
     ensures { λ r.
         ⌜
-        NodeHanded field
+        now r
+        ≡ nodeHanded field
         (readPart nodeHash
         (registerOf (now (tree .entry)) (now (signatures .entry)) (now (bitfield .entry)) (now (content .entry)) n s size)
         (chunk .0))
-        (now r)
         ⌝ }
 {
     let bytes = lookup::read_one(tree, signatures, bitfield, content, n, s, size, chunk);
@@ -135,11 +136,11 @@ pub fn header_content_of<'a>(
 ) -> &'a [u8]
     ensures { λ r.
         ⌜
-        HeaderHanded
+        now r
+        ≡ headerHanded
         (readPart nodeHash
         (registerOf (now (tree .entry)) (now (signatures .entry)) (now (bitfield .entry)) (now (content .entry)) n s size)
         (chunk .0))
-        (now r)
         ⌝ }
 {
     let bytes = lookup::read_one(tree, signatures, bitfield, content, n, s, size, chunk);

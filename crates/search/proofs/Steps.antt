@@ -18,7 +18,7 @@ use Rattle.bitfield.specs.Missing.{foundAt}
 use Rattle.bitfield.specs.declared.Found.{Found}
 use Rattle.bitfield.specs.declared.Found.the-variants.{At, Nothing}
 use Rattle.file_format.specs.Sizes.{mostChunks, usedBitfield}
-use Rattle.search.specs.Search.{storedTuples, tupleIn, storedTuple, passedOver, notMissing}
+use Rattle.search.specs.Search.{tuplesPlace, storedTuples, tupleIn, storedTuple, passedOver, notMissing}
 use Rattle.search.specs.Inner.{DataIn, InGroup, InRun}
 use Rattle.search.proofs.Cut.{cut-found, cut-none, lowest-none}
 
@@ -37,13 +37,17 @@ unfolding bitsPlace entryCount
 data-below xs end m p h = omega arith
 
 -- where the Index byte of a run lies
-pub tuples-in : (xs : List ℕ) (k : ℕ) → bitsPlace (k / 8192 + 1) ≤ length xs → 32 + 3328 * (k / 64 / 128) + 3072 + 2 * (k / 64 % 128) < length xs
+pub tuples-at : (h : ℕ) → 32 + 3328 * (h / 128) + 3072 + 2 * (h % 128) ≡ tuplesPlace h
 unfolding bitsPlace
-tuples-in xs k h = omega arith
+tuples-at h = refl
 
-pub tuples-read : (xs : List ℕ) (h : ℕ) → getD xs (32 + 3328 * (h / 128) + 3072 + 2 * (h % 128)) 0 ≡ storedTuples xs h
-unfolding storedTuples bitsPlace
-tuples-read xs h = refl
+pub tuples-in : (xs : List ℕ) (k at : ℕ) → at ≡ tuplesPlace (k / 64) → bitsPlace (k / 8192 + 1) ≤ length xs → at < length xs
+unfolding bitsPlace
+tuples-in xs k at e h = omega arith
+
+pub tuples-read : (xs : List ℕ) (h at : ℕ) → at ≡ tuplesPlace h → getD xs at 0 ≡ storedTuples xs h
+unfolding storedTuples
+tuples-read xs h at e = ap (λ (p : ℕ). getD xs p 0) e
 
 -- ---- tuples
 

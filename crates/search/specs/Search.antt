@@ -13,8 +13,11 @@ use Rattle.file_format.specs.Belongs.{Register}
 use Rattle.checks.specs.Checks.{judged, registerChecks}
 
 -- the Index byte of the run h, of the chunks 64h to 64h + 63, in a bitfield file: "Index byte 2k holds the four tuples of data bytes 8k to 8k + 7"
+abbrev pub tuplesPlace : ℕ → ℕ
+tuplesPlace h = bitsPlace (h / 128) + 3072 + 2 * (h % 128)
+
 unfoldable pub storedTuples : List ℕ → ℕ → ℕ
-storedTuples xs h = getD xs (bitsPlace (h / 128) + 3072 + 2 * (h % 128)) 0
+storedTuples xs h = getD xs (tuplesPlace h) 0
 
 -- the tuple of the group g in the Index byte of its run, "first tuple highest"
 unfoldable pub tupleIn : ℕ → ℕ → ℕ

@@ -1,6 +1,7 @@
 // The search by the Index, over a bitfield file: a run of 64 chunks has an Index byte, with a tuple for each of its four groups of 16 chunks, and only
 // the data bits of groups whose tuple is not 11 are read. All of these are inner: they require the entries that they read to lie in the file.
 use bitfield::Found;
+use number_types::ByteOffset;
 use number_types::ChunkNumber;
 ghost use mathlib.Core.Path.{_≡_};
 ghost use Prim.Native.Nat.{_+_, _-_, _/_, _≤_, _<_};
@@ -8,16 +9,24 @@ ghost use lib.ListN.{length};
 ghost use Rattle.byte_strings.specs.Lowest.{lowest};
 ghost use Rattle.bitfield.specs.Append.{bitsPlace};
 ghost use Rattle.bitfield.specs.Missing.{foundAt};
-ghost use Rattle.search.specs.Search.{storedTuples, tupleIn, notMissing};
+ghost use Rattle.search.specs.Search.{tuplesPlace, storedTuples, tupleIn, notMissing};
 ghost use Rattle.search.specs.Inner.{Smaller, DataIn, InGroup, InRun};
+
+// Where the Index byte of the run of 64 chunks that has a chunk stands in the bitfield file.
+fn tuples_place(chunk: ChunkNumber) -> ByteOffset
+    ensures { λ r. ⌜ r .0 ≡ tuplesPlace (chunk .0 / 64) ⌝ }
+{
+    let run = chunk.0 / 64;
+    ByteOffset(32 + 3328 * (run / 128) + 3072 + 2 * (run % 128))
+}
 
 // Inner: the Index byte of the run of 64 chunks that has a chunk, whose bitfield entry lies in the file.
 pub fn run_tuples(xs: &[u8], chunk: ChunkNumber) -> u8
     requires { ⌜ bitsPlace (chunk .0 / 8192 + 1) ≤ length (now xs) ⌝ }
     ensures { λ r. ⌜ r ≡ storedTuples (now (xs .entry)) (chunk .0 / 64) ⌝ }
 {
-    let run = (chunk.0 / 64) as usize;
-    let at = 32 + 3328 * (run / 128) + 3072 + 2 * (run % 128);
+    let place = tuples_place(chunk);
+    let at = place.0 as usize;
     xs[at]
 }
 

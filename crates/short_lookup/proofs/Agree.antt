@@ -13,10 +13,11 @@ use Rattle.file_format.specs.Sizes.{mostChunks}
 use Rattle.file_format.specs.Stored.{storedSize, storedStart, storedRootSizes}
 use Rattle.checks.specs.Checks.{judged, registerChecks}
 use Rattle.checks.proofs.Passed.{passed}
-use Rattle.lookup.specs.Descent.{Ending, stopped, reached, chunkWithin, byteWithin, descent}
+use Rattle.lookup.specs.Descent.{Ending, stopped, reached, unknown, chunkWithin, byteWithin, descent, always}
 use Rattle.lookup.specs.Inner.{placeIn, byteIn}
 use Rattle.lookup.specs.Theorems.{Right}
 use Rattle.lookup.proofs.Descents.{Steps, Halted, Ends, ends, chunk-order, byte-order, left-first, right-end, left-inside}
+use Rattle.lookup.proofs.Answers.{never-unknown}
 use Rattle.lookup.proofs.Calls as quick
 use Rattle.search.specs.Search.{soughtUnless, searchFor}
 use Rattle.search.proofs.Follows.{search-follows}
@@ -54,22 +55,23 @@ module _ (t : List ℕ) (n : ℕ) (few : n ≤ mostChunks) (right : LengthsRight
 
   -- ---- the place lookup
 
-  to-chunk : (c : ℕ) → c < n → descent (chunkWithin c) t n ≡ reached c (storedStart t c)
+  to-chunk : (c : ℕ) → c < n → descent always (chunkWithin c) t n ≡ reached c (storedStart t c)
   to-chunk c h =
-      must (descent (chunkWithin c) t n)
-      (ends (chunkWithin c) t n (λ p s. p ≤ c) (λ p s. c < p) (λ p s. s ≡ storedStart t p) (chunk-order c) starts (omega arith) (sym (start-none t)) (omega arith) h)
+      must (descent always (chunkWithin c) t n)
+      (ends always (chunkWithin c) t n (λ p s. p ≤ c) (λ p s. c < p) (λ p s. s ≡ storedStart t p) (chunk-order c) starts (omega arith) (sym (start-none t)) (omega arith) h)
     where
-      must : (x : Ending) → Ends t n (λ p s. p ≤ c) (λ p s. c < p) (λ p s. s ≡ storedStart t p) x → x ≡ reached c (storedStart t c)
+      must : (x : Ending) → Ends always t n (λ p s. p ≤ c) (λ p s. c < p) (λ p s. s ≡ storedStart t p) x → x ≡ reached c (storedStart t c)
       must (stopped i) l = absurd (never-stops l)
+      must (unknown i) l = absurd (never-unknown l)
       must (reached k s) l =
           let e : k ≡ c = omega (arith, l .met .low, l .met .high) in
           ap₂ reached e (l .met .at ∙ ap (storedStart t) (mul-one k ∙ e))
 
-  place-agrees : (c : ℕ) → shortPlaceIn t n c ≡ placeIn t n c
+  place-agrees : (c : ℕ) → shortPlaceIn t n c ≡ placeIn always t n c
   place-agrees c = elim (decLt c n) [
     | yes h ↦ sym (place-nowhere t c (place-at t c (leaves-fit (c + 1) (omega arith))) ∙ place-there t n c h)
-        ∙ quick.place-reached t n c h c (storedStart t c) (storedSize t (index 0 c)) (sym (to-chunk c h)) refl
-    | no h ↦ sym (place-nine t n c (omega arith)) ∙ quick.place-above t n c (omega arith)
+        ∙ quick.place-reached always t n c h c (storedStart t c) (storedSize t (index 0 c)) (sym (to-chunk c h)) refl
+    | no h ↦ sym (place-nine t n c (omega arith)) ∙ quick.place-above always t n c (omega arith)
   ]
 
   -- ---- the byte lookup
@@ -79,15 +81,16 @@ module _ (t : List ℕ) (n : ℕ) (few : n ≤ mostChunks) (right : LengthsRight
     below : k < n
     from : storedStart t k ≤ b
     to : b < storedStart t k + storedSize t (index 0 k)
-    same : descent (byteWithin b) t n ≡ reached k (storedStart t k)
+    same : descent always (byteWithin b) t n ≡ reached k (storedStart t k)
 
   to-byte : (b : ℕ) → b < total (storedRootSizes t n) → Reached b
   to-byte b h =
-      must (descent (byteWithin b) t n) refl
-      (ends (byteWithin b) t n (λ p s. s ≤ b) (λ p s. b < s) (λ p s. s ≡ storedStart t p) (byte-order b) starts (omega arith) (sym (start-none t)) (omega arith) h)
+      must (descent always (byteWithin b) t n) refl
+      (ends always (byteWithin b) t n (λ p s. s ≤ b) (λ p s. b < s) (λ p s. s ≡ storedStart t p) (byte-order b) starts (omega arith) (sym (start-none t)) (omega arith) h)
     where
-      must : (x : Ending) → descent (byteWithin b) t n ≡ x → Ends t n (λ p s. s ≤ b) (λ p s. b < s) (λ p s. s ≡ storedStart t p) x → Reached b
+      must : (x : Ending) → descent always (byteWithin b) t n ≡ x → Ends always t n (λ p s. s ≤ b) (λ p s. b < s) (λ p s. s ≡ storedStart t p) x → Reached b
       must (stopped i) w l = absurd (never-stops l)
+      must (unknown i) w l = absurd (never-unknown l)
       must (reached k s) w l =
           let e : s ≡ storedStart t k = l .met .at ∙ ap (storedStart t) (mul-one k) in
           record {
@@ -99,20 +102,20 @@ module _ (t : List ℕ) (n : ℕ) (few : n ≤ mostChunks) (right : LengthsRight
           }
 
   module _ (size : ℕ) (adds : total (storedRootSizes t n) ≡ size) where
-    byte-inside : (b : ℕ) → b < size → shortByteIn t n size b ≡ byteIn t n size b
+    byte-inside : (b : ℕ) → b < size → shortByteIn t n size b ≡ byteIn always t n size b
     byte-inside b h =
         let g = to-byte b (omega (arith, adds)) in
         sym
         (byte-at t n b (g .k) (g .below) (g .from) (leaves-fit (g .k + 1) (omega (arith, g .below))) (g .to)
         ∙ byte-there t n size b (omega arith) (λ q. omega arith))
-        ∙ quick.byte-reached t n size b (omega arith) (λ q. omega arith) (g .k) (storedStart t (g .k)) (sym (g .same))
+        ∙ quick.byte-reached always t n size b (omega arith) (λ q. omega arith) (g .k) (storedStart t (g .k)) (sym (g .same))
 
-    byte-agrees : (b : ℕ) → shortByteIn t n size b ≡ byteIn t n size b
+    byte-agrees : (b : ℕ) → shortByteIn t n size b ≡ byteIn always t n size b
     byte-agrees b = elim (decLt b size) [
       | yes h ↦ byte-inside b h
       | no h ↦ elim (decLt size b) [
-        | yes g ↦ sym (byte-nine t n size b g) ∙ quick.byte-above t n size b g
-        | no g ↦ let e : b ≡ size = omega arith in sym (byte-end t n size b e) ∙ quick.byte-end t n size b e
+        | yes g ↦ sym (byte-nine t n size b g) ∙ quick.byte-above always t n size b g
+        | no g ↦ let e : b ≡ size = omega arith in sym (byte-end t n size b e) ∙ quick.byte-end always t n size b e
       ]
     ]
 

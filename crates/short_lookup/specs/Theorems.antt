@@ -16,6 +16,7 @@ use Rattle.file_format.specs.Belongs.{Register}
 use Rattle.checks.specs.Checks.{judged, registerChecks}
 use Rattle.audit.specs.Audit.{Accepted}
 use Rattle.lookup.specs.Lookup.{refusal, found, placeOf, byteAt}
+use Rattle.lookup.specs.Descent.{always}
 use Rattle.lookup.specs.Inner.{placeIn, byteIn}
 use Rattle.lookup.specs.Theorems.{Right}
 use Rattle.search.specs.Search.{searchFor}
@@ -66,8 +67,8 @@ LengthsRight t n = (d k : ℕ) → filled n (index d k) ≡ true → Right t d k
 
 -- then the lookups agree behind the checks 2 to 6, for every chunk number and every offset
 pub record AgreeIn (t : List ℕ) (n size : ℕ) : Type 0 where
-  pub place : (c : ℕ) → shortPlaceIn t n c ≡ placeIn t n c
-  pub byte : (b : ℕ) → shortByteIn t n size b ≡ byteIn t n size b
+  pub place : (c : ℕ) → shortPlaceIn t n c ≡ placeIn always t n c
+  pub byte : (b : ℕ) → shortByteIn t n size b ≡ byteIn always t n size b
 
 abbrev pub AgreeInForAll : Type 0
 AgreeInForAll =

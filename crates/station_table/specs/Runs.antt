@@ -96,7 +96,7 @@ pub record Fair (calls : List Call) (t : Table) : Type 0 where
   pub lastBelow : t .last < stations
   -- "a waiting station is served after at most 15 servings of others": among any further calls that serve others alone, at most 15 serve
   pub soon : (s : ℕ) → Waits t s → (later : List Call) → among s (servings (events t later)) ≡ false → length (servings (events t later)) ≤ 15
-  -- "None is given if and only if no read waits."
+  -- ""None" is given if and only if no read waits."
   pub noneWaits : next t ≡ nobody → (s : ℕ) → waitingFor t s ≡ []
   pub noneSaid : ((s : ℕ) → waitingFor t s ≡ []) → next t ≡ nobody
   -- a serving names a station and the read of it that came first, which leaves the table; no other station's reads move

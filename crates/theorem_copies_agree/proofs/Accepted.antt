@@ -23,17 +23,16 @@ use Rattle.file_format.specs.Stored.{storedSize}
 use Rattle.checks.proofs.Judged.{both-right}
 use Rattle.audit.specs.Audit.{parentRight, holeRight, heldBits, refusedAt}
 use Rattle.audit.proofs.Audited.{parent-right, at-must, nowhere-right}
-use Rattle.lookup.specs.Descent.{Ending, stopped, reached}
-use Rattle.lookup.specs.Lookup.{toChunk}
+use Rattle.lookup.specs.Descent.{Ending, stopped, reached, unknown}
 use Rattle.search.specs.Theorems.{IndexFollows}
 use Rattle.search.proofs.Answers.{index-of-data}
 use Rattle.short_lookup.specs.Theorems.{LengthsRight}
 use Rattle.short_lookup.proofs.Accepted.{entries-cut}
-use Rattle.copy_checks.specs.Copy.{Copy, known, unsigned}
+use Rattle.copy_checks.specs.Copy.{Copy, known}
 use Rattle.copy_checks.specs.Least.{leastOf}
 use Rattle.copy_checks.proofs.Least.{lower-none}
 use Rattle.copy_checks.proofs.Steps.{Lent, partly-passed}
-use Rattle.copy_descent.specs.Reads.{unknownToChunk}
+use Rattle.copy_checks.specs.Descents.{copyToChunk}
 use Rattle.copy_audit.specs.Audit.{wrongUnless, bothKnown, leafRightFrom, wrongFrom, wrongByLeaf, wrongByParent, wrongByKnown, wrongByUnknown, wrongBy, wrongEntryOfCopy, knownBits, copyBitfieldImage, copyByteRight, wrongByteOfCopy, auditCopy}
 use Rattle.theorem_copies_agree.specs.Theorems.{AllKnown, CopyShortAgreesForAll}
 use Rattle.theorem_copies_agree.proofs.Agree.{copy-lookups-agree, copy-search-agrees}
@@ -59,18 +58,14 @@ never-first i e = let z : _≡_ {A = ℕ} 0 1 = cc in absurd (omega arith)
 module _ (F : List ℕ → List ℕ) (c : Copy) where
   leaf-fits : (k : ℕ) → wrongByLeaf F c k ≡ nowhere → storedSize (c .tree) (index 0 k) ≤ longestChunk
   unfolding wrongByLeaf wrongFrom leafRightFrom
-  leaf-fits k e = pick (unknownToChunk c k) e
+  leaf-fits k e = ended (copyToChunk c k) e
     where
       ended : (x : Ending) → wrongFrom F c k x ≡ nowhere → storedSize (c .tree) (index 0 k) ≤ longestChunk
       ended (stopped i) w = never-first i w
+      ended (unknown i) w = never-first (index 0 k) w
       ended (reached j start) w =
           leb-true (storedSize (c .tree) (index 0 k)) longestChunk
           (both-right (leb (storedSize (c .tree) (index 0 k)) longestChunk) _ (unless-right (leafRightFrom F c k start) (index 0 k) w) .0)
-
-      pick : (l : Lowest) → elim l [ nowhere ↦ wrongFrom F c k (toChunk (unsigned c) k) | first i ↦ first (index 0 k) ] ≡ nowhere
-          → storedSize (c .tree) (index 0 k) ≤ longestChunk
-      pick nowhere w = ended (toChunk (unsigned c) k) w
-      pick (first i) w = never-first (index 0 k) w
 
   judged-where-known : (b r : Bool) → b ≡ true → (not b || r) ≡ true → r ≡ true
   judged-where-known true r e w = w

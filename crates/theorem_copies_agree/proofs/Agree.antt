@@ -12,6 +12,7 @@ use Rattle.tree_index.specs.Tree.{index}
 use Rattle.file_format.specs.Stored.{storedSize, storedRootSizes}
 use Rattle.checks.specs.Checks.{judged, addsUp}
 use Rattle.audit.specs.Audit.{refusedAt}
+use Rattle.lookup.specs.Descent.{Ending, always}
 use Rattle.lookup.specs.Lookup.{foundUnless, stopRefused, chunkOf, startOf, toChunk, toByte}
 use Rattle.lookup.specs.Inner.{placeIn, byteIn}
 use Rattle.search.specs.Search.{soughtUnless}
@@ -19,10 +20,11 @@ use Rattle.search.proofs.Follows.{search-follows}
 use Rattle.short_lookup.specs.ShortLookup.{shortPlaceIn, shortByteIn, foundBehind}
 use Rattle.short_lookup.proofs.Walks.{place-nine, byte-nine}
 use Rattle.short_lookup.proofs.Agree.{agree-in}
-use Rattle.copy_checks.specs.Copy.{Copy, known, unsigned}
+use Rattle.copy_checks.specs.Copy.{Copy, known}
+use Rattle.copy_checks.specs.Descents.{copyToChunk, copyToByte}
 use Rattle.copy_checks.specs.Checks.{copyJudged}
 use Rattle.copy_checks.proofs.Steps.{Knowing, copy-passed, copy-passes, copy-refused-by}
-use Rattle.copy_descent.specs.Reads.{chunkStop, byteStop, unknownToChunk, unknownToByte}
+use Rattle.copy_checks.proofs.Descents.{chunk-same, byte-same}
 use Rattle.copy_lookup.specs.Lookups.{copyPlaceVerdict, copyByteVerdict, copyPlaceOf, copyByteAt}
 use Rattle.copy_roots.specs.Roots.{copySearch}
 use Rattle.copy_short_lookup.specs.Leaves.{leavesToChunk, leavesToByte}
@@ -37,13 +39,13 @@ module _ (c : Copy) (m : ℕ) (at : Spot) (e : copyJudged c done ≡ refused m a
   unfolding copyShortPlaceOf copyShortPlaceVerdict copyPlaceOf copyPlaceVerdict
   place-refused i =
       ap (λ (v : Verdict). foundBehind v (shortPlaceIn (c .tree) (c .n) i)) (copy-refused-by c _ m at e)
-      ∙ sym (ap (λ (v : Verdict). foundUnless v (startOf (toChunk (unsigned c) i)) (storedSize (c .tree) (index 0 i))) (copy-refused-by c _ m at e))
+      ∙ sym (ap (λ (v : Verdict). foundUnless v (startOf (copyToChunk c i)) (storedSize (c .tree) (index 0 i))) (copy-refused-by c _ m at e))
 
   byte-refused : (b : ℕ) → copyShortByteAt c b ≡ copyByteAt c b
   unfolding copyShortByteAt copyShortByteVerdict copyByteAt copyByteVerdict
   byte-refused b =
       ap (λ (v : Verdict). foundBehind v (shortByteIn (c .tree) (c .n) (c .size) b)) (copy-refused-by c _ m at e)
-      ∙ sym (ap (λ (v : Verdict). foundUnless v (chunkOf (toByte (unsigned c) b)) (b - startOf (toByte (unsigned c) b))) (copy-refused-by c _ m at e))
+      ∙ sym (ap (λ (v : Verdict). foundUnless v (chunkOf (copyToByte c b)) (b - startOf (copyToByte c b))) (copy-refused-by c _ m at e))
 
 -- ---- passed
 
@@ -61,13 +63,13 @@ module _ (c : Copy) (all : AllKnown c) (k : Knowing c) where
           ap (λ (l : Lowest). foundBehind (refusedAt 20 tree l done) (shortPlaceIn (c .tree) (c .n) i)) (short-chunk-known c all i (ltb-true i (c .n) e))
       pick false e = place-nine (c .tree) (c .n) i (ltb-false i (c .n) e)
 
-  quick-place : (i : ℕ) → placeIn (c .tree) (c .n) i ≡ copyPlaceOf c i
-  unfolding placeIn copyPlaceOf copyPlaceVerdict chunkStop refusedAt toChunk
+  quick-place : (i : ℕ) → placeIn always (c .tree) (c .n) i ≡ copyPlaceOf c i
+  unfolding placeIn copyPlaceOf copyPlaceVerdict toChunk
   quick-place i =
       sym
-      (ap (λ (v : Verdict). foundUnless v (startOf (toChunk (unsigned c) i)) (storedSize (c .tree) (index 0 i))) (copy-passes c _ k)
-      ∙ ap (λ (l : Lowest). foundUnless (judged (record { number = 9; right = ltb i (c .n) } ∷ []) (refusedAt 20 tree l (stopRefused (toChunk (unsigned c) i))))
-      (startOf (toChunk (unsigned c) i)) (storedSize (c .tree) (index 0 i))) (chunk-known c all i))
+      (ap (λ (v : Verdict). foundUnless v (startOf (copyToChunk c i)) (storedSize (c .tree) (index 0 i))) (copy-passes c _ k)
+      ∙ ap (λ (e : Ending). foundUnless (judged (record { number = 9; right = ltb i (c .n) } ∷ []) (stopRefused e)) (startOf e) (storedSize (c .tree) (index 0 i)))
+      (chunk-same c i (chunk-known c all i)))
 
   short-byte : (b : ℕ) → copyShortByteAt c b ≡ shortByteIn (c .tree) (c .n) (c .size) b
   unfolding copyShortByteAt copyShortByteVerdict unknownAmong refusedAt judged
@@ -83,13 +85,13 @@ module _ (c : Copy) (all : AllKnown c) (k : Knowing c) where
           ap (λ (l : Lowest). foundBehind (refusedAt 20 tree l done) (shortByteIn (c .tree) (c .n) (c .size) b)) (short-byte-known c all b)
       pick false e = byte-nine (c .tree) (c .n) (c .size) b (leb-false b (c .size) e)
 
-  quick-byte : (b : ℕ) → byteIn (c .tree) (c .n) (c .size) b ≡ copyByteAt c b
-  unfolding byteIn copyByteAt copyByteVerdict byteStop refusedAt toByte
+  quick-byte : (b : ℕ) → byteIn always (c .tree) (c .n) (c .size) b ≡ copyByteAt c b
+  unfolding byteIn copyByteAt copyByteVerdict toByte
   quick-byte b =
       sym
-      (ap (λ (v : Verdict). foundUnless v (chunkOf (toByte (unsigned c) b)) (b - startOf (toByte (unsigned c) b))) (copy-passes c _ k)
-      ∙ ap (λ (l : Lowest). foundUnless (judged (record { number = 9; right = leb b (c .size) } ∷ []) (refusedAt 20 tree l (stopRefused (toByte (unsigned c) b))))
-      (chunkOf (toByte (unsigned c) b)) (b - startOf (toByte (unsigned c) b))) (byte-known c all b))
+      (ap (λ (v : Verdict). foundUnless v (chunkOf (copyToByte c b)) (b - startOf (copyToByte c b))) (copy-passes c _ k)
+      ∙ ap (λ (e : Ending). foundUnless (judged (record { number = 9; right = leb b (c .size) } ∷ []) (stopRefused e)) (chunkOf e) (b - startOf e))
+      (byte-same c b (byte-known c all b)))
 
   adds : total (storedRootSizes (c .tree) (c .n)) ≡ c .size
   unfolding addsUp

@@ -18,9 +18,10 @@ use Rattle.lookup.specs.Descent.{chunkWithin, byteWithin}
 use Rattle.short_lookup.specs.ShortLookup.{leafFits, leafPassed}
 use Rattle.short_lookup.proofs.Answers.{lowest-says}
 use Rattle.copy_checks.specs.Copy.{Copy, known}
-use Rattle.copy_checks.specs.Least.{firstUnknown}
+use Rattle.lookup.specs.Unknown.{firstUnknown}
 use Rattle.copy_checks.specs.Checks.{unknownRoot}
-use Rattle.copy_descent.specs.Reads.{readsBelow, readsFrom, reads, readsToByte, unknownToChunk, unknownToByte}
+use Rattle.lookup.proofs.ReadOrder.{readsBelow, readsFrom, reads}
+use Rattle.copy_checks.proofs.Descents.{unknownToChunk, unknownToByte}
 use Rattle.copy_short_lookup.specs.Leaves.{leavesBelow, walkedTo, leavesToChunk, leavesToByte}
 use Rattle.theorem_copies_agree.specs.Theorems.{AllKnown}
 
@@ -111,11 +112,11 @@ module _ (c : Copy) (all : AllKnown c) where
   chunk-known i = descent-known (known c) (c .n) filled-known (chunkWithin i) (c .tree)
 
   pub byte-known : (b : ℕ) → unknownToByte c b ≡ nowhere
-  unfolding unknownToByte readsToByte
+  unfolding unknownToByte
   byte-known b = pick (eqb b (c .size))
     where
-      pick : (x : Bool) → firstUnknown (known c) (elim x [ true ↦ [] | false ↦ reads (byteWithin b) (c .tree) (c .n) ]) ≡ nowhere
-      pick true = none (known c) (c .n) filled-known
+      pick : (x : Bool) → elim x [ true ↦ nowhere | false ↦ firstUnknown (known c) (reads (byteWithin b) (c .tree) (c .n)) ] ≡ nowhere
+      pick true = refl
       pick false = descent-known (known c) (c .n) filled-known (byteWithin b) (c .tree)
 
   pub short-chunk-known : (i : ℕ) → i < c .n → firstUnknown (known c) (leavesToChunk (c .tree) i) ≡ nowhere

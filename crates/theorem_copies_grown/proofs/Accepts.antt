@@ -27,14 +27,16 @@ use Rattle.file_format.specs.Messages.{leafMessage, parentMessage}
 use Rattle.file_format.specs.Stored.{storedHash, storedSize, storedRootSizes}
 use Rattle.checks.specs.Checks.{addsUp}
 use Rattle.audit.specs.Audit.{parentRight, holeRight, heldBits, refusedAt}
-use Rattle.lookup.specs.Descent.{Ending, stopped, reached, chunkWithin, descent}
+use Rattle.lookup.specs.Descent.{chunkWithin}
 use Rattle.lookup.specs.Lookup.{toChunk}
 use Rattle.packet.specs.Inner.{ChunkOf}
-use Rattle.copy_checks.specs.Copy.{Copy, known, unsigned}
-use Rattle.copy_checks.specs.Least.{firstUnknown, lowerOf, leastOf}
+use Rattle.copy_checks.specs.Copy.{Copy, known}
+use Rattle.copy_checks.specs.Least.{lowerOf, leastOf}
+use Rattle.lookup.specs.Unknown.{firstUnknown}
 use Rattle.copy_checks.specs.Checks.{unknownRoot, passedOver, partlyJudged}
 use Rattle.copy_checks.proofs.Steps.{Lent, partly-passes}
-use Rattle.copy_descent.specs.Reads.{reads, unknownToChunk}
+use Rattle.lookup.proofs.ReadOrder.{reads}
+use Rattle.copy_checks.proofs.Descents.{unknownToChunk, chunk-same}
 use Rattle.copy_audit.specs.Audit.{wrongUnless, heldLeaf, bothKnown, leafRightFrom, wrongFrom, wrongByLeaf, wrongByParent, wrongByKnown, wrongByUnknown, wrongBy, wrongEntryOfCopy, knownBits, copyBitfieldImage, copyByteRight, wrongByteOfCopy, auditCopy, AcceptedCopy}
 use Rattle.theorem_taking_laws.proofs.Members.{In}
 use Rattle.theorem_taking_laws.proofs.Shown.{entriesFor, shown, shown-used}
@@ -152,12 +154,9 @@ module _ (F : List ℕ → List ℕ) (c : Copy) (g : Grows F c) where
   leaf-none : (k : ℕ) → g .knowsOf (index 0 k) ≡ true → wrongByLeaf F c k ≡ nowhere
   unfolding wrongByLeaf wrongFrom unknownToChunk toChunk
   leaf-none k l =
-      ap (λ (x : Lowest). found x (descent (chunkWithin k) t (c .n)))
-      (unknown-none (known c) (reads (chunkWithin k) t (c .n)) (λ x m. filled-known F c g x (reads-known F c g k l t x m)))
-      ∙ ap (wrongFrom F c k) (comes-to F c g k l) ∙ right-none (leafRightFrom F c k (start k)) (index 0 k) (leaf-right k l)
-    where
-      found : Lowest → Ending → Lowest
-      found x e = elim x [ nowhere ↦ wrongFrom F c k e | first i ↦ first (index 0 k) ]
+      ap (wrongFrom F c k)
+      (chunk-same c k (unknown-none (known c) (reads (chunkWithin k) t (c .n)) (λ x m. filled-known F c g x (reads-known F c g k l t x m))) ∙ comes-to F c g k l)
+      ∙ right-none (leafRightFrom F c k (start k)) (index 0 k) (leaf-right k l)
 
   parent-right : (d k : ℕ) → Follows F t d k → parentRight F t (index (suc d) k) ≡ true
   unfolding parentRight

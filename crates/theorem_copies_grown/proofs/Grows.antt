@@ -19,13 +19,13 @@ use Rattle.bitfield.specs.Known.{storedKnown}
 use Rattle.file_format.specs.Sizes.{longestChunk, entryPlace}
 use Rattle.file_format.specs.Messages.{leafMessage, parentMessage}
 use Rattle.file_format.specs.Stored.{storedHash, storedSize, storedRootSizes}
-use Rattle.lookup.specs.Descent.{reached, chunkWithin, descent}
+use Rattle.lookup.specs.Descent.{reached, chunkWithin, descent, always}
 use Rattle.lookup.specs.Theorems.{Right}
 use Rattle.packet.specs.Packet.{siblings}
 use Rattle.packet.specs.Inner.{ChunkOf}
 use Rattle.copy_checks.specs.Copy.{Copy}
 use Rattle.copy_checks.proofs.Steps.{Lent}
-use Rattle.copy_descent.specs.Reads.{reads}
+use Rattle.lookup.proofs.ReadOrder.{reads}
 use Rattle.theorem_taking_laws.proofs.Members.{In}
 use Rattle.theorem_taking_laws.proofs.Shown.{shown, shown-held, shown-known}
 use Rattle.theorem_taking_laws.proofs.Brought.{sibling, wayIndex, sideIndex, way-parent, way-sibling, way-filled, above-root}
@@ -112,7 +112,7 @@ module _ (F : List ℕ → List ℕ) (c : Copy) (g : Grows F c) where
             pick (inRight q a b w) = subst (λ (x : ℕ). g .knowsOf x ≡ true) (sym a) (side-known e h)
 
     -- the descent to it comes to it
-    pub comes-to : descent (chunkWithin k) (c .tree) (c .n) ≡ reached k (chunkStart (c .tree) (c .n) k)
+    pub comes-to : descent always (chunkWithin k) (c .tree) (c .n) ≡ reached k (chunkStart (c .tree) (c .n) k)
     comes-to = reaches (c .tree) k (c .n) chunk-there way-sums
 
     pub reads-known : (t : List ℕ) (x : ℕ) → In x (reads (chunkWithin k) t (c .n)) → g .knowsOf x ≡ true

@@ -24,17 +24,17 @@ use Rattle.checks.specs.Checks.{judged, addsUp}
 use Rattle.checks.proofs.Judged.{both-right}
 use Rattle.audit.specs.Audit.{holeRight, refusedAt}
 use Rattle.audit.proofs.Audited.{at-must}
-use Rattle.lookup.specs.Descent.{Ending, stopped, reached}
-use Rattle.lookup.specs.Lookup.{toChunk}
-use Rattle.copy_checks.specs.Copy.{Copy, known, unsigned}
-use Rattle.copy_checks.specs.Least.{firstUnknown, leastOf}
+use Rattle.lookup.specs.Descent.{Ending, stopped, reached, unknown}
+use Rattle.copy_checks.specs.Copy.{Copy, known}
+use Rattle.copy_checks.specs.Least.{leastOf}
+use Rattle.lookup.specs.Unknown.{firstUnknown}
 use Rattle.copy_checks.specs.Checks.{lentChecks, sizeCheck, unknownRoot, passedOver, partlyJudged}
 use Rattle.copy_checks.proofs.Least.{lower-none}
 use Rattle.copy_checks.proofs.Steps.{Lent, lent-passes, partly-passed}
 use Rattle.copy_make.specs.Make.{makeVerdict, madeCopy}
 use Rattle.copy_make.proofs.Calls.{roomy}
 use Rattle.copy_take_in.specs.TakeIn.{Given, lying, takeVerdict, takenIn, brought}
-use Rattle.copy_descent.specs.Reads.{unknownToChunk}
+use Rattle.copy_checks.specs.Descents.{copyToChunk}
 use Rattle.copy_audit.specs.Audit.{wrongUnless, leafRightFrom, wrongFrom, wrongByLeaf, wrongByParent, wrongByKnown, wrongByUnknown, wrongBy, wrongEntryOfCopy, wrongByteOfCopy, auditCopy, AcceptedCopy}
 use Rattle.theorem_taking_laws.proofs.Members.{In}
 use Rattle.theorem_taking_laws.proofs.Shown.{shown-known}
@@ -111,7 +111,7 @@ module _ (F : List ℕ → List ℕ) (c : Copy) (a : AcceptedCopy F c) where
   pub leaf-fits : (k : ℕ) → filled (c .n) (index 0 k) ≡ true → known c (index 0 k) ≡ true → storedSize (c .tree) (index 0 k) ≤ longestChunk
   unfolding wrongByKnown wrongByLeaf wrongFrom leafRightFrom
   leaf-fits k f e =
-      leaf (unknownToChunk c k) (toChunk (unsigned c) k) (sym (ap₂ which (depth-index 0 k) (block-index 0 k)) ∙ known-right (index 0 k) f e)
+      leaf (copyToChunk c k) (sym (ap₂ which (depth-index 0 k) (block-index 0 k)) ∙ known-right (index 0 k) f e)
     where
       which : ℕ → ℕ → Lowest
       which d b = elim d [ zero ↦ wrongByLeaf F c b | suc x ↦ wrongByParent F c (index 0 k) ]
@@ -120,11 +120,10 @@ module _ (F : List ℕ → List ℕ) (c : Copy) (a : AcceptedCopy F c) where
       unless true q = refl
       unless false q = never-first (index 0 k) q
 
-      leaf : (x : Lowest) (y : Ending) → elim x [ nowhere ↦ wrongFrom F c k y | first i ↦ first (index 0 k) ] ≡ nowhere
-          → storedSize (c .tree) (index 0 k) ≤ longestChunk
-      leaf (first i) y q = never-first (index 0 k) q
-      leaf nowhere (stopped i) q = never-first i q
-      leaf nowhere (reached j s) q =
+      leaf : (y : Ending) → wrongFrom F c k y ≡ nowhere → storedSize (c .tree) (index 0 k) ≤ longestChunk
+      leaf (unknown i) q = never-first (index 0 k) q
+      leaf (stopped i) q = never-first i q
+      leaf (reached j s) q =
           leb-true (storedSize (c .tree) (index 0 k)) longestChunk (both-right _ _ (unless (leafRightFrom F c k s) q) .0)
 
 module _ (F : List ℕ → List ℕ) (hf : HashFunction F) where

@@ -20,12 +20,12 @@ use Rattle.file_format.specs.Messages.{leafMessage}
 use Rattle.file_format.specs.Stored.{storedHash, storedSize}
 use Rattle.checks.specs.Checks.{judged}
 use Rattle.checks.proofs.Judged.{judged-done}
-use Rattle.lookup.specs.Lookup.{startOf, toChunk}
+use Rattle.lookup.specs.Lookup.{startOf, stopRefused, toChunk}
 use Rattle.lookup.specs.Descent.{Ending}
 use Rattle.release.specs.Release.{releasedRegister}
 use Rattle.copy_checks.specs.Copy.{Copy, unsigned}
 use Rattle.copy_checks.proofs.Steps.{Lent, copy-passed}
-use Rattle.copy_descent.specs.Reads.{chunkStop}
+use Rattle.copy_checks.specs.Descents.{copyToChunk}
 use Rattle.copy_lookup.specs.Lookups.{copyHeldVerdict}
 use Rattle.copy_release.specs.Release.{copyReleaseVerdict, releasedCopy}
 use Rattle.theorem_taking_laws.proofs.Shown.{shown, shown-long, held-less}
@@ -42,12 +42,12 @@ pub record Asked (c : Copy) (i : ℕ) : Type 0 where
 pub asked : (c : Copy) (i : ℕ) → copyReleaseVerdict c i ≡ done → Asked c i
 unfolding copyReleaseVerdict copyHeldVerdict
 asked c i e =
-    let next : Verdict = cond (storedHeld (c .bitfield) i) (chunkStop c i) (refused 18 (tree (index 0 i))) in
+    let next : Verdict = cond (storedHeld (c .bitfield) i) (stopRefused (copyToChunk c i)) (refused 18 (tree (index 0 i))) in
     let a = copy-passed c (judged (record { number = 9; right = ltb i (c .n) } ∷ []) next) e in
     let b = judged-done (record { number = 9; right = ltb i (c .n) } ∷ []) next (a .1) in
     record { below = ltb-true i (c .n) (b .0 .0); bit = pick (storedHeld (c .bitfield) i) (b .1) }
   where
-    pick : (x : Bool) → cond x (chunkStop c i) (refused 18 (tree (index 0 i))) ≡ done → x ≡ true
+    pick : (x : Bool) → cond x (stopRefused (copyToChunk c i)) (refused 18 (tree (index 0 i))) ≡ done → x ≡ true
     pick true f = refl
     pick false f = absurd (let z : _≡_ {A = ℕ} 0 1 = cc in omega arith)
 

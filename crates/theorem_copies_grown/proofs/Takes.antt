@@ -28,7 +28,7 @@ use Rattle.file_format.specs.Stored.{storedHash, storedSize, storedRootSizes}
 use Rattle.file_format.proofs.Nodes.{Proper, entryBytes-length}
 use Rattle.file_format.proofs.OfImage.{bitfieldHeader-length}
 use Rattle.checks.proofs.Judged.{both-right}
-use Rattle.lookup.specs.Descent.{reached, chunkWithin, descent}
+use Rattle.lookup.specs.Descent.{reached, chunkWithin, descent, always}
 use Rattle.lookup.proofs.Visits.{filled-entry}
 use Rattle.packet.specs.Packet.{siblings, otherRoots, beside}
 use Rattle.packet.specs.Check.{packetChunk, packetTotal, entryIn}
@@ -40,7 +40,7 @@ use Rattle.packet_compare.proofs.Stands.{sibling-is}
 use Rattle.copy_checks.specs.Copy.{Copy}
 use Rattle.copy_checks.proofs.Steps.{Lent}
 use Rattle.copy_take_in.specs.TakeIn.{Given, lying, packetStart, withGiven, withKnown, brought, takenIn}
-use Rattle.copy_descent.specs.Reads.{reads}
+use Rattle.lookup.proofs.ReadOrder.{reads}
 use Rattle.theorem_taking_laws.proofs.Members.{In, in-place, in-map, map-in, without-in, apart-out}
 use Rattle.theorem_taking_laws.proofs.Shown.{shown, shown-long, Under as Below, or-among, more-known, held-more}
 use Rattle.theorem_taking_laws.proofs.Places.{getD-beside}
@@ -337,7 +337,7 @@ module _ (F : List ℕ → List ℕ) (hf : HashFunction F) (c : Copy) (g : Grows
   own-start : chunkStart u (c .n) i ≡ start
   own-start = start-is F p (c .n) i there u holds
 
-  own-descent : descent (chunkWithin i) u (c .n) ≡ reached i start
+  own-descent : descent always (chunkWithin i) u (c .n) ≡ reached i start
   own-descent = packet-descent F p (c .n) i there u holds (chunk-short p (c .n) i (tk .packet .shaped) pb)
 
   roots-now : total (storedRootSizes u (c .n)) ≡ c .size
@@ -353,7 +353,7 @@ module _ (F : List ℕ → List ℕ) (hf : HashFunction F) (c : Copy) (g : Grows
       → (chunkStart t (c .n) k + storedSize t (index 0 k) ≤ start) ⊎ (start + length piece ≤ chunkStart t (c .n) k)
   beside-own k l h = pick (ltb k i) refl
     where
-      here : descent (chunkWithin k) u (c .n) ≡ reached k (chunkStart t (c .n) k)
+      here : descent always (chunkWithin k) u (c .n) ≡ reached k (chunkStart t (c .n) k)
       here =
           sym (descent-same (chunkWithin k) t u (c .n) (λ x m. sym (size-kept x (reads-known F c g k l t x m)))) ∙ comes-to F c g k l
 

@@ -10,7 +10,7 @@ use Rattle.file_format.proofs.Spans.{span}
 use Rattle.file_format.proofs.Slots.{all-length, all-contents}
 use Rattle.audit.proofs.Audited.{accepted-audited}
 use Rattle.audit.proofs.Accepts.{has-register}
-use Rattle.lookup.specs.Descent.{reached, chunkWithin, descent}
+use Rattle.lookup.specs.Descent.{reached, chunkWithin, descent, always}
 use Rattle.lookup.specs.Lookup.{toChunk}
 use Rattle.lookup.proofs.Answers.{to-chunk}
 
@@ -25,7 +25,7 @@ module _ (F : List ℕ → List ℕ) (hf : HashFunction F) (cs : List (List ℕ)
   full-count = full-belongs .count ∙ all-length cs
 
   -- a descent in it comes to each chunk where the chunks before it end
-  pub full-descent : (i : ℕ) → i < full .n → descent (chunkWithin i) (full .tree) (full .n) ≡ reached i (span cs 0 i)
+  pub full-descent : (i : ℕ) → i < full .n → descent always (chunkWithin i) (full .tree) (full .n) ≡ reached i (span cs 0 i)
   unfolding toChunk
   full-descent i h =
       to-chunk F hf (allHeld cs) w full full-belongs (accepted-audited F full (has-register F (allHeld cs) hf w .2) .checked) i h

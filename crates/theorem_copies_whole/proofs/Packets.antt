@@ -14,7 +14,7 @@ use Rattle.file_format.specs.Slots.{allHeld, Within}
 use Rattle.file_format.proofs.Spans.{span}
 use Rattle.file_format.proofs.Slots.{all-contents}
 use Rattle.file_format.proofs.OfImage.{stored-node-hash, stored-node-size}
-use Rattle.lookup.specs.Descent.{chunkWithin, descent}
+use Rattle.lookup.specs.Descent.{chunkWithin, descent, always}
 use Rattle.lookup.specs.Lookup.{startOf}
 use Rattle.packet.specs.Packet.{packetOf}
 use Rattle.packet.specs.Check.{packetChunk, packetVerdict}
@@ -64,7 +64,7 @@ module _ (F : List ℕ → List ℕ) (hf : HashFunction F) (cs : List (List ℕ)
         ap startOf
         (sym (packet-descent F p n i h (full F hf cs w .tree) (holds-all h)
         (subst (λ (x : List ℕ). length x ≤ longestChunk) (sym (piece (h .below) ∙ ap (λ (l : List (List ℕ)). getD l i []) (sym (all-contents cs)))) (w .short i)))
-        ∙ ap (descent (chunkWithin i) (full F hf cs w .tree)) (count ∙ sym (full-count F hf cs w))
+        ∙ ap (descent always (chunkWithin i) (full F hf cs w .tree)) (count ∙ sym (full-count F hf cs w))
         ∙ full-descent F hf cs w i (subst (λ (x : ℕ). i < x) (count ∙ sym (full-count F hf cs w)) (h .below)))
 
     -- it is the packet of one of the chunks, and passes the check under their root hash

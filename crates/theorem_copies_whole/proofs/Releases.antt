@@ -29,19 +29,21 @@ use Rattle.file_format.proofs.Nodes.{nodeAt-index, nodeAt-proper}
 use Rattle.file_format.proofs.OfImage.{entry-size, stored-node-size}
 use Rattle.checks.specs.Checks.{Check, judged}
 use Rattle.checks.proofs.Judged.{judged-done}
-use Rattle.audit.proofs.Audited.{at-must}
-use Rattle.lookup.specs.Descent.{reached, chunkWithin, descent}
+use Rattle.lookup.specs.Descent.{reached, chunkWithin, descent, always}
 use Rattle.lookup.specs.Lookup.{startOf, stopRefused, toChunk}
 use Rattle.release.specs.Release.{releasedRegister}
 use Rattle.copy_checks.specs.Copy.{Copy, unsigned, known}
 use Rattle.copy_checks.proofs.Steps.{copy-passed}
-use Rattle.copy_descent.specs.Reads.{reads, unknownToChunk, chunkStop}
+use Rattle.copy_checks.specs.Descents.{copyToChunk}
+use Rattle.lookup.proofs.ReadOrder.{reads}
+use Rattle.copy_checks.proofs.Descents.{unknownToChunk, chunk-read}
 use Rattle.copy_lookup.specs.Lookups.{copyHeldVerdict}
 use Rattle.copy_release.specs.Release.{copyReleaseVerdict, releasedCopy}
 use Rattle.theorem_taking_laws.proofs.Members.{In}
 use Rattle.theorem_taking_laws.proofs.Shown.{shown-held, shown-known, held-less}
+use Rattle.theorem_taking_laws.proofs.Descents.{descent-same}
 use Rattle.theorem_copies_whole.proofs.Full.{full, full-belongs, full-count, full-descent}
-use Rattle.theorem_copies_whole.proofs.Alike.{all-known, descent-agree, reads-filled}
+use Rattle.theorem_copies_whole.proofs.Alike.{all-known, reads-filled}
 use Rattle.theorem_copies_whole.proofs.Partly.{Partly, span-before, tree-bit-in}
 
 must-hold : (b : Bool) (v : Verdict) (i : ℕ) → cond b v (refused 18 (tree i)) ≡ done → (b ≡ true) × (v ≡ done)
@@ -55,17 +57,17 @@ pub record Releasing (c : Copy) (i : ℕ) : Type 0 where
   pub unknown : unknownToChunk c i ≡ nowhere
 
 pub releasing : (c : Copy) (i : ℕ) → copyReleaseVerdict c i ≡ done → Releasing c i
-unfolding copyReleaseVerdict copyHeldVerdict chunkStop
+unfolding copyReleaseVerdict copyHeldVerdict
 releasing c i e =
     let check : Check = record { number = 9; right = ltb i (c .n) } in
-    let next : Verdict = cond (storedHeld (c .bitfield) i) (chunkStop c i) (refused 18 (tree (index 0 i))) in
+    let next : Verdict = cond (storedHeld (c .bitfield) i) (stopRefused (copyToChunk c i)) (refused 18 (tree (index 0 i))) in
     let a = copy-passed c (judged (check ∷ []) next) e in
     let b = judged-done (check ∷ []) next (a .1) in
-    let d = must-hold (storedHeld (c .bitfield) i) (chunkStop c i) (index 0 i) (b .1) in
+    let d = must-hold (storedHeld (c .bitfield) i) (stopRefused (copyToChunk c i)) (index 0 i) (b .1) in
     record {
       below = ltb-true i (c .n) (b .0 .0);
       holds = d .0;
-      unknown = at-must 20 tree (unknownToChunk c i) (stopRefused (toChunk (unsigned c) i)) (d .1) .0;
+      unknown = chunk-read c i (d .1);
     }
 
 module _ (F : List ℕ → List ℕ) (hf : HashFunction F) (cs : List (List ℕ)) (w : Within (allHeld cs)) (c : Copy) (has knows : ℕ → Bool) (tail : List ℕ)
@@ -102,8 +104,8 @@ module _ (F : List ℕ → List ℕ) (hf : HashFunction F) (cs : List (List ℕ)
     lands : toChunk (unsigned c) i ≡ reached i (span cs 0 i)
     unfolding toChunk
     lands =
-        descent-agree (chunkWithin i) (c .tree) (full F hf cs w .tree) (c .n) (λ j l. known-full j (read-known j l))
-        ∙ ap (descent (chunkWithin i) (full F hf cs w .tree)) (sym same-count) ∙ full-descent F hf cs w i (subst (λ (n : ℕ). i < n) (sym same-count) (r .below))
+        descent-same (chunkWithin i) (c .tree) (full F hf cs w .tree) (c .n) (λ j l. known-full j (read-known j l))
+        ∙ ap (descent always (chunkWithin i) (full F hf cs w .tree)) (sym same-count) ∙ full-descent F hf cs w i (subst (λ (n : ℕ). i < n) (sym same-count) (r .below))
 
     leaf-filled : filled (c .n) (index 0 i) ≡ true
     leaf-filled = end-filled (c .n) 0 i (omega (arith, mul-one (i + 1), r .below))

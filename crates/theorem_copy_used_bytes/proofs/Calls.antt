@@ -24,22 +24,23 @@ use Rattle.checks.proofs.Judged.{judged-done, judged-same}
 use Rattle.audit.specs.Audit.{refusedAt}
 use Rattle.prefix_root.specs.PrefixRoot.{ownChecks}
 use Rattle.prefix_root.proofs.First.{filled-more}
-use Rattle.lookup.specs.Lookup.{foundUnless, chunkOf, startOf, toChunk, toByte, placeVerdict}
+use Rattle.lookup.specs.Descent.{Ending}
+use Rattle.lookup.specs.Lookup.{stopRefused, foundUnless, chunkOf, startOf, toChunk, placeVerdict}
 use Rattle.lookup.specs.Read.{chunkBytes, andThen, partUnless}
 use Rattle.lookup.proofs.Calls.{held-done}
 use Rattle.packet.specs.Packet.{packetOf, roomOr14, outUnless, lengthUnless}
 use Rattle.release.specs.Release.{releasedRegister}
 use Rattle.search.specs.Search.{soughtUnless}
 use Rattle.theorem_used_bytes.proofs.Cut.{held-cut, hash-cut, size-cut, root-message-cut, old-message-cut}
-use Rattle.theorem_used_bytes.proofs.Lookups.{chunk-cut, byte-cut, found-same, then-same, then-first, place-found, bytes-cut}
+use Rattle.theorem_used_bytes.proofs.Lookups.{found-same, then-same, then-first, place-found, bytes-cut}
 use Rattle.theorem_used_bytes.proofs.Packets.{packet-cut}
 use Rattle.theorem_used_bytes.proofs.Released.{first-cut, released-cut}
 use Rattle.copy_checks.specs.Copy.{Copy, known, unsigned, lentAsCopy}
-use Rattle.copy_checks.specs.Least.{firstUnknown}
+use Rattle.lookup.specs.Unknown.{firstUnknown}
 use Rattle.copy_checks.specs.Checks.{copyJudged}
 use Rattle.copy_checks.proofs.Steps.{copy-passed}
 use Rattle.copy_checks.proofs.Signed.{signed}
-use Rattle.copy_descent.specs.Reads.{chunkStop, byteStop}
+use Rattle.copy_checks.specs.Descents.{copyToChunk, copyToByte}
 use Rattle.copy_lookup.specs.Lookups.{copyPlaceVerdict, copyHeldVerdict, copyByteVerdict, copyPlaceOf, copyByteAt}
 use Rattle.copy_lookup.specs.Reading.{copyReadVerdict, copyReadPart}
 use Rattle.copy_lookup.proofs.AsRegister.{held-as, read-as}
@@ -48,7 +49,7 @@ use Rattle.copy_packet.specs.Making.{copyMakeVerdict, copyAfterMake, copyMadeLe
 use Rattle.copy_release.specs.Release.{copyReleaseVerdict, releasedCopy}
 use Rattle.theorem_copy_used_bytes.specs.UsedBytes.{SameUsed}
 use Rattle.theorem_copy_used_bytes.proofs.Cut.{cutCopy, same-cut, of-cut, known-cut, unknown-same, judged-cut}
-use Rattle.theorem_copy_used_bytes.proofs.Descents.{stop-cut, byte-stop-cut}
+use Rattle.theorem_copy_used_bytes.proofs.Descents.{to-chunk-cut, to-byte-cut}
 
 -- ---- root hashes and the search
 
@@ -110,18 +111,18 @@ module _ (c : Copy) (i : ℕ) where
   place-verdict-cut : copyPlaceVerdict (cutCopy c) i ≡ copyPlaceVerdict c i
   unfolding copyPlaceVerdict
   place-verdict-cut =
-      judged-cut c (judged nine (chunkStop (cutCopy c) i)) ∙ ap (λ (v : Verdict). copyJudged c (judged nine v)) (stop-cut c i)
+      judged-cut c (judged nine (stopRefused (copyToChunk (cutCopy c) i))) ∙ ap (λ (e : Ending). copyJudged c (judged nine (stopRefused e))) (to-chunk-cut c i)
 
   place-below : copyPlaceVerdict c i ≡ done → i < c .n
   unfolding copyPlaceVerdict
-  place-below e = ltb-true i (c .n) (judged-done nine (chunkStop c i) (copy-passed c (judged nine (chunkStop c i)) e .1) .0 .0)
+  place-below e = ltb-true i (c .n) (judged-done nine (stopRefused (copyToChunk c i)) (copy-passed c (judged nine (stopRefused (copyToChunk c i))) e .1) .0 .0)
 
   pub place-cut : copyPlaceOf (cutCopy c) i ≡ copyPlaceOf c i
-  unfolding copyPlaceOf toChunk
+  unfolding copyPlaceOf
   place-cut =
-      ap (λ (v : Verdict). foundUnless v (startOf (toChunk (unsigned (cutCopy c)) i)) (storedSize (cutCopy c .tree) (index 0 i))) place-verdict-cut
-      ∙ found-same (copyPlaceVerdict c i) (startOf (toChunk (unsigned (cutCopy c)) i)) (startOf (toChunk (unsigned c) i))
-      (storedSize (cutCopy c .tree) (index 0 i)) (storedSize (c .tree) (index 0 i)) (ap startOf (chunk-cut (unsigned c) i))
+      ap (λ (v : Verdict). foundUnless v (startOf (copyToChunk (cutCopy c) i)) (storedSize (cutCopy c .tree) (index 0 i))) place-verdict-cut
+      ∙ found-same (copyPlaceVerdict c i) (startOf (copyToChunk (cutCopy c) i)) (startOf (copyToChunk c i))
+      (storedSize (cutCopy c .tree) (index 0 i)) (storedSize (c .tree) (index 0 i)) (ap startOf (to-chunk-cut c i))
       (λ e. size-cut (c .tree) (c .n) (index 0 i) (leaf-below (c .n) i (place-below e)))
 
   -- ---- a chunk that is held
@@ -133,10 +134,10 @@ module _ (c : Copy) (i : ℕ) where
   pub held-verdict-cut : copyHeldVerdict (cutCopy c) i ≡ copyHeldVerdict c i
   unfolding copyHeldVerdict
   held-verdict-cut =
-      judged-cut c (judged nine (behind (storedHeld (cutCopy c .bitfield) i) (chunkStop (cutCopy c) i)))
+      judged-cut c (judged nine (behind (storedHeld (cutCopy c .bitfield) i) (stopRefused (copyToChunk (cutCopy c) i))))
       ∙ ap (copyJudged c)
-      (judged-same nine (behind (storedHeld (cutCopy c .bitfield) i) (chunkStop (cutCopy c) i)) (behind (storedHeld (c .bitfield) i) (chunkStop c i))
-      (λ p j. behind (held-cut (c .bitfield) (c .n) i (ltb-true i (c .n) (p .0)) j) (stop-cut c i j)))
+      (judged-same nine (behind (storedHeld (cutCopy c .bitfield) i) (stopRefused (copyToChunk (cutCopy c) i))) (behind (storedHeld (c .bitfield) i) (stopRefused (copyToChunk c i)))
+      (λ p j. behind (held-cut (c .bitfield) (c .n) i (ltb-true i (c .n) (p .0)) j) (stopRefused (to-chunk-cut c i j))))
 
   module _ (e : copyHeldVerdict c i ≡ done) where
     as-place : placeVerdict (signed c) i ≡ done
@@ -212,12 +213,12 @@ module _ (F : List ℕ → List ℕ) (c : Copy) (i : ℕ) where
 -- ---- the byte lookup
 
 pub byte-at-cut : (c : Copy) (b : ℕ) → copyByteAt (cutCopy c) b ≡ copyByteAt c b
-unfolding copyByteAt copyByteVerdict toByte
+unfolding copyByteAt copyByteVerdict
 byte-at-cut c b =
     let nine : List Check = record { number = 9; right = leb b (c .size) } ∷ [] in
-    let v : copyJudged (cutCopy c) (judged nine (byteStop (cutCopy c) b)) ≡ copyJudged c (judged nine (byteStop c b)) =
-    judged-cut c (judged nine (byteStop (cutCopy c) b)) ∙ ap (λ (x : Verdict). copyJudged c (judged nine x)) (byte-stop-cut c b) in
-    λ j. foundUnless (v j) (chunkOf (byte-cut (unsigned c) b j)) (b - startOf (byte-cut (unsigned c) b j))
+    let v : copyJudged (cutCopy c) (judged nine (stopRefused (copyToByte (cutCopy c) b))) ≡ copyJudged c (judged nine (stopRefused (copyToByte c b))) =
+    judged-cut c (judged nine (stopRefused (copyToByte (cutCopy c) b))) ∙ ap (λ (e : Ending). copyJudged c (judged nine (stopRefused e))) (to-byte-cut c b) in
+    λ j. foundUnless (v j) (chunkOf (to-byte-cut c b j)) (b - startOf (to-byte-cut c b j))
 
 -- ---- the release
 

@@ -22,7 +22,7 @@ use Rattle.checks.specs.Checks.{Check, judged, countRight}
 use Rattle.audit.specs.Audit.{refusedAt}
 use Rattle.theorem_used_bytes.proofs.Cut.{holds-cut, headed-cut, tree-32, bitfield-32, adds-cut}
 use Rattle.copy_checks.specs.Copy.{Copy, known}
-use Rattle.copy_checks.specs.Least.{firstUnknown}
+use Rattle.lookup.specs.Unknown.{firstUnknown}
 use Rattle.copy_checks.specs.Checks.{lentChecks, unknownRoot, sizeCheck, copyJudged}
 use Rattle.theorem_copy_used_bytes.specs.UsedBytes.{SameUsed}
 

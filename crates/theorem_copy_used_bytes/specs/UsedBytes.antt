@@ -44,6 +44,6 @@ pub record Alike (F : List ℕ → List ℕ) (a b : Copy) : Type 0 where
   pub release : (i : ℕ) → copyReleaseVerdict a i ≡ copyReleaseVerdict b i
   pub released : (i : ℕ) → copyReleaseVerdict a i ≡ done → SameUsed (releasedCopy a i) (releasedCopy b i)
 
--- "No byte behind the used size is looked at", for every F
+-- no byte behind the used sizes is looked at, for every F
 abbrev pub UsedBytes : Type 0
 UsedBytes = (F : List ℕ → List ℕ) (a b : Copy) → SameUsed a b → Alike F a b

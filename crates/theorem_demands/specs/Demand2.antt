@@ -195,7 +195,7 @@ pub record Demand2 (F : List ℕ → List ℕ) : Type 0 where
   pub written : (r : Register) (ss : List Slot) (sigs : List (List ℕ)) → Written F r ss sigs → Imaged F r ss sigs
   -- the audit accepts exactly such images
   pub audit : AuditExact F
-  -- "reading gives back the very chunks; lookups and packets answer as 01 defines": of an accepted register that belongs to ss. Places and bytes for all
+  -- "reading gives back the very chunks. Lookups and packets answer as document 01 defines them.": of an accepted register that belongs to ss. Places and bytes for all
   -- chunks; "restoring the chunks speaks for held ones"
   pub reads : (r : Register) (ss : List Slot) → Within ss → Belongs F r ss → Accepted F r → Answers F r ss (contents ss)
   -- the packet of each chunk that is held, whatever else is released

@@ -26,7 +26,7 @@ use Rattle.packet.specs.Check.{packetChunk}
 use Rattle.copy_checks.specs.Copy.{Copy, lentAsCopy}
 use Rattle.copy_take_in.specs.TakeIn.{takeVerdict, takenIn}
 
--- a register whose tree, bitfield and data are those of a copy: "its signatures file", its count and its sizes stay
+-- a register whose tree, bitfield and data are those of a copy: its signatures file, its count and its sizes stay
 abbrev pub withFiles : Register → Copy → Register
 withFiles r c =
     record { tree = c .tree; signatures = r .signatures; bitfield = c .bitfield; content = c .content; n = r .n; s = r .s; size = r .size }

@@ -21,7 +21,7 @@ use Rattle.tree_index.proofs.Roots.{bit, no-root, one-root}
 use Rattle.tree_index.proofs.Cover.{high-bits}
 use Rattle.file_format.specs.Sizes.{longestChunk}
 use Rattle.file_format.specs.Stored.{storedSize, storedRootSizes}
-use Rattle.lookup.specs.Descent.{Ending, stopped, reached, chunkWithin, descend, fromRoots, descent}
+use Rattle.lookup.specs.Descent.{Ending, stopped, reached, chunkWithin, descend, fromRoots, descent, always}
 use Rattle.lookup.specs.Theorems.{Right}
 use Rattle.lookup.proofs.Descents.{left-first, right-end}
 use Rattle.packet.specs.Packet.{rootAbove, beside, siblings, without, otherRoots}
@@ -29,7 +29,7 @@ use Rattle.packet.specs.Inner.{ChunkOf}
 use Rattle.packet.proofs.Above.{root-spans}
 use Rattle.packet.proofs.Right.{map-run}
 use Rattle.packet.proofs.Rows.{beside-even, beside-odd, half}
-use Rattle.copy_descent.specs.Reads.{readsBelow, readsFrom, reads}
+use Rattle.lookup.proofs.ReadOrder.{readsBelow, readsFrom, reads}
 use Rattle.theorem_taking_laws.proofs.Members.{In, without-in}
 use Rattle.theorem_taking_laws.proofs.Brought.{wayIndex, sideIndex, siblings-deep}
 
@@ -47,7 +47,7 @@ module _ (within : ℕ → ℕ → ℕ → ℕ → Bool) (t u : List ℕ) where
   Same is = (x : ℕ) → In x is → storedSize t x ≡ storedSize u x
 
   below-same : (d k s : ℕ) → storedSize t (index d k) ≡ storedSize u (index d k) → Same (readsBelow within t d k s)
-      → descend within t d k s ≡ descend within u d k s
+      → descend always within t d k s ≡ descend always within u d k s
   unfolding descend readsBelow In
   below-same zero k s e h =
       ap (λ (x : ℕ). chosen (leb x longestChunk) (reached k s) (stopped (index 0 k))) e
@@ -67,7 +67,7 @@ module _ (within : ℕ → ℕ → ℕ → ℕ → Bool) (t u : List ℕ) where
       after : ℕ → ℕ → ℕ → Ending
       after x y z =
           chosen (eqb x (y + z))
-          (chosen (within d (2 * k) s y) (descend within u d (2 * k) s) (descend within u d (2 * k + 1) (s + y))) (stopped (index (suc d) k))
+          (chosen (within d (2 * k) s y) (descend always within u d (2 * k) s) (descend always within u d (2 * k + 1) (s + y))) (stopped (index (suc d) k))
 
       left : b ≡ storedSize u (index d (2 * k))
       left = h (index d (2 * k)) (inl refl)
@@ -75,16 +75,16 @@ module _ (within : ℕ → ℕ → ℕ → ℕ → Bool) (t u : List ℕ) where
       right : c ≡ storedSize u (index d (2 * k + 1))
       right = h (index d (2 * k + 1)) (inr (inl refl))
 
-      go : ((k s : ℕ) → storedSize t (index d k) ≡ storedSize u (index d k) → Same (readsBelow within t d k s) → descend within t d k s ≡ descend within u d k s)
+      go : ((k s : ℕ) → storedSize t (index d k) ≡ storedSize u (index d k) → Same (readsBelow within t d k s) → descend always within t d k s ≡ descend always within u d k s)
           → (x y : Bool)
           → Same (chosen x (chosen y (readsBelow within t d (2 * k) s) (readsBelow within t d (2 * k + 1) (s + b))) [])
-          → chosen x (chosen y (descend within t d (2 * k) s) (descend within t d (2 * k + 1) (s + b))) (stopped (index (suc d) k))
-          ≡ chosen x (chosen y (descend within u d (2 * k) s) (descend within u d (2 * k + 1) (s + b))) (stopped (index (suc d) k))
+          → chosen x (chosen y (descend always within t d (2 * k) s) (descend always within t d (2 * k + 1) (s + b))) (stopped (index (suc d) k))
+          ≡ chosen x (chosen y (descend always within u d (2 * k) s) (descend always within u d (2 * k + 1) (s + b))) (stopped (index (suc d) k))
       go rec true true m = rec (2 * k) s left m
       go rec true false m = rec (2 * k + 1) (s + b) right m
       go rec false y m = refl
 
-  from-same : (is : List ℕ) (s : ℕ) → Same (readsFrom within t is s) → fromRoots within t is s ≡ fromRoots within u is s
+  from-same : (is : List ℕ) (s : ℕ) → Same (readsFrom within t is s) → fromRoots always within t is s ≡ fromRoots always within u is s
   unfolding fromRoots readsFrom In
   from-same [] s h = refl
   from-same (i ∷ is) s h = go (from-same is) (within (depth i) (block i) s (storedSize t i)) (λ x m. h x (inr m)) ∙ ap after here
@@ -93,17 +93,17 @@ module _ (within : ℕ → ℕ → ℕ → ℕ → Bool) (t u : List ℕ) where
       here = h i (inl refl)
 
       after : ℕ → Ending
-      after x = chosen (within (depth i) (block i) s x) (descend within u (depth i) (block i) s) (fromRoots within u is (s + x))
+      after x = chosen (within (depth i) (block i) s x) (descend always within u (depth i) (block i) s) (fromRoots always within u is (s + x))
 
-      go : ((s : ℕ) → Same (readsFrom within t is s) → fromRoots within t is s ≡ fromRoots within u is s) → (x : Bool)
+      go : ((s : ℕ) → Same (readsFrom within t is s) → fromRoots always within t is s ≡ fromRoots always within u is s) → (x : Bool)
           → Same (chosen x (readsBelow within t (depth i) (block i) s) (readsFrom within t is (s + storedSize t i)))
-          → chosen x (descend within t (depth i) (block i) s) (fromRoots within t is (s + storedSize t i))
-          ≡ chosen x (descend within u (depth i) (block i) s) (fromRoots within u is (s + storedSize t i))
+          → chosen x (descend always within t (depth i) (block i) s) (fromRoots always within t is (s + storedSize t i))
+          ≡ chosen x (descend always within u (depth i) (block i) s) (fromRoots always within u is (s + storedSize t i))
       go rec true m =
           below-same (depth i) (block i) s (subst (λ (x : ℕ). storedSize t x ≡ storedSize u x) (sym (index-of i)) here) m
       go rec false m = rec (s + storedSize t i) m
 
-  pub descent-same : (n : ℕ) → Same (reads within t n) → descent within t n ≡ descent within u n
+  pub descent-same : (n : ℕ) → Same (reads within t n) → descent always within t n ≡ descent always within u n
   unfolding descent reads
   descent-same n h = from-same (roots n) 0 h
 
@@ -268,7 +268,7 @@ module _ (t : List ℕ) (c : ℕ) where
   abbrev pub WayRight : ℕ → Type 0
   WayRight d = ((e : ℕ) → e < d → Right t (suc e) (c / 2 ^ suc e)) × (storedSize t (index 0 c) ≤ longestChunk)
 
-  below-reaches : (d k s : ℕ) → k ≡ c / 2 ^ d → WayRight d → descend (chunkWithin c) t d k s ≡ reached c (s + asides d)
+  below-reaches : (d k s : ℕ) → k ≡ c / 2 ^ d → WayRight d → descend always (chunkWithin c) t d k s ≡ reached c (s + asides d)
   unfolding descend run total
   below-reaches zero k s e w =
       let q : k ≡ c = e ∙ div-one c in
@@ -281,12 +281,12 @@ module _ (t : List ℕ) (c : ℕ) where
       ∙ pick (below-reaches d) (halves c d k e)
     where
       child : Bool → Ending
-      child y = chosen y (descend (chunkWithin c) t d (2 * k) s) (descend (chunkWithin c) t d (2 * k + 1) (s + size t c d (2 * k)))
+      child y = chosen y (descend always (chunkWithin c) t d (2 * k) s) (descend always (chunkWithin c) t d (2 * k + 1) (s + size t c d (2 * k)))
 
       less : WayRight d
       less = (λ x l. w .0 x (omega arith), w .1)
 
-      pick : ((k s : ℕ) → k ≡ c / 2 ^ d → WayRight d → descend (chunkWithin c) t d k s ≡ reached c (s + asides d)) → Half c d k
+      pick : ((k s : ℕ) → k ≡ c / 2 ^ d → WayRight d → descend always (chunkWithin c) t d k s ≡ reached c (s + asides d)) → Half c d k
           → child (chunkWithin c d (2 * k) s (size t c d (2 * k))) ≡ reached c (s + asides (suc d))
       pick rec (inLeft q l r m) =
           let far : leftAt t c (sideIndex c d) ≡ 0 =
@@ -354,8 +354,8 @@ module _ (t : List ℕ) (c : ℕ) where
 
   abbrev Reaches : List ℕ → ℕ → Type 0
   Reaches is s =
-      fromRoots (chunkWithin c) t is s
-      ≡ descend (chunkWithin c) t (depth (rootAbove is c)) (block (rootAbove is c)) (s + total (map (leftAt t c) (without (rootAbove is c) is)))
+      fromRoots always (chunkWithin c) t is s
+      ≡ descend always (chunkWithin c) t (depth (rootAbove is c)) (block (rootAbove is c)) (s + total (map (leftAt t c) (without (rootAbove is c) is)))
 
   cons-reaches : (x : ℕ) (is : List ℕ) (s : ℕ) → (c < ending x → (i : ℕ) → In i is → leftAt t c i ≡ 0)
       → (ending x ≤ c → (leftAt t c x ≡ storedSize t x) × (x ≡ rootAbove is c → ⊥) × Reaches is (s + storedSize t x)) → Reaches (x ∷ is) s
@@ -366,20 +366,20 @@ module _ (t : List ℕ) (c : ℕ) where
       left r xs = total (map (leftAt t c) (without r xs))
 
       pick : (b : Bool) → ltb c (ending x) ≡ b
-          → chosen b (descend (chunkWithin c) t (depth x) (block x) s) (fromRoots (chunkWithin c) t is (s + storedSize t x))
-          ≡ descend (chunkWithin c) t (depth (chosen b x (rootAbove is c))) (block (chosen b x (rootAbove is c))) (s + left (chosen b x (rootAbove is c)) (x ∷ is))
+          → chosen b (descend always (chunkWithin c) t (depth x) (block x) s) (fromRoots always (chunkWithin c) t is (s + storedSize t x))
+          ≡ descend always (chunkWithin c) t (depth (chosen b x (rootAbove is c))) (block (chosen b x (rootAbove is c))) (s + left (chosen b x (rootAbove is c)) (x ∷ is))
       pick true e =
           let none : left x (x ∷ is) ≡ 0 =
           ap (λ (b : Bool). total (map (leftAt t c) (chosen b (without x is) (x ∷ without x is)))) (eq-eqb x x refl)
           ∙ total-none (leftAt t c) (without x is) (λ i m. before (ltb-true c (ending x) e) i (without-in i x is m .0)) in
-          ap (descend (chunkWithin c) t (depth x) (block x)) (sym (ap (λ (z : ℕ). s + z) none ∙ add-zero s))
+          ap (descend always (chunkWithin c) t (depth x) (block x)) (sym (ap (λ (z : ℕ). s + z) none ∙ add-zero s))
       pick false e =
           let h = behind (ltb-false c (ending x) e) in
           let r : ℕ = rootAbove is c in
           let more : left r (x ∷ is) ≡ storedSize t x + left r is =
           ap (λ (b : Bool). total (map (leftAt t c) (chosen b (without r is) (x ∷ without r is)))) (ne-eqb x r (h .1))
           ∙ ap (λ (z : ℕ). z + left r is) (h .0) in
-          h .2 ∙ ap (descend (chunkWithin c) t (depth r) (block r)) (add-assoc s (storedSize t x) (left r is) ∙ ap (λ (z : ℕ). s + z) (sym more))
+          h .2 ∙ ap (descend always (chunkWithin c) t (depth r) (block r)) (add-assoc s (storedSize t x) (left r is) ∙ ap (λ (z : ℕ). s + z) (sym more))
 
   from-reaches : (n d s : ℕ) → n / 2 ^ d * 2 ^ d ≤ c → c < n → Reaches (rootsBelow d n) s
   unfolding rootsBelow
@@ -419,7 +419,7 @@ module _ (t : List ℕ) (c : ℕ) where
           subst (λ (r : List ℕ). Reaches (r ++ rootsBelow d n) s) (sym (one-root d n o)) (odd (n / 2 ^ d - 1) (omega arith) rec)
 
   -- the descent to a chunk comes to its leaf, where no node of the way stops it
-  pub reaches : (n : ℕ) → ChunkOf n c → WayRight t c (length (siblings n c)) → descent (chunkWithin c) t n ≡ reached c (chunkStart t n c)
+  pub reaches : (n : ℕ) → ChunkOf n c → WayRight t c (length (siblings n c)) → descent always (chunkWithin c) t n ≡ reached c (chunkStart t n c)
   unfolding descent roots chunkStart otherRoots siblings
   reaches n h w =
       let r : ℕ = rootAbove (roots n) c in
@@ -443,7 +443,7 @@ module _ (t : List ℕ) where
     pub low : from ≤ z
     pub high : z + storedSize t (index 0 a) ≤ to
 
-  below-inside : (c d k s a z : ℕ) → descend (chunkWithin c) t d k s ≡ reached a z → Inside s a z (s + storedSize t (index d k))
+  below-inside : (c d k s a z : ℕ) → descend always (chunkWithin c) t d k s ≡ reached a z → Inside s a z (s + storedSize t (index d k))
   unfolding descend
   below-inside c zero k s a z e = pick (leb (storedSize t (index 0 k)) longestChunk) e
     where
@@ -459,9 +459,9 @@ module _ (t : List ℕ) where
       b : ℕ
       b = storedSize t (index d (2 * k))
 
-      pick : ((k s a z : ℕ) → descend (chunkWithin c) t d k s ≡ reached a z → Inside s a z (s + storedSize t (index d k))) → (x : Bool)
+      pick : ((k s a z : ℕ) → descend always (chunkWithin c) t d k s ≡ reached a z → Inside s a z (s + storedSize t (index d k))) → (x : Bool)
           → eqb (storedSize t (index (suc d) k)) (b + storedSize t (index d (2 * k + 1))) ≡ x → (y : Bool)
-          → chosen x (chosen y (descend (chunkWithin c) t d (2 * k) s) (descend (chunkWithin c) t d (2 * k + 1) (s + b))) (stopped (index (suc d) k)) ≡ reached a z
+          → chosen x (chosen y (descend always (chunkWithin c) t d (2 * k) s) (descend always (chunkWithin c) t d (2 * k + 1) (s + b))) (stopped (index (suc d) k)) ≡ reached a z
           → Inside s a z (s + storedSize t (index (suc d) k))
       pick rec true w true q =
           let r = rec (2 * k) s a z q in
@@ -474,13 +474,13 @@ module _ (t : List ℕ) where
           }
       pick rec false w y q = never (index (suc d) k) a z q
 
-  from-inside : (c : ℕ) (is : List ℕ) (s a z : ℕ) → fromRoots (chunkWithin c) t is s ≡ reached a z → Inside s a z (s + total (map (storedSize t) is))
+  from-inside : (c : ℕ) (is : List ℕ) (s a z : ℕ) → fromRoots always (chunkWithin c) t is s ≡ reached a z → Inside s a z (s + total (map (storedSize t) is))
   unfolding fromRoots total
   from-inside c [] s a z e = never 0 a z e
   from-inside c (i ∷ is) s a z e = pick (from-inside c is) (chunkWithin c (depth i) (block i) s (storedSize t i)) e
     where
-      pick : ((s a z : ℕ) → fromRoots (chunkWithin c) t is s ≡ reached a z → Inside s a z (s + total (map (storedSize t) is))) → (b : Bool)
-          → chosen b (descend (chunkWithin c) t (depth i) (block i) s) (fromRoots (chunkWithin c) t is (s + storedSize t i)) ≡ reached a z
+      pick : ((s a z : ℕ) → fromRoots always (chunkWithin c) t is s ≡ reached a z → Inside s a z (s + total (map (storedSize t) is))) → (b : Bool)
+          → chosen b (descend always (chunkWithin c) t (depth i) (block i) s) (fromRoots always (chunkWithin c) t is (s + storedSize t i)) ≡ reached a z
           → Inside s a z (s + (storedSize t i + total (map (storedSize t) is)))
       pick rec true q =
           let r = below-inside c (depth i) (block i) s a z q in
@@ -489,13 +489,13 @@ module _ (t : List ℕ) where
           let r = rec (s + storedSize t i) a z q in record { low = omega (arith, r .low); high = omega (arith, r .high) }
 
   -- a chunk's bytes lie below the sum of the roots' lengths
-  pub descent-inside : (c n a z : ℕ) → descent (chunkWithin c) t n ≡ reached a z → z + storedSize t (index 0 a) ≤ total (storedRootSizes t n)
+  pub descent-inside : (c n a z : ℕ) → descent always (chunkWithin c) t n ≡ reached a z → z + storedSize t (index 0 a) ≤ total (storedRootSizes t n)
   unfolding descent storedRootSizes
   descent-inside c n a z e = let r = from-inside c (roots n) 0 a z e in omega (arith, r .high)
 
   module _ (i j : ℕ) (less : i < j) where
-    below-apart : (d k s a z b y : ℕ) → k * 2 ^ d ≤ i → j < (k + 1) * 2 ^ d → descend (chunkWithin i) t d k s ≡ reached a z
-        → descend (chunkWithin j) t d k s ≡ reached b y → z + storedSize t (index 0 a) ≤ y
+    below-apart : (d k s a z b y : ℕ) → k * 2 ^ d ≤ i → j < (k + 1) * 2 ^ d → descend always (chunkWithin i) t d k s ≡ reached a z
+        → descend always (chunkWithin j) t d k s ≡ reached b y → z + storedSize t (index 0 a) ≤ y
     unfolding descend
     below-apart zero k s a z b y l h e f = absurd (omega (arith, mul-one k, mul-one (k + 1)))
     below-apart (suc d) k s a z b y l h e f =
@@ -505,10 +505,10 @@ module _ (t : List ℕ) where
         m = storedSize t (index d (2 * k))
 
         child : ℕ → Bool → Ending
-        child c x = chosen x (descend (chunkWithin c) t d (2 * k) s) (descend (chunkWithin c) t d (2 * k + 1) (s + m))
+        child c x = chosen x (descend always (chunkWithin c) t d (2 * k) s) (descend always (chunkWithin c) t d (2 * k + 1) (s + m))
 
-        split : ((k s a z b y : ℕ) → k * 2 ^ d ≤ i → j < (k + 1) * 2 ^ d → descend (chunkWithin i) t d k s ≡ reached a z
-            → descend (chunkWithin j) t d k s ≡ reached b y → z + storedSize t (index 0 a) ≤ y) → (x w : Bool)
+        split : ((k s a z b y : ℕ) → k * 2 ^ d ≤ i → j < (k + 1) * 2 ^ d → descend always (chunkWithin i) t d k s ≡ reached a z
+            → descend always (chunkWithin j) t d k s ≡ reached b y → z + storedSize t (index 0 a) ≤ y) → (x w : Bool)
             → ltb i ((2 * k + 1) * 2 ^ d) ≡ x → ltb j ((2 * k + 1) * 2 ^ d) ≡ w → child i x ≡ reached a z → child j w ≡ reached b y
             → z + storedSize t (index 0 a) ≤ y
         split rec true true p q u v =
@@ -520,31 +520,31 @@ module _ (t : List ℕ) where
         split rec false false p q u v =
             rec (2 * k + 1) (s + m) a z b y (ltb-false i ((2 * k + 1) * 2 ^ d) p) (subst (λ (x : ℕ). j < x) (sym (right-end d k)) h) u v
 
-        pick : ((k s a z b y : ℕ) → k * 2 ^ d ≤ i → j < (k + 1) * 2 ^ d → descend (chunkWithin i) t d k s ≡ reached a z
-            → descend (chunkWithin j) t d k s ≡ reached b y → z + storedSize t (index 0 a) ≤ y) → (g : Bool)
+        pick : ((k s a z b y : ℕ) → k * 2 ^ d ≤ i → j < (k + 1) * 2 ^ d → descend always (chunkWithin i) t d k s ≡ reached a z
+            → descend always (chunkWithin j) t d k s ≡ reached b y → z + storedSize t (index 0 a) ≤ y) → (g : Bool)
             → chosen g (child i (chunkWithin i d (2 * k) s m)) (stopped (index (suc d) k)) ≡ reached a z
             → chosen g (child j (chunkWithin j d (2 * k) s m)) (stopped (index (suc d) k)) ≡ reached b y → z + storedSize t (index 0 a) ≤ y
         pick rec true u v =
             split rec (chunkWithin i d (2 * k) s m) (chunkWithin j d (2 * k) s m) (sym (within-is i d (2 * k) s m)) (sym (within-is j d (2 * k) s m)) u v
         pick rec false u v = never (index (suc d) k) a z u
 
-    from-apart : (n d s a z b y : ℕ) → n / 2 ^ d * 2 ^ d ≤ i → j < n → fromRoots (chunkWithin i) t (rootsBelow d n) s ≡ reached a z
-        → fromRoots (chunkWithin j) t (rootsBelow d n) s ≡ reached b y → z + storedSize t (index 0 a) ≤ y
+    from-apart : (n d s a z b y : ℕ) → n / 2 ^ d * 2 ^ d ≤ i → j < n → fromRoots always (chunkWithin i) t (rootsBelow d n) s ≡ reached a z
+        → fromRoots always (chunkWithin j) t (rootsBelow d n) s ≡ reached b y → z + storedSize t (index 0 a) ≤ y
     unfolding rootsBelow fromRoots
     from-apart n zero s a z b y l h e f = never 0 a z e
     from-apart n (suc d) s a z b y l h e f = pick (from-apart n d) (bit (n / 2 ^ d))
       where
         after : ℕ → ℕ → Bool → Ending
-        after c k x = chosen x (descend (chunkWithin c) t d k s) (fromRoots (chunkWithin c) t (rootsBelow d n) (s + storedSize t (index d k)))
+        after c k x = chosen x (descend always (chunkWithin c) t d k s) (fromRoots always (chunkWithin c) t (rootsBelow d n) (s + storedSize t (index d k)))
 
-        one : (c k : ℕ) → fromRoots (chunkWithin c) t (index d k ∷ rootsBelow d n) s ≡ after c k (ltb c ((k + 1) * 2 ^ d))
+        one : (c k : ℕ) → fromRoots always (chunkWithin c) t (index d k ∷ rootsBelow d n) s ≡ after c k (ltb c ((k + 1) * 2 ^ d))
         one c k =
-            ap₂ (λ (v w : ℕ). chosen (chunkWithin c v w s (storedSize t (index d k))) (descend (chunkWithin c) t v w s)
-            (fromRoots (chunkWithin c) t (rootsBelow d n) (s + storedSize t (index d k)))) (depth-index d k) (block-index d k)
+            ap₂ (λ (v w : ℕ). chosen (chunkWithin c v w s (storedSize t (index d k))) (descend always (chunkWithin c) t v w s)
+            (fromRoots always (chunkWithin c) t (rootsBelow d n) (s + storedSize t (index d k)))) (depth-index d k) (block-index d k)
             ∙ ap (after c k) (within-is c d k s (storedSize t (index d k)))
 
-        split : ((s a z b y : ℕ) → n / 2 ^ d * 2 ^ d ≤ i → j < n → fromRoots (chunkWithin i) t (rootsBelow d n) s ≡ reached a z
-            → fromRoots (chunkWithin j) t (rootsBelow d n) s ≡ reached b y → z + storedSize t (index 0 a) ≤ y) → (k : ℕ) → k + 1 ≡ n / 2 ^ d
+        split : ((s a z b y : ℕ) → n / 2 ^ d * 2 ^ d ≤ i → j < n → fromRoots always (chunkWithin i) t (rootsBelow d n) s ≡ reached a z
+            → fromRoots always (chunkWithin j) t (rootsBelow d n) s ≡ reached b y → z + storedSize t (index 0 a) ≤ y) → (k : ℕ) → k + 1 ≡ n / 2 ^ d
             → k * 2 ^ d ≤ i → (x w : Bool) → ltb i ((k + 1) * 2 ^ d) ≡ x → ltb j ((k + 1) * 2 ^ d) ≡ w → after i k x ≡ reached a z → after j k w ≡ reached b y
             → z + storedSize t (index 0 a) ≤ y
         split rec k g r true true p q u v = below-apart d k s a z b y r (ltb-true j ((k + 1) * 2 ^ d) q) u v
@@ -555,25 +555,25 @@ module _ (t : List ℕ) where
         split rec k g r false false p q u v =
             rec (s + storedSize t (index d k)) a z b y (subst (λ (x : ℕ). x * 2 ^ d ≤ i) g (ltb-false i ((k + 1) * 2 ^ d) p)) h u v
 
-        pick : ((s a z b y : ℕ) → n / 2 ^ d * 2 ^ d ≤ i → j < n → fromRoots (chunkWithin i) t (rootsBelow d n) s ≡ reached a z
-            → fromRoots (chunkWithin j) t (rootsBelow d n) s ≡ reached b y → z + storedSize t (index 0 a) ≤ y)
+        pick : ((s a z b y : ℕ) → n / 2 ^ d * 2 ^ d ≤ i → j < n → fromRoots always (chunkWithin i) t (rootsBelow d n) s ≡ reached a z
+            → fromRoots always (chunkWithin j) t (rootsBelow d n) s ≡ reached b y → z + storedSize t (index 0 a) ≤ y)
             → (n / 2 ^ d % 2 ≡ 0) ⊎ (n / 2 ^ d % 2 ≡ 1) → z + storedSize t (index 0 a) ≤ y
         pick rec (inl o) =
             let high : n / 2 ^ suc d * 2 ^ suc d ≡ n / 2 ^ d * 2 ^ d = omega (arith, high-bits d n, ap (λ (x : ℕ). x * 2 ^ d) o, zero-mul (2 ^ d)) in
             rec s a z b y (subst (λ (x : ℕ). x ≤ i) high l) h
-            (subst (λ (r : List ℕ). fromRoots (chunkWithin i) t (r ++ rootsBelow d n) s ≡ reached a z) (no-root d n o) e)
-            (subst (λ (r : List ℕ). fromRoots (chunkWithin j) t (r ++ rootsBelow d n) s ≡ reached b y) (no-root d n o) f)
+            (subst (λ (r : List ℕ). fromRoots always (chunkWithin i) t (r ++ rootsBelow d n) s ≡ reached a z) (no-root d n o) e)
+            (subst (λ (r : List ℕ). fromRoots always (chunkWithin j) t (r ++ rootsBelow d n) s ≡ reached b y) (no-root d n o) f)
         pick rec (inr o) =
             let k : ℕ = n / 2 ^ d - 1 in
             let up : k + 1 ≡ n / 2 ^ d = omega arith in
             let begins : k * 2 ^ d ≡ n / 2 ^ suc d * 2 ^ suc d =
             omega (arith, high-bits d n, ap (λ (x : ℕ). x * 2 ^ d) o, one-mul (2 ^ d), ap (λ (x : ℕ). x * 2 ^ d) up, block-end d k) in
             split rec k up (subst (λ (x : ℕ). x ≤ i) (sym begins) l) (ltb i ((k + 1) * 2 ^ d)) (ltb j ((k + 1) * 2 ^ d)) refl refl
-            (sym (one i k) ∙ subst (λ (r : List ℕ). fromRoots (chunkWithin i) t (r ++ rootsBelow d n) s ≡ reached a z) (one-root d n o) e)
-            (sym (one j k) ∙ subst (λ (r : List ℕ). fromRoots (chunkWithin j) t (r ++ rootsBelow d n) s ≡ reached b y) (one-root d n o) f)
+            (sym (one i k) ∙ subst (λ (r : List ℕ). fromRoots always (chunkWithin i) t (r ++ rootsBelow d n) s ≡ reached a z) (one-root d n o) e)
+            (sym (one j k) ∙ subst (λ (r : List ℕ). fromRoots always (chunkWithin j) t (r ++ rootsBelow d n) s ≡ reached b y) (one-root d n o) f)
 
     -- the bytes of a chunk begin where those of an earlier one end, or later
-    pub descents-apart : (n a z b y : ℕ) → ChunkOf n j → descent (chunkWithin i) t n ≡ reached a z → descent (chunkWithin j) t n ≡ reached b y
+    pub descents-apart : (n a z b y : ℕ) → ChunkOf n j → descent always (chunkWithin i) t n ≡ reached a z → descent always (chunkWithin j) t n ≡ reached b y
         → z + storedSize t (index 0 a) ≤ y
     unfolding descent roots
     descents-apart n a z b y h e f =

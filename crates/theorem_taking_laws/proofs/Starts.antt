@@ -21,7 +21,7 @@ use Rattle.file_format.specs.Messages.{HashFunction, leafMessage, parentMessage
 use Rattle.file_format.specs.Entries.{Entry, hole, leaf, parentOf}
 use Rattle.file_format.specs.Stored.{storedHash, storedSize, storedRootSizes}
 use Rattle.file_format.proofs.Nodes.{Proper, leafMessage-bytes, parentMessage-bytes}
-use Rattle.lookup.specs.Descent.{reached, chunkWithin, descent}
+use Rattle.lookup.specs.Descent.{reached, chunkWithin, descent, always}
 use Rattle.lookup.specs.Theorems.{Right}
 use Rattle.packet.specs.Packet.{rootAbove, siblings, without, otherRoots}
 use Rattle.packet.specs.Check.{chunkLength, siblingsPlace, othersPlace, packetChunk, entryIn, entriesIn, siblingEntries, otherEntries, packetTotal, ordered}
@@ -30,7 +30,7 @@ use Rattle.packet.proofs.Above.{Apart, Distinct, roots-distinct}
 use Rattle.packet.proofs.Climb.{ordered-size, left-first, right-first}
 use Rattle.packet.proofs.Right.{map-run}
 use Rattle.packet_compare.proofs.Stands.{sides-count, sibling-is}
-use Rattle.copy_descent.specs.Reads.{reads}
+use Rattle.lookup.proofs.ReadOrder.{reads}
 use Rattle.copy_take_in.specs.TakeIn.{Given, givenAt, lying, leftSize, packetStart, brought}
 use Rattle.copy_take_in.specs.Inner.{Fits}
 use Rattle.copy_take_in.proofs.Calls.{Placed, placed, chunk-long}
@@ -162,7 +162,7 @@ module _ (F : List ℕ → List ℕ) (p : List ℕ) (n c : ℕ) (h : ChunkOf n c
       (left-given t c (otherRoots n c) (otherEntries p n c) (others-count p n c) (λ j l. holds _ (other-brought F p n c j l) .size)))
 
   -- the descent to the packet's chunk
-  pub packet-descent : length (packetChunk p) ≤ longestChunk → descent (chunkWithin c) t n ≡ reached c (packetStart p n c)
+  pub packet-descent : length (packetChunk p) ≤ longestChunk → descent always (chunkWithin c) t n ≡ reached c (packetStart p n c)
   packet-descent l = reaches t c n h (way-right l) ∙ ap (reached c) start-is
 
   -- everything that it reads is brought

@@ -22,7 +22,7 @@ use Rattle.file_format.specs.Belongs.{Register}
 use Rattle.checks.specs.Checks.{Check, judged, registerChecks}
 use Rattle.checks.proofs.Judged.{judged-append, judged-same}
 use Rattle.checks.proofs.Passed.{Passed, all-must, passed, passes}
-use Rattle.lookup.specs.Descent.{Ending, stopped, reached, chunkWithin, byteWithin, descend, fromRoots, descent}
+use Rattle.lookup.specs.Descent.{Ending, stopped, reached, unknown, ifKnown, always, chunkWithin, byteWithin, descend, fromRoots, descent}
 use Rattle.lookup.specs.Lookup.{stopRefused, foundUnless, chunkOf, startOf, toChunk, byteEnding, toByte, placeVerdict, heldVerdict, byteVerdict, placeOf, byteAt}
 use Rattle.lookup.proofs.Calls.{held-done}
 use Rattle.lookup.specs.Read.{chunkBytes, andThen, readVerdict, partUnless, readPart}
@@ -33,17 +33,18 @@ use Rattle.theorem_used_bytes.proofs.Cut.{cut, held-cut, part-cut, hash
 
 -- ---- the descents
 
-abbrev choose : Bool → Ending → Ending → Ending
+abbrev pub choose : Bool → Ending → Ending → Ending
 choose b x y = elim b [ true ↦ x | false ↦ y ]
 
-module _ (within : ℕ → ℕ → ℕ → ℕ → Bool) (t : List ℕ) (n : ℕ) where
+-- two tests that know the same of the entries of n chunks
+module _ (f g : ℕ → Bool) (within : ℕ → ℕ → ℕ → ℕ → Bool) (t : List ℕ) (n : ℕ) (same : (i : ℕ) → filled n i ≡ true → f i ≡ g i) where
   abbrev u : List ℕ
   u = take (usedTree n) t
 
   node-cut : (d k : ℕ) → (k + 1) * 2 ^ d ≤ n → storedSize u (index d k) ≡ storedSize t (index d k)
   node-cut d k h = size-cut t n (index d k) (filled-below n (index d k) (end-filled n d k h))
 
-  descend-cut : (d k start : ℕ) → (k + 1) * 2 ^ d ≤ n → descend within u d k start ≡ descend within t d k start
+  descend-cut : (d k start : ℕ) → (k + 1) * 2 ^ d ≤ n → descend f within u d k start ≡ descend g within t d k start
   unfolding descend
   descend-cut zero k start h = ap (λ (z : ℕ). choose (leb z longestChunk) (reached k start) (stopped (index 0 k))) (node-cut 0 k h)
   descend-cut (suc d) k start h =
@@ -52,33 +53,37 @@ module _ (within : ℕ → ℕ → ℕ → ℕ → Bool) (t : List ℕ) (n : ℕ
       let z = node-cut (suc d) k h in
       let l = node-cut d (2 * k) lh in
       let r = node-cut d (2 * k + 1) rh in
+      let a = same (index d (2 * k)) (end-filled n d (2 * k) lh) in
+      let b = same (index d (2 * k + 1)) (end-filled n d (2 * k + 1) rh) in
       let x = descend-cut d (2 * k) start lh in
-      let y : descend within u d (2 * k + 1) (start + storedSize u (index d (2 * k))) ≡ descend within t d (2 * k + 1) (start + storedSize t (index d (2 * k))) =
-      ap (λ (m : ℕ). descend within u d (2 * k + 1) (start + m)) l ∙ descend-cut d (2 * k + 1) (start + storedSize t (index d (2 * k))) rh in
-      λ i. choose (eqb (z i) (l i + r i)) (choose (within d (2 * k) start (l i)) (x i) (y i)) (stopped (index (suc d) k))
+      let y : descend f within u d (2 * k + 1) (start + storedSize u (index d (2 * k))) ≡ descend g within t d (2 * k + 1) (start + storedSize t (index d (2 * k))) =
+      ap (λ (m : ℕ). descend f within u d (2 * k + 1) (start + m)) l ∙ descend-cut d (2 * k + 1) (start + storedSize t (index d (2 * k))) rh in
+      λ i. ifKnown (a i) (index d (2 * k))
+      (ifKnown (b i) (index d (2 * k + 1)) (choose (eqb (z i) (l i + r i)) (choose (within d (2 * k) start (l i)) (x i) (y i)) (stopped (index (suc d) k))))
 
-  from-cut : (is : List ℕ) (start : ℕ) → ((j : ℕ) → j < length is → filled n (getD is j 0) ≡ true) → fromRoots within u is start ≡ fromRoots within t is start
+  from-cut : (is : List ℕ) (start : ℕ) → ((j : ℕ) → j < length is → filled n (getD is j 0) ≡ true) → fromRoots f within u is start ≡ fromRoots g within t is start
   unfolding fromRoots filled
   from-cut [] start h = refl
   from-cut (i ∷ is) start h =
-      let f : filled n i ≡ true = h 0 (omega arith) in
-      let z : storedSize u i ≡ storedSize t i = size-cut t n i (filled-below n i f) in
-      let x = descend-cut (depth i) (block i) start (leb-true ((block i + 1) * 2 ^ depth i) n f) in
-      let y : fromRoots within u is (start + storedSize u i) ≡ fromRoots within t is (start + storedSize t i) =
-      ap (λ (m : ℕ). fromRoots within u is (start + m)) z ∙ from-cut is (start + storedSize t i) (λ j l. h (suc j) (omega arith)) in
-      λ j. choose (within (depth i) (block i) start (z j)) (x j) (y j)
+      let e : filled n i ≡ true = h 0 (omega arith) in
+      let a = same i e in
+      let z : storedSize u i ≡ storedSize t i = size-cut t n i (filled-below n i e) in
+      let x = descend-cut (depth i) (block i) start (leb-true ((block i + 1) * 2 ^ depth i) n e) in
+      let y : fromRoots f within u is (start + storedSize u i) ≡ fromRoots g within t is (start + storedSize t i) =
+      ap (λ (m : ℕ). fromRoots f within u is (start + m)) z ∙ from-cut is (start + storedSize t i) (λ j l. h (suc j) (omega arith)) in
+      λ j. ifKnown (a j) i (choose (within (depth i) (block i) start (z j)) (x j) (y j))
 
-  descent-cut : descent within u n ≡ descent within t n
+  pub descent-cut : descent f within u n ≡ descent g within t n
   unfolding descent
   descent-cut = from-cut (roots n) 0 (root-filled n)
 
 pub chunk-cut : (r : Register) (c : ℕ) → toChunk (cut r) c ≡ toChunk r c
 unfolding toChunk
-chunk-cut r c = descent-cut (chunkWithin c) (r .tree) (r .n)
+chunk-cut r c = descent-cut always always (chunkWithin c) (r .tree) (r .n) (λ i f. refl)
 
 pub byte-cut : (r : Register) (b : ℕ) → toByte (cut r) b ≡ toByte r b
 unfolding toByte byteEnding
-byte-cut r b = ap (choose (eqb b (r .size)) (reached (r .n) (r .size))) (descent-cut (byteWithin b) (r .tree) (r .n))
+byte-cut r b = ap (choose (eqb b (r .size)) (reached (r .n) (r .size))) (descent-cut always always (byteWithin b) (r .tree) (r .n) (λ i f. refl))
 
 -- ---- the lookups
 
@@ -121,6 +126,7 @@ module _ (r : Register) (c : ℕ) where
     where
       go : (x : Ending) → toChunk r c ≡ x → stopRefused x ≡ done → startOf x + storedSize (r .tree) (index 0 c) ≤ r .size
       go (stopped i) p q = let z : _≡_ {A = ℕ} 0 1 = cc in absurd (omega arith)
+      go (unknown i) p q = let z : _≡_ {A = ℕ} 0 1 = cc in absurd (omega arith)
       go (reached k s) p q =
           let f = place-found e in
           let l = lookups-stay-inside r (passes r done (f .0)) .chunk c (f .1) k s p in

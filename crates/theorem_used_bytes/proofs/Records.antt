@@ -1,70 +1,28 @@
--- Records and paths: what is said of a chunk follows from its read alone, and what is found from that, the checks and n. Assumes nothing.
+-- Records and paths: what is told of a chunk follows from its read alone, and what is found from that, the checks and n. Assumes nothing.
 use Prim.Native.Nat.{ℕ, zero, suc}
-use mathlib.Core.Path.{_≡_, sym, ap, _∙_, subst}
-use mathlib.Core.Logic.{_↔_}
+use mathlib.Core.Path.{_≡_, refl, sym, ap, ap₂, _∙_}
+use mathlib.Core.Bool.{Bool}
 use mathlib.Core.List.{List}
-use Rattle.refusals.specs.Verdict.{Verdict, done, refused}
-use Rattle.refusals.specs.Meaning.{said}
-use Rattle.refusals.specs.declared.Answer.{Answer}
-use Rattle.tree_index.specs.Tree.{index}
+use Rattle.refusals.specs.Verdict.{Verdict, done}
 use Rattle.file_format.specs.Belongs.{Register}
 use Rattle.checks.specs.Checks.{Check, judged, registerChecks}
-use Rattle.lookup.specs.Read.{readVerdict, readPart}
-use Rattle.record_format.specs.declared.headers.HeaderRead.{HeaderRead}
-use Rattle.record_node.specs.declared.reading.Node.{Node}
-use Rattle.record_find.specs.ChunkRecords.{ReadThen, headerVerdict, comparedVerdict, HeaderJudged, NodeSaid, PathJudged, BesideNode, HeaderAs, NodeAs, PathAs}
-use Rattle.record_find.specs.Finding.{Outcome, Goes, FindsBy, Finds, AfterHeader, FindsIn, Checked, FindAs}
-use Rattle.record_find.specs.declared.chunks.Compared.{Compared}
-use Rattle.record_find.specs.declared.chunks.Compared.the-variants.{Refused as NotCompared, Same, Other}
-use Rattle.record_format.specs.declared.headers.HeaderRead.the-variants.{Refused as NoHeader, Content}
+use Rattle.record_find.specs.ChunkRecords.{headerAfter, nodeAfter, pathAfter, headerIn}
+use Rattle.record_find.specs.Finding.{Outcome, unlessFailed, goes, findDown, findAmong, findBy, judgeIn}
 use Rattle.theorem_used_bytes.specs.UsedBytes.{SameUsed, ReadAlike}
-use Rattle.theorem_used_bytes.specs.Records.{RecordsAlike, RecordsUsed}
+use Rattle.theorem_used_bytes.specs.Records.{RecordsUsed}
 use Rattle.theorem_used_bytes.proofs.Cut.{same-cut, checks-cut}
 use Rattle.theorem_used_bytes.proofs.Reading.{reads}
 
--- what is said of a chunk, by its read
-by-read : (judged : List ℕ → Type 0) (v w said : Verdict) (d e : List ℕ) → v ≡ w → d ≡ e → ReadThen v said (judged d) → ReadThen w said (judged e)
-by-read judged v w said d e p q h = subst (λ (x : Verdict). ReadThen x said (judged e)) p (subst (λ (l : List ℕ). ReadThen v said (judged l)) q h)
+-- two that tell the same of each chunk find the same
+module _ (judge other : ℕ → Verdict × Bool) (same : (c : ℕ) → judge c ≡ other c) where
+  down-same : (k : ℕ) → findDown judge k ≡ findDown other k
+  unfolding findDown
+  down-same zero = refl
+  down-same (suc k) = ap₂ (λ (t : Verdict × Bool) (o : Outcome). goes (suc k) t o) (same (suc k)) (down-same k)
 
--- one way, from what both registers share
-module _ (F : List ℕ → List ℕ) (a b : Register) (says : (c : ℕ) → readVerdict F a c ≡ readVerdict F b c) (read : (c : ℕ) → readPart F a c ≡ readPart F b c) where
-  header-to : (c : ℕ) (x : HeaderRead) → HeaderAs F a c x → HeaderAs F b c x
-  header-to c x h = by-read (λ d. HeaderJudged d (index 0 c) x) _ _ (headerVerdict x) _ _ (says c) (read c) h
-
-  node-to : (c : ℕ) (x : Answer) (n : Node) → NodeAs F a c x n → NodeAs F b c x n
-  node-to c x n h = (by-read (λ d. NodeSaid d (index 0 c) x n) _ _ (said x) _ _ (says c) (read c) (h .0), h .1)
-
-  path-to : (c : ℕ) (path : List ℕ) (x : Compared) → PathAs F a c path x → PathAs F b c path x
-  path-to c path x h = by-read (λ d. PathJudged d (index 0 c) path x) _ _ (comparedVerdict x) _ _ (says c) (read c) h
-
-  goes-to : (c : ℕ) (x : Compared) (o : Outcome) (below later : Type 0) → (below → later) → Goes c x below o → Goes c x later o
-  goes-to c (NotCompared y) o below later f g = g
-  goes-to c Same o below later f g = g
-  goes-to c Other o below later f g = f g
-
-  finds-to : (path : List ℕ) (k : ℕ) (o : Outcome) → Finds F a path k o → Finds F b path k o
-  unfolding FindsBy
-  finds-to path zero o f = f
-  finds-to path (suc k) o f =
-      (f .0, (path-to (suc k) path (f .0) (f .1 .0), goes-to (suc k) (f .0) o (Finds F a path k o) (Finds F b path k o) (finds-to path k o) (f .1 .1)))
-
-  after-to : (path : List ℕ) (k : ℕ) (o : Outcome) (x : HeaderRead) → AfterHeader x (Finds F a path k o) o → AfterHeader x (Finds F b path k o) o
-  after-to path k o (NoHeader y) g = g
-  after-to path k o (Content p) g = finds-to path k o g
-
-  in-to : (path : List ℕ) (n : ℕ) (o : Outcome) → FindsIn F a path n o → FindsIn F b path n o
-  in-to path zero o f = f
-  in-to path (suc k) o f = (f .0, (header-to 0 (f .0) (f .1 .0), after-to path k o (f .0) (f .1 .1)))
-
-  found-to : a .n ≡ b .n → judged (registerChecks a) done ≡ judged (registerChecks b) done → (path : List ℕ) (o : Outcome) → FindAs F a path o → FindAs F b path o
-  found-to n checks path o f = go (judged (registerChecks a) done) (judged (registerChecks b) done) checks f
-    where
-      step : (v : Verdict) → Checked F a path v o → Checked F b path v o
-      step done g = subst (λ (m : ℕ). FindsIn F b path m o) n (in-to path (a .n) o g)
-      step (refused m at) g = g
-
-      go : (v w : Verdict) → v ≡ w → Checked F a path v o → Checked F b path w o
-      go v w e g = subst (λ (x : Verdict). Checked F b path x o) e (step v g)
+  among-same : (head : Verdict) (n : ℕ) → findAmong judge head n ≡ findAmong other head n
+  among-same head zero = refl
+  among-same head (suc k) = ap (unlessFailed head) (down-same k)
 
 checks-same : (a b : Register) → SameUsed a b → judged (registerChecks a) done ≡ judged (registerChecks b) done
 checks-same a b h = ap (λ (cs : List Check). judged cs done) (sym (checks-cut a) ∙ ap registerChecks (same-cut a b h) ∙ checks-cut b)
@@ -72,13 +30,12 @@ checks-same a b h = ap (λ (cs : List Check). judged cs done) (sym (checks-cut a
 pub records-used : RecordsUsed
 records-used F a b h =
     let r : ReadAlike F a b = reads F .one a b h in
-    let back-says : (c : ℕ) → readVerdict F b c ≡ readVerdict F a c = λ c. sym (r .readSays c) in
-    let back-read : (c : ℕ) → readPart F b c ≡ readPart F a c = λ c. sym (r .read c) in
     record {
-      header = λ c x. (header-to F a b (r .readSays) (r .read) c x, header-to F b a back-says back-read c x);
-      node = λ c x n. (node-to F a b (r .readSays) (r .read) c x n, node-to F b a back-says back-read c x n);
-      found = λ path o. (
-        found-to F a b (r .readSays) (r .read) (h .n) (checks-same a b h) path o,
-        found-to F b a back-says back-read (sym (h .n)) (sym (checks-same a b h)) path o,
-      );
+      header = λ c. ap₂ (λ (v : Verdict) (d : List ℕ). headerAfter v d c) (r .readSays c) (r .read c);
+      node = λ c. ap₂ (λ (v : Verdict) (d : List ℕ). nodeAfter v d c) (r .readSays c) (r .read c);
+      found = λ path.
+          ap (λ (n : ℕ). findBy (judgeIn F a path) (judged (registerChecks a) done) (headerIn F a 0 .0) n) (h .n)
+          ∙ ap₂ (λ (v head : Verdict). findBy (judgeIn F a path) v head (b .n)) (checks-same a b h) (ap₂ (λ (v : Verdict) (d : List ℕ). headerAfter v d 0 .0) (r .readSays 0) (r .read 0))
+          ∙ ap (unlessFailed (judged (registerChecks b) done))
+          (among-same (judgeIn F a path) (judgeIn F b path) (λ c. ap₂ (λ (v : Verdict) (d : List ℕ). pathAfter v d c path) (r .readSays c) (r .read c)) (headerIn F b 0 .0) (b .n));
     }

@@ -100,7 +100,7 @@ pub record WritesUsed (F : List ℕ → List ℕ) : Type 0 where
   pub release : (a b : Register) (c : ℕ) → SameUsed a b → releaseVerdict a c ≡ releaseVerdict b c
   pub released : (a b : Register) (c : ℕ) → SameUsed a b → releaseVerdict a c ≡ done → SameUsed (releasedRegister a c) (releasedRegister b c)
 
--- "No byte behind the used size is looked at": reading, for every F, whatever it answers; writing, for every function F from byte strings to
+-- no byte behind the used sizes is looked at: reading, for every F, whatever it answers; writing, for every function F from byte strings to
 -- 32 bytes
 pub record UsedBytes : Type 0 where
   pub reads : (F : List ℕ → List ℕ) → ReadsUsed F

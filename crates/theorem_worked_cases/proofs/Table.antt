@@ -27,4 +27,4 @@ use Rattle.theorem_worked_cases.specs.Table.{newlyFilled, indexOf, three
 
 pub holds : Holds
 unfolding table newlyFilled indexOf three registerOf inputFor printedLines index trailingOnes depth block leftChild rightChild parent filled rootOf rootsBelow roots entries completed filledBy trailingZeros part run joined total sameList be numberFrom number byteOf bytesOf tuple four tuples combine combined node indexByte indexBytes dataBytes treeBytes entry entryCount entriesOf front header treeHeader signaturesHeader bitfieldHeader entryPlace usedTree usedSignatures usedBitfield leafMessage parentMessage hole entryBytes leaf parentOf Nodes.node nodeAt entryAt treeEntries dataSize dataImage bitfieldImage signaturesImage leaves treeImage allHeld heldIn storedSize storedRootSizes judged addsUp laterChecks registerChecks byteWithin descend fromRoots descent stopRefused byteEnding toByte byteVerdict byteAt keyBlock input blocks inner runsOf runs leafRuns nextLength chunkStands chunksIn inputOf digits chunksWord bytesWord rootsWord leafWord parentWord holeWord firstLine firstUnder countUnder startOf lengthOf line kindWord entryLine linesOf linesFor listing
-holds = refl
+holds = (refl, refl)

@@ -101,6 +101,6 @@ table =
     -- "For the chunks AB, empty, CDE" the listing prints the six lines that `printedLines` has
     ∷ row (listing (inputFor three)) printedLines ∷ []
 
--- the sole statement: every row gives what is printed
+-- the sole statement: every row gives what is printed, and there are 24
 abbrev pub Holds : Type 0
-Holds = map (λ (r : Row). r .given) table ≡ map (λ (r : Row). r .printed) table
+Holds = (map (λ (r : Row). r .given) table ≡ map (λ (r : Row). r .printed) table) × (length table ≡ 24)

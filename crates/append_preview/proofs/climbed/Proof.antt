@@ -18,30 +18,31 @@ abbrev μ-loop : tie.MeasureT-loop
 μ-loop tree n last node₀ d₀ node d = last - d
 
 completed-requires : tie.Need-completed-requires Inv-loop μ-loop
-completed-requires c κs = search needs
+completed-requires c κs = omega (arith, c .chunk-behind .ensures, c .before .before .pre .few)
 
 loop-holds : tie.Need-loop-holds Inv-loop μ-loop
-loop-holds c = let a = c .before .before .args in (made-first (a .tree .now) (a .n) (entryOf (a .leaf)), search needs)
+loop-holds c = let a = c .before .before .before .args in (made-first (a .tree .now) (a .n) (entryOf (a .leaf)), search needs)
 
 above-requires : tie.Need-above-requires Inv-loop μ-loop
 above-requires c κs =
-    let s = c .before .before .before .before in
+    let s = c .before .before .before .before .before in
     let l = c .before .loop in
     above-fits (s .args .tree .now) (s .args .n) (entryOf (s .args .leaf)) (l .d) (entryOf (l .node)) (s .pre)
-    (omega (arith, c .loop-test .taken, c .before .before .completed .ensures)) (l .inv .0)
+    (omega (arith, c .loop-test .taken, c .before .before .completed .ensures ∙ ap completed (c .before .before .before .chunk-behind .ensures))) (l .inv .0)
 
 loop-again : tie.Need-loop-again Inv-loop μ-loop
 loop-again c =
-    let a = c .before .before .before .before .before .args in
+    let a = c .before .before .before .before .before .before .args in
     let l = c .before .before .loop in
     (above-made (a .tree .now) (a .n) (entryOf (a .leaf)) (l .d) (entryOf (l .node)) (entryOf (c .above .result)) (l .inv .0) (c .above .ensures), search needs)
 
 returns : tie.Need-returns Inv-loop μ-loop
 returns c =
-    let a = c .before .before .before .before .args in
+    let a = c .before .before .before .before .before .args in
     let l = c .before .loop in
-    let last : l .d ≡ completed (a .n) = omega (arith, l .inv .1, c .loop-test .left, c .before .before .completed .ensures) in
+    let last : l .d ≡ completed (a .n) =
+    omega (arith, l .inv .1, c .loop-test .left, c .before .before .completed .ensures ∙ ap completed (c .before .before .before .chunk-behind .ensures)) in
     l .inv .0 ∙ ap (made nodeHash (a .tree .now) (a .n) (entryOf (a .leaf))) last
 
 pub climbed-spec : {M : Type 1} → statement M
-climbed-spec = tie.close (tie.spec Inv-loop μ-loop completed-requires loop-holds above-requires (λ c. search needs) (λ c. search needs) loop-again returns)
+climbed-spec = tie.close (tie.spec Inv-loop μ-loop (λ c κs. search needs) completed-requires loop-holds above-requires (λ c. search needs) (λ c. search needs) loop-again returns)

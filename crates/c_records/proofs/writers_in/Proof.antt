@@ -2,13 +2,15 @@
 use Rattle.c_records.proofs.Flat.{eight}
 use Rattle.c_records.specs.Flat.{writerIn, writersIn, noFlat}
 use borrow.Author.Needs.{needs}
+use lib.ListN.{getD}
 use Rattle.c_records.proofs.writers_in.Statement.{statement}
 use Rattle.c_records.proofs.writers_in.Tie as tie
 
 returns : tie.Need-returns
 unfolding writersIn
 returns c =
-    eight writerIn (c .before .before .before .before .before .before .before .before .before .before .before .before .before .before .before .before .args .t1) noFlat
+    let list = c .before .before .before .before .before .before .before .before .before .before .before .before .before .before .before .before .args .t1 in
+    eight (λ j. writerIn (getD list j noFlat))
     (c .before .before .before .before .before .before .before .before .before .before .before .before .before .before .writer-in .ensures)
     (c .before .before .before .before .before .before .before .before .before .before .before .before .writer-in2 .ensures)
     (c .before .before .before .before .before .before .before .before .before .before .writer-in3 .ensures)

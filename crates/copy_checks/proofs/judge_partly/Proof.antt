@@ -3,7 +3,7 @@ use mathlib.Core.Path.{sym, ap, _∙_}
 use Rattle.refusals.specs.Meaning.{said, spotOf}
 use Rattle.copy_checks.specs.Copy.{Copy, copyOf}
 use Rattle.copy_checks.specs.Checks.{unknownRoot}
-use Rattle.copy_checks.specs.Meaning.{unknownOf}
+use Rattle.lookup.specs.Unknown.{unknownOf}
 use Rattle.copy_checks.proofs.Steps.{lent-passed, bits-in, roots-in, partly-refused, partly-unknown, partly-known}
 use borrow.Author.Needs.{needs}
 use Rattle.copy_checks.proofs.judge_partly.Statement.{statement}

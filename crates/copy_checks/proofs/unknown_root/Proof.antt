@@ -8,7 +8,7 @@ use Rattle.byte_strings.specs.Lowest.{first}
 use Rattle.tree_index.specs.Tree.{roots}
 use Rattle.tree_index.proofs.Roots.{length-roots-le}
 use Rattle.bitfield.specs.Known.{storedKnown}
-use Rattle.copy_checks.specs.Least.{firstUnknown}
+use Rattle.lookup.specs.Unknown.{firstUnknown}
 use Rattle.copy_checks.proofs.Least.{unknown-on, unknown-off, unknown-end}
 use Rattle.copy_checks.proofs.Roots.{root-is, root-bit}
 use borrow.Author.Needs.{needs}

@@ -3,7 +3,7 @@ use mathlib.Core.Path.{sym, ap, _∙_}
 use Rattle.refusals.specs.Verdict.{tree, done}
 use Rattle.byte_strings.specs.Lowest.{Lowest}
 use Rattle.audit.specs.Audit.{refusedAt}
-use Rattle.copy_checks.specs.Meaning.{unknownOf}
+use Rattle.lookup.specs.Unknown.{unknownOf}
 use borrow.Author.Needs.{needs}
 use Rattle.copy_roots.proofs.roots_known.Statement.{statement}
 use Rattle.copy_roots.proofs.roots_known.Tie as tie

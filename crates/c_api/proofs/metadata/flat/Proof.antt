@@ -1,12 +1,13 @@
 -- `c_api::metadata::flat` meets its contract.
+use Rattle.c_api.proofs.Told.{node-told}
 use borrow.Author.Needs.{needs}
 use Rattle.c_api.proofs.metadata.flat.Statement.{statement}
 use Rattle.c_api.proofs.metadata.flat.Tie as tie
 
 returns : tie.Need-returns
-returns c = cc
+returns c =
+    let read = c .before .before .before .before .args .read in
+    node-told _ _ (read .answer) _ (read .node) (c .answered .ensures) (c .before .before .encode .ensures) (c .before .flat-node .ensures)
 
 pub flat-spec : {M : Type 1} → statement M
-flat-spec =
-    tie.close
-    (tie.spec (λ c κs. search needs) (λ c κs. search needs) returns)
+flat-spec = tie.close (tie.spec (λ c κs. search needs) (λ c κs. search needs) (λ c κs. search needs) returns)

@@ -1,17 +1,17 @@
 -- `c_api::metadata::found_as` meets its contract, by the case of what was found.
-use Rattle.c_api.proofs.Told.{found-refused, found-at, found-nowhere}
+use Rattle.c_api.proofs.Told.{found-by}
 use borrow.Author.Needs.{needs}
 use Rattle.c_api.proofs.metadata.found_as.Statement.{statement}
 use Rattle.c_api.proofs.metadata.found_as.Tie as tie
 
 returns : tie.Need-returns
-returns c = let k = c .before .before .found .given in found-refused _ (k .0 .0) _ (k .1) (c .refused .ensures)
+returns c = found-by _ _ _ (c .before .before .found .given .1) (c .with-found .ensures)
 
 returns-2 : tie.Need-returns-2
-returns-2 c = let k = c .before .before .found2 .given in found-at _ (k .0 .0) _ (k .1) (c .encode .ensures)
+returns-2 c = found-by _ _ _ (c .before .before .found2 .given .1) (c .with-found2 .ensures)
 
 returns-3 : tie.Need-returns-3
-returns-3 c = found-nowhere _ _ (c .before .enum-told .given .1) (c .encode2 .ensures)
+returns-3 c = found-by _ _ _ (c .before .enum-told .given .1) (c .with-found3 .ensures)
 
 pub found-as-spec : {M : Type 1} → statement M
 found-as-spec =

@@ -5,7 +5,7 @@ use native.Mathlib.Omega.{arith}
 use Rattle.blake2b.specs.Hash.{nodeHash}
 use Rattle.lookup.specs.Inner.{endingOf}
 use Rattle.copy_checks.specs.Copy.{Copy, copyOf}
-use Rattle.copy_checks.specs.Meaning.{foundOf, unknownOf}
+use Rattle.copy_checks.specs.Descents.{copyToChunk}
 use Rattle.copy_audit.proofs.Judged.{leaf-unknown, leaf-stopped, leaf-reached}
 use Rattle.copy_audit.proofs.entries.wrong_by_leaf.Statement.{statement}
 use Rattle.copy_audit.proofs.entries.wrong_by_leaf.Tie as tie
@@ -16,36 +16,43 @@ given c = copyOf (c .args .tree .now) (c .args .bitfield .now) (c .args .content
 leaf-index-requires : tie.Need-leaf-index-requires
 leaf-index-requires c κs = omega (arith, c .before .before .before .pre .chunk, c .before .before .before .pre .files .nodes .count)
 
-unknown-to-chunk-requires : tie.Need-unknown-to-chunk-requires
-unknown-to-chunk-requires c κs = record { roots = c .before .before .before .before .pre .files .nodes; bits = c .before .before .before .before .pre .files .field }
-
-ending-to-chunk-requires : tie.Need-ending-to-chunk-requires
-ending-to-chunk-requires c κs = c .before .before .before .before .before .before .before .pre .files .nodes
+from-roots-requires : tie.Need-from-roots-requires
+from-roots-requires c κs =
+    let p = c .before .before .before .before .pre .files in
+    record { roots = p .nodes; bitfield = λ _. p .field .inside }
 
 leaf-right-requires : tie.Need-leaf-right-requires
-leaf-right-requires c κs = c .before .before .before .before .before .before .before .before .before .before .before .pre
+leaf-right-requires c κs = c .before .before .before .before .before .before .before .before .pre
 
 returns : tie.Need-returns
+unfolding copyToChunk
 returns c =
-    let s = c .before .before .before .before .before .before .before in
-    let q = c .enum-told .given in
-    leaf-unknown nodeHash (given s) (s .args .c .0) (q .0 .0 .0) (c .before .before .before .leaf-index .result .0) (sym (ap unknownOf (q .1)) ∙ c .before .before .unknown-to-chunk .ensures) (c .before .before .before .leaf-index .ensures)
+    let s = c .before .before .before .before .before .before .before .before in
+    let q = c .before .i .given in
+    leaf-stopped nodeHash (given s) (s .args .c .0) (omega (arith, s .good .1 .1 .0 .1, s .pre .files .bytes)) (q .0 .0 .0)
+    (sym (ap endingOf (q .1)) ∙ c .before .before .before .from-roots .ensures)
 
 returns-2 : tie.Need-returns-2
+unfolding copyToChunk
 returns-2 c =
-    let s = c .before .before .before .before .before .before .before .before .before .before .before in
-    let q = c .before .i .given in
-    leaf-stopped nodeHash (given s) (s .args .c .0) (sym (ap unknownOf (c .before .before .before .before .enum-told2 .given .1)) ∙ c .before .before .before .before .before .before .unknown-to-chunk .ensures) (q .0 .0 .0) (sym (ap endingOf (q .1)) ∙ c .before .before .before .ending-to-chunk .ensures)
+    let s = c .before .before .before .before .before .before .before in
+    let q = c .enum-told .given in
+    let l = c .before .before .before .leaf-index in
+    leaf-unknown nodeHash (given s) (s .args .c .0) (omega (arith, s .good .1 .1 .0 .1, s .pre .files .bytes)) (q .0 .0 .0) (l .result .0)
+    (sym (ap endingOf (q .1)) ∙ c .before .before .from-roots .ensures) (l .ensures)
 
 returns-3 : tie.Need-returns-3
+unfolding copyToChunk
 returns-3 c =
-    let s = c .before .before .before .before .before .before .before .before .before .before .before .before .before in
+    let s = c .before .before .before .before .before .before .before .before .before .before in
     let q = c .before .before .before .start .given in
-    leaf-reached nodeHash (given s) (s .args .c .0) (sym (ap unknownOf (c .before .before .before .before .before .before .enum-told2 .given .1)) ∙ c .before .before .before .before .before .before .before .before .unknown-to-chunk .ensures) (q .0 .0 .0) (q .0 .1 .0 .0) (c .before .before .before .before .before .before .before .before .before .leaf-index .result .0) (c .before .leaf-right .result) (foundOf (c .wrong-unless .result))
-    (omega (arith, s .good .1 .1 .0 .1, s .pre .files .bytes)) (sym (ap endingOf (q .1)) ∙ c .before .before .before .before .before .ending-to-chunk .ensures) (c .before .before .before .before .before .before .before .before .before .leaf-index .ensures) (c .before .leaf-right .ensures) (c .wrong-unless .ensures)
+    let l = c .before .before .before .before .before .before .leaf-index in
+    c .wrong-unless .ensures
+    ∙ leaf-reached nodeHash (given s) (s .args .c .0) (omega (arith, s .good .1 .1 .0 .1, s .pre .files .bytes)) (q .0 .0 .0) (q .0 .1 .0 .0) (l .result .0)
+    (c .before .leaf-right .result) (sym (ap endingOf (q .1)) ∙ c .before .before .before .before .before .from-roots .ensures) (l .ensures) (c .before .leaf-right .ensures)
 
 pub wrong-by-leaf-spec : {M : Type 1} → statement M
 wrong-by-leaf-spec =
     tie.close
-    (tie.spec leaf-index-requires unknown-to-chunk-requires (λ c. search needs) (λ c. search needs) ending-to-chunk-requires (λ c. search needs)
-    (λ c. search needs) leaf-right-requires (λ c κs. search needs) returns returns-2 returns-3)
+    (tie.spec leaf-index-requires from-roots-requires (λ c. search needs) (λ c. search needs) (λ c. search needs) leaf-right-requires (λ c κs. search needs)
+    returns returns-2 returns-3)

@@ -4,7 +4,7 @@ use mathlib.Core.Path.{sym, ap, _∙_}
 use native.Mathlib.Omega.{arith}
 use Rattle.refusals.specs.Meaning.{said, spotOf}
 use Rattle.copy_checks.specs.Copy.{Copy, copyOf}
-use Rattle.copy_lookup.proofs.Calls.{copy-searched, searched-held, held-refused, held-passed}
+use Rattle.copy_lookup.proofs.Calls.{copy-searched-held, held-refused, held-passed}
 use borrow.Author.Needs.{needs}
 use Rattle.copy_lookup.proofs.places.held_place.Statement.{statement}
 use Rattle.copy_lookup.proofs.places.held_place.Tie as tie
@@ -14,19 +14,21 @@ given c = copyOf (c .args .tree .now) (c .args .bitfield .now) (c .args .content
 
 held-place-in-requires : tie.Need-held-place-in-requires
 held-place-in-requires c κs =
-    let g = given (c .before .before .before .before .before .before) in
-    let h : c .before .before .before .before .before .before .args .size < 2 ^ 64 = omega arith in
+    let s = c .before .before .before .before .before .before in
+    let h : s .args .size < 2 ^ 64 = omega arith in
     let e = sym (ap said (c .enum-told .given .1)) ∙ c .before .before .judge .ensures in
-    searched-held (copy-searched g e h)
+    copy-searched-held (given s) e h
 
 returns : tie.Need-returns
 returns c =
+    let s = c .before .before .before .before .before .before .before in
     let q = c .before .refusal .given in
-    held-refused (given (c .before .before .before .before .before .before .before)) (c .before .before .before .before .before .before .before .args .chunk .0) (q .0 .0 .number) (spotOf (q .0 .0 .place)) (sym (ap said (q .1)) ∙ c .before .before .before .judge .ensures)
+    held-refused (given s) (s .args .chunk .0) (q .0 .0 .number) (spotOf (q .0 .0 .place)) (sym (ap said (q .1)) ∙ c .before .before .before .judge .ensures)
 
 returns-2 : tie.Need-returns-2
 returns-2 c =
-    c .held-place-in .ensures ∙ held-passed (given (c .before .before .before .before .before .before .before)) (c .before .before .before .before .before .before .before .args .chunk .0) (sym (ap said (c .before .enum-told .given .1)) ∙ c .before .before .before .judge .ensures)
+    let s = c .before .before .before .before .before .before .before in
+    c .held-place-in .ensures ∙ held-passed (given s) (s .args .chunk .0) (sym (ap said (c .before .enum-told .given .1)) ∙ c .before .before .before .judge .ensures)
 
 pub held-place-spec : {M : Type 1} → statement M
 held-place-spec =

@@ -14,19 +14,21 @@ given c = copyOf (c .args .tree .now) (c .args .bitfield .now) (c .args .content
 
 locate-in-requires : tie.Need-locate-in-requires
 locate-in-requires c κs =
-    let g = given (c .before .before .before .before .before .before) in
-    let h : c .before .before .before .before .before .before .args .size < 2 ^ 64 = omega arith in
+    let s = c .before .before .before .before .before .before in
+    let h : s .args .size < 2 ^ 64 = omega arith in
     let e = sym (ap said (c .enum-told .given .1)) ∙ c .before .before .judge .ensures in
-    copy-searched g e h
+    copy-searched (given s) e h
 
 returns : tie.Need-returns
 returns c =
+    let s = c .before .before .before .before .before .before .before in
     let q = c .before .refusal .given in
-    byte-refused (given (c .before .before .before .before .before .before .before)) (c .before .before .before .before .before .before .before .args .offset .0) (q .0 .0 .number) (spotOf (q .0 .0 .place)) (sym (ap said (q .1)) ∙ c .before .before .before .judge .ensures)
+    byte-refused (given s) (s .args .offset .0) (q .0 .0 .number) (spotOf (q .0 .0 .place)) (sym (ap said (q .1)) ∙ c .before .before .before .judge .ensures)
 
 returns-2 : tie.Need-returns-2
 returns-2 c =
-    c .locate-in .ensures ∙ byte-passed (given (c .before .before .before .before .before .before .before)) (c .before .before .before .before .before .before .before .args .offset .0) (sym (ap said (c .before .enum-told .given .1)) ∙ c .before .before .before .judge .ensures)
+    let s = c .before .before .before .before .before .before .before in
+    c .locate-in .ensures ∙ byte-passed (given s) (s .args .offset .0) (sym (ap said (c .before .enum-told .given .1)) ∙ c .before .before .before .judge .ensures)
 
 pub locate-spec : {M : Type 1} → statement M
 locate-spec =

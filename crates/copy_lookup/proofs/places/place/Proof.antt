@@ -4,7 +4,7 @@ use mathlib.Core.Path.{sym, ap, _∙_}
 use native.Mathlib.Omega.{arith}
 use Rattle.refusals.specs.Meaning.{said, spotOf}
 use Rattle.copy_checks.specs.Copy.{Copy, copyOf}
-use Rattle.copy_lookup.proofs.Calls.{copy-searched, searched-held, place-refused, place-passed}
+use Rattle.copy_lookup.proofs.Calls.{copy-searched, place-refused, place-passed}
 use borrow.Author.Needs.{needs}
 use Rattle.copy_lookup.proofs.places.place.Statement.{statement}
 use Rattle.copy_lookup.proofs.places.place.Tie as tie
@@ -14,19 +14,21 @@ given c = copyOf (c .args .tree .now) (c .args .bitfield .now) (c .args .content
 
 place-in-requires : tie.Need-place-in-requires
 place-in-requires c κs =
-    let g = given (c .before .before .before .before .before .before) in
-    let h : c .before .before .before .before .before .before .args .size < 2 ^ 64 = omega arith in
+    let s = c .before .before .before .before .before .before in
+    let h : s .args .size < 2 ^ 64 = omega arith in
     let e = sym (ap said (c .enum-told .given .1)) ∙ c .before .before .judge .ensures in
-    searched-held (copy-searched g e h)
+    copy-searched (given s) e h .searched
 
 returns : tie.Need-returns
 returns c =
+    let s = c .before .before .before .before .before .before .before in
     let q = c .before .refusal .given in
-    place-refused (given (c .before .before .before .before .before .before .before)) (c .before .before .before .before .before .before .before .args .chunk .0) (q .0 .0 .number) (spotOf (q .0 .0 .place)) (sym (ap said (q .1)) ∙ c .before .before .before .judge .ensures)
+    place-refused (given s) (s .args .chunk .0) (q .0 .0 .number) (spotOf (q .0 .0 .place)) (sym (ap said (q .1)) ∙ c .before .before .before .judge .ensures)
 
 returns-2 : tie.Need-returns-2
 returns-2 c =
-    c .place-in .ensures ∙ place-passed (given (c .before .before .before .before .before .before .before)) (c .before .before .before .before .before .before .before .args .chunk .0) (sym (ap said (c .before .enum-told .given .1)) ∙ c .before .before .before .judge .ensures)
+    let s = c .before .before .before .before .before .before .before in
+    c .place-in .ensures ∙ place-passed (given s) (s .args .chunk .0) (sym (ap said (c .before .enum-told .given .1)) ∙ c .before .before .before .judge .ensures)
 
 pub place-spec : {M : Type 1} → statement M
 place-spec =

@@ -1,15 +1,17 @@
 -- The read's own refusal, or what is said of the bytes read.
-use mathlib.Core.Path.{sym, ap, _∙_, refl, subst}
-use mathlib.Core.List.{List}
-use Prim.Native.Nat.{ℕ}
-use Rattle.refusals.specs.Meaning.{refusalOf, spotOf}
+use mathlib.Core.Path.{sym, ap, _∙_}
+use mathlib.Core.Bool.{false}
+use Rattle.refusals.specs.Verdict.{tree}
+use Rattle.refusals.specs.Meaning.{spotOf}
 use Rattle.tree_index.specs.Tree.{index}
 use Rattle.blake2b.specs.Hash.{nodeHash}
 use Rattle.lookup.specs.Meaning.{verifiedOf}
-use Rattle.record_find.specs.ChunkRecords.{PathJudged}
+use Rattle.record_find.specs.ChunkRecords.{comparedTold, readPath}
 use Rattle.copy_checks.specs.Copy.{copyOf}
 use Rattle.copy_lookup.proofs.Calls.{copy-lying, copy-nothing}
-use Rattle.copy_records.proofs.Chunk.{read-refused, read-done, copy-small}
+use Rattle.record_find.proofs.Chunk.{read-refused, read-done}
+use Rattle.copy_lookup.specs.Reading.{copyReadVerdict, copyReadPart}
+use Rattle.copy_records.proofs.Chunk.{copy-small}
 use borrow.Author.Needs.{needs}
 use Rattle.copy_records.proofs.chunks.path_of.Statement.{statement}
 use Rattle.copy_records.proofs.chunks.path_of.Tie as tie
@@ -43,17 +45,18 @@ returns c =
     let a = c .before .before .before .before .before .before .before .before .args in
     let d = copyOf (a .tree .now) (a .bitfield .now) (a .content .now) (a .n) (a .size) in
     let k = c .before .refusal .given in
-    read-refused nodeHash d (a .chunk .0) (k .0 .0 .number) (spotOf (k .0 .0 .place)) _ _ refl
-    (copy-nothing nodeHash d (a .chunk .0) (k .0 .0 .number) (spotOf (k .0 .0 .place)) (sym (ap verifiedOf (k .1)) ∙ c .before .before .before .verify .ensures) .0)
+    let e = sym (ap verifiedOf (k .1)) ∙ c .before .before .before .verify .ensures in
+    read-refused (copyReadVerdict nodeHash d (a .chunk .0)) false (readPath (a .path .now) (tree (index 0 (a .chunk .0))) (copyReadPart nodeHash d (a .chunk .0))) (k .0 .0 .number) (spotOf (k .0 .0 .place))
+    (copy-nothing nodeHash d (a .chunk .0) (k .0 .0 .number) (spotOf (k .0 .0 .place)) e .0)
 
 returns-2 : tie.Need-returns-2
 returns-2 c =
     let a = c .before .before .before .before .before .before .before .before .before .before .args in
     let d = copyOf (a .tree .now) (a .bitfield .now) (a .content .now) (a .n) (a .size) in
     let k = c .before .before .before .start .given in
-    let e = sym (ap verifiedOf (k .1)) ∙ c .before .before .before .before .before .verify .ensures in
-    read-done nodeHash d (a .chunk .0) (k .0 .0 .0) (k .0 .1 .0 .0) e _ _
-    (subst (λ (bs : List ℕ). PathJudged bs (index 0 (a .chunk .0)) (a .path .now) (c .path-at .result)) (copy-lying nodeHash d (a .chunk .0) (k .0 .0 .0) (k .0 .1 .0 .0) e .same) (c .path-at .ensures))
+    let l = copy-lying nodeHash d (a .chunk .0) (k .0 .0 .0) (k .0 .1 .0 .0) (sym (ap verifiedOf (k .1)) ∙ c .before .before .before .before .before .verify .ensures) in
+    read-done (copyReadVerdict nodeHash d (a .chunk .0)) false (comparedTold (c .path-at .result)) (readPath (a .path .now) (tree (index 0 (a .chunk .0))) (copyReadPart nodeHash d (a .chunk .0))) (l .verdict)
+    (c .path-at .ensures ∙ ap (readPath (a .path .now) (tree (index 0 (a .chunk .0)))) (l .same))
 
 pub path-of-spec : {M : Type 1} → statement M
 path-of-spec =

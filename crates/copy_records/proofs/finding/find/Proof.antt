@@ -1,13 +1,14 @@
 -- The checks, the copy of no chunks, chunk 0, and then the search.
 use mathlib.Core.Path.{sym, ap, _∙_}
-use Rattle.refusals.specs.Verdict.{done}
+use Rattle.refusals.specs.Verdict.{Verdict, done}
+use Rattle.record_fields.specs.declared.rows.Part.{Part}
 use Rattle.refusals.specs.Meaning.{said, spotOf}
 use Rattle.blake2b.specs.Hash.{nodeHash}
 use Rattle.record_find.specs.Finding.{foundOf}
 use Rattle.record_find.proofs.Search.{find-refused, find-empty, find-headless, find-below}
 use Rattle.copy_checks.specs.Copy.{copyOf}
 use Rattle.copy_checks.specs.Checks.{copyJudged}
-use Rattle.copy_records.specs.Records.{CopyHeaderAs, CopySays}
+use Rattle.copy_records.specs.Records.{copyHeader, copyJudge}
 use borrow.Author.Needs.{needs}
 use Rattle.copy_records.proofs.finding.find.Statement.{statement}
 use Rattle.copy_records.proofs.finding.find.Tie as tie
@@ -16,26 +17,26 @@ returns : tie.Need-returns
 returns c =
     let a = c .before .before .before .before .before .before .before .before .args in
     let d = copyOf (a .tree .now) (a .bitfield .now) (a .content .now) (a .n) (a .size) in
-    find-empty (CopyHeaderAs nodeHash d 0) (CopySays nodeHash d (a .path .now)) (a .n) (copyJudged d done) (sym (ap said (c .before .enum-told .given .1)) ∙ c .before .before .before .judge .ensures) (c .if1 .taken)
+    find-empty (copyJudge nodeHash d (a .path .now)) (a .n) (copyJudged d done) (copyHeader nodeHash d 0 .0) (sym (ap said (c .before .enum-told .given .1)) ∙ c .before .before .before .judge .ensures) (c .if1 .taken)
 
 returns-2 : tie.Need-returns-2
 returns-2 c =
     let a = c .before .before .before .before .before .before .before .before .args in
     let d = copyOf (a .tree .now) (a .bitfield .now) (a .content .now) (a .n) (a .size) in
     let k = c .before .refusal .given in
-    find-refused (CopyHeaderAs nodeHash d 0) (CopySays nodeHash d (a .path .now)) (a .n) (copyJudged d done) (k .0 .0 .number) (spotOf (k .0 .0 .place)) (sym (ap said (k .1)) ∙ c .before .before .before .judge .ensures)
+    find-refused (copyJudge nodeHash d (a .path .now)) (a .n) (copyJudged d done) (copyHeader nodeHash d 0 .0) (k .0 .0 .number) (spotOf (k .0 .0 .place)) (sym (ap said (k .1)) ∙ c .before .before .before .judge .ensures)
 
 returns-3 : tie.Need-returns-3
 returns-3 c =
     let a = c .before .before .before .before .before .before .before .before .before .before .before .before .args in
     let d = copyOf (a .tree .now) (a .bitfield .now) (a .content .now) (a .n) (a .size) in
-    find-headless (CopyHeaderAs nodeHash d 0) (CopySays nodeHash d (a .path .now)) (a .n) (copyJudged d done) (sym (ap said (c .before .before .before .before .before .enum-told .given .1)) ∙ c .before .before .before .before .before .before .before .judge .ensures) (c .before .before .before .before .if1 .left) (c .before .before .before .header-of .result) (c .before .before .before .header-of .ensures) _ (c .before .refusal2 .given .1)
+    find-headless (copyJudge nodeHash d (a .path .now)) (a .n) (copyJudged d done) (copyHeader nodeHash d 0 .0) (sym (ap said (c .before .before .before .before .before .enum-told .given .1)) ∙ c .before .before .before .before .before .before .before .judge .ensures) (c .before .before .before .before .if1 .left) (c .before .before .before .header-of .result) (ap (λ (x : Verdict × Part). x .0) (c .before .before .before .header-of .ensures)) _ (c .before .refusal2 .given .1)
 
 returns-4 : tie.Need-returns-4
 returns-4 c =
     let a = c .before .before .before .before .before .before .before .before .before .before .before .before .args in
     let d = copyOf (a .tree .now) (a .bitfield .now) (a .content .now) (a .n) (a .size) in
-    find-below (CopyHeaderAs nodeHash d 0) (CopySays nodeHash d (a .path .now)) (a .n) (copyJudged d done) (sym (ap said (c .before .before .before .before .before .enum-told .given .1)) ∙ c .before .before .before .before .before .before .before .judge .ensures) (c .before .before .before .before .if1 .left) (c .before .before .before .header-of .result) (c .before .before .before .header-of .ensures) (c .before .enum-told2 .given .0 .0) (c .before .enum-told2 .given .1) (foundOf (c .search .result)) (c .search .ensures)
+    find-below (copyJudge nodeHash d (a .path .now)) (a .n) (copyJudged d done) (copyHeader nodeHash d 0 .0) (sym (ap said (c .before .before .before .before .before .enum-told .given .1)) ∙ c .before .before .before .before .before .before .before .judge .ensures) (c .before .before .before .before .if1 .left) (c .before .before .before .header-of .result) (ap (λ (x : Verdict × Part). x .0) (c .before .before .before .header-of .ensures)) (c .before .enum-told2 .given .0 .0) (c .before .enum-told2 .given .1) (foundOf (c .search .result)) (c .search .ensures)
 
 pub find-spec : {M : Type 1} → statement M
 find-spec =

@@ -1,83 +1,110 @@
 -- `lookup::descent::from_roots` meets its contract. The invariant: what is left of the search is the whole of it. The measure: the roots left. Assumes nothing.
-use borrow.Author.Needs.{needs}
 use Prim.Native.Nat.{ℕ, _+_, _-_, _^_, _≤_, _<_}
-use mathlib.Core.Path.{_≡_, sym, _∙_, subst}
+use mathlib.Core.Path.{_≡_, sym, ap, _∙_, subst}
 use native.Mathlib.Omega.{arith}
 use lib.ListN.{length, getD}
+use borrow.Author.Tests.{not-true, not-false}
 use Rattle.tree_index.specs.Tree.{roots}
-use Rattle.lookup.specs.Inner.{withinOf}
-use Rattle.lookup.proofs.Searches.{Rest, few-roots, whole, none-left, root-of, root-entry, root-fits, root-stands, found-here, not-here}
+use Rattle.tree_index.proofs.Roots.{length-roots-le}
+use Rattle.lookup.specs.Descent.{Ending}
+use Rattle.lookup.specs.Inner.{knownIf}
+use Rattle.lookup.specs.Capped.{cappedEnding, movedBy}
+use Rattle.lookup.proofs.Capped.{root-of, Rest, whole, none-left, root-entry, root-bit, root-stands, root-unknown, found-here, not-here, passed}
+use borrow.Author.Needs.{needs}
 use Rattle.lookup.proofs.descent.from_roots.Statement.{statement}
 use Rattle.lookup.proofs.descent.from_roots.Tie as tie
 
 abbrev Inv-loop : tie.InvT-loop
-Inv-loop tree n sought count roots start₀ j₀ start j = Rest (withinOf sought) tree n (start .0) j
+Inv-loop tree bitfield partly n count roots start₀ left₀ j₀ start left j = Rest (knownIf partly bitfield) left₀ tree n (start .0) left j
 
 abbrev μ-loop : tie.MeasureT-loop
-μ-loop tree n sought count roots start₀ j₀ start j = count - j
+μ-loop tree bitfield partly n count roots start₀ left₀ j₀ start left j = count - j
+
+-- in the loop: there is another root, and it is the one that the array has
+among : (l : tie.In-loop Inv-loop μ-loop) → l .before .loop .j < length (roots (l .before .before .before .before .before .before .args .n))
+among l = subst (λ (x : ℕ). l .before .loop .j < x) (l .before .before .before .root-count .ensures) (l .loop-test .taken)
+
+root : (l : tie.In-loop Inv-loop μ-loop)
+    → getD (l .before .before .root-indexes .result) (l .before .loop .j) (record { 0 = 0 }) .0 ≡ getD (roots (l .before .before .before .before .before .before .args .n)) (l .before .loop .j) 0
+root l =
+    root-of (l .before .before .root-indexes .result) (l .before .before .before .before .before .before .args .n) (l .before .loop .j) (l .before .before .root-indexes .ensures) (among l)
 
 root-count-requires : tie.Need-root-count-requires Inv-loop μ-loop
-root-count-requires c κs = search needs
+root-count-requires c κs = c .before .before .pre .roots .count
 
 root-indexes-requires : tie.Need-root-indexes-requires Inv-loop μ-loop
-root-indexes-requires c κs = search needs
+root-indexes-requires c κs = c .before .before .before .pre .roots .count
 
 loop-holds : tie.Need-loop-holds Inv-loop μ-loop
-loop-holds c = let a = c .before .before .before .args in whole (withinOf (a .sought)) (a .tree .now) (a .n)
+loop-holds c = let a = c .before .before .before .before .args in whole (a .partly) (a .sought) (a .tree .now) (a .bitfield .now) (a .n)
 
 mul-i : tie.Need-mul-i Inv-loop μ-loop
-mul-i c = let a = c .before .before .before .before .before .args in omega (arith, c .before .before .before .root-count .ensures, few-roots (a .tree .now) (a .n) (c .before .before .before .before .before .pre))
+mul-i c = let s = c .before .before .before .before .before .before in omega (arith, c .before .before .before .root-count .ensures, length-roots-le (s .args .n) (s .pre .roots .count))
 
 array-copy-out-i : tie.Need-array-copy-out-i Inv-loop μ-loop
-array-copy-out-i c = let a = c .before .before .before .before .before .args in omega (arith, c .before .before .before .root-count .ensures, few-roots (a .tree .now) (a .n) (c .before .before .before .before .before .pre))
+array-copy-out-i c = let s = c .before .before .before .before .before .before in omega (arith, c .before .before .before .root-count .ensures, length-roots-le (s .args .n) (s .pre .roots .count))
 
-stored-size-requires : tie.Need-stored-size-requires Inv-loop μ-loop
-stored-size-requires c κs =
-    let a = c .before .before .before .before .before .before .args in
-    let l = c .before .before .loop in
-    let is = c .before .before .before .root-indexes in
-    let h : l .j < length (roots (a .n)) = subst (λ (x : ℕ). l .j < x) (c .before .before .before .before .root-count .ensures) (c .before .loop-test .taken) in
-    let e : getD (is .result) (l .j) (record { 0 = 0 }) .0 ≡ getD (roots (a .n)) (l .j) 0 = root-of (is .result) (a .n) (l .j) (is .ensures) h in
-    root-entry (withinOf (a .sought)) (a .tree .now) (a .n) (l .inv) (c .before .before .before .before .before .before .pre) h e
-
-is-within-requires : tie.Need-is-within-requires Inv-loop μ-loop
-is-within-requires c κs =
-    let a = c .before .before .before .before .before .before .before .args in
-    let l = c .before .before .before .loop in
-    let is = c .before .before .before .before .root-indexes in
-    let h : l .j < length (roots (a .n)) = subst (λ (x : ℕ). l .j < x) (c .before .before .before .before .before .root-count .ensures) (c .before .before .loop-test .taken) in
-    let e : getD (is .result) (l .j) (record { 0 = 0 }) .0 ≡ getD (roots (a .n)) (l .j) 0 = root-of (is .result) (a .n) (l .j) (is .ensures) h in
-    let f = root-fits (withinOf (a .sought)) (a .tree .now) (a .n) (l .inv) (c .before .before .before .before .before .before .before .pre) h e in
-    (root-entry (withinOf (a .sought)) (a .tree .now) (a .n) (l .inv) (c .before .before .before .before .before .before .before .pre) h e .small, subst (λ (x : ℕ). l .start .0 + x < 2 ^ 64) (sym (c .stored-size .ensures)) f)
-
-descend-requires : tie.Need-descend-requires Inv-loop μ-loop
-descend-requires c κs =
-    let a = c .before .before .before .before .before .before .before .before .before .args in
-    let l = c .before .before .before .before .before .loop in
-    let is = c .before .before .before .before .before .before .root-indexes in
-    let h : l .j < length (roots (a .n)) = subst (λ (x : ℕ). l .j < x) (c .before .before .before .before .before .before .before .root-count .ensures) (c .before .before .before .before .loop-test .taken) in
-    let e : getD (is .result) (l .j) (record { 0 = 0 }) .0 ≡ getD (roots (a .n)) (l .j) 0 = root-of (is .result) (a .n) (l .j) (is .ensures) h in
-    root-stands (withinOf (a .sought)) (a .tree .now) (a .n) (l .inv) (c .before .before .before .before .before .before .before .before .before .pre) h e
+is-known-requires : tie.Need-is-known-requires Inv-loop μ-loop
+is-known-requires c κs =
+    let l = c .before in
+    let s = l .before .before .before .before .before .before in
+    let a = s .args in
+    root-bit (a .partly) (a .sought) (a .tree .now) (a .bitfield .now) (a .n) (l .before .loop .inv) (s .pre) (among l) (root l)
 
 returns : tie.Need-returns Inv-loop μ-loop
 returns c =
-    let a = c .before .before .before .before .before .before .before .before .before .before .args in
-    let l = c .before .before .before .before .before .before .loop in
-    let is = c .before .before .before .before .before .before .before .root-indexes in
-    let h : l .j < length (roots (a .n)) = subst (λ (x : ℕ). l .j < x) (c .before .before .before .before .before .before .before .before .root-count .ensures) (c .before .before .before .before .before .loop-test .taken) in
-    let e : getD (is .result) (l .j) (record { 0 = 0 }) .0 ≡ getD (roots (a .n)) (l .j) 0 = root-of (is .result) (a .n) (l .j) (is .ensures) h in
-    c .descend .ensures
-    ∙ found-here (withinOf (a .sought)) (a .tree .now) (a .n) (l .inv) (c .before .before .before .before .before .before .before .before .before .before .pre) h e (c .before .before .before .stored-size .ensures) (sym (c .before .before .is-within .ensures) ∙ c .before .if1 .taken)
+    let l = c .before .before .before in
+    let s = l .before .before .before .before .before .before in
+    let a = s .args in
+    root-unknown (a .partly) (a .sought) (a .tree .now) (a .bitfield .now) (a .n) (l .before .loop .inv) (s .pre) (among l) (root l)
+    (sym (c .before .is-known .ensures) ∙ not-true _ (c .if1 .taken))
 
-add-t17 : tie.Need-add-t17 Inv-loop μ-loop
-add-t17 c =
-    let a = c .before .before .before .before .before .before .before .before .before .before .args in
-    let l = c .before .before .before .before .before .before .loop in
-    let is = c .before .before .before .before .before .before .before .root-indexes in
-    let h : l .j < length (roots (a .n)) = subst (λ (x : ℕ). l .j < x) (c .before .before .before .before .before .before .before .before .root-count .ensures) (c .before .before .before .before .before .loop-test .taken) in
-    let e : getD (is .result) (l .j) (record { 0 = 0 }) .0 ≡ getD (roots (a .n)) (l .j) 0 = root-of (is .result) (a .n) (l .j) (is .ensures) h in
-    let f = root-fits (withinOf (a .sought)) (a .tree .now) (a .n) (l .inv) (c .before .before .before .before .before .before .before .before .before .before .pre) h e in
-    record { fits = subst (λ (x : ℕ). l .start .0 + x < 2 ^ 64) (sym (c .before .before .before .stored-size .ensures)) f }
+stored-size-requires : tie.Need-stored-size-requires Inv-loop μ-loop
+stored-size-requires c κs =
+    let l = c .before .before .before in
+    let s = l .before .before .before .before .before .before in
+    let a = s .args in
+    root-entry (a .partly) (a .sought) (a .tree .now) (a .bitfield .now) (a .n) (l .before .loop .inv) (s .pre) (among l) (root l)
+
+is-within-requires : tie.Need-is-within-requires Inv-loop μ-loop
+is-within-requires c κs =
+    let l = c .before .before .before .before in
+    let s = l .before .before .before .before .before .before in
+    let a = s .args in
+    let z : c .stored-size .result < 2 ^ 64 = omega arith in
+    (root-entry (a .partly) (a .sought) (a .tree .now) (a .bitfield .now) (a .n) (l .before .loop .inv) (s .pre) (among l) (root l) .small, omega arith)
+
+descend-requires : tie.Need-descend-requires Inv-loop μ-loop
+descend-requires c κs =
+    let l = c .before .before .before .before .before .before in
+    let s = l .before .before .before .before .before .before in
+    let a = s .args in
+    let z : c .before .before .stored-size .result < 2 ^ 64 = omega arith in
+    root-stands (a .partly) (a .sought) (a .tree .now) (a .bitfield .now) (a .n) (l .before .loop .inv) (s .pre) (among l) (root l) (c .before .before .stored-size .ensures) z
+
+moved-requires : tie.Need-moved-requires Inv-loop μ-loop
+moved-requires c κs = search needs
+
+returns-2 : tie.Need-returns-2 Inv-loop μ-loop
+returns-2 c =
+    let l = c .before .before .before .before .before .before .before .before in
+    let s = l .before .before .before .before .before .before in
+    let a = s .args in
+    c .moved .ensures
+    ∙ ap (λ (e : Ending). cappedEnding (movedBy (l .before .loop .start .0) e)) (c .before .descend .ensures)
+    ∙ found-here (a .partly) (a .sought) (a .tree .now) (a .bitfield .now) (a .n) (l .before .loop .inv) (s .pre) (among l) (root l)
+    (sym (c .before .before .before .before .before .before .is-known .ensures) ∙ not-false _ (c .before .before .before .before .before .if1 .left))
+    (c .before .before .before .before .stored-size .ensures) (sym (c .before .before .before .is-within .ensures) ∙ c .before .before .if2 .taken)
+
+behind-requires : tie.Need-behind-requires Inv-loop μ-loop
+behind-requires c κs =
+    let l = c .before .before .before .before .before .before in
+    let s = l .before .before .before .before .before .before in
+    let a = s .args in
+    passed (l .before .loop .left) (c .before .before .stored-size .result) _ _ (sym (c .before .is-within .ensures) ∙ c .if2 .left)
+
+add-capped-requires : tie.Need-add-capped-requires Inv-loop μ-loop
+add-capped-requires c κs = search needs
 
 add-j : tie.Need-add-j Inv-loop μ-loop
 add-j c = search needs
@@ -87,18 +114,19 @@ loop-less c = search needs
 
 loop-again : tie.Need-loop-again Inv-loop μ-loop
 loop-again c =
-    let a = c .before .before .before .before .before .before .before .before .before .before .args in
-    let l = c .before .before .before .before .before .before .loop in
-    let is = c .before .before .before .before .before .before .before .root-indexes in
-    let h : l .j < length (roots (a .n)) = subst (λ (x : ℕ). l .j < x) (c .before .before .before .before .before .before .before .before .root-count .ensures) (c .before .before .before .before .before .loop-test .taken) in
-    let e : getD (is .result) (l .j) (record { 0 = 0 }) .0 ≡ getD (roots (a .n)) (l .j) 0 = root-of (is .result) (a .n) (l .j) (is .ensures) h in
-    not-here (withinOf (a .sought)) (a .tree .now) (a .n) (l .inv) (c .before .before .before .before .before .before .before .before .before .before .pre) h e (c .before .before .before .stored-size .ensures) (sym (c .before .before .is-within .ensures) ∙ c .before .if1 .left)
+    let l = c .before .before .before .before .before .before .before .before in
+    let s = l .before .before .before .before .before .before in
+    let a = s .args in
+    not-here (a .partly) (a .sought) (a .tree .now) (a .bitfield .now) (a .n) (l .before .loop .inv) (s .pre) (among l) (root l)
+    (sym (c .before .before .before .before .before .before .is-known .ensures) ∙ not-false _ (c .before .before .before .before .before .if1 .left))
+    (c .before .before .before .before .stored-size .ensures) (sym (c .before .before .before .is-within .ensures) ∙ c .before .before .if2 .left)
+    (c .add-capped .ensures) (c .before .behind .ensures)
 
-returns-2 : tie.Need-returns-2 Inv-loop μ-loop
-returns-2 c =
-    let a = c .before .before .before .before .before .args in
-    let l = c .before .loop in
-    none-left (withinOf (a .sought)) (a .tree .now) (a .n) (l .inv) (subst (λ (x : ℕ). x ≤ l .j) (c .before .before .before .root-count .ensures) (c .loop-test .left))
+returns-3 : tie.Need-returns-3 Inv-loop μ-loop
+returns-3 c =
+    let a = c .before .before .before .before .before .before .args in
+    none-left (a .partly) (a .sought) (a .tree .now) (a .bitfield .now) (a .n) (c .before .loop .inv)
+    (subst (λ (x : ℕ). x ≤ c .before .loop .j) (c .before .before .before .root-count .ensures) (c .loop-test .left))
 
 pub from-roots-spec : {M : Type 1} → statement M
 from-roots-spec =
@@ -111,12 +139,16 @@ from-roots-spec =
     loop-holds
     mul-i
     array-copy-out-i
+    is-known-requires
+    returns
     stored-size-requires
     is-within-requires
     descend-requires
-    returns
-    add-t17
+    moved-requires
+    returns-2
+    behind-requires
+    add-capped-requires
     add-j
     loop-less
     loop-again
-    returns-2)
+    returns-3)

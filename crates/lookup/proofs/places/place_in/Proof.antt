@@ -1,21 +1,30 @@
 -- `lookup::places::place_in` meets its contract. Assumes nothing.
+use Prim.Native.Nat.{ℕ}
 use mathlib.Core.Path.{sym, ap, _∙_, subst}
+use borrow.Author.Tests.{not-true, not-false}
+use Rattle.refusals.specs.Verdict.{tree}
 use Rattle.file_format.specs.Stored.{storedSize}
 use Rattle.file_format.specs.Inner.{EntryIn}
-use Rattle.lookup.specs.Inner.{endingOf}
-use Rattle.lookup.proofs.Calls.{place-above, leaf-in, place-stopped, place-reached}
+use Rattle.lookup.specs.Lookup.{refusal, found}
+use Rattle.lookup.specs.Descent.{chunkWithin, byteWithin}
+use Rattle.lookup.specs.Inner.{knownIf, endingOf}
+use Rattle.lookup.proofs.Calls.{place-above, leaf-in, chunk-told, place-stopped, place-unknown, place-reached}
 use borrow.Author.Needs.{needs}
 use Rattle.lookup.proofs.places.place_in.Statement.{statement}
 use Rattle.lookup.proofs.places.place_in.Tie as tie
 
 returns : tie.Need-returns
-returns c = let a = c .before .before .before .args in place-above (a .tree .now) (a .n) (a .chunk .0) (c .if1 .taken)
+returns c =
+    let a = c .before .before .before .before .args in place-above (knownIf (a .partly) (a .bitfield .now)) (a .tree .now) (a .n) (a .chunk .0) (c .if1 .taken)
 
 from-roots-requires : tie.Need-from-roots-requires
 from-roots-requires c κs = search needs
 
 enum-known-i : tie.Need-enum-known-i
 enum-known-i c = search needs
+
+enum-known-i-2 : tie.Need-enum-known-i-2
+enum-known-i-2 c = search needs
 
 enum-known-start : tie.Need-enum-known-start
 enum-known-start c = search needs
@@ -25,20 +34,42 @@ leaf-index-requires c κs = search needs
 
 stored-size-requires : tie.Need-stored-size-requires
 stored-size-requires c κs =
-    let a = c .before .before .before .before .before .before .before .before .args in
-    subst (EntryIn (a .tree .now)) (sym (c .leaf-index .ensures)) (leaf-in (a .tree .now) (a .n) (a .chunk .0) (c .before .before .before .before .before .before .before .before .pre) (c .before .before .before .before .before .if1 .left) .1)
+    let s = c .before .before .before .before .before .before .before .before .before in
+    let a = s .args in
+    subst (EntryIn (a .tree .now)) (sym (c .leaf-index .ensures)) (leaf-in (a .chunk .0) (s .pre .files .roots) (c .before .before .before .before .before .if1 .left) .1)
 
 returns-2 : tie.Need-returns-2
 returns-2 c =
-    let a = c .before .before .before .before .before .before .before .args in
+    let s = c .before .before .before .before .before .before .before .before in
+    let a = s .args in
+    let known = knownIf (a .partly) (a .bitfield .now) in
+    let below = c .before .before .before .before .if1 .left in
     let k = c .before .i .given in
-    place-stopped (a .tree .now) (a .n) (a .chunk .0) (c .before .before .before .before .if1 .left) (k .0 .0 .0) (sym (ap endingOf (k .1)) ∙ c .before .before .before .from-roots .ensures)
+    place-stopped known (a .tree .now) (a .n) (a .chunk .0) below (k .0 .0 .0)
+    (sym (ap endingOf (k .1)) ∙ c .before .before .before .from-roots .ensures
+    ∙ chunk-told known (a .tree .now) (a .n) (a .chunk .0) (s .pre) below)
 
 returns-3 : tie.Need-returns-3
 returns-3 c =
-    let a = c .before .before .before .before .before .before .before .before .before .args in
+    let s = c .before .before .before .before .before .before .before .before in
+    let a = s .args in
+    let known = knownIf (a .partly) (a .bitfield .now) in
+    let below = c .before .before .before .before .if1 .left in
+    let k = c .before .i2 .given in
+    place-unknown known (a .tree .now) (a .n) (a .chunk .0) below (k .0 .0 .0)
+    (sym (ap endingOf (k .1)) ∙ c .before .before .before .from-roots .ensures
+    ∙ chunk-told known (a .tree .now) (a .n) (a .chunk .0) (s .pre) below)
+
+returns-4 : tie.Need-returns-4
+returns-4 c =
+    let s = c .before .before .before .before .before .before .before .before .before .before in
+    let a = s .args in
+    let known = knownIf (a .partly) (a .bitfield .now) in
+    let below = c .before .before .before .before .before .before .if1 .left in
     let k = c .before .before .before .start .given in
-    place-reached (a .tree .now) (a .n) (a .chunk .0) (c .before .before .before .before .before .before .if1 .left) (k .0 .0 .0) (k .0 .1 .0 .0) (c .stored-size .result) (sym (ap endingOf (k .1)) ∙ c .before .before .before .before .before .from-roots .ensures)
+    place-reached known (a .tree .now) (a .n) (a .chunk .0) below (k .0 .0 .0) (k .0 .1 .0 .0) (c .stored-size .result)
+    (sym (ap endingOf (k .1)) ∙ c .before .before .before .before .before .from-roots .ensures
+    ∙ chunk-told known (a .tree .now) (a .n) (a .chunk .0) (s .pre) below)
     (c .stored-size .ensures ∙ ap (storedSize (a .tree .now)) (c .before .leaf-index .ensures))
 
 pub place-in-spec : {M : Type 1} → statement M
@@ -48,8 +79,10 @@ place-in-spec =
     returns
     from-roots-requires
     enum-known-i
+    enum-known-i-2
     enum-known-start
     leaf-index-requires
     stored-size-requires
     returns-2
-    returns-3)
+    returns-3
+    returns-4)

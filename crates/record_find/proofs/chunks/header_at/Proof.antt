@@ -1,8 +1,6 @@
 -- The reader decides; a refusal gets its place.
-use mathlib.Core.Path.{subst}
-use Rattle.record_format.specs.Post.{HeaderReadAs}
 use Rattle.tree_index.specs.Tree.{index}
-use Rattle.record_find.proofs.Chunk.{header-none}
+use Rattle.record_find.proofs.Chunk.{header-none, header-done}
 use borrow.Author.Needs.{needs}
 use Rattle.record_find.proofs.chunks.header_at.Statement.{statement}
 use Rattle.record_find.proofs.chunks.header_at.Tie as tie
@@ -13,7 +11,9 @@ returns c =
     header-none (a .bytes .now) (index 0 (a .chunk .0)) (c .before .before .before .read-header .result) _ (c .no-record .result) (c .before .enum-told .given .1) (c .before .before .before .read-header .ensures) (c .no-record .ensures)
 
 returns-2 : tie.Need-returns-2
-returns-2 c = let a = c .before .before .before .before .before .args in subst (HeaderReadAs (a .bytes .now)) (c .before .part .given .1) (c .before .before .before .read-header .ensures)
+returns-2 c =
+    let a = c .before .before .before .before .before .args in
+    header-done (a .bytes .now) (index 0 (a .chunk .0)) (c .before .before .before .read-header .result) _ (c .before .part .given .1) (c .before .before .before .read-header .ensures)
 
 pub header-at-spec : {M : Type 1} → statement M
 header-at-spec =

@@ -1,14 +1,16 @@
 -- The read's own refusal, or what is said of the bytes read.
-use mathlib.Core.Path.{sym, ap, _∙_, refl, subst}
-use mathlib.Core.List.{List}
-use Prim.Native.Nat.{ℕ}
-use Rattle.refusals.specs.Meaning.{refusalOf, spotOf}
+use mathlib.Core.Path.{sym, ap, _∙_}
+use Rattle.refusals.specs.Verdict.{Verdict, tree}
+use Rattle.refusals.specs.Meaning.{spotOf}
+use Rattle.refusals.specs.declared.Answer.the-variants.{Refused}
+use Rattle.record_node.specs.declared.reading.Node.{Node}
 use Rattle.blake2b.specs.Hash.{nodeHash}
 use Rattle.checks.specs.Lent.{registerOf}
 use Rattle.tree_index.specs.Tree.{index}
+use Rattle.lookup.specs.Read.{readVerdict, readPart}
 use Rattle.lookup.specs.Meaning.{verifiedOf}
 use Rattle.lookup.proofs.Calls.{nothing}
-use Rattle.record_find.specs.ChunkRecords.{HeaderJudged, NodeJudged, NodeSaid, PathJudged}
+use Rattle.record_node.specs.Post.{noNode, nodeTold, readNode}
 use Rattle.record_find.proofs.Chunk.{lies, read-refused, read-done, small}
 use borrow.Author.Needs.{needs}
 use Rattle.record_find.proofs.chunks.node_of.Statement.{statement}
@@ -42,22 +44,20 @@ returns : tie.Need-returns
 returns c =
     let a = c .before .before .before .before .before .before .before .before .before .before .args in
     let r = registerOf (a .tree .now) (a .signatures .now) (a .bitfield .now) (a .content .now) (a .n) (a .s) (a .size) in
-    let k = c .before .before .before .refusal .given in (
-      read-refused nodeHash r (a .chunk .0) (k .0 .0 .number) (spotOf (k .0 .0 .place)) (refusalOf (k .0 .0)) _ refl
-          (nothing nodeHash r (a .chunk .0) (k .0 .0 .number) (spotOf (k .0 .0 .place)) (sym (ap verifiedOf (k .1)) ∙ c .before .before .before .before .before .verify .ensures) .0),
-      c .before .no-node .ensures .1,
-    )
+    let k = c .before .before .before .refusal .given in
+    let e = sym (ap verifiedOf (k .1)) ∙ c .before .before .before .before .before .verify .ensures in
+    ap (nodeTold (Refused (k .0 .0))) (ap (λ (x : Verdict × Node). x .1) (c .before .no-node .ensures))
+    ∙ read-refused (readVerdict nodeHash r (a .chunk .0)) noNode (readNode (tree (index 0 (a .chunk .0))) (readPart nodeHash r (a .chunk .0))) (k .0 .0 .number) (spotOf (k .0 .0 .place))
+    (nothing nodeHash r (a .chunk .0) (k .0 .0 .number) (spotOf (k .0 .0 .place)) e .0)
 
 returns-2 : tie.Need-returns-2
 returns-2 c =
     let a = c .before .before .before .before .before .before .before .before .before .before .args in
     let r = registerOf (a .tree .now) (a .signatures .now) (a .bitfield .now) (a .content .now) (a .n) (a .s) (a .size) in
     let k = c .before .before .before .start .given in
-    let e = sym (ap verifiedOf (k .1)) ∙ c .before .before .before .before .before .verify .ensures in (
-      read-done nodeHash r (a .chunk .0) (k .0 .0 .0) (k .0 .1 .0 .0) e _ _
-          (subst (λ (d : List ℕ). NodeSaid d (index 0 (a .chunk .0)) (c .node-at .result .answer) (c .node-at .result .node)) (lies nodeHash r (a .chunk .0) (k .0 .0 .0) (k .0 .1 .0 .0) e .same) (c .node-at .ensures .0)),
-      c .node-at .ensures .1,
-    )
+    let l = lies nodeHash r (a .chunk .0) (k .0 .0 .0) (k .0 .1 .0 .0) (sym (ap verifiedOf (k .1)) ∙ c .before .before .before .before .before .verify .ensures) in
+    read-done (readVerdict nodeHash r (a .chunk .0)) noNode (nodeTold (c .node-at .result .answer) (c .node-at .result .node)) (readNode (tree (index 0 (a .chunk .0))) (readPart nodeHash r (a .chunk .0))) (l .verdict)
+    (c .node-at .ensures ∙ ap (readNode (tree (index 0 (a .chunk .0)))) (l .same))
 
 pub node-of-spec : {M : Type 1} → statement M
 node-of-spec =

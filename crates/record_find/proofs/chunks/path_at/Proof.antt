@@ -1,7 +1,10 @@
 -- The reader decides, and then the path's bytes.
+use mathlib.Core.Path.{_∙_, sym, ap}
+use mathlib.Core.Bool.{Bool}
 use native.Mathlib.Omega.{arith}
+use Rattle.refusals.specs.Verdict.{Verdict, done}
 use Rattle.tree_index.specs.Tree.{index}
-use Rattle.record_find.proofs.Chunk.{path-none, path-inside, path-same, path-other}
+use Rattle.record_find.proofs.Chunk.{path-none, path-inside, path-compared}
 use borrow.Author.Needs.{needs}
 use Rattle.record_find.proofs.chunks.path_at.Statement.{statement}
 use Rattle.record_find.proofs.chunks.path_at.Tie as tie
@@ -22,19 +25,21 @@ returns : tie.Need-returns
 returns c =
     let a = c .before .before .before .before .before .before .before .before .before .before .before .args in
     let read = c .before .before .before .before .before .before .before .before .read-node in
-    path-same (a .bytes .now) (index 0 (a .chunk .0)) (read .result .answer) (read .result .node) (read .ensures) (c .before .before .before .before .before .enum-told2 .given .1) (a .path .now) (c .before .same .result) (c .before .same .ensures) (c .if1 .taken)
+    ap {B = Verdict × Bool} (λ (b : Bool). (done, b)) (sym (c .if1 .taken))
+    ∙ path-compared (a .bytes .now) (index 0 (a .chunk .0)) (read .result .answer) (read .result .node) (read .ensures) (c .before .before .before .before .before .enum-told2 .given .1) (a .path .now) (c .before .same .result) (c .before .same .ensures)
 
 returns-2 : tie.Need-returns-2
 returns-2 c =
     let a = c .before .before .before .before .before .before .before .args in
     let read = c .before .before .before .before .read-node in
-    path-none (a .bytes .now) (index 0 (a .chunk .0)) (read .result .answer) (read .result .node) (read .ensures) _ (c .no-record .result) (a .path .now) (c .before .enum-told .given .1) (c .no-record .ensures)
+    path-none (a .bytes .now) (index 0 (a .chunk .0)) (read .result .answer) (read .result .node) (read .ensures) (a .path .now) _ (c .no-record .result) (c .before .enum-told .given .1) (c .no-record .ensures)
 
 returns-3 : tie.Need-returns-3
 returns-3 c =
     let a = c .before .before .before .before .before .before .before .before .before .before .before .args in
     let read = c .before .before .before .before .before .before .before .before .read-node in
-    path-other (a .bytes .now) (index 0 (a .chunk .0)) (read .result .answer) (read .result .node) (read .ensures) (c .before .before .before .before .before .enum-told2 .given .1) (a .path .now) (c .before .same .result) (c .before .same .ensures) (c .if1 .left)
+    ap {B = Verdict × Bool} (λ (b : Bool). (done, b)) (sym (c .if1 .left))
+    ∙ path-compared (a .bytes .now) (index 0 (a .chunk .0)) (read .result .answer) (read .result .node) (read .ensures) (c .before .before .before .before .before .enum-told2 .given .1) (a .path .now) (c .before .same .result) (c .before .same .ensures)
 
 pub path-at-spec : {M : Type 1} → statement M
 path-at-spec =

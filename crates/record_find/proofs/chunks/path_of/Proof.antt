@@ -1,14 +1,15 @@
 -- The read's own refusal, or what is said of the bytes read.
-use mathlib.Core.Path.{sym, ap, _∙_, refl, subst}
-use mathlib.Core.List.{List}
-use Prim.Native.Nat.{ℕ}
-use Rattle.refusals.specs.Meaning.{refusalOf, spotOf}
+use mathlib.Core.Path.{sym, ap, _∙_}
+use mathlib.Core.Bool.{false}
+use Rattle.refusals.specs.Verdict.{tree}
+use Rattle.refusals.specs.Meaning.{spotOf}
 use Rattle.blake2b.specs.Hash.{nodeHash}
 use Rattle.checks.specs.Lent.{registerOf}
 use Rattle.tree_index.specs.Tree.{index}
+use Rattle.lookup.specs.Read.{readVerdict, readPart}
 use Rattle.lookup.specs.Meaning.{verifiedOf}
 use Rattle.lookup.proofs.Calls.{nothing}
-use Rattle.record_find.specs.ChunkRecords.{HeaderJudged, NodeJudged, NodeSaid, PathJudged}
+use Rattle.record_find.specs.ChunkRecords.{comparedTold, readPath}
 use Rattle.record_find.proofs.Chunk.{lies, read-refused, read-done, small}
 use borrow.Author.Needs.{needs}
 use Rattle.record_find.proofs.chunks.path_of.Statement.{statement}
@@ -43,17 +44,18 @@ returns c =
     let a = c .before .before .before .before .before .before .before .before .before .args in
     let r = registerOf (a .tree .now) (a .signatures .now) (a .bitfield .now) (a .content .now) (a .n) (a .s) (a .size) in
     let k = c .before .refusal .given in
-    read-refused nodeHash r (a .chunk .0) (k .0 .0 .number) (spotOf (k .0 .0 .place)) _ _ refl
-    (nothing nodeHash r (a .chunk .0) (k .0 .0 .number) (spotOf (k .0 .0 .place)) (sym (ap verifiedOf (k .1)) ∙ c .before .before .before .verify .ensures) .0)
+    let e = sym (ap verifiedOf (k .1)) ∙ c .before .before .before .verify .ensures in
+    read-refused (readVerdict nodeHash r (a .chunk .0)) false (readPath (a .path .now) (tree (index 0 (a .chunk .0))) (readPart nodeHash r (a .chunk .0))) (k .0 .0 .number) (spotOf (k .0 .0 .place))
+    (nothing nodeHash r (a .chunk .0) (k .0 .0 .number) (spotOf (k .0 .0 .place)) e .0)
 
 returns-2 : tie.Need-returns-2
 returns-2 c =
     let a = c .before .before .before .before .before .before .before .before .before .before .before .args in
     let r = registerOf (a .tree .now) (a .signatures .now) (a .bitfield .now) (a .content .now) (a .n) (a .s) (a .size) in
     let k = c .before .before .before .start .given in
-    let e = sym (ap verifiedOf (k .1)) ∙ c .before .before .before .before .before .verify .ensures in
-    read-done nodeHash r (a .chunk .0) (k .0 .0 .0) (k .0 .1 .0 .0) e _ _
-    (subst (λ (d : List ℕ). PathJudged d (index 0 (a .chunk .0)) (a .path .now) (c .path-at .result)) (lies nodeHash r (a .chunk .0) (k .0 .0 .0) (k .0 .1 .0 .0) e .same) (c .path-at .ensures))
+    let l = lies nodeHash r (a .chunk .0) (k .0 .0 .0) (k .0 .1 .0 .0) (sym (ap verifiedOf (k .1)) ∙ c .before .before .before .before .before .verify .ensures) in
+    read-done (readVerdict nodeHash r (a .chunk .0)) false (comparedTold (c .path-at .result)) (readPath (a .path .now) (tree (index 0 (a .chunk .0))) (readPart nodeHash r (a .chunk .0))) (l .verdict)
+    (c .path-at .ensures ∙ ap (readPath (a .path .now) (tree (index 0 (a .chunk .0)))) (l .same))
 
 pub path-of-spec : {M : Type 1} → statement M
 path-of-spec =

@@ -4,9 +4,10 @@ use Rattle.refusals.specs.Meaning.{said, spotOf}
 use Rattle.blake2b.specs.Hash.{nodeHash}
 use Rattle.checks.specs.Lent.{registerOf}
 use Rattle.checks.specs.Checks.{judged, registerChecks}
-use Rattle.refusals.specs.Verdict.{done}
-use Rattle.record_find.specs.ChunkRecords.{HeaderAs}
-use Rattle.record_find.specs.Finding.{foundOf, Says}
+use Rattle.refusals.specs.Verdict.{Verdict, done}
+use Rattle.record_fields.specs.declared.rows.Part.{Part}
+use Rattle.record_find.specs.ChunkRecords.{headerIn}
+use Rattle.record_find.specs.Finding.{foundOf, judgeIn}
 use Rattle.record_find.proofs.Search.{find-refused, find-empty, find-headless, find-below}
 use borrow.Author.Needs.{needs}
 use Rattle.record_find.proofs.finding.find.Statement.{statement}
@@ -16,26 +17,26 @@ returns : tie.Need-returns
 returns c =
     let a = c .before .before .before .before .before .before .before .before .before .args in
     let r = registerOf (a .tree .now) (a .signatures .now) (a .bitfield .now) (a .content .now) (a .n) (a .s) (a .size) in
-    find-empty (HeaderAs nodeHash r 0) (Says nodeHash r (a .path .now)) (a .n) (judged (registerChecks r) done) (sym (ap said (c .before .enum-told .given .1)) ∙ c .before .before .before .judge .ensures) (c .if1 .taken)
+    find-empty (judgeIn nodeHash r (a .path .now)) (a .n) (judged (registerChecks r) done) (headerIn nodeHash r 0 .0) (sym (ap said (c .before .enum-told .given .1)) ∙ c .before .before .before .judge .ensures) (c .if1 .taken)
 
 returns-2 : tie.Need-returns-2
 returns-2 c =
     let a = c .before .before .before .before .before .before .before .before .before .args in
     let r = registerOf (a .tree .now) (a .signatures .now) (a .bitfield .now) (a .content .now) (a .n) (a .s) (a .size) in
     let k = c .before .refusal .given in
-    find-refused (HeaderAs nodeHash r 0) (Says nodeHash r (a .path .now)) (a .n) (judged (registerChecks r) done) (k .0 .0 .number) (spotOf (k .0 .0 .place)) (sym (ap said (k .1)) ∙ c .before .before .before .judge .ensures)
+    find-refused (judgeIn nodeHash r (a .path .now)) (a .n) (judged (registerChecks r) done) (headerIn nodeHash r 0 .0) (k .0 .0 .number) (spotOf (k .0 .0 .place)) (sym (ap said (k .1)) ∙ c .before .before .before .judge .ensures)
 
 returns-3 : tie.Need-returns-3
 returns-3 c =
     let a = c .before .before .before .before .before .before .before .before .before .before .before .before .before .args in
     let r = registerOf (a .tree .now) (a .signatures .now) (a .bitfield .now) (a .content .now) (a .n) (a .s) (a .size) in
-    find-headless (HeaderAs nodeHash r 0) (Says nodeHash r (a .path .now)) (a .n) (judged (registerChecks r) done) (sym (ap said (c .before .before .before .before .before .enum-told .given .1)) ∙ c .before .before .before .before .before .before .before .judge .ensures) (c .before .before .before .before .if1 .left) (c .before .before .before .header-of .result) (c .before .before .before .header-of .ensures) _ (c .before .refusal2 .given .1)
+    find-headless (judgeIn nodeHash r (a .path .now)) (a .n) (judged (registerChecks r) done) (headerIn nodeHash r 0 .0) (sym (ap said (c .before .before .before .before .before .enum-told .given .1)) ∙ c .before .before .before .before .before .before .before .judge .ensures) (c .before .before .before .before .if1 .left) (c .before .before .before .header-of .result) (ap (λ (x : Verdict × Part). x .0) (c .before .before .before .header-of .ensures)) _ (c .before .refusal2 .given .1)
 
 returns-4 : tie.Need-returns-4
 returns-4 c =
     let a = c .before .before .before .before .before .before .before .before .before .before .before .before .before .args in
     let r = registerOf (a .tree .now) (a .signatures .now) (a .bitfield .now) (a .content .now) (a .n) (a .s) (a .size) in
-    find-below (HeaderAs nodeHash r 0) (Says nodeHash r (a .path .now)) (a .n) (judged (registerChecks r) done) (sym (ap said (c .before .before .before .before .before .enum-told .given .1)) ∙ c .before .before .before .before .before .before .before .judge .ensures) (c .before .before .before .before .if1 .left) (c .before .before .before .header-of .result) (c .before .before .before .header-of .ensures)
+    find-below (judgeIn nodeHash r (a .path .now)) (a .n) (judged (registerChecks r) done) (headerIn nodeHash r 0 .0) (sym (ap said (c .before .before .before .before .before .enum-told .given .1)) ∙ c .before .before .before .before .before .before .before .judge .ensures) (c .before .before .before .before .if1 .left) (c .before .before .before .header-of .result) (ap (λ (x : Verdict × Part). x .0) (c .before .before .before .header-of .ensures))
     (c .before .enum-told2 .given .0 .0) (c .before .enum-told2 .given .1) (foundOf (c .search .result)) (c .search .ensures)
 
 pub find-spec : {M : Type 1} → statement M

@@ -1,57 +1,63 @@
--- The chunks from k up were looked at. The measure is k.
+-- The chunks from the one at hand up were looked at. The measure is its number.
 use native.Mathlib.Omega.{arith}
-use mathlib.Core.Path.{subst}
 use Rattle.blake2b.specs.Hash.{nodeHash}
 use Rattle.checks.specs.Lent.{registerOf}
-use Rattle.record_find.specs.ChunkRecords.{HeaderAs}
-use Rattle.record_find.specs.Finding.{Says}
+use Rattle.record_find.specs.Finding.{judgeIn}
 use Rattle.record_find.proofs.Search.{Left, left-all, left-none, left-failed, left-found, left-less}
 use borrow.Author.Needs.{needs}
 use Rattle.record_find.proofs.finding.search.Statement.{statement}
 use Rattle.record_find.proofs.finding.search.Tie as tie
 
 abbrev Inv-loop : tie.InvT-loop
-Inv-loop tree signatures bitfield content n s size path k₀ k = Left (HeaderAs nodeHash (registerOf tree signatures bitfield content n s size) 0) (Says nodeHash (registerOf tree signatures bitfield content n s size) path) n k
+Inv-loop tree signatures bitfield content n s size path chunk₀ chunk = Left (judgeIn nodeHash (registerOf tree signatures bitfield content n s size) path) n (chunk .0)
 
 abbrev μ-loop : tie.MeasureT-loop
-μ-loop tree signatures bitfield content n s size path k₀ k = k
+μ-loop tree signatures bitfield content n s size path chunk₀ chunk = chunk .0
 
 loop-holds : tie.Need-loop-holds Inv-loop μ-loop
 loop-holds c =
-    let a = c .before .before .before .before .before .args in
+    let a = c .before .before .before .before .before .before .args in
     let r = registerOf (a .tree .now) (a .signatures .now) (a .bitfield .now) (a .content .now) (a .n) (a .s) (a .size) in
-    left-all (HeaderAs nodeHash r 0) (Says nodeHash r (a .path .now)) (a .n)
+    left-all (judgeIn nodeHash r (a .path .now)) (a .n) _ (c .chunk-behind .ensures)
 
-sub-k : tie.Need-sub-k Inv-loop μ-loop
-sub-k c = omega (arith, c .loop-test .taken)
+sub-t12 : tie.Need-sub-t12 Inv-loop μ-loop
+sub-t12 c = omega (arith, c .before .if1 .taken)
 
 returns : tie.Need-returns Inv-loop μ-loop
 returns c =
-    let a = c .before .before .before .before .before .before .before .before .before .before .before .args in
+    let a = c .before .before .before .before .before .before .before .before .before .before .before .before .before .before .args in
     let r = registerOf (a .tree .now) (a .signatures .now) (a .bitfield .now) (a .content .now) (a .n) (a .s) (a .size) in
-    left-failed (HeaderAs nodeHash r 0) (Says nodeHash r (a .path .now)) (a .n) (c .before .before .before .before .before .loop .k) (c .before .before .before .before .before .loop .inv) (c .before .before .before .before .loop-test .taken) (c .before .before .before .path-of .result) (c .before .before .before .path-of .ensures) _ (c .before .refusal .given .1)
+    let l = c .before .before .before .before .before .before .before .loop in
+    let p = c .before .before .before .path-of in
+    left-failed (judgeIn nodeHash r (a .path .now)) (a .n) (l .chunk .0) (l .inv) (c .before .before .before .before .before .if1 .taken) (p .result) (p .ensures) _ (c .before .refusal .given .1)
 
 returns-2 : tie.Need-returns-2 Inv-loop μ-loop
 returns-2 c =
-    let a = c .before .before .before .before .before .before .before .before .before .before .args in
+    let a = c .before .before .before .before .before .before .before .before .before .before .before .before .before .args in
     let r = registerOf (a .tree .now) (a .signatures .now) (a .bitfield .now) (a .content .now) (a .n) (a .s) (a .size) in
-    left-found (HeaderAs nodeHash r 0) (Says nodeHash r (a .path .now)) (a .n) (c .before .before .before .before .loop .k) (c .before .before .before .before .loop .inv) (c .before .before .before .loop-test .taken) (c .before .before .path-of .result) (c .before .before .path-of .ensures) (c .enum-told .given .1)
+    let l = c .before .before .before .before .before .before .loop in
+    let p = c .before .before .path-of in
+    left-found (judgeIn nodeHash r (a .path .now)) (a .n) (l .chunk .0) (l .inv) (c .before .before .before .before .if1 .taken) (p .result) (p .ensures) (c .enum-told .given .1)
 
 loop-less : tie.Need-loop-less Inv-loop μ-loop
-loop-less c = omega (arith, c .before .before .before .loop-test .taken)
+loop-less c = omega (arith, c .before .before .before .before .if1 .taken)
 
 loop-again : tie.Need-loop-again Inv-loop μ-loop
 loop-again c =
-    let a = c .before .before .before .before .before .before .before .before .before .before .args in
+    let a = c .before .before .before .before .before .before .before .before .before .before .before .before .before .args in
     let r = registerOf (a .tree .now) (a .signatures .now) (a .bitfield .now) (a .content .now) (a .n) (a .s) (a .size) in
-    left-less (HeaderAs nodeHash r 0) (Says nodeHash r (a .path .now)) (a .n) (c .before .before .before .before .loop .k) (c .before .before .before .before .loop .inv) (c .before .before .before .loop-test .taken) (c .before .before .path-of .result) (c .before .before .path-of .ensures) (c .enum-told2 .given .1)
+    let l = c .before .before .before .before .before .before .loop in
+    let p = c .before .before .path-of in
+    left-less (judgeIn nodeHash r (a .path .now)) (a .n) (l .chunk .0) (l .inv) (c .before .before .before .before .if1 .taken) (p .result) (p .ensures) (c .enum-told2 .given .1)
 
 returns-3 : tie.Need-returns-3 Inv-loop μ-loop
 returns-3 c =
-    let a = c .before .before .before .before .before .before .before .args in
+    let a = c .before .before .before .before .before .before .before .before .before .args in
     let r = registerOf (a .tree .now) (a .signatures .now) (a .bitfield .now) (a .content .now) (a .n) (a .s) (a .size) in
-    left-none (HeaderAs nodeHash r 0) (Says nodeHash r (a .path .now)) (a .n) (c .before .loop .k) (c .before .loop .inv) (c .loop-test .left)
+    let l = c .before .before .loop in
+    left-none (judgeIn nodeHash r (a .path .now)) (a .n) (l .chunk .0) (l .inv) (c .if1 .left)
 
 pub search-spec : {M : Type 1} → statement M
 search-spec =
-    tie.close (tie.spec Inv-loop μ-loop loop-holds sub-k (λ c κs. search needs) (λ c. search needs) returns (λ c. search needs) returns-2 (λ c. search needs) loop-less loop-again returns-3)
+    tie.close (tie.spec Inv-loop μ-loop (λ c κs. search needs) loop-holds sub-t12 (λ c κs. search needs) (λ c. search needs) returns (λ c. search needs) returns-2 (λ c. search needs) loop-less
+    loop-again returns-3)

@@ -1,5 +1,5 @@
 -- The path decides, and then the Stat.
-use Rattle.record_node.proofs.Five.{no-path, no-value, all-right, refused-node}
+use Rattle.record_node.proofs.Five.{no-path, no-value, all-right, refused-node, given-node}
 use borrow.Author.Needs.{needs}
 use Rattle.record_node.proofs.reading.judged.Statement.{statement}
 use Rattle.record_node.proofs.reading.judged.Tie as tie
@@ -28,7 +28,7 @@ returns-3 : tie.Need-returns-3
 returns-3 c =
     let start = c .before .before .before .before .before .before .before .before .before in
     let a = start .args in
-    all-right (a .d .now) (a .first) (a .second) (a .trie) (a .writers) (a .sequence) (start .pre) (c .before .before .before .before .before .before .before .with-path .result) _ (c .before .before .before .before .before .path .given .1) (c .before .before .before .before .before .before .before .with-path .ensures) (c .before .before .before .read-value .result) _ (c .before .value .given .1) (c .before .before .before .read-value .ensures)
+    given-node (a .d .now) _ (all-right (a .d .now) (a .first) (a .second) (a .trie) (a .writers) (a .sequence) (start .pre) (c .before .before .before .before .before .before .before .with-path .result) _ (c .before .before .before .before .before .path .given .1) (c .before .before .before .before .before .before .before .with-path .ensures) (c .before .before .before .read-value .result) _ (c .before .value .given .1) (c .before .before .before .read-value .ensures))
 
 pub judged-spec : {M : Type 1} → statement M
 judged-spec =

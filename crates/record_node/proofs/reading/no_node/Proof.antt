@@ -1,5 +1,6 @@
 -- The definition says it.
-use mathlib.Core.Path.{_≡_, ap}
+use mathlib.Core.Path.{_≡_, ap₂}
+use Rattle.refusals.specs.Verdict.{Verdict}
 use Rattle.record_fields.specs.declared.rows.Number.the-variants.{Absent as NoNumber}
 use Rattle.record_fields.specs.declared.rows.Bytes.the-variants.{Absent as NoBytes}
 use Rattle.record_node.specs.declared.reading.Value.the-variants.{Absent as NoValue}
@@ -11,7 +12,8 @@ use Rattle.record_node.proofs.reading.no_node.Tie as tie
 
 returns : tie.Need-returns
 returns c =
-    (c .refuse .ensures, ap {B = Node} (λ (w : Writers). record { path = record { at = 0; len = 0 }; value = NoValue; trie = NoBytes; writers = w; sequence = NoNumber }) (c .before .no-writers .ensures))
+    ap₂ {C = Verdict × Node} (λ (v : Verdict) (w : Writers). (v, record { path = record { at = 0; len = 0 }; value = NoValue; trie = NoBytes; writers = w; sequence = NoNumber }))
+    (c .refuse .ensures) (c .before .no-writers .ensures)
 
 pub no-node-spec : {M : Type 1} → statement M
 no-node-spec =

@@ -41,7 +41,7 @@ returns-4 c =
     let a = one .before .before .args in
     let p = c .before .before .before .before .before .before .before .field2 .given .0 .0 in
     one-read (a .d .now) (a .at) (one .bytes-row .result) _ _ (c .before .before .before .before .before .before .before .before .before .before .field .given .1) (one .bytes-row .ensures) _ (c .before .before .before .before .before .before .before .field2 .given .1)
-    _ (from-front (a .d .now) (p .at + p .len)) (c .before .before .before .read-writer .result) _ (c .before .writer .given .1) (c .before .before .before .read-writer .ensures)
+    (one .before .before .pre) _ (from-front (a .d .now) (p .at + p .len)) (c .before .before .before .read-writer .result) _ (c .before .writer .given .1) (c .before .before .before .read-writer .ensures)
 
 pub one-writer-spec : {M : Type 1} → statement M
 one-writer-spec =

@@ -34,7 +34,7 @@ returns-4 c =
     let one = c .before .before .before .before .before .before .before .before .before in
     let a = one .before .before .args in
     writer-whole (a .d .now) (a .at) (one .bytes-row .result) _ _ (c .before .before .before .before .before .before .before .key .given .1) (one .bytes-row .ensures)
-    (c .before .before .before .before .before .bytes-row2 .result) _ _ (c .before .before .before .permission .given .1) (c .before .before .before .before .before .bytes-row2 .ensures) (c .before .if1 .left) (c .with-key .result) (c .with-key .ensures)
+    (c .before .before .before .before .before .bytes-row2 .result) _ _ (c .before .before .before .permission .given .1) (c .before .before .before .before .before .bytes-row2 .ensures) (one .before .before .pre) (c .before .if1 .left) (c .with-key .result) (c .with-key .ensures)
 
 pub read-writer-spec : {M : Type 1} → statement M
 read-writer-spec =

@@ -13,7 +13,7 @@ abbrev μ-loop : tie.MeasureT-loop
 μ-loop d at list₀ count₀ next₀ list count next = 8 - count
 
 loop-holds : tie.Need-loop-holds Inv-loop μ-loop
-loop-holds c = let start = c .before .before in grown-none (start .args .d .now) (start .args .at) (c .nobody .result) (start .pre)
+loop-holds c = let start = c .before .before in grown-none (start .args .d .now) (start .args .at) (c .nobody .result) (c .nobody .ensures) (start .pre)
 
 one-writer-requires : tie.Need-one-writer-requires Inv-loop μ-loop
 one-writer-requires c κs = c .loop .inv .ends

@@ -6,12 +6,14 @@ use Rattle.search.proofs.runs.run_tuples.Statement.{statement}
 use Rattle.search.proofs.runs.run_tuples.Tie as tie
 
 shared-slice-read-result : tie.Need-shared-slice-read-result
-shared-slice-read-result c = let a = c .before .before .args in tuples-in (a .xs .now) (a .chunk .0) (c .before .before .pre)
+shared-slice-read-result c =
+    let s = c .before .before .before in
+    tuples-in (s .args .xs .now) (s .args .chunk .0) _ (c .before .tuples-place .ensures) (s .pre)
 
 returns : tie.Need-returns
-returns c = let a = c .before .before .args in tuples-read (a .xs .now) (a .chunk .0 / 64)
+returns c =
+    let s = c .before .before .before in
+    tuples-read (s .args .xs .now) (s .args .chunk .0 / 64) _ (c .before .tuples-place .ensures)
 
 pub run-tuples-spec : {M : Type 1} → statement M
-run-tuples-spec =
-    tie.close
-    (tie.spec (λ c. search needs) (λ c. search needs) (λ c. search needs) (λ c. search needs) (λ c. search needs) shared-slice-read-result returns)
+run-tuples-spec = tie.close (tie.spec (λ c κs. search needs) shared-slice-read-result returns)

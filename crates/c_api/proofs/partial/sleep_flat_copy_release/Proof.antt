@@ -1,0 +1,13 @@
+-- `c_api::partial::sleep_flat_copy_release` meets its contract.
+use borrow.Author.Needs.{needs}
+use Rattle.c_encoding.proofs.Laws.{coded}
+use Rattle.c_api.proofs.partial.sleep_flat_copy_release.Statement.{statement}
+use Rattle.c_api.proofs.partial.sleep_flat_copy_release.Tie as tie
+
+returns : tie.Need-returns
+returns c =
+    let made = c .before .before .before .before .before .release .ensures in
+    (coded _ _ _ (c .encode .ensures) (made .answer), made .files)
+
+pub sleep-flat-copy-release-spec : {M : Type 1} → statement M
+sleep-flat-copy-release-spec = tie.close (tie.spec (λ c κs. search needs) (λ c κs. search needs) (λ c. search needs) (λ c. search needs) returns)

@@ -1,0 +1,23 @@
+-- `c_api::partial_lookups::sleep_flat_copy_read` meets its contract.
+use mathlib.Core.Path.{sym, ap, _∙_}
+use borrow.Author.Needs.{needs}
+use Rattle.blake2b.specs.Hash.{nodeHash}
+use Rattle.copy_checks.specs.Copy.{copyOf}
+use Rattle.copy_lookup.proofs.Calls.{copy-lying}
+use Rattle.c_encoding.specs.Encoding.{asPart}
+use Rattle.c_encoding.proofs.Laws.{gives-same}
+use Rattle.c_api.proofs.partial_lookups.sleep_flat_copy_read.Statement.{statement}
+use Rattle.c_api.proofs.partial_lookups.sleep_flat_copy_read.Tie as tie
+
+give-part-requires : tie.Need-give-part-requires
+give-part-requires c κs from end e =
+    let called = c .before in
+    let a = called .before .before .before .before .args in
+    copy-lying nodeHash (copyOf (a .tree .now) (a .bitfield .now) (a .content .now) (a .n) (a .size)) (a .chunk) from end
+    (sym e ∙ called .verify .ensures) .ordered
+
+returns : tie.Need-returns
+returns c = gives-same _ _ _ _ _ (ap asPart (c .before .before .verify .ensures)) (c .give-part .ensures)
+
+pub sleep-flat-copy-read-spec : {M : Type 1} → statement M
+sleep-flat-copy-read-spec = tie.close (tie.spec (λ c κs. search needs) give-part-requires returns)

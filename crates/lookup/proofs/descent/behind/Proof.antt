@@ -1,0 +1,39 @@
+-- `lookup::descent::behind` meets its contract. Assumes nothing.
+use Prim.Native.Nat.{ℕ, _+_, _-_}
+use mathlib.Core.Path.{refl, sym, ap, _∙_, subst}
+use Rattle.lookup.specs.Inner.{withinOf}
+use Rattle.lookup.specs.declared.descent.Sought.{Sought}
+use Rattle.lookup.specs.Capped.{Passed}
+use Rattle.lookup.proofs.Capped.{behind-chunk, behind-byte}
+use borrow.Author.Needs.{needs}
+use Rattle.lookup.proofs.descent.behind.Statement.{statement}
+use Rattle.lookup.proofs.descent.behind.Tie as tie
+
+enum-known-sought : tie.Need-enum-known-sought
+enum-known-sought c = search needs
+
+enum-known-sought-2 : tie.Need-enum-known-sought-2
+enum-known-sought-2 c = search needs
+
+sub-t6 : tie.Need-sub-t6
+sub-t6 c =
+    let s = c .before .before .before .before in
+    let k = c .before .before .sought2 .given in
+    subst (λ (q : Sought). Passed q (s .args .size)) (k .1) (s .pre)
+
+returns : tie.Need-returns
+returns c d k s z =
+    let a = c .before .before .before .args in
+    let g = c .before .sought .given in
+    behind-chunk (g .0 .0) (a .size) d k s z ∙ sym (ap (λ (q : Sought). withinOf q d k (a .size + s) z) (g .1))
+
+returns-2 : tie.Need-returns-2
+returns-2 c d k s z =
+    let b = c .before .before .before .before in
+    let a = b .args in
+    let g = c .before .before .sought2 .given in
+    behind-byte (g .0 .0) (record { 0 = g .0 .0 .0 - a .size }) (a .size) (subst (λ (q : Sought). Passed q (a .size)) (g .1) (b .pre)) refl d k s z
+    ∙ sym (ap (λ (q : Sought). withinOf q d k (a .size + s) z) (g .1))
+
+pub behind-spec : {M : Type 1} → statement M
+behind-spec = tie.close (tie.spec enum-known-sought enum-known-sought-2 sub-t6 returns returns-2)

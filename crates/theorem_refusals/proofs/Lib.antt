@@ -1,0 +1,4 @@
+-- Which failure an answer names, proved.
+pub mod Checks
+pub mod Audited
+pub mod Compared

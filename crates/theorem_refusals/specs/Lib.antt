@@ -1,0 +1,2 @@
+-- Which failure an answer names, as statements.
+pub mod Refusals

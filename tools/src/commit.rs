@@ -1,0 +1,337 @@
+//! A change made wholly or not at all: no byte and no length of an archive's file changes before all changes of both registers stand in one journal that is
+//! synced, with its entry in the folder. Then they are made, synced, and the journal is removed. It is written under another name, and gets its own when
+//! all of it is synced. A writer that finds a journal finishes it, again if need be; a file of the other name, of which nothing was applied, is dropped.
+use crate::below::{self, Access};
+use crate::changes::{Change, Witnesses};
+use crate::counts::FILES;
+use crate::disk;
+use crate::folder::Folder;
+use crate::journal_calls::{self as calls, Given, Kind, Wrong};
+use crate::left_over::{Left, MOST_BYTES, MOST_RANGES, NAME};
+use crate::words::{said, Done, Trouble};
+use std::collections::BTreeMap;
+use std::fs::{File, Permissions};
+use std::io;
+use std::os::unix::fs::{FileExt, PermissionsExt};
+
+/// The journal's name until all of it is synced.
+pub const UNSYNCED: &str = "sleep-archive.journal.new";
+
+/// An empty file with room behind it on the disk: a release on a full disk writes its journal there.
+pub const ROOM: &str = "sleep-archive.room";
+const KEPT_ROOM: u64 = 65536;
+
+/// A file that this user alone can see, until it is given the rights that the archive's files have.
+const PRIVATE: u32 = 0o600;
+const USUAL: u32 = 0o666;
+
+/// Where the room for a journal comes from.
+#[derive(Clone, Copy, PartialEq, Eq)]
+pub enum Room {
+    Free,
+    /// From what is kept, where the disk is full: the change itself makes room.
+    Kept,
+}
+
+/// Something that failed at a file of the archive.
+struct Failed {
+    name: &'static str,
+    error: io::Error,
+}
+
+fn at(name: &'static str) -> impl Fn(io::Error) -> Failed {
+    move |error| Failed { name, error }
+}
+
+impl Failed {
+    fn told(&self, folder: &Folder, what: &str) -> Trouble {
+        Trouble::File(format!("{}: {}; {what}", folder.file(self.name).display(), said(&self.error)))
+    }
+}
+
+/// Makes all changes, or none of them.
+pub fn commit(folder: &Folder, changes: Vec<Change>, room: Room) -> Done<()> {
+    if changes.is_empty() {
+        return Ok(());
+    }
+    let numbers = changes.iter().map(|change| change.number).collect::<Vec<_>>();
+    numbers.iter().try_for_each(|number| unshared(folder, *number))?;
+    let not_begun = |failed: Failed| {
+        give_back(folder, &numbers);
+        failed.told(folder, "nothing is changed")
+    };
+    let (bytes, mode) = (encoded(folder, changes)?, mode(folder)?);
+    reserve(folder, &bytes).map_err(not_begun)?;
+    let journal = written_down(folder, &bytes, mode, room).map_err(not_begun)?;
+    if let Err(error) = folder.handle.sync_all() {
+        return Err(taken_back(folder, &numbers, &error));
+    }
+    finish(folder, &bytes)?;
+    drop(journal);
+    keep_room(folder);
+    Ok(())
+}
+
+/// A file that has several names, in a backup perhaps, is not written.
+fn unshared(folder: &Folder, number: usize) -> Done<()> {
+    match folder.plain(number)? {
+        Some(file) if file.about.names > 1 => {
+            let (name, path) = (FILES[number], folder.path.display());
+            Err(Trouble::File(format!(
+                "{path}/{name}: the file has {} names, as where a backup shares it, so it is read and not written; nothing is changed. A file of its own: \
+                 (cd {path} && cp -p {name} {name}.own && mv {name}.own {name})",
+                file.about.names
+            )))
+        }
+        _ => Ok(()),
+    }
+}
+
+/// Room on the disk for every byte that will be written into files that are there. Their bytes and lengths stay.
+fn reserve(folder: &Folder, journal: &[u8]) -> Result<(), Failed> {
+    for range in calls::ranges(journal).filter(|range| matches!(range.kind, Kind::Replaced | Kind::Fresh)) {
+        if let Ok(Some(plain)) = folder.plain(range.file) {
+            disk::reserve(&plain.file, range.offset, range.length).map_err(at(FILES[range.file]))?;
+        }
+    }
+    Ok(())
+}
+
+/// Gives reserved room back: a file that gets the length it has loses what was reserved behind it. Where that fails, the next change uses it.
+fn give_back(folder: &Folder, numbers: &[usize]) {
+    for number in numbers {
+        if let Ok(Some(plain)) = folder.plain(*number) {
+            let _ = plain.file.set_len(plain.about.length);
+        }
+    }
+}
+
+/// The rights of a journal: no more than each file of the archive has, whose bytes it may hold; nothing where there is none yet.
+fn mode(folder: &Folder) -> Done<Option<u32>> {
+    let mut all = None;
+    for number in 0..FILES.len() {
+        if let Some(file) = folder.plain(number)? {
+            all = Some(all.unwrap_or(0o777) & file.about.mode & 0o777);
+        }
+    }
+    Ok(all)
+}
+
+/// The bytes of the journal: the states of all ten files, the changes, and the witnesses.
+fn encoded(folder: &Folder, changes: Vec<Change>) -> Done<Vec<u8>> {
+    let witnesses = Witnesses::of(folder)?;
+    let mut states = [0; 20];
+    for number in 0..FILES.len() {
+        states[2 * number] = calls::state(folder.plain(number)?.map(|file| file.about.length));
+        states[2 * number + 1] = states[2 * number];
+    }
+    let mut by_file: BTreeMap<usize, Vec<Given>> = (0..FILES.len()).map(|number| (number, Vec::new())).collect();
+    for change in changes {
+        states[2 * change.number] = calls::state(change.old);
+        states[2 * change.number + 1] = calls::state(Some(change.length));
+        by_file.insert(change.number, change.ranges);
+    }
+    let ranges =
+        by_file.into_iter().flat_map(|(number, ranges)| witnesses.beside(number, ranges).into_iter().map(move |range| (number, range)));
+    put_down(&states, &ranges.collect::<Vec<_>>()).map_err(|wrong| refused(folder, wrong))
+}
+
+fn put_down(states: &[u64; 20], ranges: &[(usize, Given)]) -> Result<Vec<u8>, Wrong> {
+    let length = calls::BESIDE + ranges.iter().map(|(_, range)| range.takes()).sum::<u64>();
+    if length > MOST_BYTES || ranges.len() > MOST_RANGES {
+        return Err(Wrong::Length);
+    }
+    let mut bytes = vec![0; length as usize];
+    let mut place = calls::begin(&mut bytes, states)?;
+    for (number, range) in ranges {
+        place = calls::put(&mut bytes, place, *number, range)?;
+    }
+    calls::end(&mut bytes, place)?;
+    Ok(bytes)
+}
+
+fn refused(folder: &Folder, wrong: Wrong) -> Trouble {
+    let why = match wrong {
+        Wrong::Length => "the change is too large for one journal: fewer pieces at once".to_string(),
+        Wrong::State(file) => format!("{} has a length that no register's file has", FILES[file as usize % FILES.len()]),
+        other => format!("no journal can be made ({other:?})"),
+    };
+    Trouble::File(format!("{}: {why}; nothing is changed", folder.path.display()))
+}
+
+/// The journal on the disk, synced, and then under its name. A change that makes room takes what is kept where the disk has none.
+fn written_down(folder: &Folder, bytes: &[u8], mode: Option<u32>, room: Room) -> Result<File, Failed> {
+    let drop_it = |_: &Failed| {
+        let _ = below::remove(&folder.handle, UNSYNCED); // where it stays, the next change drops it
+    };
+    let written = fresh(folder, mode).and_then(|file| synced(folder, file, bytes, mode)).inspect_err(drop_it);
+    match written {
+        Err(failed) if room == Room::Kept && failed.error.kind() == io::ErrorKind::StorageFull => {
+            if bytes.len() as u64 > KEPT_ROOM {
+                return Err(at(UNSYNCED)(io::Error::other(
+                    "no space left on device, and the room that is kept is for fewer pieces at once",
+                )));
+            }
+            let written = kept_room(folder).and_then(|file| synced(folder, file, bytes, mode)).inspect_err(drop_it);
+            written.inspect_err(|_| keep_room(folder))
+        }
+        other => other,
+    }
+}
+
+fn synced(folder: &Folder, file: File, bytes: &[u8], mode: Option<u32>) -> Result<File, Failed> {
+    file.write_all_at(bytes, 0).map_err(at(UNSYNCED))?;
+    if let Some(mode) = mode {
+        file.set_permissions(Permissions::from_mode(mode)).map_err(at(UNSYNCED))?;
+    }
+    file.sync_all().map_err(at(UNSYNCED))?;
+    below::rename(&folder.handle, UNSYNCED, NAME).map_err(at(NAME))?;
+    Ok(file)
+}
+
+/// A journal's file that was not there. It is locked: whoever makes an archive has no other lock, and waits here for another who does.
+fn fresh(folder: &Folder, mode: Option<u32>) -> Result<File, Failed> {
+    loop {
+        let file = match below::create(&folder.handle, UNSYNCED, if mode.is_some() { PRIVATE } else { USUAL }) {
+            Ok(file) => file,
+            Err(error) if error.kind() == io::ErrorKind::AlreadyExists => {
+                drop_unsynced(folder)?;
+                continue;
+            }
+            Err(error) => return Err(at(UNSYNCED)(error)),
+        };
+        if mode.is_some() {
+            return Ok(file);
+        }
+        file.lock().map_err(at(UNSYNCED))?;
+        let (now, mine) = (below::look(&folder.handle, UNSYNCED).map_err(at(UNSYNCED))?, below::about(&file).map_err(at(UNSYNCED))?);
+        match now {
+            Some(now) if now.identity == mine.identity => {}
+            _ => continue,
+        }
+        if folder.is_used().unwrap_or(true) {
+            return Err(at(NAME)(io::Error::other("another program made an archive here meanwhile")));
+        }
+        return Ok(file);
+    }
+}
+
+/// Drops what another run left of a journal before all of it was synced. Nothing of it was applied. Where that run still makes an archive, it is waited for.
+fn drop_unsynced(folder: &Folder) -> Result<(), Failed> {
+    if let Some(plain) = below::open(&folder.handle, UNSYNCED, Access::Writing).map_err(at(UNSYNCED))? {
+        plain.file.lock().map_err(at(UNSYNCED))?;
+        let now = below::look(&folder.handle, UNSYNCED).map_err(at(UNSYNCED))?;
+        if now.is_none_or(|now| now.identity != plain.about.identity) {
+            return Ok(());
+        }
+        return below::remove(&folder.handle, UNSYNCED).map_err(at(UNSYNCED));
+    }
+    Ok(())
+}
+
+/// Drops a journal that was not synced, where the archive's lock says that nobody writes it. Where an archive is being made, `drop_unsynced` does.
+pub fn drop_begun(folder: &Folder) {
+    if folder.lock.is_of_files() {
+        let _ = below::remove(&folder.handle, UNSYNCED);
+    }
+}
+
+/// The room that is kept, under the journal's first name.
+fn kept_room(folder: &Folder) -> Result<File, Failed> {
+    let full = || io::Error::from(io::ErrorKind::StorageFull);
+    let kept = below::open(&folder.handle, ROOM, Access::Writing).map_err(at(ROOM))?;
+    let kept = kept.filter(|kept| kept.about.names == 1 && kept.about.length == 0).ok_or_else(|| at(UNSYNCED)(full()))?;
+    below::rename(&folder.handle, ROOM, UNSYNCED).map_err(at(ROOM))?;
+    Ok(kept.file)
+}
+
+/// Keeps room for the journal of a later release. Where there is none, or the file system can't promise it, nothing is lost.
+fn keep_room(folder: &Folder) {
+    if let Ok(None) = below::look(&folder.handle, ROOM) {
+        let kept = below::create(&folder.handle, ROOM, PRIVATE).and_then(|file| disk::reserve(&file, 0, KEPT_ROOM));
+        if kept.is_err() {
+            let _ = below::remove(&folder.handle, ROOM);
+        }
+    }
+}
+
+/// Removes a journal whose entry in the folder can't be synced, and says what is known then.
+fn taken_back(folder: &Folder, numbers: &[usize], error: &io::Error) -> Trouble {
+    let known = match below::remove(&folder.handle, NAME).map(|()| folder.handle.sync_all()) {
+        Ok(Ok(())) => {
+            give_back(folder, numbers);
+            "nothing is changed"
+        }
+        Ok(Err(_)) => "nothing is changed; but after a loss of power the change may be there",
+        Err(_) => UNFINISHED,
+    };
+    Trouble::File(format!("{}: {}; {known}", folder.path.display(), said(error)))
+}
+
+const UNFINISHED: &str = "the change is written down in sleep-archive.journal and not yet made: the next command that writes finishes it";
+
+/// Applies a whole journal that is synced, and removes it.
+fn finish(folder: &Folder, journal: &[u8]) -> Done<()> {
+    apply(folder, journal).map_err(|failed| failed.told(folder, UNFINISHED))?;
+    let unfinished = |error: io::Error| Failed { name: NAME, error }.told(folder, UNFINISHED);
+    folder.handle.sync_all().map_err(unfinished)?;
+    below::remove(&folder.handle, NAME).map_err(unfinished)?;
+    folder
+        .handle
+        .sync_all()
+        .map_err(|error| Failed { name: NAME, error }.told(folder, "the change is made; whether it outlives a loss of power is not sure"))
+}
+
+/// Writes what a journal holds: in each file its new length and its ranges.
+fn apply(folder: &Folder, journal: &[u8]) -> Result<(), Failed> {
+    let mut ranges = calls::ranges(journal).peekable();
+    for (number, name) in FILES.into_iter().enumerate() {
+        let mut own = Vec::new();
+        while let Some(range) = ranges.next_if(|range| range.file == number) {
+            own.push(range);
+        }
+        let broken = |_| at(NAME)(io::Error::other("it can't be read again"));
+        let [old, new] = calls::lengths(journal, number).map_err(broken)?;
+        if let (Some(new), true) = (new, old != new || own.iter().any(|range| range.kind != Kind::Witness)) {
+            write(folder, number, new, &own, journal).map_err(at(name))?;
+        }
+    }
+    Ok(())
+}
+
+fn write(folder: &Folder, number: usize, length: u64, ranges: &[calls::Range], journal: &[u8]) -> io::Result<()> {
+    let there = folder.plain(number).map_err(|trouble| io::Error::other(trouble.words().to_string()))?;
+    let made = there.is_none().then(|| below::create(&folder.handle, FILES[number], USUAL)).transpose()?;
+    let (file, before) = match (&made, &there) {
+        (Some(made), _) => (made, 0),
+        (None, there) => there.as_ref().map(|plain| (&plain.file, plain.about.length)).expect("a file that is there"),
+    };
+    if before != length {
+        file.set_len(length)?;
+    }
+    for range in ranges {
+        match range.kind {
+            Kind::Witness => {}
+            Kind::Zeros if before <= range.offset => {}
+            Kind::Zeros => disk::clear(file, range.offset, range.length)?,
+            Kind::Replaced | Kind::Fresh => file.write_all_at(range.bytes(journal), range.offset)?,
+        }
+    }
+    file.sync_all()
+}
+
+/// Finishes a journal that another run left, whose files are all between. Its entry in the folder is synced first, since that run may have ended before it.
+pub fn settle(folder: &Folder, left: &Left) -> Done<()> {
+    let mut written = [false; FILES.len()];
+    for range in calls::ranges(left.bytes()).filter(|range| range.kind != Kind::Witness) {
+        written[range.file] = true;
+    }
+    for (number, written) in written.into_iter().enumerate() {
+        let [old, new] = left.lengths(number);
+        if old != new || written {
+            unshared(folder, number)?;
+        }
+    }
+    folder.handle.sync_all().map_err(|error| folder.trouble(NAME, error))?;
+    finish(folder, left.bytes())
+}

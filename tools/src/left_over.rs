@@ -1,0 +1,224 @@
+//! A journal that another run left, or that came from elsewhere: an input as any other. It is a plain file of a bounded length, the proved calls say whether
+//! it is a journal and whether every file of this archive is between before and after its change; else nothing is touched, and the words say which file and
+//! where. Reading commands apply it to their private images.
+use crate::below::{self, Access, Plain};
+use crate::counts::FILES;
+use crate::folder::Folder;
+use crate::image::{set_handlers, Image};
+use crate::journal_calls::{self as calls, Kind, Wrong};
+use crate::lock::{Patience, Use};
+use crate::memory::{self, Bytes};
+use crate::words::{in_file, Done, Trouble};
+use std::fs::File;
+use std::io;
+use std::os::unix::fs::FileExt;
+use std::path::{Path, PathBuf};
+
+pub const NAME: &str = "sleep-archive.journal";
+
+/// The first bytes of journals that older versions wrote.
+const OLD: &[u8] = b"sleep-archive 1\n";
+
+/// What this program takes on, so that no journal costs more than a moment and some memory: bytes, ranges, pages of the files that a judge looks at, and
+/// pages or mappings that reading takes. What it writes itself stays below the first three.
+pub const MOST_BYTES: u64 = 24 << 20;
+pub const MOST_RANGES: usize = 1 << 18;
+const MOST_PAGES: u64 = 6000;
+
+/// A file that a journal makes is judged in full where it is no longer than this.
+const MOST_MADE: usize = 1 << 20;
+
+/// What the lookout for a journal gives.
+pub enum Found {
+    None,
+    /// It went away while it was waited for.
+    Gone,
+    Journal(Journal),
+}
+
+/// The bytes of a journal's file, which is locked: a copy, so that those that are judged are those that are applied.
+pub struct Journal {
+    bytes: Vec<u8>,
+    /// Keeps the lock.
+    _plain: Plain,
+}
+
+impl Found {
+    /// Looks for a journal, and waits for its lock: whoever makes an archive has no other.
+    pub fn open(path: &Path, folder: &File, purpose: Use, patience: &mut Patience) -> Done<Found> {
+        let trouble = |error| way_out(path, &in_file(path, NAME, error));
+        let opened = below::open(folder, NAME, purpose.access()).or_else(|error| match error.kind() {
+            // An exclusive lock needs a file that can be written on a network's file system alone.
+            io::ErrorKind::PermissionDenied => below::open(folder, NAME, Access::Reading),
+            _ => Err(error),
+        });
+        let Some(looked) = opened.map_err(trouble)? else { return Ok(Found::None) };
+        patience.lock(&looked.file, purpose)?;
+        match below::look(folder, NAME).map_err(trouble)? {
+            Some(now) if now.identity == looked.about.identity => {}
+            _ => return Ok(Found::Gone),
+        }
+        let length = below::about(&looked.file).map_err(trouble)?.length;
+        if length > MOST_BYTES {
+            return Err(trouble(io::Error::other(format!("{length} bytes, longer than any journal that this program writes or reads"))));
+        }
+        let mut bytes = vec![0; length as usize];
+        looked.file.read_exact_at(&mut bytes, 0).map_err(trouble)?;
+        Ok(Found::Journal(Journal { bytes, _plain: looked }))
+    }
+}
+
+impl AsRef<[u8]> for Journal {
+    fn as_ref(&self) -> &[u8] {
+        &self.bytes
+    }
+}
+
+/// The words for a journal that nothing is done with, and what can be done.
+fn way_out(path: &Path, trouble: &Trouble) -> Trouble {
+    let path = path.display();
+    Trouble::File(format!(
+        "{}; nothing is touched. `sleep-archive journal {path}` tells about it, `sleep-archive journal {path} --drop` sets it aside, and reading commands \
+         pass over it with --without-journal",
+        trouble.words()
+    ))
+}
+
+fn not_taken(path: &Path, words: &str) -> Trouble {
+    way_out(path, &Trouble::File(format!("{}: {words}", path.join(NAME).display())))
+}
+
+/// What a judge says of bytes that are no journal.
+fn no_journal(wrong: Wrong, bytes: &[u8]) -> String {
+    let name = |file: u64| FILES[file as usize % FILES.len()];
+    match wrong {
+        _ if bytes.starts_with(OLD) => {
+            "the journal of an older version of this program, which has to finish it: any command of that version does".into()
+        }
+        Wrong::Length | Wrong::First => "no journal of this program, or of a later version of it".into(),
+        Wrong::State(file) => format!("no journal: it gives {} a length that it can't have", name(file)),
+        Wrong::Gap(file) => format!("no journal: it leaves a gap where {} grows", name(file)),
+        Wrong::Range(place) => format!("no journal: what stands at its byte {place} is no range, or lies outside the file"),
+        _ => "a damaged journal: its length or its hash is another".into(),
+    }
+}
+
+/// Which file is neither before nor after nor between, and where.
+fn strange(name: &str, length: Option<u64>, wrong: Wrong) -> String {
+    let state = length.map_or("absent".to_string(), |length| format!("{length} bytes long"));
+    match wrong {
+        Wrong::Met(_) => format!("{name} is {state}, which it is neither before its change nor after"),
+        Wrong::Byte(place) => format!("{name} has at byte {place} neither what it had before its change nor what it has after"),
+        _ => format!("{name} can't be judged"),
+    }
+}
+
+/// A journal that is one.
+pub struct Left {
+    journal: Journal,
+    path: PathBuf,
+    lengths: [[Option<u64>; 2]; 10],
+}
+
+impl Left {
+    /// Judges every file before the first byte of any is written: each is before, after or between.
+    pub fn belongs(&self, folder: &Folder) -> Done<()> {
+        set_handlers();
+        let mut at = calls::RANGES;
+        for (number, name) in FILES.iter().enumerate() {
+            let file = folder.plain(number)?;
+            let bytes = file.as_ref().map(|file| Bytes::of(&file.file, file.about.length)).transpose();
+            let bytes = bytes.map_err(|error| folder.trouble(name, error))?;
+            let bytes = bytes.as_ref().map(|bytes| bytes.as_ref());
+            let judged = calls::between(self.bytes(), number, at, bytes)
+                .and_then(|next| self.made(number, bytes.unwrap_or_default()).map(|()| next));
+            at = judged.map_err(|wrong| {
+                let length = file.map(|file| file.about.length);
+                not_taken(
+                    &folder.path,
+                    &format!("it belongs to another state of this archive, or to another one: {}", strange(name, length, wrong)),
+                )
+            })?;
+        }
+        Ok(())
+    }
+
+    /// A file that the journal makes has no old bytes to be judged by, and a copy's files never grow: the journal of `copy` would clear what the copy has
+    /// taken in since. So a short one (every bitfield) has zeros or its new bytes, as far as it is there; else somebody used it already.
+    fn made(&self, number: usize, bytes: &[u8]) -> Result<(), Wrong> {
+        if self.lengths[number][0].is_some() || bytes.len() > MOST_MADE {
+            return Ok(());
+        }
+        for range in calls::ranges(self.bytes()).filter(|range| range.file == number) {
+            let (from, new) = (range.offset as usize, range.bytes(self.bytes()));
+            let there = bytes.iter().enumerate().skip(from).take(range.length as usize);
+            if let Some((place, _)) = there.into_iter().find(|(place, byte)| **byte != 0 && new.get(place - from) != Some(byte)) {
+                return Err(Wrong::Byte(place as u64));
+            }
+        }
+        Ok(())
+    }
+
+    /// A journal that is one, whatever archive it belongs to.
+    pub fn checked(path: &Path, journal: Journal) -> Done<Left> {
+        let bytes = journal.as_ref();
+        calls::check(bytes).map_err(|wrong| not_taken(path, &no_journal(wrong, bytes)))?;
+        let mut lengths = [[None; 2]; 10];
+        for (number, lengths) in lengths.iter_mut().enumerate() {
+            *lengths = calls::lengths(bytes, number).map_err(|wrong| not_taken(path, &no_journal(wrong, bytes)))?;
+        }
+        let left = Left { journal, path: path.to_owned(), lengths };
+        let looked_at = left.pages(|kind| matches!(kind, Kind::Replaced | Kind::Witness));
+        if calls::ranges(left.bytes()).take(MOST_RANGES + 1).count() > MOST_RANGES || looked_at > MOST_PAGES {
+            return Err(not_taken(path, "it has more ranges than any journal that this program writes"));
+        }
+        Ok(left)
+    }
+
+    /// The pages that ranges of these kinds lie on, each once; of zeros what their two ends take, and a mapping.
+    fn pages(&self, counted: impl Fn(Kind) -> bool) -> u64 {
+        let (page, mut all, mut last) = (memory::page() as u64, 0, (FILES.len(), 0));
+        for range in calls::ranges(self.bytes()).take(MOST_RANGES).filter(|range| counted(range.kind)) {
+            let (first, end) = (range.offset / page, (range.offset + range.length).div_ceil(page));
+            let begun = range.file == last.0 && first < last.1;
+            let pages = end - if begun { last.1 } else { first };
+            all += if range.kind == Kind::Zeros { pages.min(3) } else { pages };
+            last = (range.file, end);
+        }
+        all
+    }
+
+    /// Whether its change can be borne in memory.
+    pub fn bear(&self) -> Done<()> {
+        if self.pages(|_| true) > MOST_PAGES {
+            let words = "the change that it holds is unfinished, and has too many parts to be read as done";
+            let path = self.path.display();
+            return Err(Trouble::File(format!(
+                "{}: {words}; `sleep-archive journal {path} --finish` finishes it",
+                self.path.join(NAME).display()
+            )));
+        }
+        Ok(())
+    }
+
+    pub fn bytes(&self) -> &[u8] {
+        self.journal.as_ref()
+    }
+
+    /// A file's length before and after the change.
+    pub fn lengths(&self, number: usize) -> [Option<u64>; 2] {
+        self.lengths[number]
+    }
+
+    /// An image with the change in it.
+    pub fn applied(&self, number: usize, mut image: Image) -> io::Result<Image> {
+        for range in calls::ranges(self.bytes()).filter(|range| range.file == number) {
+            match range.kind {
+                Kind::Witness => {}
+                Kind::Zeros => image.cleared(range.offset as usize, range.length as usize)?,
+                Kind::Replaced | Kind::Fresh => image.written(range.offset as usize, range.bytes(self.bytes()))?,
+            }
+        }
+        Ok(image)
+    }
+}

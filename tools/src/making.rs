@@ -1,0 +1,117 @@
+//! The commands that make an archive: an empty one, or partial copies of another.
+use crate::arguments::Arguments;
+use crate::changes::{changes, Change};
+use crate::commit::{commit, Room};
+use crate::counts::{Which, CONTENT_KEY, LONGEST, METADATA_KEY, MOST_CHUNKS};
+use crate::folder::{unmade, unmade_copy, Folder, Opening};
+use crate::inputs;
+use crate::journal_calls::{Given, Kind};
+use crate::kept::Kept;
+use crate::progress;
+use crate::reading::{only, Archive};
+use crate::words::{at_file, counted, refused, usage, Done, Trouble};
+use std::fs::File;
+use std::io;
+use std::path::Path;
+
+/// `new`: a folder with two empty registers.
+pub fn new(arguments: &Arguments) -> Done<()> {
+    let path = Path::new(only(&arguments.words(), "a folder")?);
+    let key = |name| arguments.option(name).map(|file| inputs::exactly::<32>(Path::new(file))).transpose();
+    let keys = [(METADATA_KEY, key("--metadata-key")?), (CONTENT_KEY, key("--content-key")?)];
+    made(path, Opening::writing(arguments)?, |folder| {
+        let (metadata, content) = (started(path)?, started(path)?);
+        let mut all = changes(folder, Which::Metadata, metadata.files())?;
+        all.extend(changes(folder, Which::Content, content.files())?);
+        for (number, key) in &keys {
+            if let Some(bytes) = key {
+                let range = Given { kind: Kind::Fresh, offset: 0, length: 32, old: &[], new: bytes };
+                all.push(Change { number: *number, old: None, length: 32, ranges: vec![range] });
+            }
+        }
+        commit(folder, all, Room::Free)
+    })
+}
+
+/// Makes a folder, and in it what makes an archive of it.
+fn made(path: &Path, opening: Opening, fill: impl Fn(&Folder) -> Done<()>) -> Done<()> {
+    let made = make_folder(path)?;
+    let result = Folder::open(path, opening).and_then(|folder| {
+        if folder.is_used()? {
+            return Err(Trouble::File(format!("{}: there is an archive already", path.display())));
+        }
+        fill(&folder)
+    });
+    if made && result.is_err() {
+        // Only an empty folder goes away: one with a journal in it stays, and the next command sees to it.
+        let _ = std::fs::remove_dir(path);
+    }
+    result
+}
+
+/// An empty register.
+fn started(path: &Path) -> Done<Kept> {
+    let mut store = unmade().map_err(|error| at_file(path, error))?;
+    store.start().map_err(|reason| refused(&path.display().to_string(), reason))?;
+    Ok(Kept::Whole(store))
+}
+
+/// Makes a folder unless there is one. Its entry is synced in either case: a run that made it may have ended before that.
+fn make_folder(path: &Path) -> Done<bool> {
+    let made = match std::fs::create_dir(path) {
+        Ok(()) => true,
+        Err(error) if error.kind() == io::ErrorKind::AlreadyExists => false,
+        Err(error) => return Err(at_file(path, error)),
+    };
+    let place = path.canonicalize().map_err(|error| at_file(path, error))?;
+    let above = place.parent().unwrap_or(&place);
+    match File::open(above).and_then(|above| above.sync_all()) {
+        Err(error) if made || error.kind() != io::ErrorKind::PermissionDenied => Err(at_file(above, error)),
+        _ => Ok(made),
+    }
+}
+
+/// `copy`: a folder with partial copies, of which nothing is known yet. Without numbers of its own the metadata register is an empty one.
+pub fn copy(arguments: &Arguments) -> Done<()> {
+    let path = Path::new(only(&arguments.words(), "a folder")?);
+    let counts = match (arguments.option("--of"), arguments.pair("--metadata")?, arguments.pair("--content")?) {
+        (Some(archive), None, None) => counts_of(&Archive::open(archive, Opening::writing(arguments)?.to_read())?)?,
+        (None, metadata, Some(content)) => [sensible("--metadata", metadata)?, sensible("--content", Some(content))?],
+        _ => return usage("--of ARCHIVE is needed, or --content N,SIZE and for the records --metadata N,SIZE"),
+    };
+    made(path, Opening::writing(arguments)?, |folder| {
+        let (metadata, content) = (copied(path, counts[0])?, copied(path, counts[1])?);
+        let mut all = changes(folder, Which::Metadata, metadata.files())?;
+        all.extend(changes(folder, Which::Content, content.files())?);
+        commit(folder, all, Room::Free)
+    })
+}
+
+/// Numbers that a register can have: so many chunks have at most so many bytes. More chunks than any register has are left to the call.
+fn sensible(option: &str, told: Option<(u64, u64)>) -> Done<Option<(u64, u64)>> {
+    match told {
+        Some((n, size)) if n <= MOST_CHUNKS && size > n * LONGEST => {
+            usage(format!("{option} {n},{size}: {} have at most {}", counted(n, "chunk"), counted(n * LONGEST, "byte")))
+        }
+        told => Ok(told),
+    }
+}
+
+/// The counts and the data sizes of both registers, after their first checks.
+fn counts_of(archive: &Archive) -> Done<[Option<(u64, u64)>; 2]> {
+    let count = |which: Which| {
+        let register = archive.register(which);
+        register.root_hash().map_err(|reason| refused(&archive.named(which), reason))?;
+        Ok(Some((register.n(), register.size())))
+    };
+    Ok([count(Which::Metadata)?, count(Which::Content)?])
+}
+
+fn copied(path: &Path, counts: Option<(u64, u64)>) -> Done<Kept> {
+    let Some((n, size)) = counts else { return started(path) };
+    // The call clears every byte, so no more is mapped than it takes; more chunks than it takes it refuses by their number alone.
+    let mut store = unmade_copy(if n > MOST_CHUNKS { 0 } else { n }, size).map_err(|error| at_file(path, error))?;
+    store.n = n;
+    progress::during("making the copy", size, || store.make()).map_err(|reason| refused(&path.display().to_string(), reason))?;
+    Ok(Kept::Copy(store))
+}

@@ -1,0 +1,59 @@
+//! Signals: faults of memory, and a pipe that nobody reads.
+const BUS: i32 = 7;
+const SEGMENT: i32 = 11;
+const PIPE: i32 = 13;
+const SIGNAL_INFO: i32 = 4;
+const DEFAULT: usize = 0;
+
+#[repr(C)]
+struct Action {
+    handler: usize,
+    mask: [u64; 16],
+    flags: i32,
+    restorer: usize,
+}
+
+extern "C" {
+    fn sigaction(signal: i32, action: *const Action, before: *mut Action) -> i32;
+    fn write(file: i32, bytes: *const u8, length: usize) -> isize;
+    fn _exit(status: i32) -> !;
+}
+
+type Handler = extern "C" fn(i32, *const u8, *const u8);
+
+fn handle(signal: i32, handler: usize, flags: i32) {
+    let action = Action { handler, mask: [0; 16], flags, restorer: 0 };
+    unsafe { sigaction(signal, &action, std::ptr::null_mut()) };
+}
+
+/// `written` meets the first write to a page that can't be written, `lost` a page that can't be read. Each gets the number of the signal and what is
+/// known of it.
+pub fn on_faults(written: Handler, lost: Handler) {
+    handle(SEGMENT, written as *const () as usize, SIGNAL_INFO);
+    handle(BUS, lost as *const () as usize, SIGNAL_INFO);
+}
+
+pub fn by_default(signal: i32) {
+    handle(signal, DEFAULT, 0);
+}
+
+/// A program that reads our output may stop reading: then we end as other programs do.
+pub fn end_with_a_broken_pipe() {
+    by_default(PIPE);
+}
+
+/// The address that a fault met, of what its handler is told.
+///
+/// # Safety
+/// `information` is what the system handed to a handler that was set by `on_faults`.
+pub unsafe fn address_met(information: *const u8) -> usize {
+    information.add(16).cast::<usize>().read()
+}
+
+/// Ends the program from within a handler of a signal.
+pub fn end_at_once(status: i32, message: &[u8]) -> ! {
+    unsafe {
+        write(2, message.as_ptr(), message.len());
+        _exit(status)
+    }
+}

@@ -114,8 +114,32 @@ fn taken(store: &Store, n: usize, chunk: u64) {
     }
 }
 
+/// A packet of 65,536 bytes: its check, and its taking in by a copy that does not hold the chunk and by one that does.
+fn taken_long() {
+    const LONG: usize = 65_536;
+    let mut store = Store::with_room(3, 3 * LONG);
+    store.start().unwrap();
+    store.append_list(&[LONG as u64; 3], &[9; 3 * LONG]).unwrap();
+    println!("longlist 3");
+    let root = store.register().root_hash().unwrap();
+    println!("longroot 3");
+    let mut packet = vec![0; LONG + PACKET_EXTRA];
+    let length = store.register().make_packet(0, &mut packet).unwrap();
+    println!("longpacket 3");
+    proved::check_packet(&packet[..length], 3, 0, &root).unwrap();
+    println!("longcheck 3");
+    let mut copy = CopyStore::with_room(3, 3 * LONG);
+    copy.make().unwrap();
+    println!("longmake 3");
+    for held in ["longfresh", "longheld"] {
+        copy.take_in(&packet[..length], 0, &root).unwrap();
+        println!("{held} 3");
+    }
+}
+
 fn main() {
     let folder = std::env::args().nth(1).expect("the folder of the images");
+    taken_long();
     let mut store = loaded(&folder);
     for n in [1000, 30_000, CHUNKS - 256] {
         proved::needs(n as u64, (n * LENGTH) as u64, &[LENGTH as u64; 256]).unwrap();

@@ -3,6 +3,8 @@
 //! include/sleep_register.h.
 #![allow(dead_code)]
 
+use std::ops::Range;
+
 /// What a refusal points at.
 #[derive(Clone, Copy, Debug, PartialEq, Eq)]
 pub enum Place {
@@ -41,6 +43,16 @@ pub enum Walked {
 
 /// What a packet has beside its chunk's bytes, at most.
 pub const PACKET_EXTRA: usize = 1526;
+
+/// The version that this wrapper is of, as include/sleep_register.h has it; `version` tells that of the archive that is linked.
+pub const VERSION: u64 = 3038000;
+
+/// The stored entry of a chunk's leaf: its hash and its length.
+#[derive(Clone, Copy, Debug, PartialEq, Eq)]
+pub struct Leaf {
+    pub hash: [u8; 32],
+    pub length: u64,
+}
 
 /// What a job will need: the used sizes of the four images afterwards, each signature counted, and the runs of BLAKE2b's compression function for
 /// the new leaves, for the parents that they complete and for one root hash at the end, and all runs together.
@@ -271,6 +283,8 @@ extern "C" {
         answer: &mut [u64; 3]);
     fn sleep_flat_old_root(t: In, tl: u64, g: In, gl: u64, b: In, bl: u64, d: In, dl: u64, n: u64, s: u64, size: u64, m: u64, root: Out,
         answer: &mut [u64; 3]);
+    fn sleep_flat_stored_leaf(t: In, tl: u64, g: In, gl: u64, b: In, bl: u64, d: In, dl: u64, n: u64, s: u64, size: u64, chunk: u64,
+        hash: Out, length: *mut u64, answer: &mut [u64; 3]);
     fn sleep_flat_audit(t: In, tl: u64, g: In, gl: u64, b: In, bl: u64, d: In, dl: u64, n: u64, s: u64, size: u64, answer: &mut [u64; 3]);
     fn sleep_flat_place(t: In, tl: u64, g: In, gl: u64, b: In, bl: u64, d: In, dl: u64, n: u64, s: u64, size: u64, chunk: u64,
         out: *mut u64, answer: &mut [u64; 3]);
@@ -313,6 +327,21 @@ extern "C" {
         answer: &mut [u64; 4]);
     fn sleep_flat_compare(t: In, tl: u64, g: In, gl: u64, b: In, bl: u64, d: In, dl: u64, n: u64, s: u64, size: u64, t2: In, tl2: u64,
         g2: In, gl2: u64, b2: In, bl2: u64, d2: In, dl2: u64, n2: u64, s2: u64, size2: u64, answer: &mut [u64; 4]);
+    fn sleep_flat_audit_tree_part(t: In, tl: u64, g: In, gl: u64, b: In, bl: u64, d: In, dl: u64, n: u64, s: u64, size: u64, from: u64, to: u64,
+        answer: &mut [u64; 3]);
+    fn sleep_flat_audit_bitfield_part(t: In, tl: u64, g: In, gl: u64, b: In, bl: u64, d: In, dl: u64, n: u64, s: u64, size: u64, from: u64,
+        to: u64, answer: &mut [u64; 3]);
+    fn sleep_flat_compare_held_part(t: In, tl: u64, g: In, gl: u64, b: In, bl: u64, d: In, dl: u64, n: u64, s: u64, size: u64,
+        answer: &mut [u64; 3]);
+    fn sleep_flat_compare_roots_part(t: In, tl: u64, g: In, gl: u64, b: In, bl: u64, d: In, dl: u64, n: u64, s: u64, size: u64, t2: In,
+        tl2: u64, g2: In, gl2: u64, b2: In, bl2: u64, d2: In, dl2: u64, n2: u64, s2: u64, size2: u64, answer: &mut [u64; 4]);
+    fn sleep_flat_compare_walk_part(t: In, tl: u64, g: In, gl: u64, b: In, bl: u64, d: In, dl: u64, n: u64, s: u64, size: u64, t2: In,
+        tl2: u64, g2: In, gl2: u64, b2: In, bl2: u64, d2: In, dl2: u64, n2: u64, s2: u64, size2: u64, from: u64, to: u64,
+        answer: &mut [u64; 4]);
+    fn sleep_flat_copy_audit_tree_part(t: In, tl: u64, b: In, bl: u64, d: In, dl: u64, n: u64, size: u64, from: u64, to: u64,
+        answer: &mut [u64; 3]);
+    fn sleep_flat_copy_audit_bitfield_part(t: In, tl: u64, b: In, bl: u64, d: In, dl: u64, n: u64, size: u64, from: u64, to: u64,
+        answer: &mut [u64; 3]);
     fn sleep_flat_make_copy(t: Out, tl: u64, b: Out, bl: u64, d: Out, dl: u64, n: u64, size: u64, answer: &mut [u64; 3]);
     fn sleep_flat_take_in(t: Out, tl: u64, b: Out, bl: u64, d: Out, dl: u64, n: u64, size: u64, packet: In, packet_length: u64, chunk: u64,
         root: In, answer: &mut [u64; 3]);
@@ -320,6 +349,8 @@ extern "C" {
     fn sleep_flat_copy_root_hash(t: In, tl: u64, b: In, bl: u64, d: In, dl: u64, n: u64, size: u64, root: Out, answer: &mut [u64; 3]);
     fn sleep_flat_copy_old_root(t: In, tl: u64, b: In, bl: u64, d: In, dl: u64, n: u64, size: u64, m: u64, root: Out,
         answer: &mut [u64; 3]);
+    fn sleep_flat_copy_stored_leaf(t: In, tl: u64, b: In, bl: u64, d: In, dl: u64, n: u64, size: u64, chunk: u64, hash: Out,
+        length: *mut u64, answer: &mut [u64; 3]);
     fn sleep_flat_copy_place(t: In, tl: u64, b: In, bl: u64, d: In, dl: u64, n: u64, size: u64, chunk: u64, out: *mut u64,
         answer: &mut [u64; 3]);
     fn sleep_flat_copy_byte(t: In, tl: u64, b: In, bl: u64, d: In, dl: u64, n: u64, size: u64, offset: u64, out: *mut u64,
@@ -342,6 +373,16 @@ extern "C" {
     fn sleep_flat_copy_node_of(t: In, tl: u64, b: In, bl: u64, d: In, dl: u64, n: u64, size: u64, chunk: u64, answer: &mut [u64; 70]);
     fn sleep_flat_copy_find(t: In, tl: u64, b: In, bl: u64, d: In, dl: u64, n: u64, size: u64, path: In, path_length: u64,
         answer: &mut [u64; 5]);
+    fn sleep_flat_journal_begin(journal: Out, journal_length: u64, states: &[u64; 20], answer: &mut [u64; 2]);
+    fn sleep_flat_journal_put(journal: Out, journal_length: u64, at: u64, file: u64, kind: u64, offset: u64, length: u64, old_bytes: In,
+        old_bytes_length: u64, new_bytes: In, new_bytes_length: u64, answer: &mut [u64; 2]);
+    fn sleep_flat_journal_end(journal: Out, journal_length: u64, at: u64, answer: &mut [u64; 2]);
+    fn sleep_flat_journal_check(journal: In, journal_length: u64, answer: &mut [u64; 2]);
+    fn sleep_flat_journal_states(journal: In, journal_length: u64, file: u64, states: &mut [u64; 2], answer: &mut [u64; 2]);
+    fn sleep_flat_journal_between(journal: In, journal_length: u64, file: u64, at: u64, there: u64, bytes: In, bytes_length: u64,
+        answer: &mut [u64; 2]);
+    fn sleep_flat_journal_next(journal: In, journal_length: u64, at: u64, range: &mut [u64; 5], answer: &mut [u64; 2]);
+    fn sleep_flat_version() -> u64;
 }
 
 impl Answer {
@@ -358,6 +399,19 @@ impl Answer {
         match self.number {
             0 => Ok(given),
             _ => Err(self.refusal()),
+        }
+    }
+}
+
+impl Compared {
+    fn comparison(self) -> Comparison {
+        match self.outcome {
+            0 => Comparison::Equal,
+            1 => Comparison::RootsDiffer,
+            2 => Comparison::CollisionAtRoots,
+            3 => Comparison::CollisionAtIndex(self.answer.place),
+            4 => Comparison::FirstRefused(self.answer.refusal()),
+            _ => Comparison::SecondRefused(self.answer.refusal()),
         }
     }
 }
@@ -435,6 +489,11 @@ pub fn write_header(content: &[u8], out: &mut [u8]) -> Result<usize, Refusal> {
     let answer = call!(sleep_flat_write_header, content.as_ptr(), content.len() as u64, out.as_mut_ptr(), out.len() as u64, &mut length);
     answer.result(())?;
     Ok(length as usize)
+}
+
+/// The version of the archive that is linked: `VERSION` where it is the one that this wrapper is of.
+pub fn version() -> u64 {
+    unsafe { sleep_flat_version() }
 }
 
 /// The content bytes of the Header that `bytes` are.
@@ -564,6 +623,13 @@ impl<'a> Register<'a> {
         answer.result(root)
     }
 
+    /// The entry that is stored for a chunk's leaf, held or released. Nothing is audited.
+    pub fn stored_leaf(&self, chunk: u64) -> Result<Leaf, Refusal> {
+        let mut leaf = Leaf { hash: [0; 32], length: 0 };
+        let answer = reading!(sleep_flat_stored_leaf, self, chunk, leaf.hash.as_mut_ptr(), &mut leaf.length);
+        answer.result(leaf)
+    }
+
     /// What an append of a chunk would give, its root hash, or its refusal; nothing is written.
     pub fn preview(&self, chunk: &[u8]) -> Result<[u8; 32], Refusal> {
         let mut root = [0; 32];
@@ -667,14 +733,7 @@ impl<'a> Register<'a> {
         #[rustfmt::skip]
         let said = reading!(sleep_flat_compare, self, b.tree.as_ptr(), b.tree.len() as u64, b.signatures.as_ptr(), b.signatures.len() as u64,
             b.bitfield.as_ptr(), b.bitfield.len() as u64, b.data.as_ptr(), b.data.len() as u64, b.n, b.s, b.size);
-        match said.outcome {
-            0 => Comparison::Equal,
-            1 => Comparison::RootsDiffer,
-            2 => Comparison::CollisionAtRoots,
-            3 => Comparison::CollisionAtIndex(said.answer.place),
-            4 => Comparison::FirstRefused(said.answer.refusal()),
-            _ => Comparison::SecondRefused(said.answer.refusal()),
-        }
+        said.comparison()
     }
 }
 
@@ -705,6 +764,13 @@ impl<'a> Copied<'a> {
         let mut root = [0; 32];
         let answer = reading_copy!(sleep_flat_copy_old_root, self, m, root.as_mut_ptr());
         answer.result(root)
+    }
+
+    /// The entry that is stored for a chunk's leaf, held or not, where it is known. Nothing is audited.
+    pub fn stored_leaf(&self, chunk: u64) -> Result<Leaf, Refusal> {
+        let mut leaf = Leaf { hash: [0; 32], length: 0 };
+        let answer = reading_copy!(sleep_flat_copy_stored_leaf, self, chunk, leaf.hash.as_mut_ptr(), &mut leaf.length);
+        answer.result(leaf)
     }
 
     /// Start and length of a chunk, held or not.
@@ -791,6 +857,81 @@ impl<'a> Copied<'a> {
         let sought = reading_copy!(sleep_flat_copy_find, self, path.as_ptr(), path.len() as u64);
         sought.answer.result(())?;
         Ok((sought.found != 0).then_some(sought.chunk))
+    }
+}
+
+// ---- audits and comparisons in parts (include/sleep_register.h, AUDITS IN PARTS)
+
+/// How many tree entries `n` chunks have, and how many entries their bitfield.
+pub fn tree_entries(n: u64) -> u64 {
+    (2 * n).saturating_sub(1)
+}
+
+pub fn bitfield_entries(n: u64) -> u64 {
+    n.div_ceil(8192)
+}
+
+/// What two parts of one audit say together: the lower number, and of one number the lower place; "done" comes last.
+pub fn earlier(a: Result<(), Refusal>, b: Result<(), Refusal>) -> Result<(), Refusal> {
+    fn order(refusal: Refusal) -> (u64, u64) {
+        let place = match refusal.place {
+            Place::None => 0,
+            Place::TreeIndex(at) | Place::BitfieldByte(at) => at,
+        };
+        (refusal.number, place)
+    }
+    match (a, b) {
+        (Err(x), Err(y)) if order(x) < order(y) => a,
+        (Err(_), Ok(())) => a,
+        _ => b,
+    }
+}
+
+impl Register<'_> {
+    /// The audit's checks, then the tree entries of a range.
+    pub fn audit_tree_part(&self, range: Range<u64>) -> Result<(), Refusal> {
+        reading!(sleep_flat_audit_tree_part, self, range.start, range.end).result(())
+    }
+
+    /// The audit's checks, then the bitfield's entries of a range.
+    pub fn audit_bitfield_part(&self, range: Range<u64>) -> Result<(), Refusal> {
+        reading!(sleep_flat_audit_bitfield_part, self, range.start, range.end).result(())
+    }
+
+    /// The checks for a comparison that look at no tree entry.
+    pub fn compare_held_part(&self) -> Result<(), Refusal> {
+        reading!(sleep_flat_compare_held_part, self).result(())
+    }
+
+    /// The root hashes, then the root messages. `Equal` says that neither differs.
+    pub fn compare_roots_part(&self, second: &Register) -> Comparison {
+        let b = second;
+        #[rustfmt::skip]
+        let said = reading!(sleep_flat_compare_roots_part, self, b.tree.as_ptr(), b.tree.len() as u64, b.signatures.as_ptr(),
+            b.signatures.len() as u64, b.bitfield.as_ptr(), b.bitfield.len() as u64, b.data.as_ptr(), b.data.len() as u64, b.n, b.s, b.size);
+        said.comparison()
+    }
+
+    /// The lowest collision of a range of tree indexes. `Equal` says that none of them has one.
+    pub fn compare_walk_part(&self, second: &Register, range: Range<u64>) -> Comparison {
+        let b = second;
+        #[rustfmt::skip]
+        let said = reading!(sleep_flat_compare_walk_part, self, b.tree.as_ptr(), b.tree.len() as u64, b.signatures.as_ptr(),
+            b.signatures.len() as u64, b.bitfield.as_ptr(), b.bitfield.len() as u64, b.data.as_ptr(), b.data.len() as u64, b.n, b.s, b.size,
+            range.start, range.end);
+        said.comparison()
+    }
+}
+
+impl Copied<'_> {
+    /// The checks of a copy's audit, then the tree entries of a range. The place may lie outside it.
+    pub fn audit_tree_part(&self, range: Range<u64>) -> Result<(), Refusal> {
+        reading_copy!(sleep_flat_copy_audit_tree_part, self, range.start, range.end).result(())
+    }
+
+    /// The checks of a copy's audit, then the bitfield's entries of a range.
+    pub fn audit_bitfield_part(&self, range: Range<u64>) -> Result<(), Refusal> {
+        reading_copy!(sleep_flat_copy_audit_bitfield_part, self, range.start, range.end).result(())
     }
 }
 
@@ -957,5 +1098,179 @@ impl<B: AsRef<[u8]> + AsMut<[u8]>> Store<B> {
     pub fn take_back(&mut self, packet: &[u8], chunk: u64, root: &[u8; 32]) -> Result<(), Refusal> {
         let (tree, bitfield, data) = (self.tree.as_mut(), self.bitfield.as_mut(), self.data.as_mut());
         CopyStore { tree, bitfield, data, n: self.n, size: self.size }.take_in(packet, chunk, root)
+    }
+}
+
+/// The journal of a change of an archive's ten files (docs/FORMAT.md, "The journal"). A state is 0 where a file is absent, else its length and 1.
+pub mod journal {
+    use super::{
+        sleep_flat_journal_begin, sleep_flat_journal_between, sleep_flat_journal_check, sleep_flat_journal_end, sleep_flat_journal_next,
+        sleep_flat_journal_put, sleep_flat_journal_states,
+    };
+
+    /// Where the first range stands, the bytes of the hash, the least and the most bytes of a journal, and the bytes of a range but for its own.
+    pub const FRONT: u64 = 184;
+    pub const HASH: u64 = 32;
+    pub const LEAST: u64 = 216;
+    pub const MOST: u64 = 1 << 28;
+    pub const HEADER: u64 = 18;
+
+    /// The files of an archive, by their numbers.
+    pub const FILES: u64 = 10;
+
+    /// Kinds of ranges.
+    pub const REPLACED: u64 = 1;
+    pub const FRESH: u64 = 2;
+    pub const BLANK: u64 = 3;
+    pub const WITNESS: u64 = 4;
+
+    /// Why a call is not done.
+    #[derive(Clone, Copy, PartialEq, Eq, Debug)]
+    pub enum Wrong {
+        /// The length is no journal's, or there is no room.
+        Length,
+        /// It does not begin as a journal does.
+        First,
+        /// Its own length is not its length.
+        OwnLength,
+        /// The states of this file are wrong.
+        State(u64),
+        /// The range at this place is wrong, or there is none.
+        Range(u64),
+        /// This file is not covered from its old to its new length.
+        Gap(u64),
+        /// The hash is wrong.
+        Hash,
+        /// The state of this file, as it is, is not between.
+        Met(u64),
+        /// The byte at this offset of the file, as it is, is not between.
+        Byte(u64),
+        /// No such file or kind, or not as many bytes as kind and length ask.
+        Unfit,
+    }
+
+    /// The state of a file.
+    pub fn state(length: Option<u64>) -> u64 {
+        length.map_or(0, |length| length + 1)
+    }
+
+    /// The length that a state gives; nothing where the file is absent.
+    pub fn length(state: u64) -> Option<u64> {
+        state.checked_sub(1)
+    }
+
+    fn said([number, place]: [u64; 2]) -> Result<u64, Wrong> {
+        match number {
+            0 => Ok(place),
+            1 => Err(Wrong::Length),
+            2 => Err(Wrong::First),
+            3 => Err(Wrong::OwnLength),
+            4 => Err(Wrong::State(place)),
+            5 => Err(Wrong::Range(place)),
+            6 => Err(Wrong::Gap(place)),
+            7 => Err(Wrong::Hash),
+            8 => Err(Wrong::Met(place)),
+            9 => Err(Wrong::Byte(place)),
+            _ => Err(Wrong::Unfit),
+        }
+    }
+
+    /// Begins a journal with the old and the new state of each file; the first range's place.
+    pub fn begin(journal: &mut [u8], states: &[u64; 20]) -> Result<u64, Wrong> {
+        let (mut answer, length) = ([0; 2], journal.len() as u64);
+        unsafe { sleep_flat_journal_begin(journal.as_mut_ptr(), length, states, &mut answer) };
+        said(answer)
+    }
+
+    /// A range to be put: its file, kind, offset and length, and the bytes that its kind asks for. A witness's are old ones.
+    #[derive(Clone, Copy)]
+    pub struct Given<'a> {
+        pub file: u64,
+        pub kind: u64,
+        pub offset: u64,
+        pub length: u64,
+        pub old: &'a [u8],
+        pub new: &'a [u8],
+    }
+
+    /// Puts a range at a place; the next range's place.
+    pub fn put(journal: &mut [u8], at: u64, given: Given) -> Result<u64, Wrong> {
+        let (mut answer, long) = ([0; 2], journal.len() as u64);
+        let Given { file, kind, offset, length, old, new } = given;
+        unsafe {
+            sleep_flat_journal_put(
+                journal.as_mut_ptr(),
+                long,
+                at,
+                file,
+                kind,
+                offset,
+                length,
+                old.as_ptr(),
+                old.len() as u64,
+                new.as_ptr(),
+                new.len() as u64,
+                &mut answer,
+            )
+        };
+        said(answer)
+    }
+
+    /// Ends a journal behind its last range, where `check` would accept it; its length.
+    pub fn end(journal: &mut [u8], at: u64) -> Result<u64, Wrong> {
+        let (mut answer, length) = ([0; 2], journal.len() as u64);
+        unsafe { sleep_flat_journal_end(journal.as_mut_ptr(), length, at, &mut answer) };
+        said(answer)
+    }
+
+    /// Whether bytes are a journal.
+    pub fn check(journal: &[u8]) -> Result<(), Wrong> {
+        let mut answer = [0; 2];
+        unsafe { sleep_flat_journal_check(journal.as_ptr(), journal.len() as u64, &mut answer) };
+        said(answer).map(|_| ())
+    }
+
+    /// The old and the new state of a file.
+    pub fn states(journal: &[u8], file: u64) -> Result<[u64; 2], Wrong> {
+        let (mut answer, mut states) = ([0; 2], [0; 2]);
+        unsafe { sleep_flat_journal_states(journal.as_ptr(), journal.len() as u64, file, &mut states, &mut answer) };
+        said(answer).map(|_| states)
+    }
+
+    /// Whether a file as it is, nothing where it is absent, is between; its ranges begin at a place. The next file's begin at the place given.
+    pub fn between(journal: &[u8], file: u64, at: u64, bytes: Option<&[u8]>) -> Result<u64, Wrong> {
+        let mut answer = [0; 2];
+        let (there, bytes) = (u64::from(bytes.is_some()), bytes.unwrap_or(&[]));
+        unsafe {
+            sleep_flat_journal_between(
+                journal.as_ptr(),
+                journal.len() as u64,
+                file,
+                at,
+                there,
+                bytes.as_ptr(),
+                bytes.len() as u64,
+                &mut answer,
+            )
+        };
+        said(answer)
+    }
+
+    /// A range of a journal; `place` is where in the journal the bytes stand that the file has there after the change.
+    #[derive(Clone, Copy, PartialEq, Eq, Debug)]
+    pub struct Range {
+        pub file: u64,
+        pub kind: u64,
+        pub offset: u64,
+        pub length: u64,
+        pub place: u64,
+    }
+
+    /// The range at a place, and the next one's place; nothing behind the last one.
+    pub fn next(journal: &[u8], at: u64) -> Option<(Range, u64)> {
+        let (mut answer, mut range) = ([0; 2], [0; 5]);
+        unsafe { sleep_flat_journal_next(journal.as_ptr(), journal.len() as u64, at, &mut range, &mut answer) };
+        let [file, kind, offset, length, place] = range;
+        said(answer).ok().map(|next| (Range { file, kind, offset, length, place }, next))
     }
 }

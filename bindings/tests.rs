@@ -2,7 +2,7 @@
 mod sleep_register;
 
 use sleep_register::{
-    check_packet, compare_packets, group, hash, hash_parts, label, needs, read_header, read_node, ungroup, write_header, write_node, Comparison, CopyStore, HEADER_BYTES, NODE_ROOM, Name, Needs, Node, PACKET_EXTRA, Place, Refusal, Stat, Store, Table, Walked, Writer,
+    bitfield_entries, check_packet, compare_packets, earlier, group, hash, hash_parts, label, needs, read_header, read_node, tree_entries, ungroup, version, write_header, write_node, Comparison, CopyStore, HEADER_BYTES, Leaf, NODE_ROOM, Name, Needs, Node, PACKET_EXTRA, Place, Refusal, Register, Stat, Store, Table, VERSION, Walked, Writer,
 };
 
 fn refused<T>(number: u64, place: Place) -> Result<T, Refusal> {
@@ -40,6 +40,34 @@ fn append_gives_the_root_hash() {
     let root = store.append(b"abcd").unwrap();
     assert_eq!(store.register().root_hash(), Ok(root));
     assert_eq!(store.append(b""), refused(8, Place::None));
+}
+
+#[test]
+fn the_archive_is_of_this_version() {
+    assert_eq!(version(), VERSION);
+}
+
+/// A leaf's entry is there of a released chunk too, and of a copy where it is known.
+#[test]
+fn stored_leaves() {
+    let mut store = filled(&[b"AB", b"", b"CDE", b"F", b"GH"]);
+    let chunks: [&[u8]; 5] = [b"AB", b"", b"CDE", b"F", b"GH"];
+    let leaf = |chunk: &[u8]| {
+        let prefix = [&[0][..], &(chunk.len() as u64).to_be_bytes()].concat();
+        Leaf { hash: hash_parts(b"", &prefix, chunk).unwrap(), length: chunk.len() as u64 }
+    };
+    let (mut copy, root) = (made(5, 8), store.register().root_hash().unwrap());
+    assert_eq!(copy.copied().stored_leaf(2), refused(20, Place::TreeIndex(3)));
+    assert_eq!(copy.take_in(&packet_of(&store, 2), 2, &root), Ok(()));
+    assert_eq!((copy.copied().stored_leaf(2), copy.copied().stored_leaf(3)), (Ok(leaf(b"CDE")), Ok(leaf(b"F"))));
+    assert_eq!(copy.copied().stored_leaf(1), refused(20, Place::TreeIndex(2)));
+    assert_eq!(copy.copied().stored_leaf(5), refused(9, Place::None));
+    for (k, chunk) in chunks.iter().enumerate() {
+        assert_eq!(store.register().stored_leaf(k as u64), Ok(leaf(chunk)));
+        store.release(k as u64).unwrap();
+        assert_eq!(store.register().stored_leaf(k as u64), Ok(leaf(chunk)));
+    }
+    assert_eq!(store.register().stored_leaf(5), refused(9, Place::None));
 }
 
 #[test]
@@ -215,6 +243,50 @@ fn comparisons() {
     let refusal = Refusal { number: 11, place: Place::BitfieldByte(32) };
     assert_eq!(first.register().compare(&second.register()), Comparison::SecondRefused(refusal));
     assert_eq!(second.register().compare(&first.register()), Comparison::FirstRefused(refusal));
+}
+
+/// Parts that cover both files, two ranges each, the later ones first.
+fn in_parts(r: &Register, cut: u64) -> Result<(), Refusal> {
+    let (entries, rows) = (tree_entries(r.n), bitfield_entries(r.n));
+    let tree = earlier(r.audit_tree_part(cut..entries), r.audit_tree_part(0..cut));
+    earlier(earlier(r.audit_bitfield_part(1..rows), r.audit_bitfield_part(0..1)), tree)
+}
+
+#[test]
+fn parts_give_the_audit() {
+    let pieces = [&b"AB"[..], b"", b"CDE", b"F", b"GHIJ", b"", b"K"];
+    let whole = filled(&pieces);
+    for at in 0..whole.tree.len() {
+        let mut store = whole.clone();
+        store.tree[at] ^= 1;
+        for cut in 0..14 {
+            assert_eq!(in_parts(&store.register(), cut), store.register().audit());
+        }
+    }
+    let r = whole.register();
+    assert_eq!(in_parts(&r, 5), Ok(()));
+    let turned = std::ops::Range { start: 9, end: 2 };
+    assert_eq!((r.audit_tree_part(7..7), r.audit_tree_part(turned.clone()), r.audit_bitfield_part(turned)), (Ok(()), Ok(()), Ok(())));
+    assert_eq!((r.audit_tree_part(u64::MAX..u64::MAX), r.audit_bitfield_part(5..u64::MAX)), (Ok(()), Ok(())));
+    assert_eq!(Register { n: 8, ..r }.audit_tree_part(0..0), refused(4, Place::None));
+}
+
+#[test]
+fn parts_give_the_comparison() {
+    let (first, mut second) = (filled(&[b"AB", b"", b"CDE"]), filled(&[b"AB", b"", b"CDE"]));
+    assert_eq!(first.register().compare_roots_part(&second.register()), Comparison::Equal);
+    assert_eq!(first.register().compare_walk_part(&second.register(), 0..5), Comparison::Equal);
+    second.data[3] ^= 1; // a damaged register has another message under the stored hash
+    assert_eq!(first.register().compare_walk_part(&second.register(), 0..4), Comparison::Equal);
+    assert_eq!(first.register().compare_walk_part(&second.register(), 4..5), Comparison::CollisionAtIndex(4));
+    second.release(1).unwrap();
+    assert_eq!(second.register().compare_held_part(), refused(18, Place::TreeIndex(2)));
+    let other = filled(&[b"AB"]);
+    assert_eq!(first.register().compare_roots_part(&other.register()), Comparison::RootsDiffer);
+    assert_eq!(first.register().compare_walk_part(&other.register(), 0..5), Comparison::Equal);
+    let short = Register { n: 1_048_577, ..other.register() };
+    let Comparison::SecondRefused(reason) = first.register().compare_roots_part(&short) else { panic!("not refused") };
+    assert_eq!(reason, Refusal { number: 2, place: Place::None });
 }
 
 /// Two words that rise by 1, and three bytes: the difference's bytes stand with those of the first word.
@@ -555,4 +627,41 @@ fn records_of_a_copy() {
     assert_eq!(copy.copied().node_of(2).map(|node| node.path), Ok(&b"/coat"[..]));
     assert_eq!(copy.copied().node_of(0), refused(15, Place::TreeIndex(0)));
     assert_eq!((copy.copied().find(b"/coat"), copy.copied().find(b"/")), (Ok(Some(2)), refused(18, Place::TreeIndex(2))));
+}
+
+#[test]
+fn a_journal_made_judged_and_read() {
+    use sleep_register::journal::{begin, between, check, end, next, put, state, states, Given, Wrong, BLANK, FRESH, FRONT, HASH, REPLACED, WITNESS};
+    let (old, mut new) = ([5; 32], [5; 32]);
+    new[..2].copy_from_slice(&[7, 8]);
+    let mut given = [0; 20];
+    (given[16], given[17], given[19]) = (state(Some(32)), state(Some(32)), state(Some(32)));
+    let ranges = [
+        Given { file: 8, kind: REPLACED, offset: 0, length: 2, old: &old[..2], new: &new[..2] },
+        Given { file: 8, kind: WITNESS, offset: 2, length: 1, old: &old[2..3], new: &[] },
+        Given { file: 9, kind: FRESH, offset: 0, length: 4, old: &[], new: &[1, 2, 3, 4] },
+        Given { file: 9, kind: BLANK, offset: 4, length: 28, old: &[], new: &[] },
+    ];
+    let mut held = [0xa5; 400];
+    let mut at = begin(&mut held, &given).unwrap();
+    assert_eq!(put(&mut held, at, Given { kind: FRESH, ..ranges[0] }), Err(Wrong::Unfit));
+    for range in ranges {
+        at = put(&mut held, at, range).unwrap();
+    }
+    assert_eq!(end(&mut held, at - 18), Err(Wrong::Gap(9)));
+    let long = end(&mut held, at).unwrap();
+    assert_eq!(long, at + HASH);
+    let journal = &mut held[..long as usize];
+    assert_eq!((check(journal), states(journal, 9), states(journal, 10)), (Ok(()), Ok([0, 33]), Err(Wrong::Unfit)));
+    let key = next(journal, FRONT).unwrap();
+    assert_eq!((key.0.file, key.0.kind, journal[key.0.place as usize]), (8, REPLACED, 7));
+    let torn = [&[5, 8][..], &old[2..]].concat();
+    for bytes in [&old[..], &new, &torn] {
+        assert_eq!(between(journal, 8, FRONT, Some(bytes)), Ok(FRONT + 41));
+    }
+    assert_eq!(between(journal, 8, FRONT, Some(&[&old[..2], &[9], &old[3..]].concat())), Err(Wrong::Byte(2)));
+    assert_eq!((between(journal, 8, FRONT, None), between(journal, 9, FRONT + 41, Some(&[]))), (Err(Wrong::Met(8)), Ok(at)));
+    assert_eq!(next(journal, at), None);
+    journal[190] ^= 1;
+    assert_eq!((check(journal), check(&journal[1..])), (Err(Wrong::Range(184)), Err(Wrong::First)));
 }

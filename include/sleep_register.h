@@ -11,6 +11,7 @@
  *     write         sleep_start, sleep_append, sleep_append_list, sleep_preview, sleep_store_signature, sleep_release
  *     judge         sleep_audit, sleep_compare
  *     root hashes   sleep_root_hash, sleep_old_root
+ *     entries       sleep_stored_leaf
  *     find, read    sleep_place, sleep_byte, sleep_read, sleep_search, sleep_short_place, sleep_short_byte, sleep_short_search
  *     packets       sleep_make_packet, sleep_check_packet, sleep_compare_packets
  *     coordinates   sleep_group, sleep_ungroup
@@ -18,6 +19,9 @@
  *     stations      sleep_fresh, sleep_enter, sleep_serve
  *     records       sleep_write_header, sleep_write_node, sleep_read_header, sleep_read_node, sleep_header_of, sleep_node_of, sleep_find
  *     copies        sleep_make_copy, sleep_take_in, sleep_copy_audit, and sleep_copy_.. for each call above that reads
+ *     journal       sleep_journal_begin, sleep_journal_put, sleep_journal_end, sleep_journal_check, sleep_journal_states, sleep_journal_between,
+ *                   sleep_journal_next
+ *     version       SLEEP_VERSION, sleep_version
  *
  * THE REGISTER
  *   A register is four images, which the caller keeps in buffers of its own, and three numbers, which the caller keeps too:
@@ -74,6 +78,23 @@
  *   register that the answer names; of sleep_read_header the bytes lent, and of sleep_header_of the bytes of the chunk, whose place in data
  *   sleep_place gives. The parts of a Node are of the bytes lent or of the chunk likewise.
  *
+ * AUDITS IN PARTS
+ *   An audit of many chunks can be cut: sleep_audit_tree_part judges the tree entries from `from` on and before `to`, sleep_audit_bitfield_part the
+ *   bitfield's entries of a range, and sleep_copy_audit_.._part do so on a copy. A part makes the audit's checks first and finds the start of its first
+ *   leaf itself; it writes nothing, so that parts may run at the same time on threads, in any order, and overlap. Ranges that are empty, turned round or
+ *   outside are done behind the checks. n chunks have 2n - 1 tree entries (none for n = 0) and n / 8192, rounded up, entries in the bitfield.
+ *   What parts say together is the answer with the lowest number, and of one number the lowest place, whichever part named it: sleep_earlier of
+ *   two. Where the ranges cover both files, and there is at least one part (n = 0 too: it makes the checks), that is what sleep_audit answers:
+ *       threads k = 0 .. T - 1:  part[k] = sleep_audit_tree_part(.., entries * k / T, entries * (k + 1) / T)
+ *       meanwhile:               whole = sleep_audit_bitfield_part(.., 0, (n + 8191) / 8192)
+ *       at the end:              for each k: whole = sleep_earlier(whole, part[k])
+ *   A part costs what its chunks cost to hash, and a walk over the lengths of the leaves before it, so a few parts for each thread are plenty.
+ *   To stop and go on later, keep how far every range came, with n, size and the root hash, and judge the other ranges then: together they give what
+ *   sleep_audit answers of files that were not changed in between. Nothing here tells whether they were.
+ *   A comparison is cut alike: sleep_compare_held_part of the first register, its audit's parts, and where these are done the same of the second. Where
+ *   all is done, sleep_compare_roots_part; and where that says SLEEP_EQUAL, parts of sleep_compare_walk_part whose ranges cover the tree entries, of which
+ *   the lowest place counts. In this order they give what sleep_compare answers (CompareInPartsForAll, crates/theorem_parts/specs/Whole.antt).
+ *
  * RECORDS
  *   The chunks of a metadata register are records (FORMAT.md, "Records"): chunk 0 a Header, every later chunk a Node, which gives a piece its
  *   path. A Node is handed over and given as a sleep_node: numbers alone. A field that may be absent says by `given` whether it is there, 0 or
@@ -105,8 +126,8 @@
  *   most 20. Figures: docs/FIGURES.md.
  *
  * WHAT FIRMWARE HAS TO PROVIDE
- *   Code with its read-only constants, at most, in bytes: x86-64 88,000; x86-64-v3 92,000; aarch64 74,000; aarch64-strict 120,000; riscv64 110,000;
- *   riscv64-soft 110,000; s390x 135,000; armv7 120,000. The archive has no variables: no static data, zeroed or not, and nothing to set up. From outside
+ *   Code with its read-only constants, at most, in bytes: x86-64 96,000; x86-64-v3 100,000; aarch64 84,000; aarch64-strict 136,000; riscv64 124,000;
+ *   riscv64-soft 124,000; s390x 155,000; armv7 136,000. The archive has no variables: no static data, zeroed or not, and nothing to set up. From outside
  *   it needs memcpy, memset, memmove and memcmp at most; it allocates nothing. The stack that each call takes at most, counted from the caller's frame,
  *   with arguments, return address and what memcpy or memset takes, is SLEEP_STACK_.. below.
  *   tests/run and tests/targets hold the archive to all of this, the stack by calls on a painted one.
@@ -180,6 +201,10 @@
 extern "C" {
 #endif
 
+/* The version of this header: 1,000,000 times its first number, which rises where a caller has to change something, and 1,000 times its second. sleep_version
+ * tells that of the archive that is linked. docs/CHANGELOG.md has what each brought. */
+#define SLEEP_VERSION 3038000u
+
 #define SLEEP_MOST_CHUNKS 1048576u
 #define SLEEP_LONGEST_CHUNK 65536u
 #define SLEEP_MOST_LISTED 256u
@@ -213,36 +238,53 @@ extern "C" {
 #define SLEEP_STACK_UNGROUP 512u
 #define SLEEP_STACK_WRITE_HEADER 512u
 #define SLEEP_STACK_READ_HEADER 512u
+#define SLEEP_STACK_JOURNAL_BEGIN 512u
+#define SLEEP_STACK_JOURNAL_PUT 512u
+#define SLEEP_STACK_JOURNAL_STATES 512u
+#define SLEEP_STACK_JOURNAL_NEXT 512u
+#define SLEEP_STACK_VERSION 512u
 #define SLEEP_STACK_STORE_SIGNATURE 2048u
+#define SLEEP_STACK_STORED_LEAF 2048u
+#define SLEEP_STACK_COPY_STORED_LEAF 2048u
 #define SLEEP_STACK_SEARCH 2048u
 #define SLEEP_STACK_SHORT_PLACE 2048u
 #define SLEEP_STACK_SHORT_BYTE 2048u
 #define SLEEP_STACK_SHORT_SEARCH 2048u
+#define SLEEP_STACK_JOURNAL_BETWEEN 2048u
 #define SLEEP_STACK_HASH 3072u
 #define SLEEP_STACK_HASH_PARTS 3072u
 #define SLEEP_STACK_LABEL 3072u
+#define SLEEP_STACK_JOURNAL_END 3072u
+#define SLEEP_STACK_JOURNAL_CHECK 3072u
 #define SLEEP_STACK_AUDIT 3072u
 #define SLEEP_STACK_PLACE 7168u
 #define SLEEP_STACK_BYTE 7168u
 #define SLEEP_STACK_READ 7168u
 #define SLEEP_STACK_RELEASE 7168u
 #define SLEEP_STACK_SERVE 7168u
+#define SLEEP_STACK_CHECK_PACKET 8192u
 #define SLEEP_STACK_HEADER_OF 8192u
 #define SLEEP_STACK_FIND 8192u
 #define SLEEP_STACK_MAKE_PACKET 7168u
 #define SLEEP_STACK_ROOT_HASH 6144u
 #define SLEEP_STACK_OLD_ROOT 6144u
-#define SLEEP_STACK_CHECK_PACKET 6144u
 #define SLEEP_STACK_APPEND 6144u
 #define SLEEP_STACK_APPEND_LIST 6144u
 #define SLEEP_STACK_PREVIEW 6144u
 #define SLEEP_STACK_READ_NODE 7168u
+#define SLEEP_STACK_TAKE_IN 11264u
 #define SLEEP_STACK_NODE_OF 11264u
 #define SLEEP_STACK_WRITE_NODE 6144u
-#define SLEEP_STACK_COMPARE_PACKETS 7168u
+#define SLEEP_STACK_COMPARE_PACKETS 9216u
 #define SLEEP_STACK_COMPARE 9216u
+#define SLEEP_STACK_AUDIT_TREE_PART 3072u
+#define SLEEP_STACK_AUDIT_BITFIELD_PART 2048u
+#define SLEEP_STACK_COPY_AUDIT_TREE_PART 6144u
+#define SLEEP_STACK_COPY_AUDIT_BITFIELD_PART 2048u
+#define SLEEP_STACK_COMPARE_HELD_PART 2048u
+#define SLEEP_STACK_COMPARE_ROOTS_PART 9216u
+#define SLEEP_STACK_COMPARE_WALK_PART 3072u
 #define SLEEP_STACK_MAKE_COPY 512u
-#define SLEEP_STACK_TAKE_IN 9216u
 #define SLEEP_STACK_COPY_AUDIT 7168u
 #define SLEEP_STACK_COPY_ROOT_HASH 6144u
 #define SLEEP_STACK_COPY_OLD_ROOT 6144u
@@ -427,6 +469,7 @@ void sleep_flat_store_signature(const uint8_t *tree, uint64_t tree_length, uint8
                                 uint64_t s, uint64_t size, const uint8_t signature[64], uint64_t answer[3]) SLEEP_NOT_NULL;
 void sleep_flat_root_hash(SLEEP_FLAT_REGISTER_READ, uint8_t root[32], uint64_t answer[3]) SLEEP_NOT_NULL;
 void sleep_flat_old_root(SLEEP_FLAT_REGISTER_READ, uint64_t m, uint8_t root[32], uint64_t answer[3]) SLEEP_NOT_NULL;
+void sleep_flat_stored_leaf(SLEEP_FLAT_REGISTER_READ, uint64_t chunk, uint8_t hash[32], uint64_t *length, uint64_t answer[3]) SLEEP_NOT_NULL;
 void sleep_flat_audit(SLEEP_FLAT_REGISTER_READ, uint64_t answer[3]) SLEEP_NOT_NULL;
 void sleep_flat_place(SLEEP_FLAT_REGISTER_READ, uint64_t chunk, uint64_t out[2], uint64_t answer[3]) SLEEP_NOT_NULL;
 void sleep_flat_byte(SLEEP_FLAT_REGISTER_READ, uint64_t offset, uint64_t out[2], uint64_t answer[3]) SLEEP_NOT_NULL;
@@ -447,6 +490,17 @@ void sleep_flat_compare_packets(const uint8_t *first, uint64_t first_length, con
 void sleep_flat_compare(SLEEP_FLAT_REGISTER_READ, const uint8_t *tree2, uint64_t tree2_length, const uint8_t *signatures2,
                         uint64_t signatures2_length, const uint8_t *bitfield2, uint64_t bitfield2_length, const uint8_t *data2,
                         uint64_t data2_length, uint64_t n2, uint64_t s2, uint64_t size2, uint64_t answer[4]) SLEEP_NOT_NULL;
+void sleep_flat_audit_tree_part(SLEEP_FLAT_REGISTER_READ, uint64_t from, uint64_t to, uint64_t answer[3]) SLEEP_NOT_NULL;
+void sleep_flat_audit_bitfield_part(SLEEP_FLAT_REGISTER_READ, uint64_t from, uint64_t to, uint64_t answer[3]) SLEEP_NOT_NULL;
+void sleep_flat_compare_held_part(SLEEP_FLAT_REGISTER_READ, uint64_t answer[3]) SLEEP_NOT_NULL;
+void sleep_flat_compare_roots_part(SLEEP_FLAT_REGISTER_READ, const uint8_t *tree2, uint64_t tree2_length, const uint8_t *signatures2,
+                                   uint64_t signatures2_length, const uint8_t *bitfield2, uint64_t bitfield2_length,
+                                   const uint8_t *data2, uint64_t data2_length, uint64_t n2, uint64_t s2, uint64_t size2,
+                                   uint64_t answer[4]) SLEEP_NOT_NULL;
+void sleep_flat_compare_walk_part(SLEEP_FLAT_REGISTER_READ, const uint8_t *tree2, uint64_t tree2_length, const uint8_t *signatures2,
+                                  uint64_t signatures2_length, const uint8_t *bitfield2, uint64_t bitfield2_length, const uint8_t *data2,
+                                  uint64_t data2_length, uint64_t n2, uint64_t s2, uint64_t size2, uint64_t from, uint64_t to,
+                                  uint64_t answer[4]) SLEEP_NOT_NULL;
 void sleep_flat_group(const uint8_t *bytes, uint64_t bytes_length, uint8_t *out, uint64_t out_length, uint64_t answer[3]) SLEEP_NOT_NULL;
 void sleep_flat_ungroup(const uint8_t *bytes, uint64_t bytes_length, uint8_t *out, uint64_t out_length, uint64_t answer[3]) SLEEP_NOT_NULL;
 void sleep_flat_needs(uint64_t n, uint64_t size, const uint64_t *lengths, uint64_t lengths_count, uint64_t out[8],
@@ -467,8 +521,11 @@ void sleep_flat_make_copy(SLEEP_FLAT_COPY_WRITTEN, uint64_t answer[3]) SLEEP_NOT
 void sleep_flat_take_in(SLEEP_FLAT_COPY_WRITTEN, const uint8_t *packet, uint64_t packet_length, uint64_t chunk, const uint8_t root[32],
                         uint64_t answer[3]) SLEEP_NOT_NULL;
 void sleep_flat_copy_audit(SLEEP_FLAT_COPY_READ, uint64_t answer[3]) SLEEP_NOT_NULL;
+void sleep_flat_copy_audit_tree_part(SLEEP_FLAT_COPY_READ, uint64_t from, uint64_t to, uint64_t answer[3]) SLEEP_NOT_NULL;
+void sleep_flat_copy_audit_bitfield_part(SLEEP_FLAT_COPY_READ, uint64_t from, uint64_t to, uint64_t answer[3]) SLEEP_NOT_NULL;
 void sleep_flat_copy_root_hash(SLEEP_FLAT_COPY_READ, uint8_t root[32], uint64_t answer[3]) SLEEP_NOT_NULL;
 void sleep_flat_copy_old_root(SLEEP_FLAT_COPY_READ, uint64_t m, uint8_t root[32], uint64_t answer[3]) SLEEP_NOT_NULL;
+void sleep_flat_copy_stored_leaf(SLEEP_FLAT_COPY_READ, uint64_t chunk, uint8_t hash[32], uint64_t *length, uint64_t answer[3]) SLEEP_NOT_NULL;
 void sleep_flat_copy_place(SLEEP_FLAT_COPY_READ, uint64_t chunk, uint64_t out[2], uint64_t answer[3]) SLEEP_NOT_NULL;
 void sleep_flat_copy_byte(SLEEP_FLAT_COPY_READ, uint64_t offset, uint64_t out[2], uint64_t answer[3]) SLEEP_NOT_NULL;
 void sleep_flat_copy_read(SLEEP_FLAT_COPY_READ, uint64_t chunk, uint64_t out[2], uint64_t answer[3]) SLEEP_NOT_NULL;
@@ -483,6 +540,21 @@ void sleep_flat_copy_make_packet(SLEEP_FLAT_COPY_READ, uint64_t chunk, uint8_t *
 void sleep_flat_copy_header_of(SLEEP_FLAT_COPY_READ, uint64_t chunk, uint64_t out[2], uint64_t answer[3]) SLEEP_NOT_NULL;
 void sleep_flat_copy_node_of(SLEEP_FLAT_COPY_READ, uint64_t chunk, uint64_t answer[70]) SLEEP_NOT_NULL;
 void sleep_flat_copy_find(SLEEP_FLAT_COPY_READ, const uint8_t *path, uint64_t path_length, uint64_t answer[5]) SLEEP_NOT_NULL;
+uint64_t sleep_flat_version(void);
+
+/* Journals: see JOURNALS, and the fronts below. */
+void sleep_flat_journal_begin(uint8_t *journal, uint64_t journal_length, const uint64_t states[20], uint64_t answer[2]) SLEEP_NOT_NULL;
+void sleep_flat_journal_put(uint8_t *journal, uint64_t journal_length, uint64_t at, uint64_t file, uint64_t kind, uint64_t offset,
+                            uint64_t length, const uint8_t *old_bytes, uint64_t old_bytes_length, const uint8_t *new_bytes,
+                            uint64_t new_bytes_length, uint64_t answer[2]) SLEEP_NOT_NULL;
+void sleep_flat_journal_end(uint8_t *journal, uint64_t journal_length, uint64_t at, uint64_t answer[2]) SLEEP_NOT_NULL;
+void sleep_flat_journal_check(const uint8_t *journal, uint64_t journal_length, uint64_t answer[2]) SLEEP_NOT_NULL;
+void sleep_flat_journal_states(const uint8_t *journal, uint64_t journal_length, uint64_t file, uint64_t states[2],
+                               uint64_t answer[2]) SLEEP_NOT_NULL;
+void sleep_flat_journal_between(const uint8_t *journal, uint64_t journal_length, uint64_t file, uint64_t at, uint64_t there,
+                                const uint8_t *bytes, uint64_t bytes_length, uint64_t answer[2]) SLEEP_NOT_NULL;
+void sleep_flat_journal_next(const uint8_t *journal, uint64_t journal_length, uint64_t at, uint64_t range[5],
+                             uint64_t answer[2]) SLEEP_NOT_NULL;
 
 #undef SLEEP_NOT_NULL
 #undef SLEEP_FLAT_REGISTER_READ
@@ -703,12 +775,42 @@ static inline sleep_answer sleep_old_root(SLEEP_REGISTER_READ, uint64_t m, uint8
     return sleep_answer_from(answer);
 }
 
+/* The entry that is stored for a chunk's leaf, held or released: its hash in hash, and its length in length. So two registers' chunks can be told apart
+ * without their bytes. Nothing is audited: no hash is made and no length judged, so audit first where the images are not trusted. Refusals: 2 to 6, 9. */
+static inline sleep_answer sleep_stored_leaf(SLEEP_REGISTER_READ, uint64_t chunk, uint8_t hash[32], uint64_t *length) {
+    uint64_t answer[3];
+    sleep_flat_stored_leaf(SLEEP_REGISTER_LENT, chunk, hash, length, answer);
+    return sleep_answer_from(answer);
+}
+
 /* Whether the images are those of some chunks: hashes every chunk that is held again; of one that was released the bytes must be zeros, and its leaf
  * entry is taken as it stands. Refusals: 2 to 6, 10, 11. */
 static inline sleep_answer sleep_audit(SLEEP_REGISTER_READ) {
     uint64_t answer[3];
     sleep_flat_audit(SLEEP_REGISTER_LENT, answer);
     return sleep_answer_from(answer);
+}
+
+/* A part of the audit: its checks, then the tree entries from `from` on and before `to`. Refusals: 2 to 6, 10 at the lowest wrong entry of the range. */
+static inline sleep_answer sleep_audit_tree_part(SLEEP_REGISTER_READ, uint64_t from, uint64_t to) {
+    uint64_t answer[3];
+    sleep_flat_audit_tree_part(SLEEP_REGISTER_LENT, from, to, answer);
+    return sleep_answer_from(answer);
+}
+
+/* The same of the bitfield's entries from `from` on and before `to`. Refusals: 2 to 6, 11 at the lowest wrong byte of these entries. */
+static inline sleep_answer sleep_audit_bitfield_part(SLEEP_REGISTER_READ, uint64_t from, uint64_t to) {
+    uint64_t answer[3];
+    sleep_flat_audit_bitfield_part(SLEEP_REGISTER_LENT, from, to, answer);
+    return sleep_answer_from(answer);
+}
+
+/* What two parts of one audit say together: the lower number, and of one number the lower place; "done" comes last. */
+static inline sleep_answer sleep_earlier(sleep_answer a, sleep_answer b) {
+    if (a.number == 0) return b;
+    if (b.number == 0) return a;
+    if (a.number != b.number) return a.number < b.number ? a : b;
+    return a.place < b.place ? a : b;
 }
 
 /* Where a chunk lies in data, as a part: out[0] its offset, out[1] its length. Nothing is hashed. Refusals: 2 to 6, 9, 10. */
@@ -818,6 +920,36 @@ static inline sleep_comparison sleep_compare(SLEEP_REGISTER_READ, const uint8_t 
     uint64_t answer[4];
     sleep_flat_compare(SLEEP_REGISTER_LENT, SLEEP_LENT(tree2), SLEEP_LENT(signatures2), SLEEP_LENT(bitfield2), SLEEP_LENT(data2), n2, s2,
                        size2, answer);
+    return sleep_comparison_from(answer);
+}
+
+/* The checks of one register for a comparison that look at no tree entry. Refusals: 2 to 6, 18 at the lowest chunk that is not held. */
+static inline sleep_answer sleep_compare_held_part(SLEEP_REGISTER_READ) {
+    uint64_t answer[3];
+    sleep_flat_compare_held_part(SLEEP_REGISTER_LENT, answer);
+    return sleep_answer_from(answer);
+}
+
+/* A part of the comparing walk: the root hashes, then the root messages. A refusal (2 to 6) says which register. SLEEP_EQUAL says that neither differs. */
+static inline sleep_comparison sleep_compare_roots_part(SLEEP_REGISTER_READ, const uint8_t *tree2, size_t tree2_length,
+                                                        const uint8_t *signatures2, size_t signatures2_length, const uint8_t *bitfield2,
+                                                        size_t bitfield2_length, const uint8_t *data2, size_t data2_length, uint64_t n2,
+                                                        uint64_t s2, uint64_t size2) {
+    uint64_t answer[4];
+    sleep_flat_compare_roots_part(SLEEP_REGISTER_LENT, SLEEP_LENT(tree2), SLEEP_LENT(signatures2), SLEEP_LENT(bitfield2),
+                                  SLEEP_LENT(data2), n2, s2, size2, answer);
+    return sleep_comparison_from(answer);
+}
+
+/* A part of the comparing walk: the lowest collision from the tree index `from` on and before `to`. A refusal (2 to 6) says which register. SLEEP_EQUAL
+ * says that no index of the range has one; registers with different numbers of chunks have none. */
+static inline sleep_comparison sleep_compare_walk_part(SLEEP_REGISTER_READ, const uint8_t *tree2, size_t tree2_length,
+                                                       const uint8_t *signatures2, size_t signatures2_length, const uint8_t *bitfield2,
+                                                       size_t bitfield2_length, const uint8_t *data2, size_t data2_length, uint64_t n2,
+                                                       uint64_t s2, uint64_t size2, uint64_t from, uint64_t to) {
+    uint64_t answer[4];
+    sleep_flat_compare_walk_part(SLEEP_REGISTER_LENT, SLEEP_LENT(tree2), SLEEP_LENT(signatures2), SLEEP_LENT(bitfield2),
+                                 SLEEP_LENT(data2), n2, s2, size2, from, to, answer);
     return sleep_comparison_from(answer);
 }
 
@@ -959,6 +1091,19 @@ static inline sleep_answer sleep_copy_audit(SLEEP_COPY_READ) {
     return sleep_answer_from(answer);
 }
 
+/* Parts of a copy's audit, as sleep_audit_tree_part and sleep_audit_bitfield_part are of a register's. The place of 10 may lie outside the range, since the
+ * descent to a leaf may stop elsewhere. Refusals: 2, 4, 5, 6 unless a root is unknown, and 10 or 11. */
+static inline sleep_answer sleep_copy_audit_tree_part(SLEEP_COPY_READ, uint64_t from, uint64_t to) {
+    uint64_t answer[3];
+    sleep_flat_copy_audit_tree_part(SLEEP_COPY_LENT, from, to, answer);
+    return sleep_answer_from(answer);
+}
+static inline sleep_answer sleep_copy_audit_bitfield_part(SLEEP_COPY_READ, uint64_t from, uint64_t to) {
+    uint64_t answer[3];
+    sleep_flat_copy_audit_bitfield_part(SLEEP_COPY_LENT, from, to, answer);
+    return sleep_answer_from(answer);
+}
+
 /* The calls of a register on a copy: each gives what its namesake gives, and goes by no entry that isn't known. Refusals: 2, 4, 5, 20 at a root, 6, and
  * then as its namesake has them, with 20 in the turn of 10. */
 static inline sleep_answer sleep_copy_root_hash(SLEEP_COPY_READ, uint8_t root[32]) {
@@ -971,6 +1116,13 @@ static inline sleep_answer sleep_copy_root_hash(SLEEP_COPY_READ, uint8_t root[32
 static inline sleep_answer sleep_copy_old_root(SLEEP_COPY_READ, uint64_t m, uint8_t root[32]) {
     uint64_t answer[3];
     sleep_flat_copy_old_root(SLEEP_COPY_LENT, m, root, answer);
+    return sleep_answer_from(answer);
+}
+
+/* Refusals: 2, 4, 5, 20 at a root, 6, 9, 20 at the leaf. The other entries may be unknown: it doesn't go down to the leaf. */
+static inline sleep_answer sleep_copy_stored_leaf(SLEEP_COPY_READ, uint64_t chunk, uint8_t hash[32], uint64_t *length) {
+    uint64_t answer[3];
+    sleep_flat_copy_stored_leaf(SLEEP_COPY_LENT, chunk, hash, length, answer);
     return sleep_answer_from(answer);
 }
 
@@ -1058,6 +1210,95 @@ static inline sleep_found sleep_copy_find(SLEEP_COPY_READ, const uint8_t *path, 
     uint64_t answer[5];
     sleep_flat_copy_find(SLEEP_COPY_LENT, SLEEP_LENT(path), answer);
     return sleep_found_from(answer);
+}
+
+/* ---- JOURNALS
+ * A journal holds a change of the ten files of an archive (docs/FORMAT.md, "The journal"): for each its old and its new state, and ranges of four
+ * kinds. It is made range by range in a buffer, written to a file before any byte of the change is, and applied from there, again where it was
+ * stopped. A state is 0 where the file is absent, else its length and 1. What a call says has numbers of its own, and a place: */
+typedef struct {
+    uint64_t number; /* SLEEP_JOURNAL_.. */
+    uint64_t place;  /* done: the place in the journal behind what was read or written; else as below */
+} sleep_journal_answer;
+
+#define SLEEP_JOURNAL_DONE 0u
+#define SLEEP_JOURNAL_LENGTH 1u     /* fewer than 216 bytes or more than 2^28; no room */
+#define SLEEP_JOURNAL_FIRST 2u      /* it does not begin as a journal does */
+#define SLEEP_JOURNAL_OWN_LENGTH 3u /* its own length is not its length */
+#define SLEEP_JOURNAL_STATE 4u      /* place: the file whose states are wrong */
+#define SLEEP_JOURNAL_RANGE 5u      /* place: where the range begins that is wrong, or of which there is none */
+#define SLEEP_JOURNAL_GAP 6u        /* place: the file that is not covered from its old to its new length */
+#define SLEEP_JOURNAL_HASH 7u
+#define SLEEP_JOURNAL_MET 8u   /* place: the file whose state, as it is, is not between */
+#define SLEEP_JOURNAL_BYTE 9u  /* place: the offset of the first byte of the file, as it is, that is not between */
+#define SLEEP_JOURNAL_UNFIT 10u /* no such file or kind, or not as many bytes as kind and length ask */
+
+static inline sleep_journal_answer sleep_journal_answer_from(const uint64_t answer[2]) {
+    sleep_journal_answer said = {answer[0], answer[1]};
+    return said;
+}
+
+/* Begins a journal in a buffer of at least 216 bytes: states has the old and the new state of file 0, of file 1, .. Done: 184, the first range's
+ * place. Says: 1. */
+static inline sleep_journal_answer sleep_journal_begin(uint8_t *journal, size_t journal_length, const uint64_t states[20]) {
+    uint64_t answer[2];
+    sleep_flat_journal_begin(SLEEP_LENT(journal), states, answer);
+    return sleep_journal_answer_from(answer);
+}
+
+/* Puts a range at a place. Kind 1 takes length old and length new bytes, kind 2 new bytes alone, kind 3, a run of zeros, none, kind 4, a witness,
+ * old bytes alone. Done: the next range's place. Nothing else is judged here: sleep_journal_end does. Says: 10, 1. */
+static inline sleep_journal_answer sleep_journal_put(uint8_t *journal, size_t journal_length, uint64_t at, uint64_t file, uint64_t kind,
+                                                     uint64_t offset, uint64_t length, const uint8_t *old_bytes, size_t old_bytes_length,
+                                                     const uint8_t *new_bytes, size_t new_bytes_length) {
+    uint64_t answer[2];
+    sleep_flat_journal_put(SLEEP_LENT(journal), at, file, kind, offset, length, SLEEP_LENT(old_bytes), SLEEP_LENT(new_bytes), answer);
+    return sleep_journal_answer_from(answer);
+}
+
+/* Ends a journal behind its last range: judges all of it as sleep_journal_check does, and then writes its length and its hash. Done: its length, at + 32;
+ * so many bytes of the buffer are the journal. Says: 1, 2, 4, 5, 6, and has written nothing then. */
+static inline sleep_journal_answer sleep_journal_end(uint8_t *journal, size_t journal_length, uint64_t at) {
+    uint64_t answer[2];
+    sleep_flat_journal_end(SLEEP_LENT(journal), at, answer);
+    return sleep_journal_answer_from(answer);
+}
+
+/* Whether bytes are a journal, and its hash is right. Done: its length. Says, in this order: 1, 2, 3, 4, 5, 6, 7. */
+static inline sleep_journal_answer sleep_journal_check(const uint8_t *journal, size_t journal_length) {
+    uint64_t answer[2];
+    sleep_flat_journal_check(SLEEP_LENT(journal), answer);
+    return sleep_journal_answer_from(answer);
+}
+
+/* The old and the new state of a file. Says: 1, 10. */
+static inline sleep_journal_answer sleep_journal_states(const uint8_t *journal, size_t journal_length, uint64_t file, uint64_t states[2]) {
+    uint64_t answer[2];
+    sleep_flat_journal_states(SLEEP_LENT(journal), file, states, answer);
+    return sleep_journal_answer_from(answer);
+}
+
+/* Whether a file as it is, absent where there is 0, is between its states before and after. at is where its ranges begin: 184 for file 0, then what
+ * the call for the file before answered. Of the bytes lent only those are read that ranges of kinds 1 and 4 hold. Done: where the next file's ranges
+ * begin. Says: 1, 10, 8, 9. */
+static inline sleep_journal_answer sleep_journal_between(const uint8_t *journal, size_t journal_length, uint64_t file, uint64_t at,
+                                                         uint64_t there, const uint8_t *bytes, size_t bytes_length) {
+    uint64_t answer[2];
+    sleep_flat_journal_between(SLEEP_LENT(journal), file, at, there, SLEEP_LENT(bytes), answer);
+    return sleep_journal_answer_from(answer);
+}
+
+/* The range at a place: range[0] to range[4] are file, kind, offset, length, and the place in the journal of the bytes that stand in the file after the
+ * change. Done: the next range's place. Says: 1; 5 where there is no whole range, so behind the last one. */
+static inline sleep_journal_answer sleep_journal_next(const uint8_t *journal, size_t journal_length, uint64_t at, uint64_t range[5]) {
+    uint64_t answer[2];
+    sleep_flat_journal_next(SLEEP_LENT(journal), at, range, answer);
+    return sleep_journal_answer_from(answer);
+}
+
+/* The version of the archive that is linked; that of this header is SLEEP_VERSION. */
+static inline uint64_t sleep_version(void) {
+    return sleep_flat_version();
 }
 
 #undef SLEEP_REGISTER_LENT

@@ -34,7 +34,8 @@ def of_header(text):
             words = re.sub(r'\b%s\b' % macro, lambda found: meant, words)
         if result not in ('void', 'uint64_t'):
             refuse(name, 'the header has the result `%s`' % result)
-        calls[name] = [word_of_c(name, word) for word in re.sub(r'\s+', ' ', words).split(',')], result != 'void'
+        words = [] if words.strip() == 'void' else re.sub(r'\s+', ' ', words).split(',')
+        calls[name] = [word_of_c(name, word) for word in words], result != 'void'
     return calls
 
 
@@ -64,7 +65,7 @@ def of_wrapper(text):
     calls = {}
     for name, words, result in re.findall(r'fn (\w+)\((.*?)\)( -> \w+)?;', block, re.S):
         kinds = []
-        for word in re.sub(r'\s+', ' ', words).split(', '):
+        for word in re.sub(r'\s+', ' ', words).split(', ') if words else []:
             kind = word.split(': ', 1)[1]
             array = re.fullmatch(r'&(mut )?\[u64; \d+\]', kind)
             kinds.append(ADDRESS if array else OF_RUST.get(kind) or refuse(name, 'the wrapper has the parameter `%s`' % word))

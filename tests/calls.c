@@ -81,6 +81,11 @@ static void told(sleep_answer a) {
     number_out(a.place);
 }
 
+static void noted(sleep_journal_answer a) {
+    number_out(a.number);
+    number_out(a.place);
+}
+
 static void compared(sleep_comparison c) {
     number_out(c.outcome);
     told(c.answer);
@@ -164,6 +169,7 @@ static void on_register(const char *called) {
     CALL(store_signature, told(sleep_store_signature(R(0), P(7))));
     CALL(root_hash, told(sleep_root_hash(R(0), P(7))));
     CALL(old_root, told(sleep_old_root(R(0), N(7), P(8))));
+    CALL(stored_leaf, told(sleep_stored_leaf(R(0), N(7), P(8), Q(9))));
     CALL(audit, told(sleep_audit(R(0))));
     CALL(place, told(sleep_place(R(0), N(7), Q(8))));
     CALL(byte, told(sleep_byte(R(0), N(7), Q(8))));
@@ -175,6 +181,11 @@ static void on_register(const char *called) {
     CALL(short_search, told(sleep_short_search(R(0), N(7), Q(8))));
     CALL(make_packet, told(sleep_make_packet(R(0), N(7), AT(8), Q(9))));
     CALL(compare, compared(sleep_compare(R(0), R(7))));
+    CALL(audit_tree_part, told(sleep_audit_tree_part(R(0), N(7), N(8))));
+    CALL(audit_bitfield_part, told(sleep_audit_bitfield_part(R(0), N(7), N(8))));
+    CALL(compare_held_part, told(sleep_compare_held_part(R(0))));
+    CALL(compare_roots_part, compared(sleep_compare_roots_part(R(0), R(7))));
+    CALL(compare_walk_part, compared(sleep_compare_walk_part(R(0), R(7), N(14), N(15))));
     CALL(header_of, told(sleep_header_of(R(0), N(7), Q(8))));
     CALL(node_of, node_told(sleep_node_of(R(0), N(7))));
     CALL(find, found(sleep_find(R(0), AT(7))));
@@ -185,8 +196,11 @@ static void on_copy(const char *called) {
     CALL(make_copy, told(sleep_make_copy(C(0))));
     CALL(take_in, told(sleep_take_in(C(0), AT(5), N(6), P(7))));
     CALL(copy_audit, told(sleep_copy_audit(C(0))));
+    CALL(copy_audit_tree_part, told(sleep_copy_audit_tree_part(C(0), N(5), N(6))));
+    CALL(copy_audit_bitfield_part, told(sleep_copy_audit_bitfield_part(C(0), N(5), N(6))));
     CALL(copy_root_hash, told(sleep_copy_root_hash(C(0), P(5))));
     CALL(copy_old_root, told(sleep_copy_old_root(C(0), N(5), P(6))));
+    CALL(copy_stored_leaf, told(sleep_copy_stored_leaf(C(0), N(5), P(6), Q(7))));
     CALL(copy_place, told(sleep_copy_place(C(0), N(5), Q(6))));
     CALL(copy_byte, told(sleep_copy_byte(C(0), N(5), Q(6))));
     CALL(copy_read, told(sleep_copy_read(C(0), N(5), Q(6))));
@@ -200,6 +214,17 @@ static void on_copy(const char *called) {
     CALL(copy_node_of, node_told(sleep_copy_node_of(C(0), N(5))));
     CALL(copy_find, found(sleep_copy_find(C(0), AT(5))));
     on_register(called);
+}
+
+static void on_journal(const char *called) {
+    CALL(journal_begin, noted(sleep_journal_begin(AT(0), Q(1))));
+    CALL(journal_put, noted(sleep_journal_put(AT(0), N(1), N(2), N(3), N(4), N(5), AT(6), AT(7))));
+    CALL(journal_end, noted(sleep_journal_end(AT(0), N(1))));
+    CALL(journal_check, noted(sleep_journal_check(AT(0))));
+    CALL(journal_states, noted(sleep_journal_states(AT(0), N(1), Q(2))));
+    CALL(journal_between, noted(sleep_journal_between(AT(0), N(1), N(2), N(3), AT(4))));
+    CALL(journal_next, noted(sleep_journal_next(AT(0), N(1), Q(2))));
+    on_copy(called);
 }
 
 static void call(const char *called) {
@@ -218,7 +243,7 @@ static void call(const char *called) {
     CALL(write_node, told(sleep_write_node(AT(0), node_lent(Q(1)), AT(2), Q(3))));
     CALL(read_header, told(sleep_read_header(AT(0), Q(1))));
     CALL(read_node, node_told(sleep_read_node(AT(0))));
-    on_copy(called);
+    on_journal(called);
 }
 
 int main(void) {

@@ -3,6 +3,8 @@
 
 - Every promise of tests/promises.txt has one row, and every row its promise.
 - Every edit, path and name that a row cites exists: a name stands in a file that the row cites before it, or in the code of a crate that it does.
+- What "More" says of a row goes on where the row ends, and is held in the same way. Each of its entries has a row, and a row has at most one.
+- No cell but a quotation, and no line of "More", is longer than BOUND; a row cites at most MOST_EDITS edits, and "More" the others.
 - Every edit of crates/*/must-fail is cited.
 - The table of the functions without `requires` is the one that the code gives. A function is exported where its crate's root has it, or hands it on by
   `pub use` or `pub mod`, or where C can call it. A `pub` function that has a `requires` says "Inner" in its comment, or its file's first comment says
@@ -22,6 +24,11 @@ PAGE = "docs/CLAIMS.md"
 PROMISES = "tests/promises.txt"
 HEADER = "include/sleep_register.h"
 TABLE = "## Functions without `requires`"
+MORE = "## More"
+FURTHER = "Refused too: "  # begins what "More" says of edits
+BOUND = 200  # characters
+MOST_EDITS = 3
+QUOTED = {"Sentence", "Shortcut"}  # columns in the words of the papers, which are as long as these are
 ENUMS = "F10"  # "Where an answer is an enum, a definition states this paper's number and values for each of its cases."
 PLAIN = {"requires", "const", "NULL", "stdout", "&", "&[u8]", "Inner"}  # words of the languages, which cite nothing
 
@@ -144,6 +151,25 @@ def rows_of(page):
     return rows
 
 
+def more_of(page, say):
+    """What "More" says: the name of each entry, and its items, whose further lines are put behind their first."""
+    lines = page.split(MORE + "\n")[1].split("\n## ")[0].split("\n") if MORE + "\n" in page else []
+    entries = []
+    for line in lines:
+        if len(line) > BOUND:
+            say("More", f"has a line of {len(line)} characters, above {BOUND}: {line[:40]}")
+        entry, item = re.match(r"- \*\*(\S+)\*\* (.*)", line), re.match(r"  - (.*)", line)
+        if entry:
+            entries.append((entry.group(1), [entry.group(2)]))
+        elif entries and item:
+            entries[-1][1].append(item.group(1))
+        elif entries and line.startswith("    "):
+            entries[-1][1][-1] += " " + line.strip()
+        elif entries and line:
+            say("More", f"has a line that belongs to no row: {line[:40]}")
+    return entries
+
+
 def word_in(name, text):
     return re.search(r"(?<![\w·'-])%s(?![\w'-])" % re.escape(name), text) is not None
 
@@ -221,6 +247,11 @@ def promised():
 # ---- the checks
 
 
+def kept_by(row, items):
+    """What a row says that keeps its promise, and what "More" says of it."""
+    return " ".join([row.get("Kept by", "")] + [item for item in items if not item.startswith(FURTHER)])
+
+
 def check():
     wrong = []
 
@@ -238,15 +269,30 @@ def check():
         if name not in promises:
             say(name, f"is a row, and no promise of {PROMISES}")
 
+    more = {}
+    for name, items in more_of(page, say):
+        if name not in names:
+            say(name, 'is an entry of "More", and no row')
+        if name in more:
+            say(name, 'has two entries in "More"')
+        more.setdefault(name, []).extend(items)
+
     edits = {f"{p.split('/')[1]}/{os.path.basename(p)[:-5]}" for p in files_below("crates", ".edit")}
     cited = set()
     resolve = Cited(crates, say)
     for row in rows:
-        for label in re.findall(r"`([^`]+)`", row.get("Refused edit", "")):
+        for column, cell in row.items():
+            if column not in QUOTED and len(cell) > BOUND:
+                say(row["Name"], f'has a cell "{column}" of {len(cell)} characters, above {BOUND}')
+        items = more.get(row["Name"], [])
+        shown = re.findall(r"`([^`]+)`", row.get("Refused edit", ""))
+        if len(shown) > MOST_EDITS:
+            say(row["Name"], f"cites {len(shown)} edits, above {MOST_EDITS}")
+        for label in shown + [label for item in items if item.startswith(FURTHER) for label in re.findall(r"`([^`]+)`", item)]:
             cited.add(label)
             if label not in edits:
                 say(row["Name"], f"cites the edit `{label}`, and there is none")
-        resolve.cell(row["Name"], row.get("Kept by", ""))
+        resolve.cell(row["Name"], kept_by(row, items))
     for label in sorted(edits - cited):
         say(label, "is an edit that no row cites")
 
@@ -275,7 +321,7 @@ def check():
         for path in files_below(f"crates/{c}/src", ".rt"):
             for name in re.findall(r"^pub enum (\w+)", read(path), re.M):
                 enums_of.setdefault(name, {})[c] = path
-    on_enums = next((row.get("Kept by", "") for row in rows if row["Name"] == ENUMS), "")
+    on_enums = next((kept_by(row, more.get(ENUMS, [])) for row in rows if row["Name"] == ENUMS), "")
     definitions = [p for p in re.findall(r"`(\w+/specs/\w+)`", on_enums) if is_file(f"crates/{p}.antt")]
     for c, functions in free(crates).items():
         for name, f in functions:
@@ -316,6 +362,10 @@ def seeded():
     found("a function that its crate does not have", PAGE, page.replace(call.group(0), call.group(0)[:-1] + "_gone`", 1), "_gone`, which the crate does not have")
     found("a promise without a row", PAGE, page.replace(row.group(0), "", 1), f"{row.group(1)}: has 0 rows")
     found("a promise with two rows", PAGE, page.replace(row.group(0), 2 * row.group(0), 1), f"{row.group(1)}: has 2 rows")
+    found("a cell above the bound", PAGE, page.replace(row.group(0), row.group(0)[:-3] + "word " * BOUND + "|\n", 1), f'{row.group(1)}: has a cell "Refused edit" of ')
+    kept = row.group(0).split(" | ")[2]
+    found("a cell one above the bound", PAGE, page.replace(kept, kept.ljust(BOUND + 1, "."), 1), f'{row.group(1)}: has a cell "Kept by" of {BOUND + 1} ')
+    found("more edits than a row may cite", PAGE, page.replace(row.group(0), row.group(0)[:-3] + f", `{label}` |\n", 1), f"{row.group(1)}: cites {MOST_EDITS + 1} edits")
     found("a row without a promise", PROMISES, re.sub(r"^%s .*\n" % row.group(1), "", read(PROMISES), flags=re.M), f"{row.group(1)}: is a row")
 
     crates = libraries()
@@ -330,7 +380,33 @@ def seeded():
     cut = next(line for line in page.split("\n") if line.startswith(f"| {ENUMS} |"))
     given = re.search(r"`\w+/specs/\w+`,? ?", cut.split(" | ")[2]).group(0)
     found("an enum without a definition", PAGE, page.replace(cut, cut.replace(given, "", 1), 1), f"{ENUMS}: cites no definition")
+    seeded_in_more(page, found)
     return missed
+
+
+def seeded_in_more(page, found):
+    """The same in what "More" says of a row, and the mistakes that can be made there alone."""
+    rows, more = page.split(MORE + "\n")
+
+    def put(kind, old, new, expected):
+        found(f'{kind}, in "More"', PAGE, rows + MORE + "\n" + more.replace(old, new, 1), expected)
+
+    label = next(label for label in re.findall(FURTHER + r"`([^`]+)`", more) if label not in rows)
+    path = re.search(r"`(\w+/specs/\w+)` `(\w+)`", more)
+    call = re.search(r"`(\w+)::(\w+)`", more)
+    entry = re.search(r"^- \*\*(\S+)\*\* .*\n", more, re.M)
+    on_enums = more[more.index(f"- **{ENUMS}** ") :]
+    given = re.search(r"`\w+/specs/\w+`", on_enums).group(0)
+    put("an edit that is not there", f"`{label}`", f"`{label}_gone`", "_gone`, and there is none")
+    put("an edit that no row cites", f"`{label}`", "", f"{label}: is an edit that no row cites")
+    put("a path that is not there", path.group(1), path.group(1) + "Gone", "Gone`, and there is no such file")
+    put("a name that its file does not have", path.group(0), path.group(0)[:-1] + "Gone`", "Gone`, which no file")
+    put("a function that its crate does not have", call.group(0), call.group(0)[:-1] + "_gone`", "_gone`, which the crate does not have")
+    put("an enum without a definition", on_enums, on_enums.replace(given, "", 1), f"{ENUMS}: cites no definition")
+    put("a name that has no row", entry.group(0), entry.group(0).replace(entry.group(1), "Z9.9", 1), 'Z9.9: is an entry of "More", and no row')
+    put("a row with two entries", entry.group(0), 2 * entry.group(0), f"{entry.group(1)}: has two entries")
+    put("a line above the bound", entry.group(0), entry.group(0)[:-1].ljust(BOUND + 1, ".") + "\n", f"More: has a line of {BOUND + 1} ")
+    put("a line of no row", entry.group(0), entry.group(0) + "A line.\n", "More: has a line that belongs to no row")
 
 
 def main():

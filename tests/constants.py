@@ -1,5 +1,6 @@
 """Compares the numbers that the header and the wrapper promise, and those that the listing program lends, with those that are proved: each is a
-definition in specs/, which a proved statement names.
+definition in specs/, which a proved statement names. The version stands in five places: the number that the call for it is proved to give, the header, the
+wrapper, tools/Cargo.toml and the first row of docs/CHANGELOG.md.
 
 usage: python3 tests/constants.py HEADER WRAPPER
 """
@@ -26,6 +27,24 @@ def defined(file, name):
     return eval(found[0])
 
 
+def version(header, wrapper):
+    """The version, by the number that the call for it is proved to give."""
+    proved = defined('c_api/specs/Version', 'version')
+    called = open('crates/c_api/src/version.rt').read()
+    assert 'ensures { λ r. ⌜ r ≡ version ⌝ }' in called, 'the contract of sleep_flat_version names another number'
+    found = {
+        'the header': re.findall(r'^#define SLEEP_VERSION (\d+)u$', header, re.M),
+        'the wrapper': re.findall(r'^pub const VERSION: u64 = (\d+);$', wrapper, re.M),
+    }
+    for where, numbers in found.items():
+        assert numbers == [str(proved)], f'the version is {numbers} in {where}, and {proved} in c_api/specs/Version'
+    told = f'{proved // 1000000}.{proved // 1000 % 1000}.{proved % 1000}'
+    assert re.findall(r'^version = "(.*)"$', open('tools/Cargo.toml').read(), re.M) == [told], f'tools/Cargo.toml has another version than {told}'
+    first = re.findall(r'^\| (\d+\.\d+) \|', open('docs/CHANGELOG.md').read(), re.M)[0]
+    assert first + '.0' == told, f'the first row of docs/CHANGELOG.md is {first}, the version {told}'
+    return told
+
+
 def main(header, wrapper):
     header, wrapper = open(header).read(), open(wrapper).read()
     for macro, pattern, file, name, stated, statement in PROMISED:
@@ -39,7 +58,8 @@ def main(header, wrapper):
     for pattern, name in LENT:
         proved = defined('listing_lines/specs/Limits', name)
         assert re.findall(pattern, program) == [str(proved)], f'the listing program lends another number than {proved}, {name}'
-    print(f'constants: {len(PROMISED)} numbers of the header and the wrapper, and {len(LENT)} of the listing program, are those proved')
+    told = version(header, wrapper)
+    print(f'constants: {len(PROMISED)} numbers of the header and the wrapper, and {len(LENT)} of the listing program, are those proved; version {told}')
 
 
 main(*sys.argv[1:])

@@ -2,17 +2,19 @@
 
 usage: python3 tests/differential.py LIBRARY [CALLS [SEED]]
 
-LIBRARY is the archive linked as a shared object. Registers grow by valid calls; between those, calls are made on damaged copies: bytes
-changed in a buffer, wrong n, s or size, shortened buffers, numbers at their bound and out of range. Packets are made and checked, whole and damaged, two of them are
-walked along, root hashes of the first chunks are asked for, and registers compared with copies, with other cuts of the same bytes, with one more empty chunk and with damaged ones. On every register
-that is made, damaged or not, a preview is compared with the append on a copy. Lists are appended, and where one is done its chunks are
-appended singly on a copy, with stored zero signatures between them: every buffer is the same. Bytes of any length about the limits are grouped and
-ungrouped, with and without room, and the needs of jobs are asked about all of their limits. Chunks are released, some registers are left with few chunks or
-none, and chunks that are not held are searched for, by an Index that is right or changed and by the bits alone. Lookups go by the tree, and by
-the leaves alone. Reads of sixteen stations are entered in tables,
-grown from a fresh one or holding anything, and served from two registers, as direct reads made then. One in fifty calls
-is on registers of 16,383 to 16,386 chunks, where the third bitfield entry begins and the tree gets its deepest hole. No pair of chunk
-sequences that collide under BLAKE2b is known, so those two answers of the comparing walk and of the walk along two packets stand in no call here.
+LIBRARY is the archive linked as a shared object. Registers grow by valid calls; between those, calls are made on damaged copies: bytes changed in a
+buffer, wrong n, s or size, shortened buffers, numbers at their bound and out of range. Packets are made and checked, whole and damaged, two of them
+are walked along, root hashes and packets of the first chunks and stored leaf entries are asked for, and registers compared with copies, with other
+cuts of the same bytes, with one more empty chunk and with damaged ones. On every register that is made, damaged or not, a preview is compared with
+the append on a copy. Lists are appended, and where one is done its chunks are appended singly on a copy, with stored zero signatures between them:
+every buffer is the same. Bytes of any length about the limits are grouped and ungrouped, with and without room, and the needs of jobs are asked about
+all of their limits. Chunks are released, some registers are left with few chunks or none, and chunks that are not held are searched for, by an Index
+that is right or changed and by the bits alone. Lookups go by the tree, and by the leaves alone. Reads of sixteen stations are entered in tables,
+grown from a fresh one or holding anything, and served from two registers, as direct reads made then. One in fifty calls is on registers of 16,383 to
+16,386 chunks, where the third bitfield entry begins and the tree gets its deepest hole. No pair of chunk sequences that collide under BLAKE2b is
+known, so those two answers of the comparing walk and of the walk along two packets stand in no call here. Audits and comparisons, of registers as
+they are and damaged, are cut at random: each part is compared with the model's, and together they give what the whole call gives; a part of the walk
+on a damaged register may name a collision.
 """
 
 import copy
@@ -24,6 +26,7 @@ sys.dont_write_bytecode = True  # nothing generated lies beside the sources
 sys.path.insert(0, os.path.join(os.path.dirname(os.path.abspath(__file__)), 'model'))
 import coordinates
 import needs
+import parts
 import sleep_model as model
 import stations
 from lent import NUMBER, Answer, Buffer, Comparison, Library, Serving, answer_of, comparison_of, numbers, serving_of
@@ -67,7 +70,7 @@ class Calls:
 
     def __init__(self, library, seed):
         self.library, self.random, self.calls, self.refusals = library, random.Random(seed), {}, {}
-        self.ends = self.agreed = self.listed = self.direct = 0
+        self.ends = self.agreed = self.listed = self.direct = self.earlier_packets = self.cut = 0
 
     def total(self):
         return sum(self.calls.values())
@@ -153,6 +156,10 @@ class Calls:
     def old_root(self, r, m):
         self.call('old_root', [r], [m, self.result(32, lambda root: root)], lambda: model.old_root(r, m))
 
+    def stored_leaf(self, r, chunk):
+        others = [chunk, self.result(32, lambda given, length: given), self.result(8, lambda given, length: numbers(length))]
+        self.call('stored_leaf', [r], others, lambda: model.stored_leaf(r, chunk))
+
     def release(self, r, chunk):
         self.call('release', [r], [chunk], lambda: model.release(r, chunk))
 
@@ -162,7 +169,50 @@ class Calls:
         self.call('search', [r], [number, given], lambda: model.first_not_held(r, number))
 
     def audit(self, r):
-        self.call('audit', [r], [], lambda: model.audit(r))
+        whole = model.audit(r)
+        self.call('audit', [r], [], lambda: whole)
+        self.audit_parts(r, whole)
+
+    def part(self, name, registers, words, gives=Answer):
+        """A part of a whole call, and the model's answer, which the library gave too."""
+        said = []
+        def expect():
+            said.append(self.judge(name, registers)(*registers, *words))
+            return said[0]
+        self.call(name, registers, list(words), expect, gives)
+        return said[0]
+
+    def judge(self, name, registers):
+        return getattr(parts, name)
+
+    def audit_parts(self, r, whole):
+        """Ranges that cover both files, in any order, give together what the whole audit gives."""
+        if self.random.random() > (0.3 if r.n < 1000 else 0.05) or r.n > model.MOST_CHUNKS:
+            return
+        answers = [self.part('audit_tree_part', [r], ab) for ab in parts.cuts(self.random, model.tree_entries(r.n))]
+        answers += [self.part('audit_bitfield_part', [r], ab) for ab in parts.cuts(self.random, model.bitfield_entries(r.n))]
+        self.same('together', 'audit in parts', r.n, answer_of(parts.together(answers)), answer_of(whole))
+        self.cut += 1
+
+    def compare_parts(self, first, second):
+        """Step by step, as a comparison goes through its parts, with each of them called on the pair."""
+        if self.random.random() > 0.4:
+            return
+        held = [self.part('compare_held_part', [r], []) for r in (first, second)]
+        roots = self.part('compare_roots_part', [first, second], [], Comparison)
+        count = model.tree_entries(min(first.n, model.MOST_CHUNKS)) if first.n <= 1000 else 0
+        walked = [self.part('compare_walk_part', [first, second], ab, Comparison) for ab in parts.cuts(self.random, count)]
+        if count == 0 and first.n > 0:
+            return
+        answer = roots
+        for r, one, which in ((second, held[1], 'second'), (first, held[0], 'first')):
+            one = model.audit(r) if one[0] == 'done' else one
+            answer = answer if one[0] == 'done' else one + (which,)
+        if answer == ('equal',):
+            found = [one[1][1] for one in walked if one[0] == 'collision']
+            answer = ('collision', ('tree', min(found))) if found else answer
+        self.same('together', 'compare in parts', first.n, comparison_of(answer), comparison_of(model.compare(first, second)))
+        self.cut += 1
 
     def place(self, r, chunk):
         self.call('place', [r], [chunk, self.result(16, numbers)], lambda: model.place_lookup(r, chunk))
@@ -268,6 +318,7 @@ class Calls:
 
     def compare(self, first, second):
         self.call('compare', [first, second], [], lambda: model.compare(first, second), Comparison)
+        self.compare_parts(first, second)
 
 
 class Run(Calls):
@@ -364,6 +415,21 @@ class Run(Calls):
         for both in ((packet, other), (other, packet)):
             self.compare_packets(*both, n, chunk, root)
 
+    def earlier(self, r):
+        """A packet of the first m chunks, made from a register that belongs to more: the one that a register of those chunks gives, and it passes under their root hash."""
+        if r.n == 0:
+            return
+        m = self.random.randint(1, r.n)
+        chunk, first, told = self.random.randrange(m), model.register_of(pieces_of(r)[:m]), copy.copy(r)
+        told.n, told.s, told.size = m, min(m, r.s), first.size
+        packets = [bytearray(67062), bytearray(67062)]
+        answers = [model.make_packet(one, chunk, out) for one, out in zip((told, first), packets)]
+        self.same('the packet of the first %d' % m, 'make_packet', (r.n, r.s, r.size), bytes(packets[0]) + repr(answers[0]).encode(), bytes(packets[1]) + repr(answers[1]).encode())
+        self.make_packet(told, chunk, answers[0][1] if answers[0][0] == 'done' else 100)
+        if answers[0][0] == 'done':
+            self.check_packet(bytes(packets[0][:answers[0][1]]), m, chunk, model.root_hash(first)[1])
+        self.earlier_packets += 1
+
     def checking(self, r):
         self.check_packet(*self.packet(r))
 
@@ -449,6 +515,8 @@ class Run(Calls):
             self.root_hash(r)
         elif pick < 12:
             self.old_root(r, self.number(r.n))
+        elif pick < 15:
+            self.stored_leaf(r, self.number(r.n))
         elif pick < 18:
             self.search(r, self.number(r.n))
         elif pick < 20:
@@ -571,6 +639,7 @@ class Run(Calls):
                 self.reading(r)
             elif pick < 26:
                 self.comparing(r)
+                self.earlier(r)
             elif pick < 28:
                 self.letting_go(r)
             else:
@@ -617,6 +686,7 @@ class Run(Calls):
                 self.looking(self.damage(r) if damaged else r)
             for kind in range(1, 5):
                 self.comparing(r, kind)
+                self.earlier(r)
             for lent in [r] + [self.damage(r) for _ in range(4)]:
                 self.audit(lent)
             gone = copy.deepcopy(r)
@@ -646,8 +716,9 @@ def main(path, calls=100000, seed=20170901):
     print('calls: ' + ', '.join('%s %d' % pair for pair in sorted(run.calls.items())))
     print('byte lookups at the data size: %d' % run.ends)
     print('refusals: ' + ', '.join('%d: %d' % pair for pair in sorted(run.refusals.items())))
-    print('differential: %d calls agree with the model, preview and append on %d registers, %d lists with their single appends, %d servings with direct reads'
-          % (run.total(), run.agreed, run.listed, run.direct))
+    print('differential: %d calls agree with the model, preview and append on %d registers, %d lists with their single appends, %d servings with direct reads, '
+          '%d packets of first chunks with those of registers of theirs, %d whole calls with their parts'
+          % (run.total(), run.agreed, run.listed, run.direct, run.earlier_packets, run.cut))
 
 
 if __name__ == '__main__':

@@ -44,8 +44,12 @@ class Copies(Records):
         super().counted('copy_' + name, expected)
 
     def audit(self, r):
-        expect = copy_model.audit_copy if isinstance(r, Copy) else model.audit
-        self.call('audit', [r], [], lambda: expect(r))
+        whole = (copy_model.audit_copy if isinstance(r, Copy) else model.audit)(r)
+        self.call('audit', [r], [], lambda: whole)
+        self.audit_parts(r, whole)
+
+    def judge(self, name, registers):
+        return super().judge('copy_' * isinstance(registers[0], Copy) + name, registers)
 
     def make_copy(self, c):
         self.call('make_copy', [c], [], lambda: copy_model.make_copy(c))
@@ -242,8 +246,8 @@ def main(path, calls=20000, seed=20170901):
         run.life()
     print('calls: ' + ', '.join('%s %d' % pair for pair in sorted(run.calls.items())))
     print('refusals: ' + ', '.join('%d: %d' % pair for pair in sorted(run.refusals.items())))
-    print('differential of copies: %d calls agree with the model, %d pairs of packets in both orders, %d chunks released came back'
-          % (run.total(), run.orders, run.returned))
+    print('differential of copies: %d calls agree with the model, %d pairs of packets in both orders, %d chunks released came back, %d audits with their parts'
+          % (run.total(), run.orders, run.returned, run.cut))
 
 
 if __name__ == '__main__':

@@ -49,6 +49,7 @@ static uint64_t preview(lent r) { return sleep_preview(REGISTER(r), NULL, 0, roo
 static uint64_t preview_a(lent r) { return sleep_preview(REGISTER(r), (const uint8_t *)"a", 1, root).number; }
 static uint64_t store(lent r) { return r.s -= r.n > 0, sleep_store_signature(REGISTER(r), signature).number; }
 static uint64_t old_root(lent r) { return sleep_old_root(REGISTER(r), 2, root).number; }
+static uint64_t stored_leaf(lent r) { uint8_t hash[32]; uint64_t length; return sleep_stored_leaf(REGISTER(r), 2, hash, &length).number; }
 static uint64_t root_hash(lent r) { return sleep_root_hash(REGISTER(r), root).number; }
 static uint64_t audit(lent r) { return sleep_audit(REGISTER(r)).number; }
 static uint64_t place(lent r) { uint64_t out[2]; return sleep_place(REGISTER(r), 2, out).number; }
@@ -81,6 +82,7 @@ static uint64_t take_nothing(lent r) { return sleep_take_in(COPY(r), NULL, 0, 2,
 static uint64_t copy_audit(lent r) { return sleep_copy_audit(COPY(r)).number; }
 static uint64_t copy_root_hash(lent r) { return sleep_copy_root_hash(COPY(r), root).number; }
 static uint64_t copy_old_root(lent r) { uint8_t old[32]; return sleep_copy_old_root(COPY(r), 2, old).number; }
+static uint64_t copy_stored_leaf(lent r) { uint8_t hash[32]; uint64_t length; return sleep_copy_stored_leaf(COPY(r), 2, hash, &length).number; }
 static uint64_t copy_place(lent r) { uint64_t out[2]; return sleep_copy_place(COPY(r), 2, out).number; }
 static uint64_t copy_byte(lent r) { uint64_t out[2]; return sleep_copy_byte(COPY(r), 0, out).number; }
 static uint64_t copy_read(lent r) { uint64_t out[2]; return sleep_copy_read(COPY(r), 2, out).number; }
@@ -95,6 +97,15 @@ static uint64_t copy_header_of(lent r) { uint64_t out[2]; return sleep_copy_head
 static uint64_t copy_node_of(lent r) { return sleep_copy_node_of(COPY(r), 2).answer.number; }
 static uint64_t copy_find(lent r) { return sleep_copy_find(COPY(r), (const uint8_t *)"/a", 2).answer.number; }
 static uint64_t copy_find_nothing(lent r) { return sleep_copy_find(COPY(r), NULL, 0).answer.number; }
+static uint64_t audit_tree_part(lent r) { return sleep_audit_tree_part(REGISTER(r), 1, 4).number; }
+static uint64_t audit_bitfield_part(lent r) { return sleep_audit_bitfield_part(REGISTER(r), 0, 1).number; }
+static uint64_t copy_audit_tree_part(lent r) { return sleep_copy_audit_tree_part(COPY(r), 1, 4).number; }
+static uint64_t copy_audit_bitfield_part(lent r) { return sleep_copy_audit_bitfield_part(COPY(r), 0, 1).number; }
+static uint64_t compare_held_part(lent r) { return sleep_compare_held_part(REGISTER(r)).number; }
+static uint64_t roots_first(lent r) { lent b = empty_chunks(3); return sleep_compare_roots_part(REGISTER(r), REGISTER(b)).outcome; }
+static uint64_t roots_second(lent r) { lent a = empty_chunks(3); return sleep_compare_roots_part(REGISTER(a), REGISTER(r)).outcome; }
+static uint64_t walk_first(lent r) { lent b = empty_chunks(3); return sleep_compare_walk_part(REGISTER(r), REGISTER(b), 1, 4).outcome; }
+static uint64_t walk_second(lent r) { lent a = empty_chunks(3); return sleep_compare_walk_part(REGISTER(a), REGISTER(r), 1, 4).outcome; }
 static uint64_t compare_first(lent r) { lent b = empty_chunks(3); return sleep_compare(REGISTER(r), REGISTER(b)).outcome; }
 static uint64_t compare_second(lent r) { lent a = empty_chunks(3); return sleep_compare(REGISTER(a), REGISTER(r)).outcome; }
 
@@ -165,6 +176,7 @@ int main(void) {
     each_buffer("store_signature", store, 4, 0);
     each_buffer("root_hash", root_hash, 4, 0);
     each_buffer("old_root", old_root, 4, 0);
+    each_buffer("stored_leaf", stored_leaf, 4, 0);
     each_buffer("audit", audit, 4, 0);
     each_buffer("place", place, 4, 0);
     each_buffer("byte", byte, 4, 0);
@@ -184,12 +196,22 @@ int main(void) {
     each_buffer("find of no path", find_nothing, 4, 15);
     each_buffer("compare, the first", compare_first, SLEEP_FIRST_REFUSED, SLEEP_EQUAL);
     each_buffer("compare, the second", compare_second, SLEEP_SECOND_REFUSED, SLEEP_EQUAL);
+    each_buffer("audit_tree_part", audit_tree_part, 4, 0);
+    each_buffer("audit_bitfield_part", audit_bitfield_part, 4, 0);
+    each_buffer("compare_held_part", compare_held_part, 4, 0);
+    each_buffer("compare_roots_part, the first", roots_first, SLEEP_FIRST_REFUSED, SLEEP_EQUAL);
+    each_buffer("compare_roots_part, the second", roots_second, SLEEP_SECOND_REFUSED, SLEEP_EQUAL);
+    each_buffer("compare_walk_part, the first", walk_first, SLEEP_FIRST_REFUSED, SLEEP_EQUAL);
+    each_buffer("compare_walk_part, the second", walk_second, SLEEP_SECOND_REFUSED, SLEEP_EQUAL);
+    each_of_a_copy("copy_audit_tree_part", copy_audit_tree_part, 4, 0);
+    each_of_a_copy("copy_audit_bitfield_part", copy_audit_bitfield_part, 4, 0);
     each_of_a_copy("make_copy", make_copy, 14, 0);
     each_of_a_copy("take_in", take_in, 4, 0);
     each_of_a_copy("take_in of no packet", take_nothing, 4, 12);
     each_of_a_copy("copy_audit", copy_audit, 4, 0);
     each_of_a_copy("copy_root_hash", copy_root_hash, 4, 0);
     each_of_a_copy("copy_old_root", copy_old_root, 4, 0);
+    each_of_a_copy("copy_stored_leaf", copy_stored_leaf, 4, 0);
     each_of_a_copy("copy_place", copy_place, 4, 0);
     each_of_a_copy("copy_byte", copy_byte, 4, 0);
     each_of_a_copy("copy_read", copy_read, 4, 0);

@@ -26,7 +26,7 @@
 #include <sys/stat.h>
 #include <unistd.h>
 
-enum { CREATE = 'c', WRITE = 'w', LENGTH = 'l', RESERVE = 'r', PUNCH = 'p', SYNC = 's', UNLINK = 'u', MAKE_FOLDER = 'm', REMOVE_FOLDER = 'd', RENAME = 'n' };
+enum { CREATE = 'c', WRITE = 'w', LENGTH = 'l', RESERVE = 'r', PUNCH = 'p', SYNC = 's', SYNC_ALL = 'a', UNLINK = 'u', MAKE_FOLDER = 'm', REMOVE_FOLDER = 'd', RENAME = 'n' };
 
 #define NEXT(name) ((__typeof__(&name))dlsym(RTLD_NEXT, #name))
 
@@ -224,6 +224,13 @@ int fsync(int file) { return synced(NEXT(fsync), file); }
 
 int fdatasync(int file) { return synced(NEXT(fdatasync), file); }
 
+int syncfs(int file) {
+    char path[PATH_MAX];
+    path_of(file, path);
+    if (full(SYNC_ALL, path, 0, 0)) return no_room();
+    return getenv("FAULTS_QUICK") ? 0 : NEXT(syncfs)(file);
+}
+
 int unlink(const char *name) {
     char path[PATH_MAX] = "";
     if (access(name, F_OK) == 0) path_named(name, path);
@@ -248,6 +255,16 @@ int renameat(int folder, const char *from, int other, const char *to) {
     return NEXT(renameat)(folder, from, other, to);
 }
 
+int renameat2(int folder, const char *from, int other, const char *to, unsigned flags) {
+    char path[PATH_MAX], new_path[PATH_MAX] = "";
+    int torn = 0;
+    if (folder != other) abort();
+    path_at(folder, from, path);
+    if (faccessat(other, to, F_OK, AT_SYMLINK_NOFOLLOW) != 0) path_at(other, to, new_path);
+    if (meets(RENAME, new_path[0] ? path : "", 0, 0, new_path, strlen(new_path), &torn)) return no_room();
+    return NEXT(renameat2)(folder, from, other, to, flags);
+}
+
 /* The new name stands as the data of the record; both names are in one folder, or a program is not tested. */
 int rename(const char *from, const char *to) {
     char path[PATH_MAX], other[PATH_MAX];
@@ -265,6 +282,13 @@ int mkdir(const char *name, mode_t mode) {
     path_named(name, path);
     if (full(MAKE_FOLDER, path, 0, 0)) return no_room();
     return NEXT(mkdir)(name, mode);
+}
+
+int mkdirat(int folder, const char *name, mode_t mode) {
+    char path[PATH_MAX];
+    path_at(folder, name, path);
+    if (full(MAKE_FOLDER, path, 0, 0)) return no_room();
+    return NEXT(mkdirat)(folder, name, mode);
 }
 
 int rmdir(const char *name) {

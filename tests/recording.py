@@ -2,7 +2,7 @@
 
 usage: python3 tests/recording.py LIBRARY HEADER CALLS ANSWERS [COUNT [SEED]]
 
-The calls are those of the three differential tests, on registers and copies of up to 40 chunks, each held against the model as it is made. CALLS gets
+The calls are those of the four differential tests, on registers and copies of up to 40 chunks, each held against the model as it is made. CALLS gets
 each call with all that is lent to it, ANSWERS what the library answers and what every buffer holds afterwards, in the form that tests/calls.c reads and
 writes: numbers have 8 bytes, the highest first. A call is its name and a zero byte, the count of its words, and the words: `n` and a number; `b`, a length
 and as many bytes; `w`, a count and as many numbers. An answer is its numbers, and for each buffer a byte 0 where it is as it was, or a byte 1 and its
@@ -14,6 +14,7 @@ import sys
 
 import differential
 import differential_copies
+import differential_journal
 import differential_records
 from lent import NUMBER, Buffer, Library
 
@@ -70,18 +71,22 @@ def main(path, header, calls, answers, count=20000, seed=20170901):
     with open(calls, 'wb') as asked, open(answers, 'wb') as told:
         library = Recorder(path, header, asked, told)
         on_copies = {name for name in library.kinds if name.startswith('copy_')} | set(differential_copies.OWN)
+        on_journals = {name for name in library.kinds if name.startswith('journal_')}
         on_records = {'write_header', 'write_node', 'read_header', 'read_node', 'header_of', 'node_of', 'find'}
         made = lambda: sum(library.made.values())
         lacks = lambda names: names - library.made.keys()
         run = differential.Run(library, seed)
-        while made() < count // 2 or lacks(library.kinds.keys() - on_copies - on_records):
+        while made() < count // 2 or lacks(library.kinds.keys() - on_copies - on_records - on_journals):
             run.life(10 ** 9)
         run = differential_records.Records(library, seed)
         while made() < count * 7 // 10 or lacks(on_records):
             run.lent_bytes()
             run.in_register()
         run = differential_copies.Copies(library, seed)
-        while made() < count or lacks(on_copies):
+        while made() < count * 9 // 10 or lacks(on_copies):
+            run.life()
+        run = differential_journal.Journals(library, seed)
+        while made() < count or lacks(on_journals):
             run.life()
         print('recorded: seed %d, %d calls that agree with the model, the fewest of %s'
               % (seed, made(), min((number, name) for name, number in library.made.items())[::-1]))

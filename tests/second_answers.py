@@ -49,6 +49,17 @@ def root_of_first(register, m):
     return reader.hash_of_roots([register.entry(i) for i in roots(m)], m).hex(),
 
 
+def stored_leaf(register, k):
+    reader.first_checks(register)
+    return leaf_entry(register, k)
+
+def leaf_entry(register, k, must_know=lambda i: None):
+    refuse_unless(k < register.n, 9)
+    must_know(2 * k)
+    found, length = register.entry(2 * k)
+    return found.hex(), length
+
+
 # --- comparing two registers
 
 def compare(first, second):
@@ -298,6 +309,10 @@ def copy_root_hash(copy):
     copy_checks(copy)
     return reader.root_hash(copy).hex()
 
+def copy_stored_leaf(copy, k):
+    copy_checks(copy)
+    return leaf_entry(copy, k, copy.must_know)
+
 def audit_copy(copy):
     lent_checks(copy)                               # step 1
     sum_check_where_known(copy)
@@ -471,6 +486,9 @@ class Lines:
     def first(self, n, m):
         return plain(lambda: root_of_first(reader.written(int(n)), int(m))[0])
 
+    def leaf(self, name, k):
+        return plain(lambda: "{1} {0}".format(*stored_leaf(register_named(name, reader.written), int(k))))
+
     def list(self, n, lengths, given):
         return answer(append_list, reader.copied(reader.written(int(n))), numbers(lengths), hexed(given))
 
@@ -561,9 +579,9 @@ class Nodes:
     def register(self):
         return built(self.chunks)
 
-ASKED = {"keyed": 3, "label": 2, "first": 2, "list": 3, "needs": 3, "search": 3, "compare": 2, "zeros": 2, "find": 2, "copy": 2, "take": 2, "packet": 3,
+ASKED = {"keyed": 3, "label": 2, "first": 2, "leaf": 2, "list": 3, "needs": 3, "search": 3, "compare": 2, "zeros": 2, "find": 2, "copy": 2, "take": 2, "packet": 3,
          "root": 0, "place": 1, "short": 1, "byte": 1, "read": 1, "empty": 1, "bitfield": 2}
-COUNTS = {"keyed": 3, "label": 1, "first": 4, "list": 4, "needs": 4, "search": 4, "compare": 6, "zeros": 3, "find": 7, "copy": 3, "take": 4, "audit": 8,
+COUNTS = {"keyed": 3, "label": 1, "first": 4, "leaf": 3, "list": 4, "needs": 4, "search": 4, "compare": 6, "zeros": 3, "find": 7, "copy": 3, "take": 4, "audit": 8,
           "packet": 1, "root": 1, "place": 3, "short": 1, "byte": 3, "read": 2, "empty": 2, "bitfield": 16}
 
 def answers_differ(text):

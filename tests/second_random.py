@@ -96,6 +96,8 @@ class Rounds:
         r, other = self.register(chunks), self.register(chunks if self.rarely(0.5) else self.chunks(len(chunks)))
         for m in (0, 1, len(chunks), len(chunks) + 1):
             self.same('the first %d' % m, words(model.old_root(r, m, self.F)), second_reader.answer(second_answers.root_of_first, second(r), m))
+        for k in (0, 1, len(chunks), len(chunks) + 1):
+            self.same('leaf %d' % k, words(model.stored_leaf(r, k)), second_reader.answer(second_answers.stored_leaf, second(r), k))
         self.same('comparison', outcome(model.compare(r, other, self.F)), second_answers.compare(second(r), second(other)))
 
     def register(self, chunks):
@@ -148,6 +150,7 @@ class Rounds:
         self.same('copy: root', words(model.root_hash(ours, self.F)), second_reader.answer(lambda: (second_answers.copy_root_hash(theirs),)))
         for k in range(n + 1):
             self.same('copy: place', words(model.place_lookup(ours, k)), second_reader.answer(second_answers.copy_find, theirs, k))
+            self.same('copy: leaf', words(model.stored_leaf(ours, k)), second_reader.answer(second_answers.copy_stored_leaf, theirs, k))
             self.same('copy: short', words(model.short_place(ours, k)), second_reader.answer(second_answers.copy_short_find, theirs, k))
             self.same('copy: read', words(model.read(ours, ours, 'content', k, self.F)), second_reader.answer(second_answers.copy_read, theirs, k).strip())
         for p in range(size + 2):

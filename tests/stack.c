@@ -33,6 +33,8 @@ static void preview(void) { number = sleep_preview(REGISTER, chunk, chunk_length
 static void store_signature(void) { number = sleep_store_signature(REGISTER, digest).number; }
 static void root_hash(void) { number = sleep_root_hash(REGISTER, root).number; }
 static void old_root(void) { number = sleep_old_root(REGISTER, sought, digest).number; }
+static void stored_leaf(void) { number = sleep_stored_leaf(REGISTER, sought, digest, out).number; }
+static void version(void) { number = sleep_version() - SLEEP_VERSION; }
 static void audit(void) { number = sleep_audit(REGISTER).number; }
 static void place(void) { number = sleep_place(REGISTER, sought, out).number; }
 static void byte(void) { number = sleep_byte(REGISTER, sought, out).number; }
@@ -63,6 +65,7 @@ static void take_in(void) { number = sleep_take_in(COPY, packet, packet_length, 
 static void copy_audit(void) { number = sleep_copy_audit(COPY).number; }
 static void copy_root_hash(void) { number = sleep_copy_root_hash(COPY, digest).number; }
 static void copy_old_root(void) { number = sleep_copy_old_root(COPY, sought, digest).number; }
+static void copy_stored_leaf(void) { number = sleep_copy_stored_leaf(COPY, sought, digest, out).number; }
 static void copy_place(void) { number = sleep_copy_place(COPY, sought, out).number; }
 static void copy_byte(void) { number = sleep_copy_byte(COPY, sought, out).number; }
 static void copy_read(void) { number = sleep_copy_read(COPY, sought, out).number; }
@@ -75,11 +78,31 @@ static void copy_make_packet(void) { number = sleep_copy_make_packet(COPY, sough
 static void copy_header_of(void) { number = sleep_copy_header_of(COPY, sought, out).number; }
 static void copy_node_of(void) { number = (read_back = sleep_copy_node_of(COPY, sought)).answer.number; }
 static void copy_find(void) { number = sleep_copy_find(COPY, chunk, 3).answer.number; }
+static void audit_tree_part(void) { number = sleep_audit_tree_part(REGISTER, sought, UINT64_MAX).number; }
+static void audit_bitfield_part(void) { number = sleep_audit_bitfield_part(REGISTER, 0, UINT64_MAX).number; }
+static void copy_audit_tree_part(void) { number = sleep_copy_audit_tree_part(COPY, sought, UINT64_MAX).number; }
+static void copy_audit_bitfield_part(void) { number = sleep_copy_audit_bitfield_part(COPY, 0, UINT64_MAX).number; }
+static void compare_held_part(void) { number = sleep_compare_held_part(REGISTER).number; }
+static void compare_roots_part(void) { outcome = sleep_compare_roots_part(REGISTER, REGISTER).outcome; }
+static void compare_walk_part(void) { outcome = sleep_compare_walk_part(REGISTER, REGISTER, sought, UINT64_MAX).outcome; }
 static void compare(void) { outcome = sleep_compare(REGISTER, REGISTER).outcome; }
 
-enum { START, HASH, HASH_PARTS, LABEL, APPEND, APPEND_LIST, PREVIEW, STORE_SIGNATURE, ROOT_HASH, OLD_ROOT, AUDIT, PLACE, BYTE, READ, RELEASE, SEARCH, SHORT_PLACE, SHORT_BYTE, SHORT_SEARCH, MAKE_PACKET, CHECK_PACKET, COMPARE_PACKETS, COMPARE, GROUP, UNGROUP, NEEDS, FRESH, ENTER, SERVE, WRITE_HEADER, WRITE_NODE, READ_HEADER, READ_NODE, HEADER_OF, NODE_OF, FIND,
-       MAKE_COPY, TAKE_IN, COPY_AUDIT, COPY_ROOT_HASH, COPY_OLD_ROOT, COPY_PLACE, COPY_BYTE, COPY_READ,
-       COPY_RELEASE, COPY_SEARCH, COPY_SHORT_PLACE, COPY_SHORT_BYTE, COPY_SHORT_SEARCH, COPY_MAKE_PACKET, COPY_HEADER_OF, COPY_NODE_OF, COPY_FIND, CALLS };
+/* A journal in the packet's buffer: the key of the metadata changes. */
+static uint64_t states[20] = {[16] = 33, [17] = 33}, range[5], at;
+#define JOURNAL packet, packet_length
+static void journal_begin(void) { number = sleep_journal_begin(packet, sizeof packet, states).number; }
+static void journal_put(void) { number = sleep_journal_put(packet, sizeof packet, at, 8, 1, 0, 32, chunk, 32, chunk + 32, 32).number; }
+static void journal_end(void) { number = sleep_journal_end(packet, sizeof packet, at).number; }
+static void journal_check(void) { number = sleep_journal_check(JOURNAL).number; }
+static void journal_states(void) { number = sleep_journal_states(JOURNAL, 8, range).number; }
+static void journal_between(void) { number = sleep_journal_between(JOURNAL, 8, 184, 1, chunk, 32).number; }
+static void journal_next(void) { number = sleep_journal_next(JOURNAL, 184, range).number; }
+
+enum { START, HASH, HASH_PARTS, LABEL, APPEND, APPEND_LIST, PREVIEW, STORE_SIGNATURE, ROOT_HASH, OLD_ROOT, STORED_LEAF, VERSION, AUDIT, PLACE, BYTE, READ, RELEASE, SEARCH, SHORT_PLACE, SHORT_BYTE, SHORT_SEARCH, MAKE_PACKET, CHECK_PACKET, COMPARE_PACKETS, COMPARE, GROUP, UNGROUP, NEEDS, FRESH, ENTER, SERVE, WRITE_HEADER, WRITE_NODE, READ_HEADER, READ_NODE, HEADER_OF, NODE_OF, FIND,
+       MAKE_COPY, TAKE_IN, COPY_AUDIT, COPY_ROOT_HASH, COPY_OLD_ROOT, COPY_STORED_LEAF, COPY_PLACE, COPY_BYTE, COPY_READ,
+       COPY_RELEASE, COPY_SEARCH, COPY_SHORT_PLACE, COPY_SHORT_BYTE, COPY_SHORT_SEARCH, COPY_MAKE_PACKET, COPY_HEADER_OF, COPY_NODE_OF, COPY_FIND,
+       JOURNAL_BEGIN, JOURNAL_PUT, JOURNAL_END, JOURNAL_CHECK, JOURNAL_STATES, JOURNAL_BETWEEN, JOURNAL_NEXT,
+       AUDIT_TREE_PART, AUDIT_BITFIELD_PART, COPY_AUDIT_TREE_PART, COPY_AUDIT_BITFIELD_PART, COMPARE_HELD_PART, COMPARE_ROOTS_PART, COMPARE_WALK_PART, CALLS };
 
 static struct {
     const char *name;
@@ -96,6 +119,8 @@ static struct {
     {"sleep_store_signature", store_signature, SLEEP_STACK_STORE_SIGNATURE, 0},
     {"sleep_root_hash", root_hash, SLEEP_STACK_ROOT_HASH, 0},
     {"sleep_old_root", old_root, SLEEP_STACK_OLD_ROOT, 0},
+    {"sleep_stored_leaf", stored_leaf, SLEEP_STACK_STORED_LEAF, 0},
+    {"sleep_version", version, SLEEP_STACK_VERSION, 0},
     {"sleep_audit", audit, SLEEP_STACK_AUDIT, 0},
     {"sleep_place", place, SLEEP_STACK_PLACE, 0},
     {"sleep_byte", byte, SLEEP_STACK_BYTE, 0},
@@ -127,6 +152,7 @@ static struct {
     {"sleep_copy_audit", copy_audit, SLEEP_STACK_COPY_AUDIT, 0},
     {"sleep_copy_root_hash", copy_root_hash, SLEEP_STACK_COPY_ROOT_HASH, 0},
     {"sleep_copy_old_root", copy_old_root, SLEEP_STACK_COPY_OLD_ROOT, 0},
+    {"sleep_copy_stored_leaf", copy_stored_leaf, SLEEP_STACK_COPY_STORED_LEAF, 0},
     {"sleep_copy_place", copy_place, SLEEP_STACK_COPY_PLACE, 0},
     {"sleep_copy_byte", copy_byte, SLEEP_STACK_COPY_BYTE, 0},
     {"sleep_copy_read", copy_read, SLEEP_STACK_COPY_READ, 0},
@@ -139,6 +165,20 @@ static struct {
     {"sleep_copy_header_of", copy_header_of, SLEEP_STACK_COPY_HEADER_OF, 0},
     {"sleep_copy_node_of", copy_node_of, SLEEP_STACK_COPY_NODE_OF, 0},
     {"sleep_copy_find", copy_find, SLEEP_STACK_COPY_FIND, 0},
+    {"sleep_journal_begin", journal_begin, SLEEP_STACK_JOURNAL_BEGIN, 0},
+    {"sleep_journal_put", journal_put, SLEEP_STACK_JOURNAL_PUT, 0},
+    {"sleep_journal_end", journal_end, SLEEP_STACK_JOURNAL_END, 0},
+    {"sleep_journal_check", journal_check, SLEEP_STACK_JOURNAL_CHECK, 0},
+    {"sleep_journal_states", journal_states, SLEEP_STACK_JOURNAL_STATES, 0},
+    {"sleep_journal_between", journal_between, SLEEP_STACK_JOURNAL_BETWEEN, 0},
+    {"sleep_journal_next", journal_next, SLEEP_STACK_JOURNAL_NEXT, 0},
+    {"sleep_audit_tree_part", audit_tree_part, SLEEP_STACK_AUDIT_TREE_PART, 0},
+    {"sleep_audit_bitfield_part", audit_bitfield_part, SLEEP_STACK_AUDIT_BITFIELD_PART, 0},
+    {"sleep_copy_audit_tree_part", copy_audit_tree_part, SLEEP_STACK_COPY_AUDIT_TREE_PART, 0},
+    {"sleep_copy_audit_bitfield_part", copy_audit_bitfield_part, SLEEP_STACK_COPY_AUDIT_BITFIELD_PART, 0},
+    {"sleep_compare_held_part", compare_held_part, SLEEP_STACK_COMPARE_HELD_PART, 0},
+    {"sleep_compare_roots_part", compare_roots_part, SLEEP_STACK_COMPARE_ROOTS_PART, 0},
+    {"sleep_compare_walk_part", compare_walk_part, SLEEP_STACK_COMPARE_WALK_PART, 0},
 };
 
 /* One call on the painted stack. The frame that makes the call counts too, so the figure is never too low. */
@@ -200,6 +240,7 @@ static void measure_copied(void) {
     measure(COPY_OLD_ROOT, 0);
     measure(COPY_SEARCH, 0);
     measure(COPY_SHORT_SEARCH, 0);
+    measure(COPY_STORED_LEAF, sought < n ? 0 : 9);
     measure(COPY_PLACE, sought < n ? 0 : 9);
     measure(COPY_SHORT_PLACE, sought < n ? 0 : 9);
     measure(COPY_READ, sought < n ? 0 : 9);
@@ -216,6 +257,16 @@ static void measure_reads(void) {
     measure(COMPARE, 0);
     measure(COPY_ROOT_HASH, 0);
     measure(COPY_AUDIT, 0);
+    measure(AUDIT_BITFIELD_PART, 0);
+    measure(COPY_AUDIT_BITFIELD_PART, 0);
+    measure(COMPARE_HELD_PART, 0);
+    measure(COMPARE_ROOTS_PART, 0);
+    for (int k = 0; k < 3; k++) {
+        sought = k * (n - 1);
+        measure(AUDIT_TREE_PART, 0);
+        measure(COPY_AUDIT_TREE_PART, 0);
+        measure(COMPARE_WALK_PART, 0);
+    }
     for (int k = 0; k < 4; k++) {
         sought = some[k];
         measure_copied();
@@ -224,6 +275,8 @@ static void measure_reads(void) {
         measure(SHORT_SEARCH, 0);
         if (sought < n) measure_release();
         else measure(RELEASE, 9);
+        measure(STORED_LEAF, sought < n ? 0 : 9);
+        measure(VERSION, 0);
         measure(PLACE, sought < n ? 0 : 9);
         measure(SHORT_PLACE, sought < n ? 0 : 9);
         measure(READ, sought < n ? 0 : 9);
@@ -255,6 +308,11 @@ static void measure_damage(void) {
         measure(AUDIT, k == 0 ? 10 : 11);
         measure(COPY_AUDIT, k == 0 ? 10 : 11);
         measure(COMPARE, 0);
+        sought = n - 1;
+        measure(AUDIT_TREE_PART, k == 0 ? 10 : 0);
+        measure(AUDIT_BITFIELD_PART, k == 0 ? 0 : 11);
+        measure(COPY_AUDIT_TREE_PART, k == 0 ? 10 : 0);
+        measure(COPY_AUDIT_BITFIELD_PART, k == 0 ? 0 : 11);
         sought = n - 1;
         measure(COPY_READ, k == 0 ? 10 : 0);
         measure(READ, k == 0 ? 10 : 0);
@@ -434,6 +492,25 @@ static void measure_records(void) {
     n = s = size = 0;
 }
 
+/* Made and read, and read again with a byte changed. */
+static void measure_journals(void) {
+    measure(JOURNAL_BEGIN, 0);
+    at = 184;
+    measure(JOURNAL_PUT, 0);
+    at += 18 + 64;
+    measure(JOURNAL_END, 0);
+    packet_length = at + 32;
+    measure(JOURNAL_CHECK, 0);
+    measure(JOURNAL_STATES, 0);
+    measure(JOURNAL_BETWEEN, 0);
+    measure(JOURNAL_NEXT, 0);
+    packet[at] ^= 1;
+    measure(JOURNAL_CHECK, 7);
+    packet[185] = 5;
+    measure(JOURNAL_CHECK, 5);
+    measure(JOURNAL_NEXT, 5);
+}
+
 /* With the word `figures` the figures are printed, and not held to the header's. */
 int main(int words, char **word) {
     const int judged = words < 2 || strcmp(word[1], "figures") != 0;
@@ -449,6 +526,7 @@ int main(int words, char **word) {
     grow();
     measure_depth();
     measure_copies();
+    measure_journals();
     for (int k = 0; k < CALLS; k++) {
         printf("%-24s %5zu of %5zu bytes of stack\n", calls[k].name, calls[k].taken, calls[k].most);
         if (judged && calls[k].taken > calls[k].most) failed = 1;

@@ -119,10 +119,13 @@ def chunk_bits(n, e):
     return bits_where(8 * DATA_BYTES, lambda k: CHUNKS_PER_ENTRY * e + k < n)
 
 def judge_copy_bits(c):
-    """Data bits below n and tree bits of entries that are no holes may be either; all other bits are 0, and the Index follows."""
     for e in range(bitfield_entries(c.n)):
-        at = HEADER + BITFIELD_ENTRY * e
-        allowed = chunk_bits(c.n, e) + tree_bits(c.n, e)
-        bits = bytes(stored & may for stored, may in zip(c.bitfield[at:], allowed))
-        for offset, byte in enumerate(bits + index_bytes(bits[:DATA_BYTES]), at):
-            refuse_if(c.bitfield[offset] != byte, 11, ('bitfield', offset))
+        judge_copy_entry(c, e)
+
+def judge_copy_entry(c, e):
+    """Data bits below n and tree bits of entries that are no holes may be either; all other bits are 0, and the Index follows."""
+    at = HEADER + BITFIELD_ENTRY * e
+    allowed = chunk_bits(c.n, e) + tree_bits(c.n, e)
+    bits = bytes(stored & may for stored, may in zip(c.bitfield[at:], allowed))
+    for offset, byte in enumerate(bits + index_bytes(bits[:DATA_BYTES]), at):
+        refuse_if(c.bitfield[offset] != byte, 11, ('bitfield', offset))

@@ -9,7 +9,7 @@ from needs import needs
 from record_model import Node, find, header_bytes, node_bytes
 from samples import BITFIELD, DATA, FIRST, ROOT_AT, SECOND, SIGNATURE_AT, TEXT, TREE, said
 from sleep_model import (HASH, append_list, be, byte_lookup, compare, first_not_held, images_of, keyed_hash, label, leaf_node, make_packet, node_hash,
-                         number_in, old_root, parent_node, place_lookup, read, register_of, release, root_hash, root_message, short_place, used_sizes)
+                         number_in, old_root, parent_node, place_lookup, read, register_of, release, root_hash, root_message, short_place, stored_leaf, used_sizes)
 
 FILES = 'tree', 'signatures', 'bitfield', 'data'
 NAMES = [header_bytes(bytes(range(32))), *(node_bytes(Node(path)) for path in (b'/a', b'/b', b'/a'))]
@@ -44,6 +44,12 @@ def rooted(answer):
 def first_roots():
     for m in (0, 8, 10, 11):
         line('first', 10, m, rooted(old_root(register(10), m)))
+
+
+def leaves():
+    for name, k in (('10', 2), ('10~2', 2), ('10', 10)):
+        answer = stored_leaf(named(name), k)
+        line('leaf', name, k, said(answer) if answer[0] == 'refused' else '%d %s' % (answer[2], answer[1].hex()))
 
 
 # ---- Lists and needs ----
@@ -358,5 +364,5 @@ if __name__ == '__main__':
     if sys.argv[1:] == ['--journal']:
         journal()
     else:
-        for part in (hashes, first_roots, lists, searches, comparisons, paths, copies, long_registers):
+        for part in (hashes, first_roots, leaves, lists, searches, comparisons, paths, copies, long_registers):
             part()

@@ -4,9 +4,9 @@ Each line has a word, of which the first two letters count, and decimal numbers.
 signatures, root hashes and packets are parts of a fifth, the text; all hold a5 at first. `lend` names the parts of the first register, from and to
 where in each buffer, `told` what is told of it, and `swap` makes the second register the first. `flip`, `put` and `fill` change bytes of a lent
 part of the first register or of the text. The other words are a call each, on the first register, on both, or on parts of the text alone.
-`splace`, `sbyte` and `ssearch` ask both ways, the quick one and the short one, for a number and those that follow it. A word that begins with a
-capital letter is a call on a copy: tree, bitfield and data of the first register, with n and the size that are told. `bring` makes a packet of the
-second register, in a part of the text.
+`cut`, `Cut` and `xwalk` ask for parts (cuts.py). `splace`, `sbyte` and `ssearch` ask both ways, the quick one and the short one, for a number and
+those that follow it. A word that begins with a capital letter is a call on a copy: tree, bitfield and data of the first register, with n and the
+size that are told. `bring` makes a packet of the second register, in a part of the text.
 
 A sum is the first 8 bytes of the hash of a lent part, whole. A call that may write has them behind its answer: tree, signatures, bitfield, data.
 """
@@ -18,9 +18,12 @@ from contextlib import contextmanager
 sys.dont_write_bytecode = True  # nothing generated lies beside the sources
 import audits
 import copies
+import leaves
+import cuts
 import lists
 import old_roots
 import page
+import parts
 import preview as previews
 import reads
 import registers
@@ -31,7 +34,7 @@ from record_model import find, read_record
 from samples import SIGNATURE_AT, TEXT, grow, said, sampled
 from sleep_model import (HASH, SIGNATURE, Register, append, append_list, audit, be, byte_lookup, check_packet, compare, compare_packets,
                          first_not_held, images_of, make_packet, node_hash, number_in, old_root, place_lookup, preview, read, release, root_hash,
-                         short_byte, short_place, short_search, start, store_signature)
+                         short_byte, short_place, short_search, start, store_signature, stored_leaf)
 
 ROOM = 1320000, 1054000, 18000, 140000, 66000  # of the buffers
 MOST_BYTES = 524288  # of a script
@@ -214,6 +217,11 @@ def with_bytes(answer):
     return '%s:%s' % (said(answer), answer[1].hex() if answer[0] == 'done' else '')
 
 
+def stored(answer):
+    """The length, or why none is told, and what the 32 bytes lent for the hash then hold."""
+    return '%d:%s' % (answer[2], answer[1].hex()) if answer[0] == 'done' else '%s:%s' % (said(answer), 'ee' * HASH)
+
+
 def grown(r, text, upto, span):
     """Chunks and signatures of the samples, up to a count; a long register is taken from the images."""
     if upto < 1000:
@@ -270,6 +278,19 @@ def found(answer):
     return answer[0]
 
 
+def cut(tree_part, bitfield_part):
+    """A part of the tree entries, one of the bitfield's entries, and what both say together."""
+    def answers(r, text, a, b, c, d):
+        both = [tree_part(r, a, b), bitfield_part(r, c, d)]
+        return ' '.join(map(said, both + [parts.together(both)]))
+    return answers
+
+
+def stepped_through(first, second, a, b):
+    held = [said(parts.compare_held_part(r)) for r in (first, second)]
+    return ' '.join(held + [found(parts.compare_roots_part(first, second)), found(parts.compare_walk_part(first, second, a, b))])
+
+
 def checked(text, n, chunk, root, start, end):
     return with_bytes(check_packet(bytes(text[start:end]), n, chunk, bytes(text[root:root + HASH])))
 
@@ -282,24 +303,26 @@ def walked(text, n, chunk, root, *ends):
 WRITING = {'start': lambda r, text: said(start(r)), 'grow': grown, 'append': lambda r, text, a, b: rooted(append(r, bytes(text[a:b]))),
            'list': listed, 'sign': lambda r, text, at: said(store_signature(r, bytes(text[at:at + SIGNATURE]))),
            'release': lambda r, text, chunk: said(release(r, chunk))}
-ASKING = {'audit': lambda r, text: said(audit(r)), 'root': lambda r, text: rooted(root_hash(r)), 'old': lambda r, text, m: rooted(old_root(r, m)),
-          'preview': lambda r, text, a, b: rooted(preview(r, bytes(text[a:b]))), 
+ASKING = {'audit': lambda r, text: said(audit(r)), 'cut': cut(parts.audit_tree_part, parts.audit_bitfield_part),
+          'root': lambda r, text: rooted(root_hash(r)), 'old': lambda r, text, m: rooted(old_root(r, m)),
+          'preview': lambda r, text, a, b: rooted(preview(r, bytes(text[a:b]))), 'entry': lambda r, text, chunk: stored(stored_leaf(r, chunk)),
           'search': lambda r, text, number: sought(first_not_held(r, number)),
           'place': lambda r, text, chunk: pair(place_lookup(r, chunk)), 'byte': lambda r, text, offset: pair(byte_lookup(r, offset)), 'packet': packed,
           'splace': both_ways(place_lookup, short_place, pair), 'sbyte': both_ways(byte_lookup, short_byte, pair),
           'ssearch': both_ways(first_not_held, short_search, sought)}
 COPY_WRITING = {'Make': lambda c, text: said(make_copy(c)), 'Release': WRITING['release'],
                 'Take': lambda c, text, a, b, chunk, root: said(take_in(c, bytes(text[a:b]), chunk, bytes(text[root:root + HASH])))}
-COPY_ASKING = {'Audit': lambda c, text: said(audit_copy(c)), 'Get': lambda c, text, chunk: with_bytes(read(c, c, 'content', chunk)),
+COPY_ASKING = {'Audit': lambda c, text: said(audit_copy(c)), 'Cut': cut(parts.copy_audit_tree_part, parts.copy_audit_bitfield_part),
+               'Get': lambda c, text, chunk: with_bytes(read(c, c, 'content', chunk)),
                'Find': lambda c, text, a, b: sought(find(c, bytes(text[a:b]))), 'Node': lambda c, text, chunk: said(read_record(c, chunk)),
-               **{name.capitalize(): ASKING[name] for name in ('root', 'old', 'packet', 'splace', 'sbyte', 'ssearch')}}
-ON_PAIRS = {'compare': compared, 'get': got}
+               **{name.capitalize(): ASKING[name] for name in ('root', 'old', 'entry', 'packet', 'splace', 'sbyte', 'ssearch')}}
+ON_PAIRS = {'compare': compared, 'xwalk': stepped_through, 'get': got}
 ON_TEXT = {'check': checked, 'walk': walked}
 
 
 if __name__ == '__main__':
     script = Script()
-    for module in (registers, lists, reads, audits, previews, old_roots, released, short_way, copies, page):
+    for module in (registers, lists, reads, audits, previews, old_roots, released, short_way, copies, page, leaves, cuts):
         module.cases(script)
     letters = {line.split(' ')[0]: line[:2] for line in script.lines}
     assert len(set(letters.values())) == len(letters)

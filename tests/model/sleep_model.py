@@ -455,6 +455,14 @@ def old_root(r, m, F=node_hash):
     need_all(r, roots(m))
     return (F(r.root_message(m)),)
 
+@call
+def stored_leaf(r, chunk):
+    """Hash and length of the stored entry of a chunk's leaf, held or released, whether an audit would take them or not."""
+    check_register(r)
+    refuse_if(chunk >= r.n, 9)
+    need_all(r, [2 * chunk])
+    return r.node(2 * chunk)
+
 # ---- Lookups ----
 def place_of(r, chunk, to_be_held=False):
     """Start and length of a chunk."""

@@ -1,6 +1,6 @@
 -- The answers of the append of a list, and what is left in the buffers. Assumes nothing.
-use Prim.Native.Nat.{ℕ, suc, _+_, _-_, _*_, _≤_, _<_}
-use mathlib.Core.Path.{_≡_, refl, sym, ap, ap₂, _∙_, subst}
+use Prim.Native.Nat.{ℕ, suc, _+_, _-_, _*_, _≤_}
+use mathlib.Core.Path.{_≡_, sym, ap, ap₂, _∙_, subst}
 use mathlib.Core.List.{List, [], _∷_}
 use native.Mathlib.Omega.{arith}
 use lib.ListN.{length, take, drop}
@@ -9,7 +9,7 @@ use Rattle.refusals.specs.Meaning.{said}
 use Rattle.refusals.specs.declared.Refusal.{Refusal}
 use Rattle.refusals.specs.declared.Answer.{Answer}
 use Rattle.refusals.specs.declared.Answer.the-variants.{Done, Refused}
-use Rattle.byte_strings.specs.Lists.{put, total, zeros}
+use Rattle.byte_strings.specs.Lists.{put, zeros}
 use Rattle.blake2b.specs.Hash.{nodeHash}
 use Rattle.file_format.specs.Sizes.{usedSignatures}
 use Rattle.file_format.specs.Stored.{storedRootMessage}

@@ -1,7 +1,7 @@
 -- The steps of the part that writes a list, at the hash of the calls. Assumes nothing.
-use Prim.Native.Nat.{ℕ, zero, suc, _+_, _-_, _*_, _^_, _≤_, _<_}
-use mathlib.Core.Path.{_≡_, refl, sym, ap, ap₂, _∙_, subst}
-use mathlib.Core.List.{List, [], _∷_, _++_}
+use Prim.Native.Nat.{ℕ, zero, _+_, _-_, _*_, _^_, _≤_, _<_}
+use mathlib.Core.Path.{_≡_, sym, ap, ap₂, _∙_, subst}
+use mathlib.Core.List.{List, _∷_, _++_}
 use native.Mathlib.Nat.{add-zero}
 use native.Mathlib.Numerals.{add-one}
 use native.Mathlib.Omega.{arith}
@@ -11,9 +11,9 @@ use Rattle.byte_strings.specs.Lists.{part, put, total, zeros}
 use Rattle.byte_strings.proofs.Lists.{length-part, length-put}
 use Rattle.tree_index.specs.Tree.{entries}
 use Rattle.blake2b.specs.Hash.{nodeHash}
-use Rattle.file_format.specs.Sizes.{mostChunks, usedTree, usedSignatures}
+use Rattle.file_format.specs.Sizes.{usedTree, usedSignatures}
 use Rattle.file_format.specs.Messages.{leafMessage}
-use Rattle.file_format.specs.Entries.{Entry, leaf}
+use Rattle.file_format.specs.Entries.{leaf}
 use Rattle.file_format.specs.Stored.{storedRootSizes, storedRootMessage}
 use Rattle.writing.specs.Append.{appendedTree}
 use Rattle.writing.specs.Inner.{withLeaf}

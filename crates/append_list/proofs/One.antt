@@ -1,5 +1,5 @@
 -- A list of one chunk is an append. Over any F and on every register. Assumes nothing.
-use Prim.Native.Nat.{ℕ, _+_, _-_, _≤_}
+use Prim.Native.Nat.{ℕ, _+_, _-_}
 use mathlib.Core.Path.{_≡_, refl, sym, ap, ap₂, _∙_}
 use mathlib.Core.Bool.{Bool, true, false, cond, _&&_}
 use mathlib.Core.List.{List, [], _∷_}
@@ -25,7 +25,8 @@ use Rattle.append_list.proofs.Orders.{list-order}
 
 -- 16 is passed, and the signatures have their room where 8 is passed
 flat : (a b c g d e : Bool) → (b ≡ true → g ≡ true)
-    → cond true (cond (a && true) (cond b (cond c (cond g (cond d (cond e done (refused 14 none)) (refused 14 none)) (refused 14 none)) (refused 14 none)) (refused 8 none)) (refused 7 none)) (refused 16 none)
+    → cond true (cond (a && true) (cond b (cond c (cond g (cond d (cond e done (refused 14 none)) (refused 14 none)) (refused 14 none)) (refused 14 none)) (refused 8 none))
+    (refused 7 none)) (refused 16 none)
     ≡ cond a (cond b (cond c (cond d (cond e done (refused 14 none)) (refused 14 none)) (refused 14 none)) (refused 8 none)) (refused 7 none)
 flat false b c g d e h = refl
 flat true false c g d e h = refl

@@ -1,6 +1,6 @@
 -- On any register that passes 2 to 6, whatever its entries are, an append and a stored signature of zeros leave one that does. Over any F.
 -- Assumes nothing.
-use Prim.Native.Nat.{ℕ, _+_, _-_, _*_, _^_, _≤_, _<_}
+use Prim.Native.Nat.{ℕ, _+_, _-_, _*_, _^_, _<_}
 use mathlib.Core.Path.{_≡_, sym, ap, _∙_}
 use mathlib.Core.List.{List, [], _∷_}
 use native.Mathlib.Omega.{arith}
@@ -11,7 +11,7 @@ use Rattle.byte_strings.specs.Lists.{put, zeros, Bytes}
 use Rattle.byte_strings.proofs.Lists.{length-put, take-put}
 use Rattle.file_format.specs.Sizes.{usedSignatures}
 use Rattle.file_format.specs.Messages.{HashFunction}
-use Rattle.file_format.specs.Belongs.{Register, Lent}
+use Rattle.file_format.specs.Belongs.{Register}
 use Rattle.checks.proofs.Passed.{Passed}
 use Rattle.checks.proofs.Steps.{signed-same, signed-next}
 use Rattle.writing.specs.Append.{appendedTree, appendedRegister}
@@ -21,7 +21,7 @@ use Rattle.writing.proofs.Made.{hashed}
 use Rattle.writing.proofs.Bits.{Stays, bits-stay}
 use Rattle.append_list.specs.Chunks.{chunksOf}
 use Rattle.append_list.specs.Append.{listVerdict, appendedList}
-use Rattle.append_list.specs.Conditions.{ListFits, Singly}
+use Rattle.append_list.specs.Conditions.{Singly}
 use Rattle.append_list.proofs.Chunks.{Chunk, chunks-count}
 use Rattle.append_list.proofs.Parts.{onward}
 use Rattle.append_list.proofs.Roots.{grown, headed, holds-bytes, roots-add}

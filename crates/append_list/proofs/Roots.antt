@@ -1,10 +1,10 @@
 -- An append to any tree file: its length and its header stay, it holds bytes, and the lengths of its roots add up to those of the roots before and
 -- the chunk's. Over any F that makes hashes of 32 bytes there. Assumes nothing.
-use Prim.Native.Nat.{ℕ, zero, suc, _+_, _-_, _/_, _^_, _≤_, _<_}
-use mathlib.Core.Path.{_≡_, refl, sym, ap, ap₂, _∙_, subst}
+use Prim.Native.Nat.{ℕ, _+_, _-_, _/_, _^_, _≤_, _<_}
+use mathlib.Core.Path.{_≡_, refl, sym, ap, _∙_, subst}
 use mathlib.Core.Bool.{Bool, true, false}
-use mathlib.Core.List.{List, [], _∷_, _++_, map, map-append}
-use native.Mathlib.Nat.{le-refl, add-zero}
+use mathlib.Core.List.{List, [], _∷_, map, map-append}
+use native.Mathlib.Nat.{le-refl}
 use native.Mathlib.Omega.{arith}
 use lib.ListN.{length, getD, take}
 use Rattle.byte_strings.specs.Lists.{part, among, total, Bytes}
@@ -17,7 +17,6 @@ use Rattle.tree_index.proofs.Filled.{filled-below}
 use Rattle.tree_index.proofs.Appended.{newly-hole, filledBy-at, filledBy-in}
 use Rattle.tree_index.proofs.Roots.{Carried, carried}
 use Rattle.file_format.specs.Sizes.{mostChunks, entryPlace, usedTree}
-use Rattle.file_format.specs.Messages.{HashFunction}
 use Rattle.file_format.specs.Entries.{Entry, entryBytes, leaf}
 use Rattle.file_format.specs.Stored.{storedSize, storedRootSizes}
 use Rattle.file_format.proofs.Nodes.{entryBytes-length}
@@ -25,7 +24,7 @@ use Rattle.file_format.proofs.OfImage.{entry-size}
 use Rattle.file_format.proofs.Spans.{map-ext}
 use Rattle.writing.specs.Append.{withHole, appendedTree}
 use Rattle.writing.specs.Inner.{made}
-use Rattle.writing.proofs.Made.{new-made, hashed, node-hashed}
+use Rattle.writing.proofs.Made.{new-made}
 use Rattle.writing.proofs.Climbed.{top-size, kept-filled}
 use Rattle.writing.proofs.Tree.{never, tree-entries, tree-length, tree-front, tree-new, tree-old}
 use Rattle.writing.proofs.Lent.{with-bytes, hole-bytes}

@@ -1,6 +1,6 @@
 -- What a register and a list are on which the append of a list is not refused. Assumes nothing.
-use Prim.Native.Nat.{ℕ, _+_, _-_, _≤_, _<_}
-use mathlib.Core.Path.{_≡_, sym, ap, _∙_}
+use Prim.Native.Nat.{ℕ, _+_, _-_, _<_}
+use mathlib.Core.Path.{_≡_}
 use mathlib.Core.List.{List}
 use native.Mathlib.Omega.{arith}
 use borrow.Author.Tests.{leb-true, ltb-true, eqb-true, le-leb, lt-ltb, eq-eqb}
@@ -11,7 +11,7 @@ use Rattle.file_format.specs.Sizes.{mostChunks, usedTree, usedSignatures, usedB
 use Rattle.file_format.specs.Belongs.{Register}
 use Rattle.checks.specs.Checks.{laterChecks, registerChecks}
 use Rattle.checks.proofs.Passed.{Passed, all-must, all-pass, all-right, right-all}
-use Rattle.checks.specs.Lengths.{mostListed, allShort}
+use Rattle.checks.specs.Lengths.{mostListed}
 use Rattle.checks.proofs.Lengths.{short-at}
 use Rattle.writing.proofs.Orders.{both-right, right-both}
 use Rattle.append_list.specs.Append.{listChecks, roomChecks, appendListChecks, listVerdict}

@@ -1,10 +1,9 @@
 -- A job on any register that passes 2 to 6, whatever its entries are: each call finds room and is done, and the needs are its sizes and its runs.
 -- Assumes nothing.
-use Prim.Native.Nat.{ℕ, zero, suc, _+_, _*_, _^_, _≤_, _<_}
+use Prim.Native.Nat.{ℕ, _+_, _*_, _≤_, _<_}
 use mathlib.Core.Path.{_≡_, refl, sym, ap, ap₂, _∙_}
 use mathlib.Core.Bool.{true}
-use mathlib.Core.List.{List, [], _∷_, _++_, map, map-append}
-use native.Mathlib.Numerals.{add-one}
+use mathlib.Core.List.{List, [], _∷_, map, map-append}
 use native.Mathlib.Omega.{arith}
 use borrow.Author.Tests.{eq-eqb}
 use lib.ListN.{length}
@@ -16,7 +15,7 @@ use Rattle.bitfield.specs.Image.{entryCount}
 use Rattle.blake2b.specs.Runs.{runs}
 use Rattle.file_format.specs.Sizes.{mostChunks, longestChunk, usedTree, usedSignatures, usedBitfield}
 use Rattle.file_format.specs.Messages.{HashFunction}
-use Rattle.file_format.specs.Entries.{Entry, leaf}
+use Rattle.file_format.specs.Entries.{leaf}
 use Rattle.file_format.specs.Stored.{storedRootMessage}
 use Rattle.file_format.specs.Belongs.{Register}
 use Rattle.checks.specs.Lengths.{allShort}

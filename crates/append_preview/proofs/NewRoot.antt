@@ -13,7 +13,7 @@ use Rattle.byte_strings.proofs.Lists.{run-suc, run-ext, getD-behind}
 use Rattle.tree_index.specs.Tree.{index, filled, completed, filledBy, entries, roots}
 use Rattle.tree_index.proofs.Roots.{Carried, carried, siblings, length-roots-le}
 use Rattle.blake2b.specs.Hash.{nodeHash}
-use Rattle.blake2b.proofs.Laws.{node-length, node-byte}
+use Rattle.blake2b.proofs.Laws.{node-length}
 use Rattle.file_format.specs.Sizes.{mostChunks, entryPlace, usedTree}
 use Rattle.file_format.specs.Messages.{leafMessage, rootItem, rootMessage}
 use Rattle.file_format.specs.Entries.{Entry, entryBytes, leaf, parentOf}

@@ -28,7 +28,8 @@ use Rattle.file_format.specs.Belongs.{Register, Lent, Belongs}
 use Rattle.file_format.proofs.Spans.{span, chunk-inside, joined-length}
 use Rattle.file_format.proofs.Slots.{slotAt, contents-length, contents-at, held-at, held-behind, leaves-length, leaf-held}
 use Rattle.file_format.proofs.Nodes.{nodeAt-index, entryAt-hole}
-use Rattle.file_format.proofs.OfImage.{treeHeader-length, bitfieldHeader-length, signaturesHeader-length, bitfieldImage-length, treeImage-length, overs, stored-entry, stored-node-hash, stored-node-size, stored-leaf-size, stored-start, stored-chunk, stored-total}
+use Rattle.file_format.proofs.OfImage.{treeHeader-length, bitfieldHeader-length, signaturesHeader-length, bitfieldImage-length, treeImage-length, overs}
+use Rattle.file_format.proofs.OfImage.{stored-entry, stored-node-hash, stored-node-size, stored-leaf-size, stored-start, stored-chunk, stored-total}
 pub use Rattle.file_format.proofs.Held.{front-long}
 use Rattle.file_format.proofs.Held.{stored-held}
 use Rattle.file_format.proofs.ToImage.{hole-zeros}

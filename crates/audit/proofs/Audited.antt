@@ -24,7 +24,8 @@ use Rattle.file_format.specs.Stored.{storedHash, storedSize, storedStart, store
 use Rattle.file_format.specs.Belongs.{Register}
 use Rattle.file_format.proofs.Nodes.{byDepth}
 use Rattle.checks.proofs.Passed.{Passed, passes, passed, same-of}
-use Rattle.audit.specs.Audit.{Lowest, nowhere, first, lowest, leafRight, parentRight, holeRight, entryRight, wrongEntry, heldBits, byteRight, wrongByte, refusedAt, imagesVerdict, audit, Accepted}
+use Rattle.audit.specs.Audit.{Lowest, nowhere, first, lowest, leafRight, parentRight, holeRight, entryRight, wrongEntry, heldBits, byteRight, wrongByte}
+use Rattle.audit.specs.Audit.{refusedAt, imagesVerdict, audit, Accepted}
 
 -- ---- the lowest wrong number
 
@@ -191,7 +192,9 @@ module _ (F : List ℕ → List ℕ) where
       let c = at-must 11 bitfield (wrongByte r) done (b .1) in
       record {
         checked = a .0;
-        entry = λ i h. ap (entryRight F (r .tree) (r .bitfield) (r .content) (r .n) (r .size)) (sym (zero-add i)) ∙ nowhere-right (entryRight F (r .tree) (r .bitfield) (r .content) (r .n) (r .size)) 0 (entries (r .n)) (b .0) i h;
+        entry =
+            λ i h. ap (entryRight F (r .tree) (r .bitfield) (r .content) (r .n) (r .size)) (sym (zero-add i)) ∙ nowhere-right
+            (entryRight F (r .tree) (r .bitfield) (r .content) (r .n) (r .size)) 0 (entries (r .n)) (b .0) i h;
         byte = λ i l h. eqb-true (getD (r .bitfield) i 0) (getD (bitfieldImage (heldBits (r .bitfield) (r .n)) (r .n)) i 0)
             (let j : ℕ = i - 32 in
             let q : i ≡ 32 + j = omega arith in

@@ -1,11 +1,10 @@
 -- The bitfield file as the code judges it: byte by byte in an entry, and entry by entry.
 -- Assumes nothing.
-use Prim.Native.Nat.{ℕ, zero, suc, _+_, _-_, _*_, _/_, _≤_, _<_}
-use mathlib.Core.Path.{_≡_, refl, sym, ap, ap₂, _∙_, subst}
-use mathlib.Core.Logic.{_⊎_, inl, inr, ⊎-elim}
+use Prim.Native.Nat.{ℕ, zero, _+_, _-_, _*_, _/_, _≤_, _<_}
+use mathlib.Core.Path.{_≡_, refl, sym, ap, ap₂, _∙_}
 use mathlib.Core.Bool.{Bool, true, false, cond, _&&_}
-use mathlib.Core.List.{List, [], _∷_, _++_}
-use native.Mathlib.Nat.{add-zero, zero-add, mul-comm}
+use mathlib.Core.List.{List, _++_}
+use native.Mathlib.Nat.{add-zero, zero-add}
 use native.Mathlib.Decide.{decLt}
 use native.Mathlib.Omega.{arith}
 use borrow.Author.Tests.{eq-eqb, ne-eqb, eqb-true}
@@ -239,49 +238,50 @@ module _ (known : ℕ → Bool) (xs : List ℕ) (n : ℕ) where
   abbrev pub whole : Verdict
   whole = refusedAt 11 bitfield (lowest (byteRightBy known xs n) 32 (usedBitfield n - 32)) done
 
-  pub record Entering (count e : ℕ) : Type 0 where
-    pub end : count ≡ entryCount n
-    pub below : e ≤ count
-    pub rest : whole ≡ fromEntry e (count - e)
+  -- at the entry e of those from `from` on and before `end`: what is left from there decides
+  pub record Entering (from end e : ℕ) : Type 0 where
+    pub rest : fromEntry from (end - from) ≡ fromEntry e (end - e)
 
-  pub entering-start : (count : ℕ) → count ≡ entryCount n → Entering count 0
+  pub entering-start : (from end : ℕ) → Entering from end from
+  entering-start from end = record { rest = refl }
+
+  -- all entries
+  pub entering-all : (v : Verdict) (end : ℕ) → end ≡ entryCount n → v ≡ fromEntry 0 (end - 0) → v ≡ whole
   unfolding usedBitfield
-  entering-start count q =
-      record {
-        end = q;
-        below = omega arith;
-        rest = ap (λ (k : ℕ). refusedAt 11 bitfield (lowest (byteRightBy known xs n) 32 k) done) (omega arith);
-      }
+  entering-all v end q e =
+      e ∙ ap (λ (k : ℕ). refusedAt 11 bitfield (lowest (byteRightBy known xs n) 32 k) done) (omega arith)
 
-  module _ (count e : ℕ) (w : Entering count e) where
-    pub entering-entry : BitsIn xs n → e < count → AtBits xs n e
-    entering-entry p h = record { file = p; entry = omega (arith, w .end) }
+  module _ (from count e : ℕ) (w : Entering from count e) where
+    pub entering-entry : BitsIn xs n → count ≤ entryCount n → e < count → AtBits xs n e
+    entering-entry p k h = record { file = p; entry = omega arith }
 
-    one-entry : e < count → whole ≡ andThen (refusedAt 11 bitfield (lowest (byteRightBy known xs n) (32 + 3328 * e) 3328) done) (fromEntry (e + 1) (count - (e + 1)))
+    one-entry : e < count → fromEntry from (count - from) ≡ andThen (refusedAt 11 bitfield (lowest (byteRightBy known xs n) (32 + 3328 * e) 3328) done) (fromEntry (e + 1) (count - (e + 1)))
     one-entry h =
         let k : 3328 * (count - e) ≡ 3328 + 3328 * (count - (e + 1)) = omega arith in
         let p : 32 + 3328 * e + 3328 ≡ 32 + 3328 * (e + 1) = omega arith in
         w .rest
         ∙ ap (λ (x : ℕ). refusedAt 11 bitfield (lowest (byteRightBy known xs n) (32 + 3328 * e) x) done) k
         ∙ search-parts (byteRightBy known xs n) 11 bitfield (32 + 3328 * e) 3328 (3328 * (count - (e + 1)))
-        ∙ ap (λ (x : ℕ). andThen (refusedAt 11 bitfield (lowest (byteRightBy known xs n) (32 + 3328 * e) 3328) done) (refusedAt 11 bitfield (lowest (byteRightBy known xs n) x (3328 * (count - (e + 1)))) done)) p
+        ∙ ap
+        (λ (x : ℕ).
+        andThen (refusedAt 11 bitfield (lowest (byteRightBy known xs n) (32 + 3328 * e) 3328) done)
+        (refusedAt 11 bitfield (lowest (byteRightBy known xs n) x (3328 * (count - (e + 1)))) done))
+        p
 
     -- the verdict on one entry, and what it makes of the whole
     pub entering-next : (v : Verdict) → e < count → v ≡ refusedAt 11 bitfield (lowest (byteRightBy known xs n) (32 + 3328 * e) 3328) done → v ≡ done
-        → Entering count (e + 1)
+        → Entering from count (e + 1)
     entering-next v h q d =
         record {
-          end = w .end;
-          below = omega arith;
           rest = one-entry h ∙ ap (λ (x : Verdict). andThen x (fromEntry (e + 1) (count - (e + 1)))) (sym q ∙ d);
         }
 
     pub entering-found : (v : Verdict) → e < count → v ≡ refusedAt 11 bitfield (lowest (byteRightBy known xs n) (32 + 3328 * e) 3328) done
-        → ((next : Verdict) → andThen v next ≡ v) → v ≡ whole
+        → ((next : Verdict) → andThen v next ≡ v) → v ≡ fromEntry from (count - from)
     entering-found v h q stop =
         sym (one-entry h ∙ ap (λ (x : Verdict). andThen x (fromEntry (e + 1) (count - (e + 1)))) (sym q) ∙ stop (fromEntry (e + 1) (count - (e + 1))))
 
-    pub entering-done : count ≤ e → done ≡ whole
+    pub entering-done : count ≤ e → done ≡ fromEntry from (count - from)
     unfolding lowest refusedAt
     entering-done h =
         let k : 3328 * (count - e) ≡ 0 = omega arith in

@@ -1,25 +1,23 @@
 -- The tree entries as the code judges them, one by one from the left.
 -- Assumes nothing.
-use Prim.Native.Nat.{ℕ, zero, suc, _+_, _-_, _*_, _/_, _%_, _^_, _≤_, _<_}
+use Prim.Native.Nat.{ℕ, zero, suc, _+_, _-_, _*_, _/_, _%_, _≤_, _<_}
 use mathlib.Core.Path.{_≡_, refl, sym, ap, ap₂, _∙_, subst}
-use mathlib.Core.Logic.{_⊎_, inl, inr, ⊎-elim}
 use mathlib.Core.Bool.{Bool, true, false, cond}
 use mathlib.Core.List.{List}
 use native.Mathlib.Nat.{add-zero, zero-add}
 use native.Mathlib.Omega.{arith}
-use borrow.Author.Tests.{le-leb, lt-leb, eq-eqb, ne-eqb, ltb-true, lt-ltb}
+use borrow.Author.Tests.{le-leb, lt-leb, eq-eqb, ne-eqb}
 use lib.ListN.{length, take, drop}
 use Rattle.refusals.specs.Verdict.{Verdict, tree, done, refused}
 use Rattle.byte_strings.specs.Lists.{part, run, total, sameList, allZero, zeros}
 use Rattle.byte_strings.proofs.Lists.{length-part}
 use Rattle.tree_index.specs.Tree.{index, depth, block, leftChild, rightChild, filled, entries}
 use Rattle.tree_index.proofs.Index.{index-leaf, depth-index, by-coordinates}
-use Rattle.tree_index.proofs.Filled.{filled-leaf, filled-below, children-below}
+use Rattle.tree_index.proofs.Filled.{filled-below, children-below}
 use Rattle.tree_index.proofs.Words.{leaf-block}
 use Rattle.bitfield.specs.Image.{entryCount}
 use Rattle.bitfield.specs.Append.{bitsPlace}
 use Rattle.bitfield.specs.Release.{storedHeld}
-use Rattle.bitfield.proofs.Levels.{same-or}
 use Rattle.file_format.specs.Sizes.{longestChunk, entryPlace, usedBitfield}
 use Rattle.file_format.specs.Messages.{leafMessage, parentMessage}
 use Rattle.file_format.specs.Stored.{storedHash, storedSize, storedStart, storedChunk}
@@ -28,8 +26,11 @@ use Rattle.file_format.proofs.Spans.{total-run-add}
 use Rattle.file_format.proofs.OfImage.{entry-inside}
 use Rattle.checks.proofs.Steps.{and-stop, and-pass}
 use Rattle.audit.specs.Audit.{Lowest, lowest, leafRight, parentRight, holeRight, entryRight, refusedAt}
-use Rattle.audit.specs.TreeWalk.{leavesBefore, leafFrom, FilesIn, Started, AtEntry, AtLeaf, AtParent}
-use Rattle.audit.proofs.Audited.{zero-same, leaf-right, even-entry, odd-entry, entryRight-hole}
+use Rattle.checks.specs.Capped.{most, capped}
+use Rattle.checks.proofs.Capped.{capped-low, capped-before}
+use Rattle.audit.specs.TreeWalk.{leavesBefore, leafFrom, FilesIn, AtEntry, AtLeaf, AtParent}
+use Rattle.audit.proofs.Capped.{capped-leaf}
+use Rattle.audit.proofs.Audited.{zero-same, even-entry, odd-entry, entryRight-hole}
 use Rattle.audit.proofs.Search.{lowest-on, lowest-off, lowest-end}
 
 -- ---- where an entry lies
@@ -75,26 +76,55 @@ start-next t k =
     ∙ ap (λ (x : ℕ). total (run (λ j. storedSize t (2 * j)) 0 k) + x)
     (add-zero (storedSize t (2 * (0 + k))) ∙ ap (λ (x : ℕ). storedSize t (2 * x)) (zero-add k))
 
-pub behind-leaf : (t : List ℕ) (i start s : ℕ) → i % 2 ≡ 0 → start ≡ storedStart t (leavesBefore i) → s ≡ storedSize t i
-    → start + s ≡ storedStart t (leavesBefore (i + 1))
-behind-leaf t i start s h e q =
-    let k : ℕ = i / 2 in
-    let a : (i + 1) / 2 ≡ k = omega arith in
-    let b : (i + 1 + 1) / 2 ≡ k + 1 = omega arith in
-    let d : i ≡ 2 * k = omega arith in
-    ap₂ _+_ (e ∙ ap (storedStart t) a) (q ∙ ap (storedSize t) d) ∙ sym (start-next t k) ∙ ap (storedStart t) (sym b)
+-- how many leaves stand before an entry and behind it
+module _ (t : List ℕ) (i start : ℕ) (e : start ≡ capped (storedStart t (leavesBefore i))) where
+  pub behind-leaf : (s next : ℕ) → i % 2 ≡ 0 → s ≡ storedSize t i → next ≡ capped (start + s) → next ≡ capped (storedStart t (leavesBefore (i + 1)))
+  behind-leaf s next h q w =
+      let k : ℕ = i / 2 in
+      let a : (i + 1) / 2 ≡ k = omega arith in
+      let b : (i + 1 + 1) / 2 ≡ k + 1 = omega arith in
+      let d : i ≡ 2 * k = omega arith in
+      w ∙ ap₂ (λ (x y : ℕ). capped (x + y)) (e ∙ ap (λ (x : ℕ). capped (storedStart t x)) a) (q ∙ ap (storedSize t) d)
+      ∙ capped-before (storedStart t k) (storedSize t (2 * k)) ∙ ap capped (sym (start-next t k) ∙ ap (storedStart t) (sym b))
 
-pub behind-parent : (t : List ℕ) (i start : ℕ) → (i % 2 ≡ 0 → ⊥) → start ≡ storedStart t (leavesBefore i)
-    → start ≡ storedStart t (leavesBefore (i + 1))
-behind-parent t i start h e = let a : (i + 1) / 2 ≡ (i + 1 + 1) / 2 = omega arith in e ∙ ap (storedStart t) a
+  pub behind-parent : (i % 2 ≡ 0 → ⊥) → start ≡ capped (storedStart t (leavesBefore (i + 1)))
+  behind-parent h = let a : (i + 1) / 2 ≡ (i + 1 + 1) / 2 = omega arith in e ∙ ap (λ (x : ℕ). capped (storedStart t x)) a
+
+-- ---- the start of the first leaf from an entry on, found leaf by leaf
+
+-- the leaves before the chunk c are added up
+pub record Adding (t : List ℕ) (c start : ℕ) : Type 0 where
+  pub sum : start ≡ capped (storedStart t c)
+
+module _ (t : List ℕ) where
+  pub adding-none : Adding t 0 0
+  unfolding storedStart run total
+  adding-none = record { sum = sym (capped-low 0 (omega arith)) }
+
+  module _ (c start : ℕ) (w : Adding t c start) where
+    pub adding-next : (leaf s next : ℕ) → leaf ≡ index 0 c → s ≡ storedSize t leaf → next ≡ capped (start + s) → Adding t (c + 1) next
+    adding-next leaf s next l q e =
+        record {
+          sum =
+              e ∙ ap₂ (λ (x y : ℕ). capped (x + y)) (w .sum) (q ∙ ap (storedSize t) (l ∙ index-leaf c))
+              ∙ capped-before (storedStart t c) (storedSize t (2 * c)) ∙ ap capped (sym (start-next t c));
+        }
+
+    pub adding-all : (end : ℕ) → c ≤ end → end ≤ c → start ≡ capped (storedStart t end)
+    adding-all end h g = let z : c ≡ end = omega arith in w .sum ∙ ap (λ (x : ℕ). capped (storedStart t x)) z
+
+-- the leaves before an entry of n chunks are some of theirs
+pub before-leaf : (t : List ℕ) (n i c : ℕ) → RootsIn t n → i < entries n → c < leavesBefore i → EntryIn t (index 0 c)
+unfolding entries
+before-leaf t n i c p h l = entry-as t (index-leaf c) (entry-in t n (2 * c) p (omega arith))
 
 -- ---- one entry
 
 -- a leaf judged from the sum of the leaf lengths before it
-pub leaf-from : (F : List ℕ → List ℕ) (t d : List ℕ) (size : ℕ) (held : Bool) (k start : ℕ) → start ≡ storedStart t k
+pub leaf-from : (F : List ℕ → List ℕ) (t d : List ℕ) (size : ℕ) (held : Bool) (k start : ℕ) → size < most → start ≡ capped (storedStart t k)
     → leafFrom F t d size held k start ≡ leafRight F t d size held k
 unfolding leafFrom leafRight storedChunk
-leaf-from F t d size held k start e = ap (leafFrom F t d size held k) e
+leaf-from F t d size held k start s e = ap (leafFrom F t d size held k) e ∙ capped-leaf F t d size held k (storedStart t k) s
 
 module _ (F : List ℕ → List ℕ) (t d : List ℕ) (size : ℕ) (held : Bool) (k start : ℕ) where
   pub leaf-long : (len : ℕ) → len ≡ storedSize t (2 * k) → longestChunk < len → false ≡ leafFrom F t d size held k start
@@ -102,14 +132,14 @@ module _ (F : List ℕ → List ℕ) (t d : List ℕ) (size : ℕ) (held : Bool)
   leaf-long len e h = and-stop _ _ (lt-leb (storedSize t (2 * k)) longestChunk (omega (arith, e)))
 
   module _ (len : ℕ) (q : len ≡ storedSize t (2 * k)) (s : len ≤ longestChunk) where
-    pub leaf-past : start ≤ size → size - start < len → false ≡ leafFrom F t d size held k start
+    pub leaf-past : size < start + len → false ≡ leafFrom F t d size held k start
     unfolding leafFrom
-    leaf-past g h =
+    leaf-past h =
         and-pass _ _ false (le-leb (storedSize t (2 * k)) longestChunk (omega arith))
         (and-stop _ _ (lt-leb (start + storedSize t (2 * k)) size (omega arith)))
 
     -- the last test, of a leaf that passes those of its length
-    module _ (m : ℕ) (g : start ≤ size) (h : len ≤ size - start) (me : m ≡ len) (r : Bool) where
+    module _ (m : ℕ) (h : start + len ≤ size) (me : m ≡ len) (r : Bool) where
       abbrev chunk : List ℕ
       chunk = part d start (storedSize t (2 * k))
 
@@ -167,21 +197,12 @@ module _ (F : List ℕ → List ℕ) (t bits d : List ℕ) (n size i start : ℕ
   pub at-entry : EntryIn t i
   at-entry = entry-in t n i (p .files .nodes) (p .entry)
 
-  -- a leaf that is an entry is filled
-  even-filled : i % 2 ≡ 0 → filled n i ≡ true
-  unfolding entries
-  even-filled h =
-      let k : ℕ = i / 2 in
-      let e : i ≡ 2 * k = omega arith in
-      ap (filled n) e ∙ filled-leaf n k ∙ lt-ltb k n (omega (arith, p .entry))
-
-  pub at-leaf : (k : ℕ) → i % 2 ≡ 0 → k ≡ block i → AtLeaf t d size k start
+  pub at-leaf : (k : ℕ) → i % 2 ≡ 0 → k ≡ block i → AtLeaf t d size k
   at-leaf k h e =
       let b : k ≡ i / 2 = e ∙ sym (leaf-block i h) in
       record {
         entry = entry-as t (omega arith) at-entry;
         bytes = p .files .bytes;
-        inside = p .inside;
       }
 
   pub at-parent : (i % 2 ≡ 0 → ⊥) → filled n i ≡ true → AtParent t i
@@ -194,11 +215,12 @@ module _ (F : List ℕ → List ℕ) (t bits d : List ℕ) (n size i start : ℕ
       let b : k ≡ i / 2 = e ∙ sym (leaf-block i h) in
       omega (arith, p .entry, p .files .field .inside)
 
-  pub leaf-entry : (k : ℕ) (held r : Bool) → i % 2 ≡ 0 → filled n i ≡ true → k ≡ block i → held ≡ storedHeld bits k
+  pub leaf-entry : size < most → (k : ℕ) (held r : Bool) → i % 2 ≡ 0 → filled n i ≡ true → k ≡ block i → held ≡ storedHeld bits k
       → r ≡ leafFrom F t d size held k start → r ≡ entryRight F t bits d n size i
-  leaf-entry k held r h f e b rr =
+  leaf-entry s k held r h f e b rr =
       let q : k ≡ i / 2 = e ∙ sym (leaf-block i h) in
-      rr ∙ leaf-from F t d size held k start (p .here ∙ ap (storedStart t) (omega arith))
+      let a : (i + 1) / 2 ≡ k = omega arith in
+      rr ∙ leaf-from F t d size held k start s (p .here ∙ ap (λ (x : ℕ). capped (storedStart t x)) a)
       ∙ ap₂ (leafRight F t d size) (b ∙ ap (storedHeld bits) e) e ∙ sym (even-entry F t d bits n size i (even-depth i h) f)
 
   pub parent-entry : (r : Bool) → (i % 2 ≡ 0 → ⊥) → filled n i ≡ true → r ≡ parentRight F t i → r ≡ entryRight F t bits d n size i
@@ -209,66 +231,43 @@ module _ (F : List ℕ → List ℕ) (t bits d : List ℕ) (n size i start : ℕ
   pub hole-entry : (r : Bool) → filled n i ≡ false → r ≡ holeRight F t i → r ≡ entryRight F t bits d n size i
   hole-entry r f rr = rr ∙ sym (entryRight-hole F t d bits n size i f)
 
-  -- a right leaf ends within the data
-  leaf-inside : entryRight F t bits d n size i ≡ true → i % 2 ≡ 0 → start + storedSize t i ≤ size
-  leaf-inside r h =
-      let k : ℕ = block i in
-      let b : i / 2 ≡ k = leaf-block i h in
-      let a : start ≡ storedStart t k = p .here ∙ ap (storedStart t) (omega arith) in
-      let z : storedSize t i ≡ storedSize t (2 * k) = ap (storedSize t) (omega arith) in
-      let l = leaf-right F t d size (storedHeld bits k) k (sym (even-entry F t d bits n size i (even-depth i h) (even-filled h)) ∙ r) in
-      omega (arith, l .inside)
-
-  pub at-start : size < 2 ^ 64 → entryRight F t bits d n size i ≡ true → Started t i start
-  at-start s r = record { entry = at-entry; here = p .here; fits = λ h. omega (arith, leaf-inside r h) }
-
-  next-inside : (next : ℕ) → entryRight F t bits d n size i ≡ true → next ≡ storedStart t (leavesBefore (i + 1)) → next ≤ size
-  next-inside next r e =
-      ⊎-elim (λ h. omega (arith, leaf-inside r h, behind-leaf t i start (storedSize t i) h (p .here) refl))
-      (λ h. omega (arith, behind-parent t i start h (p .here), p .inside)) (same-or (i % 2) 0)
-
--- ---- the walk over all entries
+-- ---- the walk over the entries from `from` on and before `end`
 
 -- at the entry i: what is left from there decides
-pub record Walking (F : List ℕ → List ℕ) (t bits d : List ℕ) (n size count i start : ℕ) : Type 0 where
-  pub end : count ≡ entries n
-  pub below : i ≤ count
-  pub here : start ≡ storedStart t (leavesBefore i)
-  pub inside : start ≤ size
-  pub rest : lowest (entryRight F t bits d n size) 0 (entries n) ≡ lowest (entryRight F t bits d n size) i (count - i)
+pub record Walking (F : List ℕ → List ℕ) (t bits d : List ℕ) (n size from end i start : ℕ) : Type 0 where
+  pub here : start ≡ capped (storedStart t (leavesBefore i))
+  pub rest : lowest (entryRight F t bits d n size) from (end - from) ≡ lowest (entryRight F t bits d n size) i (end - i)
 
-module _ (F : List ℕ → List ℕ) (t bits d : List ℕ) (n size count : ℕ) where
-  pub walking-start : count ≡ entries n → Walking F t bits d n size count 0 0
-  unfolding storedStart run total
-  walking-start e =
-      record {
-        end = e;
-        below = omega arith;
-        here = refl;
-        inside = omega arith;
-        rest = ap (lowest (entryRight F t bits d n size) 0) (omega arith);
-      }
+module _ (F : List ℕ → List ℕ) (t bits d : List ℕ) (n size from end : ℕ) where
+  abbrev right : ℕ → Bool
+  right = entryRight F t bits d n size
 
-  module _ (i start : ℕ) (w : Walking F t bits d n size count i start) where
-    pub walking-entry : FilesIn t bits d n size → i < count → AtEntry t bits d n size i start
-    walking-entry p h = record { files = p; entry = omega (arith, w .end); here = w .here; inside = w .inside }
+  abbrev between : Verdict
+  between = refusedAt 10 tree (lowest right from (end - from)) done
 
-    pub walking-next : (next : ℕ) → AtEntry t bits d n size i start → i < count → entryRight F t bits d n size i ≡ true
-        → next ≡ storedStart t (leavesBefore (i + 1)) → Walking F t bits d n size count (i + 1) next
-    walking-next next p h r e =
-        record {
-          end = w .end;
-          below = omega arith;
-          here = e;
-          inside = next-inside F t bits d n size i start p next r e;
-          rest = w .rest ∙ lowest-on (entryRight F t bits d n size) i count h r;
-        }
+  pub walking-start : (start : ℕ) → start ≡ capped (storedStart t (leavesBefore from)) → Walking F t bits d n size from end from start
+  walking-start start e = record { here = e; rest = refl }
 
-    pub walking-found : (v : Verdict) → i < count → entryRight F t bits d n size i ≡ false → v ≡ refused 10 (tree i)
-        → v ≡ refusedAt 10 tree (lowest (entryRight F t bits d n size) 0 (entries n)) done
+  pub walking-none : end ≤ from → done ≡ between
+  unfolding refusedAt
+  walking-none h = ap (λ (l : Lowest). refusedAt 10 tree l done) (sym (lowest-end right from end h))
+
+  module _ (i start : ℕ) (w : Walking F t bits d n size from end i start) where
+    pub walking-entry : FilesIn t bits d n size → end ≤ entries n → i < end → AtEntry t bits d n size i start
+    walking-entry p e h = record { files = p; entry = omega arith; here = w .here }
+
+    pub walking-next : (next : ℕ) → i < end → right i ≡ true → next ≡ capped (storedStart t (leavesBefore (i + 1)))
+        → Walking F t bits d n size from end (i + 1) next
+    walking-next next h r e = record { here = e; rest = w .rest ∙ lowest-on right i end h r }
+
+    pub walking-found : (v : Verdict) → i < end → right i ≡ false → v ≡ refused 10 (tree i) → v ≡ between
     unfolding refusedAt
-    walking-found v h r e = e ∙ ap (λ (l : Lowest). refusedAt 10 tree l done) (sym (w .rest ∙ lowest-off (entryRight F t bits d n size) i count h r))
+    walking-found v h r e = e ∙ ap (λ (l : Lowest). refusedAt 10 tree l done) (sym (w .rest ∙ lowest-off right i end h r))
 
-    pub walking-done : count ≤ i → done ≡ refusedAt 10 tree (lowest (entryRight F t bits d n size) 0 (entries n)) done
+    pub walking-done : end ≤ i → done ≡ between
     unfolding refusedAt
-    walking-done h = ap (λ (l : Lowest). refusedAt 10 tree l done) (sym (w .rest ∙ lowest-end (entryRight F t bits d n size) i count h))
+    walking-done h = ap (λ (l : Lowest). refusedAt 10 tree l done) (sym (w .rest ∙ lowest-end right i end h))
+
+  -- the walk over all entries
+  pub walking-all : (v : Verdict) → from ≡ 0 → end ≡ entries n → v ≡ between → v ≡ refusedAt 10 tree (lowest right 0 (entries n)) done
+  walking-all v f e q = let k : end - from ≡ entries n = omega arith in q ∙ ap₂ (λ (a b : ℕ). refusedAt 10 tree (lowest right a b) done) f k

@@ -22,8 +22,8 @@ use Rattle.file_format.specs.Sizes.{usedSignatures}
 use Rattle.file_format.specs.Stored.{storedChunk}
 use Rattle.file_format.specs.Messages.{HashFunction}
 use Rattle.file_format.specs.Images.{signaturesImage, leaves}
-use Rattle.file_format.specs.Entries.{Entry, node}
-use Rattle.file_format.specs.Slots.{Slot, held, released, isHeld, slotEntry, contents, heldIn, Within}
+use Rattle.file_format.specs.Entries.{node}
+use Rattle.file_format.specs.Slots.{Slot, held, released, isHeld, slotEntry, heldIn, Within}
 use Rattle.file_format.specs.Belongs.{Register, Lent, Belongs}
 use Rattle.file_format.proofs.Slots.{slotAt, held-at, held-slot, leaf-at}
 use Rattle.file_format.proofs.Nodes.{nodeAt-index}

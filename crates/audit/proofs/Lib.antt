@@ -1,5 +1,6 @@
 -- Laws of the audit.
 pub mod Search
+pub mod Capped
 pub mod Audited
 pub mod Entries
 pub mod Bytes

@@ -11,7 +11,7 @@ use borrow.Author.Tests.{ltb-true, ltb-false}
 use lib.Dec.{ltb}
 use lib.ListN.{length, getD, take, List·getD-append, List·getD-eq-default}
 use lib.Seq.{take-add, length-take-le, getD-take, ext-getD}
-use Rattle.byte_strings.specs.Lists.{part, run, joined, total, Bytes, zeros, allZero}
+use Rattle.byte_strings.specs.Lists.{part, run, joined, total, Bytes, zeros}
 use Rattle.byte_strings.specs.Numbers.{be}
 use Rattle.byte_strings.proofs.Lists.{length-part, part-add, length-run, getD-run, run-suc, run-ext, joined-run-suc, bytes-part}
 use Rattle.byte_strings.proofs.Numbers.{be-number}
@@ -22,7 +22,7 @@ use Rattle.bitfield.specs.Image.{entriesOf}
 use Rattle.bitfield.specs.Release.{storedHeld}
 use Rattle.file_format.specs.Headers.{bitfieldHeader}
 use Rattle.file_format.specs.Sizes.{mostChunks, longestChunk, entryPlace, usedTree, usedBitfield}
-use Rattle.file_format.specs.Messages.{HashFunction, leafMessage}
+use Rattle.file_format.specs.Messages.{HashFunction}
 use Rattle.file_format.specs.Entries.{Entry, hole, entryBytes, leaf, parentOf, node, nodeAt, entryAt}
 use Rattle.file_format.specs.Slots.{Slot, held, released, isHeld, slotBytes, slotEntry, contents, heldIn, Handed, Within}
 use Rattle.file_format.specs.Images.{dataSize, dataImage, bitfieldImage, treeImage, leaves}
@@ -230,7 +230,8 @@ module _ (F : List ℕ → List ℕ) (hf : HashFunction F) (r : Register) (l : L
       split : (b : Bool) → filled (r .n) i ≡ b → part (r .tree) (entryPlace i) 40 ≡ entryBytes (entryAt F (leaves F (cut r)) i)
       split true e =
           entry-bytes (r .tree) i (l .tree) (omega (arith, entry-inside i (r .n) h, a .checked .tree))
-          ∙ by-coordinates (λ j. filled (r .n) j ≡ true → storedHash (r .tree) j ++ be 8 (storedSize (r .tree) j) ≡ nodeAt F (leaves F (cut r)) j .hash ++ be 8 (nodeAt F (leaves F (cut r)) j .size)) at i e
+          ∙ by-coordinates (λ j. filled (r .n) j ≡ true → storedHash (r .tree) j ++ be 8 (storedSize (r .tree) j) ≡ nodeAt F (leaves F (cut r)) j .hash ++ be 8
+          (nodeAt F (leaves F (cut r)) j .size)) at i e
           ∙ sym (ap entryBytes (entryAt-filled F (leaves F (cut r)) i (there true e)))
       split false e =
           hole-says F (r .tree) (r .content) (r .bitfield) (r .n) (r .size) i e (a .entry i h)

@@ -16,13 +16,13 @@ use Rattle.byte_strings.specs.Lowest.{Lowest, nowhere, first, lowest}
 use Rattle.byte_strings.proofs.Lowest.{step}
 pub use Rattle.byte_strings.proofs.Lowest.{lowest-on, lowest-off, lowest-end, lowest-agree}
 use Rattle.audit.specs.Audit.{refusedAt}
+pub use Rattle.audit.specs.Audit.{andThen}
 
 -- ---- verdicts one after the other
 
--- a verdict, and what comes next where it is "done"
-abbrev pub andThen : Verdict → Verdict → Verdict
-andThen done next = next
-andThen (refused m at) next = refused m at
+pub then-assoc : (u v w : Verdict) → andThen u (andThen v w) ≡ andThen (andThen u v) w
+then-assoc done v w = refl
+then-assoc (refused m at) v w = refl
 
 -- nothing comes next after a refusal
 pub stops : (x : Answer) (r : Refusal) → x ≡ Refused r → (next : Verdict) → andThen (said x) next ≡ said x

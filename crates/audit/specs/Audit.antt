@@ -1,9 +1,9 @@
 -- The audit: 2 to 6, then 10 at the lowest wrong tree index, then 11 at the lowest wrong byte of the bitfield file.
 use Prim.Native.Nat.{ℕ, zero, suc, _+_, _-_, _*_}
 use mathlib.Core.Path.{_≡_}
-use mathlib.Core.Bool.{Bool, true, false, cond, _&&_}
-use mathlib.Core.List.{List, [], _∷_}
-use lib.ListN.{length, getD}
+use mathlib.Core.Bool.{Bool, cond, _&&_}
+use mathlib.Core.List.{List}
+use lib.ListN.{getD}
 use lib.Dec.{leb, ltb, eqb}
 use Rattle.refusals.specs.Verdict.{Spot, Verdict, tree, bitfield, done, refused}
 use Rattle.byte_strings.specs.Lists.{part, sameList, allZero, zeros}
@@ -66,6 +66,11 @@ wrongByte r = lowest (byteRight (r .bitfield) (r .n)) 32 (usedBitfield (r .n) - 
 unfoldable pub refusedAt : ℕ → (ℕ → Spot) → Lowest → Verdict → Verdict
 refusedAt m at nowhere next = next
 refusedAt m at (first i) next = refused m (at i)
+
+-- a verdict, and what comes next where it is "done"
+abbrev pub andThen : Verdict → Verdict → Verdict
+andThen done next = next
+andThen (refused m at) next = refused m at
 
 module _ (F : List ℕ → List ℕ) where
   -- 10 and then 11, of a register that passes the checks 2 to 6

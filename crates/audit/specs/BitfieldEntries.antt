@@ -1,7 +1,6 @@
 -- The bitfield file as the audit's code reads it: what the inner functions require, an entry with any Index bytes, and the tree bits of a register and of a
 -- partial copy.
 use Prim.Native.Nat.{ℕ, _+_, _*_, _≤_, _<_}
-use mathlib.Core.Path.{_≡_}
 use mathlib.Core.Bool.{Bool, cond, _&&_}
 use mathlib.Core.List.{List, _++_}
 use lib.Dec.{eqb}

@@ -1,5 +1,5 @@
 -- What the inner functions of the audit require: where a walk over the tree entries from the left has come to.
-use Prim.Native.Nat.{ℕ, _+_, _*_, _/_, _%_, _^_, _≤_, _<_}
+use Prim.Native.Nat.{ℕ, _+_, _*_, _/_, _≤_, _<_}
 use mathlib.Core.Path.{_≡_}
 use mathlib.Core.Bool.{Bool, cond, _&&_}
 use mathlib.Core.List.{List}
@@ -11,6 +11,7 @@ use Rattle.file_format.specs.Sizes.{longestChunk}
 use Rattle.file_format.specs.Messages.{leafMessage}
 use Rattle.file_format.specs.Stored.{storedHash, storedSize, storedStart}
 use Rattle.file_format.specs.Inner.{EntryIn, RootsIn}
+use Rattle.checks.specs.Capped.{capped}
 use Rattle.audit.specs.BitfieldEntries.{BitsIn}
 
 -- how many leaves stand before the tree index i
@@ -31,24 +32,21 @@ pub record FilesIn (tree bits content : List ℕ) (n size : ℕ) : Type 0 where
   pub field : BitsIn bits n
   pub bytes : size ≤ length content
 
--- at the entry i the next leaf starts at `start`; if i is that leaf, its end is a number of 64 bits
+-- at the entry i the next leaf starts at `start`; leaf lengths may add up to more than fits
 pub record Started (tree : List ℕ) (i start : ℕ) : Type 0 where
   pub entry : EntryIn tree i
-  pub here : start ≡ storedStart tree (leavesBefore i)
-  pub fits : i % 2 ≡ 0 → start + storedSize tree i < 2 ^ 64
+  pub here : start ≡ capped (storedStart tree (leavesBefore i))
 
--- an entry i that a register of n chunks has, and the start of the next leaf, which is within the data
+-- an entry i that a register of n chunks has, and the start of the next leaf
 pub record AtEntry (tree bits content : List ℕ) (n size i start : ℕ) : Type 0 where
   pub files : FilesIn tree bits content n size
   pub entry : i < entries n
-  pub here : start ≡ storedStart tree (leavesBefore i)
-  pub inside : start ≤ size
+  pub here : start ≡ capped (storedStart tree (leavesBefore i))
 
--- a leaf that is to be judged, and a start within the data
-pub record AtLeaf (tree content : List ℕ) (size k start : ℕ) : Type 0 where
+-- a leaf that is to be judged
+pub record AtLeaf (tree content : List ℕ) (size k : ℕ) : Type 0 where
   pub entry : EntryIn tree (2 * k)
   pub bytes : size ≤ length content
-  pub inside : start ≤ size
 
 -- a parent and its children, all within the tree file
 pub record AtParent (tree : List ℕ) (i : ℕ) : Type 0 where

@@ -5,10 +5,11 @@ use number_types::TreeIndex;
 use refusals::Answer;
 ghost use mathlib.Core.Path.{_≡_};
 ghost use Prim.Native.Nat.{_+_, _*_, _-_, _≤_, _<_};
-ghost use lib.ListN.{length, getD};
+ghost use lib.ListN.{getD};
 ghost use Rattle.refusals.specs.Verdict.{bitfield as atByte, done};
 ghost use Rattle.refusals.specs.Meaning.{said};
 ghost use Rattle.bitfield.specs.Bits.{bit, byteOf};
+ghost use Rattle.bitfield.specs.Image.{entryCount};
 ghost use Rattle.file_format.specs.Sizes.{usedBitfield};
 ghost use Rattle.audit.specs.Audit.{lowest, heldBits, refusedAt};
 ghost use Rattle.audit.specs.BitfieldEntries.{eight, treeBits, entryWith, byteRightBy, BitsIn, AtBits};
@@ -158,7 +159,36 @@ fn wrong_in_entry(xs: &[u8], n: u64, e: u64, partly: bool) -> Answer
     Answer::Done
 }
 
-// Inner: the lowest wrong byte of the file behind its header, entry by entry. In a partial copy the tree bit of an entry may be 0 that is no hole.
+// Inner: how many entries the bitfield file of n chunks has.
+pub fn row_count(n: u64) -> u64
+    requires { ⌜ n ≤ 1048576 ⌝ }
+    ensures { λ r. ⌜ r ≡ entryCount n ⌝ }
+{
+    (n + 8191) / 8192
+}
+
+// Inner: the lowest wrong byte of the entries from `from` on and before `end`, entry by entry.
+pub fn wrong_in_entries(xs: &[u8], n: u64, partly: bool, from: u64, end: u64) -> Answer
+    requires { ⌜ BitsIn (now xs) n × (end ≤ entryCount n) ⌝ }
+    ensures { λ r.
+        ⌜
+        said r ≡
+        refusedAt 11 atByte
+        (lowest (byteRightBy (treeBits partly (now (xs .entry)) n) (now (xs .entry)) n) (32 + 3328 * from) (3328 * (end - from))) done
+        ⌝ }
+{
+    let mut e = from;
+    while e < end {
+        let answer = wrong_in_entry(xs, n, e, partly);
+        let Answer::Done = answer else {
+            return answer;
+        };
+        e += 1;
+    }
+    Answer::Done
+}
+
+// Inner: the lowest wrong byte of the file behind its header. In a partial copy the tree bit of an entry may be 0 that is no hole.
 pub fn wrong_byte(xs: &[u8], n: u64, partly: bool) -> Answer
     requires { ⌜ BitsIn (now xs) n ⌝ }
     ensures { λ r.
@@ -168,14 +198,5 @@ pub fn wrong_byte(xs: &[u8], n: u64, partly: bool) -> Answer
         (lowest (byteRightBy (treeBits partly (now (xs .entry)) n) (now (xs .entry)) n) 32 (usedBitfield n - 32)) done
         ⌝ }
 {
-    let count = (n + 8191) / 8192;
-    let mut e: u64 = 0;
-    while e < count {
-        let answer = wrong_in_entry(xs, n, e, partly);
-        let Answer::Done = answer else {
-            return answer;
-        };
-        e += 1;
-    }
-    Answer::Done
+    wrong_in_entries(xs, n, partly, 0, row_count(n))
 }

@@ -2,13 +2,17 @@
 mod bits;
 mod tree;
 
+pub use bits::row_count;
 pub use bits::wrong_byte;
+pub use bits::wrong_in_entries;
 use refusals::Answer;
 pub use tree::entry_count;
 pub use tree::hole_right;
 pub use tree::leaf_right;
 pub use tree::parent_right;
+pub use tree::start_at;
 pub use tree::start_behind;
+pub use tree::wrong_between;
 ghost use mathlib.Core.Path.{_≡_};
 ghost use mathlib.Core.List.{[]};
 ghost use Rattle.refusals.specs.Meaning.{said};

@@ -6,13 +6,14 @@ use number_types::ChunkNumber;
 use number_types::TreeIndex;
 use refusals::Answer;
 ghost use mathlib.Core.Path.{_≡_};
-ghost use Prim.Native.Nat.{_+_, _≤_};
+ghost use Prim.Native.Nat.{_+_, _-_, _≤_, _<_};
 ghost use Rattle.refusals.specs.Verdict.{tree as atTree, done};
 ghost use Rattle.refusals.specs.Meaning.{said};
 ghost use Rattle.tree_index.specs.Tree.{entries as entriesOf};
 ghost use Rattle.blake2b.specs.Hash.{nodeHash};
 ghost use Rattle.file_format.specs.Stored.{storedStart};
-ghost use Rattle.file_format.specs.Inner.{EntryIn};
+ghost use Rattle.file_format.specs.Inner.{EntryIn, RootsIn};
+ghost use Rattle.checks.specs.Capped.{capped};
 ghost use Rattle.audit.specs.Audit.{lowest, parentRight, holeRight, entryRight, refusedAt};
 ghost use Rattle.audit.specs.TreeWalk.{leavesBefore, leafFrom, FilesIn, Started, AtEntry, AtLeaf, AtParent};
 
@@ -30,16 +31,41 @@ pub fn entry_count(n: u64) -> u64
 // Inner: where the next leaf starts once a walk from the left has passed the entry i.
 pub fn start_behind(tree: &[u8], i: TreeIndex, start: ByteOffset) -> ByteOffset
     requires { ⌜ Started (now tree) (i .0) (start .0) ⌝ }
-    ensures { λ r. ⌜ r .0 ≡ storedStart (now (tree .entry)) (leavesBefore (i .0 + 1)) ⌝ }
+    ensures { λ r. ⌜ r .0 ≡ capped (storedStart (now (tree .entry)) (leavesBefore (i .0 + 1))) ⌝ }
 {
     if i.0 % 2 == 0 {
-        return ByteOffset(start.0 + file_format::entries::stored_size(tree, i));
+        return checks::add_capped(start, file_format::entries::stored_size(tree, i));
     }
     start
 }
 
-// Inner: whether a leaf is right whose data begin at `start`. A chunk that is held is hashed from its place in the data; there one that is not
-// held is zero.
+// The chunk of the first leaf from a tree index on: as many leaves stand before it.
+fn next_chunk(i: TreeIndex) -> ChunkNumber
+    requires { ⌜ i .0 < 4194304 ⌝ }
+    ensures { λ r. ⌜ r .0 ≡ leavesBefore (i .0) ⌝ }
+{
+    ChunkNumber((i.0 + 1) / 2)
+}
+
+// Inner: where the first leaf from the entry i on starts: the sum of the leaf lengths before it, whatever else those entries say.
+pub fn start_at(tree: &[u8], n: u64, i: TreeIndex) -> ByteOffset
+    requires { ⌜ RootsIn (now tree) n × (i .0 < entriesOf n) ⌝ }
+    ensures { λ r. ⌜ r .0 ≡ capped (storedStart (now (tree .entry)) (leavesBefore (i .0))) ⌝ }
+{
+    let end = next_chunk(i);
+    let mut start = ByteOffset(0);
+    let mut c = ChunkNumber(0);
+    while c.0 < end.0 {
+        let leaf = tree_index::leaf_index(c);
+        let next = checks::add_capped(start, file_format::entries::stored_size(tree, leaf));
+        start = next;
+        c = ChunkNumber(c.0 + 1);
+    }
+    start
+}
+
+// Inner: whether a leaf is right whose data begin at `start`, which may be past the data. A chunk that is held is hashed from its place in the
+// data; there one that is not held is zero.
 pub fn leaf_right(
     tree: &[u8],
     content: &[u8],
@@ -48,12 +74,15 @@ pub fn leaf_right(
     c: ChunkNumber,
     start: ByteOffset,
 ) -> bool
-    requires { ⌜ AtLeaf (now tree) (now content) size (c .0) (start .0) ⌝ }
+    requires { ⌜ AtLeaf (now tree) (now content) size (c .0) ⌝ }
     ensures { λ r. ⌜ r ≡ leafFrom nodeHash (now (tree .entry)) (now (content .entry)) size held (c .0) (start .0) ⌝ }
 {
     let i = tree_index::leaf_index(c);
     let length = file_format::entries::stored_size(tree, i);
     if 65536 < length {
+        return false;
+    }
+    if size < start.0 {
         return false;
     }
     if size - start.0 < length {
@@ -127,8 +156,44 @@ fn entry_right(
     parent_right(tree, i)
 }
 
-// The lowest wrong entry, found by one walk from the left that carries the start of the next leaf, so that each byte of the data is
-// read once.
+// Inner: the lowest wrong entry from `from` on and before `end`, found by one walk from the left that carries the start of the next leaf, so that
+// each byte of the data is read once.
+pub fn wrong_between(
+    tree: &[u8],
+    bitfield: &[u8],
+    content: &[u8],
+    n: u64,
+    size: u64,
+    from: TreeIndex,
+    end: TreeIndex,
+) -> Answer
+    requires { ⌜ FilesIn (now tree) (now bitfield) (now content) n size × (end .0 ≤ entriesOf n) ⌝ }
+    ensures { λ r.
+        ⌜
+        said r ≡
+        refusedAt 10 atTree
+        (lowest (entryRight nodeHash (now (tree .entry)) (now (bitfield .entry)) (now (content .entry)) n size) (from .0)
+        (end .0 - from .0))
+        done
+        ⌝ }
+{
+    if end.0 <= from.0 {
+        return Answer::Done;
+    }
+    let mut i = from;
+    let mut start = start_at(tree, n, from);
+    while i.0 < end.0 {
+        if !entry_right(tree, bitfield, content, n, size, i, start) {
+            return refusals::refuse_entry(10, i);
+        }
+        let next = start_behind(tree, i, start);
+        start = next;
+        i = TreeIndex(i.0 + 1);
+    }
+    Answer::Done
+}
+
+// The lowest wrong entry of all.
 pub fn wrong_entry(tree: &[u8], bitfield: &[u8], content: &[u8], n: u64, size: u64) -> Answer
     requires { ⌜ FilesIn (now tree) (now bitfield) (now content) n size ⌝ }
     ensures { λ r.
@@ -139,16 +204,6 @@ pub fn wrong_entry(tree: &[u8], bitfield: &[u8], content: &[u8], n: u64, size: u
         done
         ⌝ }
 {
-    let count = entry_count(n);
-    let mut i = TreeIndex(0);
-    let mut start = ByteOffset(0);
-    while i.0 < count {
-        if !entry_right(tree, bitfield, content, n, size, i, start) {
-            return refusals::refuse_entry(10, i);
-        }
-        let next = start_behind(tree, i, start);
-        start = next;
-        i = TreeIndex(i.0 + 1);
-    }
-    Answer::Done
+    let end = TreeIndex(entry_count(n));
+    wrong_between(tree, bitfield, content, n, size, TreeIndex(0), end)
 }

@@ -9,7 +9,6 @@ use native.Mathlib.Omega.{arith}
 use lib.Dec.{T, eqb, ltb, eqb→eq}
 use lib.ListN.{length, getD, set, List·getD-append}
 use lib.Seq.{set-append-left}
-use lib.Bits.{bitOr}
 use lib.Pow.{pow-pos}
 use borrow.Author.Tests.{eqb-true, eqb-false, eq-eqb, ne-eqb, ltb-true, ltb-false}
 use Rattle.byte_strings.specs.Lists.{part, Bytes}
@@ -69,7 +68,8 @@ below8-at f t (suc (suc (suc zero))) h = and-left (f 3) _ (and-right (f 2) _ (an
 below8-at f t (suc (suc (suc (suc zero)))) h = and-left (f 4) _ (and-right (f 3) _ (and-right (f 2) _ (and-right (f 1) _ (and-right (f 0) _ t))))
 below8-at f t (suc (suc (suc (suc (suc zero))))) h = and-left (f 5) _ (and-right (f 4) _ (and-right (f 3) _ (and-right (f 2) _ (and-right (f 1) _ (and-right (f 0) _ t)))))
 below8-at f t (suc (suc (suc (suc (suc (suc zero)))))) h = and-left (f 6) _ (and-right (f 5) _ (and-right (f 4) _ (and-right (f 3) _ (and-right (f 2) _ (and-right (f 1) _ (and-right (f 0) _ t))))))
-below8-at f t (suc (suc (suc (suc (suc (suc (suc zero))))))) h = and-right (f 6) _ (and-right (f 5) _ (and-right (f 4) _ (and-right (f 3) _ (and-right (f 2) _ (and-right (f 1) _ (and-right (f 0) _ t))))))
+below8-at f t (suc (suc (suc (suc (suc (suc (suc zero))))))) h =
+    and-right (f 6) _ (and-right (f 5) _ (and-right (f 4) _ (and-right (f 3) _ (and-right (f 2) _ (and-right (f 1) _ (and-right (f 0) _ t))))))
 below8-at f t (suc (suc (suc (suc (suc (suc (suc (suc r)))))))) h = absurd (over r h)
   where
     over : (r : ℕ) → suc (suc (suc (suc (suc (suc (suc (suc r))))))) < 8 → ⊥
@@ -81,7 +81,14 @@ pub record Table (right : ℕ → Bool → Bool → Bool → Bool → Bool → B
 
 all-at : (right : ℕ → Bool → Bool → Bool → Bool → Bool → Bool → Bool → Bool → Bool) → Table right → (r : ℕ) → r < 8 → (a b c d e f g h : Bool) → T (right r a b c d e f g h)
 all-at right t r l a b c d e f g h =
-    both-at (λ h. right r a b c d e f g h) (both-at (λ g. both (λ h. right r a b c d e f g h)) (both-at (λ f. both (λ g. both (λ h. right r a b c d e f g h))) (both-at (λ e. both (λ f. both (λ g. both (λ h. right r a b c d e f g h)))) (both-at (λ d. both (λ e. both (λ f. both (λ g. both (λ h. right r a b c d e f g h))))) (both-at (λ c. both (λ d. both (λ e. both (λ f. both (λ g. both (λ h. right r a b c d e f g h)))))) (both-at (λ b. both (λ c. both (λ d. both (λ e. both (λ f. both (λ g. both (λ h. right r a b c d e f g h))))))) (both-at (λ a. both (λ b. both (λ c. both (λ d. both (λ e. both (λ f. both (λ g. both (λ h. right r a b c d e f g h)))))))) (below8-at (λ r. both (λ a. both (λ b. both (λ c. both (λ d. both (λ e. both (λ f. both (λ g. both (λ h. right r a b c d e f g h))))))))) (t .all) r l) a) b) c) d) e) f) g) h
+    both-at (λ h. right r a b c d e f g h) (both-at (λ g. both (λ h. right r a b c d e f g h))
+    (both-at (λ f. both (λ g. both (λ h. right r a b c d e f g h)))
+    (both-at (λ e. both (λ f. both (λ g. both (λ h. right r a b c d e f g h))))
+    (both-at (λ d. both (λ e. both (λ f. both (λ g. both (λ h. right r a b c d e f g h)))))
+    (both-at (λ c. both (λ d. both (λ e. both (λ f. both (λ g. both (λ h. right r a b c d e f g h))))))
+    (both-at (λ b. both (λ c. both (λ d. both (λ e. both (λ f. both (λ g. both (λ h. right r a b c d e f g h)))))))
+    (both-at (λ a. both (λ b. both (λ c. both (λ d. both (λ e. both (λ f. both (λ g. both (λ h. right r a b c d e f g h))))))))
+    (below8-at (λ r. both (λ a. both (λ b. both (λ c. both (λ d. both (λ e. both (λ f. both (λ g. both (λ h. right r a b c d e f g h))))))))) (t .all) r l) a) b) c) d) e) f) g) h
 
 set-right : ℕ → Bool → Bool → Bool → Bool → Bool → Bool → Bool → Bool → Bool
 set-right r a b c d e f g h =
@@ -168,7 +175,17 @@ digit-of p b r h =
 byte-ext : (p q : ℕ → Bool) (b : ℕ) → ((j : ℕ) → b ≤ j → j < b + 8 → p j ≡ q j) → byteOf p b ≡ byteOf q b
 unfolding byteOf
 byte-ext p q b h =
-    simp (h b (omega arith) (omega arith), h (b + 1) (omega arith) (omega arith), h (b + 2) (omega arith) (omega arith), h (b + 3) (omega arith) (omega arith), h (b + 4) (omega arith) (omega arith), h (b + 5) (omega arith) (omega arith), h (b + 6) (omega arith) (omega arith), h (b + 7) (omega arith) (omega arith))
+    simp (
+      h b (omega arith) (omega arith),
+      h (b + 1) (omega arith) (omega arith),
+      h (b + 2) (omega arith) (omega arith),
+      h (b + 3) (omega arith) (omega arith),
+      h (b + 4)
+          (omega arith) (omega arith),
+      h (b + 5) (omega arith) (omega arith),
+      h (b + 6) (omega arith) (omega arith),
+      h (b + 7) (omega arith) (omega arith),
+    )
 
 pub bytesOf-ext : (p q : ℕ → Bool) (b k : ℕ) → ((j : ℕ) → b ≤ j → j < b + 8 * k → p j ≡ q j) → bytesOf p b k ≡ bytesOf q b k
 unfolding bytesOf

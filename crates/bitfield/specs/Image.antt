@@ -1,5 +1,5 @@
 -- The bitfield's entries, over any two tests: which chunks are held, and which tree entries are known.
-use Prim.Native.Nat.{ℕ, zero, suc, _+_, _*_, _/_}
+use Prim.Native.Nat.{ℕ, _+_, _*_, _/_}
 use mathlib.Core.Bool.{Bool}
 use mathlib.Core.List.{List, _++_}
 use lib.Dec.{ltb}

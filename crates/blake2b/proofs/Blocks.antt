@@ -28,7 +28,26 @@ module _ (x y : List ℕ) (a b : ℕ) (same : (j : ℕ) → j < 128 → getD x (
   unfolding block
   block-same =
       let h₀ : wordAt x a ≡ wordAt y b = simp add-zero at (part-same 0 (omega arith)) in
-      cc (h₀, part-same 8 (omega arith), part-same 16 (omega arith), part-same 24 (omega arith), part-same 32 (omega arith), part-same 40 (omega arith), part-same 48 (omega arith), part-same 56 (omega arith), part-same 64 (omega arith), part-same 72 (omega arith), part-same 80 (omega arith), part-same 88 (omega arith), part-same 96 (omega arith), part-same 104 (omega arith), part-same 112 (omega arith), part-same 120 (omega arith))
+      cc (
+        h₀,
+        part-same 8 (omega arith),
+        part-same 16 (omega arith),
+        part-same 24 (omega arith),
+        part-same 32 (omega arith),
+        part-same 40 (omega arith),
+        part-same 48
+            (omega arith),
+        part-same 56 (omega arith),
+        part-same 64 (omega arith),
+        part-same 72 (omega arith),
+        part-same 80 (omega arith),
+        part-same 88 (omega arith),
+        part-same 96
+            (omega arith),
+        part-same 104 (omega arith),
+        part-same 112 (omega arith),
+        part-same 120 (omega arith),
+      )
 
 -- a block past the prefix stands in the body
 pub block-body : (x y : List ℕ) (p : ℕ) → length x ≤ p → block y (p - length x) ≡ block (x ++ y) p

@@ -8,7 +8,7 @@ use Rattle.refusals.specs.declared.Answer.the-variants.{Done, Refused}
 use Rattle.refusals.specs.declared.Refusal.{Refusal}
 use Rattle.blake2b.specs.Hash.{nodeHash}
 use Rattle.file_format.specs.Belongs.{Register}
-use Rattle.lookup.specs.Lookup.{Found, found, foundUnless}
+use Rattle.lookup.specs.Lookup.{found, foundUnless}
 use Rattle.lookup.specs.Meaning.{refusedAs}
 use Rattle.packet.specs.Check.{chunkLength, packetVerdict}
 use Rattle.packet.specs.Post.{MadeAs, madeVerdict, madeBytes}

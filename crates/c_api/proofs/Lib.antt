@@ -4,3 +4,4 @@ pub mod Turns
 pub mod Told
 pub mod Copied
 pub mod Restored
+pub mod StoredLeaves

@@ -1,17 +1,15 @@
 -- What was read over C's boundary is written back. Assumes nothing.
-use Prim.Native.Nat.{ℕ, _+_, _-_, _≤_}
+use Prim.Native.Nat.{ℕ, _-_, _≤_}
 use mathlib.Core.Path.{_≡_, refl, sym, ap, _∙_, subst}
 use mathlib.Core.Bool.{Bool, true, false}
-use mathlib.Core.List.{List, [], _∷_, _++_}
+use mathlib.Core.List.{List, [], _∷_}
 use mathlib.Core.Option.{Option, none, some}
 use native.Mathlib.Omega.{arith}
 use lib.ListN.{length, getD, drop, replicate, length-append, length-replicate}
 use borrow.Author.Tests.{le-leb}
-use Rattle.refusals.specs.Verdict.{Verdict, done, refused, unlessRefused}
+use Rattle.refusals.specs.Verdict.{Verdict, done, unlessRefused}
 use Rattle.refusals.specs.Verdict as verdicts
 use Rattle.byte_strings.specs.Lists.{part, put}
-use Rattle.record_fields.specs.Inner.{partOf}
-use Rattle.record_fields.specs.declared.rows.Part.{Part}
 use Rattle.record_format.specs.Records.{Header, HeaderWithin, headerBytes, Node, NodeWithin, nodeBytes}
 use Rattle.record_format.specs.From.{headerFrom, nodeFrom}
 use Rattle.record_format.specs.Post.{Decides, writeVerdict, frontUnless, headerOf, toldOf, noPart, contentPart, readHeader}

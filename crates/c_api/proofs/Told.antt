@@ -8,7 +8,7 @@ use Rattle.refusals.specs.Meaning.{said, refusalOf}
 use Rattle.refusals.specs.declared.Answer.{Answer}
 use Rattle.refusals.specs.declared.Refusal.{Refusal}
 use Rattle.record_fields.specs.declared.rows.Part.{Part}
-use Rattle.record_format.specs.Post.{WrittenAs, writeVerdict, lengthUnless, writtenVerdict, writtenLength, headerTold}
+use Rattle.record_format.specs.Post.{WrittenAs, writeVerdict, lengthUnless, headerTold}
 use Rattle.record_format.specs.declared.answers.Written.{Written}
 use Rattle.record_format.specs.declared.answers.Written.the-variants.{Refused, Length}
 use Rattle.record_format.specs.declared.headers.HeaderRead.{HeaderRead}

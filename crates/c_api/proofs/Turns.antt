@@ -54,7 +54,8 @@ module _ (m c : Register) (before after two : List ℕ) (l : Left before after) 
       record {
         answers =
             ap₂ (toldOf s (r .chunk)) (number ∙ ap numberOf by)
-            (three-of a (verdictOf (asPart (readFound nodeHash (named n m c) (r .chunk)))) (g .answers) ∙ ap (λ (x : Name). encoded (verdictOf (asPart (readFound nodeHash (named x m c) (r .chunk))))) by)
+            (three-of a (verdictOf (asPart (readFound nodeHash (named n m c) (r .chunk)))) (g .answers) ∙ ap
+            (λ (x : Name). encoded (verdictOf (asPart (readFound nodeHash (named x m c) (r .chunk))))) by)
             ∙ ap (encodedServing m c) e;
         part =
             g .numbers ∙ ap (λ (x : Name). numbersUnless (asPart (readFound nodeHash (named x m c) (r .chunk))) two) by

@@ -25,7 +25,7 @@ fn with_outcome(outcome: u64, said: Answer) -> [u64; 4]
 }
 
 // The numbers of a comparison. A collision at a tree index has the index as its place.
-fn encode_comparison(compared: Compared) -> [u64; 4]
+pub fn encode_comparison(compared: Compared) -> [u64; 4]
     ensures { λ r. ⌜ r ≡ encodedComparison (Answered·compared compared) ⌝ }
 {
     match compared {

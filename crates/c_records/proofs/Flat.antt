@@ -1,6 +1,6 @@
 -- Nothing is lost between the fields of a Node and their numbers. Assumes nothing.
 use Prim.Native.Nat.{ℕ, _+_, _≤_, _<_}
-use mathlib.Core.Path.{_≡_, refl, sym, ap, _∙_}
+use mathlib.Core.Path.{_≡_, refl, ap, _∙_}
 use mathlib.Core.List.{List, [], _∷_}
 use native.Mathlib.Nat.{zero-add}
 use native.Mathlib.Omega.{arith}
@@ -18,7 +18,8 @@ use Rattle.record_node.specs.declared.writers.Writer.{Writer}
 use Rattle.record_node.specs.declared.reading.Value.{Value}
 use Rattle.record_node.specs.declared.reading.Value.the-variants.{Absent as NoValue, Given as GivenValue}
 use Rattle.record_node.specs.declared.reading.Node.{Node}
-use Rattle.c_records.specs.Flat.{flatNumber, flatPart, flatBytes, flatWriter, flatWriters, flatStat, flatValue, flatNode, numberIn, bytesIn, writerIn, writersIn, noFlat, statIn, valueIn, nodeIn, FlatRestored}
+use Rattle.c_records.specs.Flat.{flatNumber, flatPart, flatBytes, flatWriter, flatWriters, flatStat, flatValue, flatNode, numberIn, bytesIn, writerIn}
+use Rattle.c_records.specs.Flat.{writersIn, noFlat, statIn, valueIn, nodeIn, FlatRestored}
 use Rattle.c_records.specs.declared.FlatPart.{FlatPart}
 use Rattle.c_records.specs.declared.FlatBytes.{FlatBytes}
 use Rattle.c_records.specs.declared.FlatWriter.{FlatWriter}
@@ -54,7 +55,8 @@ statWith s = record {
   ctime = s .ctime;
 }
 
-same-stat : (s t : Stat) → s .mode ≡ t .mode → s .uid ≡ t .uid → s .gid ≡ t .gid → s .size ≡ t .size → s .blocks ≡ t .blocks → s .offset ≡ t .offset → s .«byte_offset» ≡ t .«byte_offset» → s .mtime ≡ t .mtime → s .ctime ≡ t .ctime → s ≡ t
+same-stat : (s t : Stat) → s .mode ≡ t .mode → s .uid ≡ t .uid → s .gid ≡ t .gid → s .size ≡ t .size → s .blocks ≡ t .blocks → s .offset ≡ t .offset → s .«byte_offset» ≡
+    t .«byte_offset» → s .mtime ≡ t .mtime → s .ctime ≡ t .ctime → s ≡ t
 same-stat s t a b c d e f g h i = let made : statWith s ≡ statWith t = cc in made
 
 stat-back : (s : Stat) → statIn (flatStat s) ≡ s

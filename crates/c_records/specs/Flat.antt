@@ -1,5 +1,4 @@
 -- The numbers that stand for the fields of a Node: a field that may be absent is 0 and no value, or 1 and its value.
-use Prim.Native.Nat.{ℕ}
 use mathlib.Core.Path.{_≡_}
 use mathlib.Core.Bool.{cond}
 use mathlib.Core.List.{List}
@@ -14,7 +13,6 @@ use Rattle.record_fields.specs.declared.rows.Bytes.the-variants.{Absent as NoBy
 use Rattle.record_format.specs.declared.stats.Stat.{Stat}
 use Rattle.record_node.specs.Post.{noWriter}
 use Rattle.record_node.specs.declared.writers.Writer.{Writer}
-use Rattle.record_node.specs.declared.writers.Writers.{Writers}
 use Rattle.record_node.specs.declared.reading.Value.{Value}
 use Rattle.record_node.specs.declared.reading.Value.the-variants.{Absent as NoValue, Given as GivenValue}
 use Rattle.record_node.specs.declared.reading.Node.{Node}

@@ -4,3 +4,4 @@ pub mod Later
 pub mod Passed
 pub mod Steps
 pub mod Lengths
+pub mod Capped

@@ -2,3 +2,4 @@
 pub mod Checks
 pub mod Lent
 pub mod Lengths
+pub mod Capped

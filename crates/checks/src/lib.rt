@@ -1,14 +1,16 @@
 // The checks 2 to 6 of a call on a register: "Checks apply to what the call is given, in this order; images as tree, signatures,
 // bitfield, data." They only read, so that a refused call has changed nothing. And what 7 asks of a list of chunks.
+use number_types::ByteOffset;
 use refusals::Answer;
 ghost use mathlib.Core.Path.{_≡_};
-ghost use Prim.Native.Nat.{_≤_};
+ghost use Prim.Native.Nat.{_+_, _≤_};
 ghost use lib.ListN.{length};
 ghost use Rattle.refusals.specs.Verdict.{done};
 ghost use Rattle.refusals.specs.Meaning.{said};
 ghost use Rattle.checks.specs.Checks.{signedRight, judged, laterChecks, registerChecks};
 ghost use Rattle.checks.specs.Lent.{registerOf, longRight, headsRight};
 ghost use Rattle.checks.specs.Lengths.{allShort};
+ghost use Rattle.checks.specs.Capped.{capped};
 
 // "3. s is neither n nor n − 1, or is not 0 when n is 0." No sum wraps, whatever n and s are.
 fn signed_right(n: u64, s: u64) -> bool
@@ -142,4 +144,14 @@ pub fn all_short(lengths: &[u64]) -> bool
         i += 1;
     }
     true
+}
+
+// The end of so many bytes behind a start, at most the largest number that fits.
+pub fn add_capped(start: ByteOffset, size: u64) -> ByteOffset
+    ensures { λ r. ⌜ r .0 ≡ capped (start .0 + size) ⌝ }
+{
+    if 18446744073709551615 - start.0 < size {
+        return ByteOffset(18446744073709551615);
+    }
+    ByteOffset(start.0 + size)
 }

@@ -1,11 +1,11 @@
 -- Root messages told apart: by the roots themselves, and item by item.
 -- Assumes nothing.
-use Prim.Native.Nat.{ℕ, zero, suc, _*_, _^_, _≤_, _<_}
+use Prim.Native.Nat.{ℕ, zero, suc, _^_, _<_}
 use mathlib.Core.Path.{_≡_, refl, sym, ap, _∙_}
 use mathlib.Core.Bool.{true}
 use mathlib.Core.List.{List, [], _∷_, map, tail-eq-of-cons-eq}
 use native.Mathlib.Omega.{arith}
-use lib.ListN.{length, getD, length-append}
+use lib.ListN.{length, length-append}
 use lib.Dec.{lit<}
 use Rattle.byte_strings.specs.Lists.{joined}
 use Rattle.byte_strings.proofs.Lists.{length-run, length-part}
@@ -15,7 +15,7 @@ use Rattle.tree_index.proofs.Roots.{root-filled}
 use Rattle.tree_index.proofs.Cover.{inBlock, roots-cover}
 use Rattle.file_format.specs.Messages.{rootItem, rootMessage}
 use Rattle.file_format.specs.Stored.{storedHash, storedSize, storedRootMessage}
-use Rattle.file_format.specs.Inner.{EntryIn, RootsIn}
+use Rattle.file_format.specs.Inner.{RootsIn}
 use Rattle.audit.proofs.Entries.{entry-in}
 use Rattle.compare.proofs.Local.{split-append, Every}
 use Rattle.compare.proofs.Apart.{be-injective, item-injective, length-item}

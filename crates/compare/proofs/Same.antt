@@ -1,35 +1,39 @@
 -- What the code compares at one tree index, and what it says of the messages there.
 -- Assumes nothing.
 use Prim.Native.Nat.{ℕ, zero, suc, _+_, _-_, _*_, _/_, _%_, _^_, _≤_, _<_}
-use mathlib.Core.Path.{_≡_, refl, sym, ap, ap₂, _∙_, subst}
-use mathlib.Core.Logic.{_⊎_, inl, inr}
+use mathlib.Core.Path.{_≡_, refl, sym, ap, ap₂, _∙_}
+use mathlib.Core.Logic.{inl, inr}
 use mathlib.Core.Bool.{Bool, true, false, not, _&&_, true≢false}
-use mathlib.Core.List.{List}
+use mathlib.Core.List.{List, [], _∷_, _++_}
+use native.Mathlib.Nat.{pow-succ'}
+use native.Mathlib.Decide.{decLt}
 use native.Mathlib.Omega.{arith}
 use borrow.Author.Tests.{eq-eqb, ne-eqb, eqb-true}
-use lib.ListN.{length, take, drop}
+use lib.ListN.{length, take, drop, drop-of-length-le, length-drop}
+use lib.Seq.{take-nil, take-all}
 use lib.Dec.{eqb}
 use Rattle.byte_strings.specs.Lists.{part, sameList, Bytes}
 use Rattle.byte_strings.specs.Numbers.{be}
 use Rattle.byte_strings.proofs.Lists.{length-part, same-eq}
 use Rattle.byte_strings.proofs.Numbers.{eight-lt}
-use Rattle.tree_index.specs.Tree.{index, depth, block, leftChild, rightChild, filled, entries, roots}
+use Rattle.tree_index.specs.Tree.{index, depth, block, leftChild, rightChild, filled, roots}
 use Rattle.tree_index.proofs.Index.{index-leaf}
 use Rattle.file_format.specs.Sizes.{entryPlace}
 use Rattle.file_format.specs.Messages.{leafMessage, parentMessage}
 use Rattle.file_format.specs.Stored.{storedHash, storedSize, storedStart, storedChunk, storedMessage, storedRootMessage}
-use Rattle.file_format.specs.Inner.{EntryIn, RootsIn}
+use Rattle.file_format.specs.Inner.{EntryIn}
 use Rattle.file_format.proofs.Nodes.{byDepth}
 use Rattle.file_format.proofs.OfImage.{stored-leaf}
 use Rattle.checks.proofs.Judged.{both-right}
 use Rattle.checks.proofs.Passed.{same-of}
 use Rattle.checks.proofs.Steps.{and-stop, and-pass}
-use Rattle.audit.specs.TreeWalk.{leavesBefore, Started, AtParent}
+use Rattle.checks.specs.Capped.{most, capped}
+use Rattle.checks.proofs.Capped.{capped-either}
+use Rattle.audit.specs.TreeWalk.{Started, AtParent}
 use Rattle.audit.proofs.Entries.{entry-in, odd-depth, parent-in}
-use Rattle.compare.specs.Walk.{collides}
-use Rattle.compare.specs.Inner.{Walkable, ReadAt, ChunkIn, sameParent, collidesAt}
+use Rattle.compare.specs.Inner.{ReadAt, sumBelow, sameParent, collidesAt}
 use Rattle.compare.proofs.Local.{Told, told}
-use Rattle.compare.proofs.Apart.{be-injective, leaf-injective, SameParent, parent-injective}
+use Rattle.compare.proofs.Apart.{be-injective, leaf-injective, parent-injective}
 
 -- ---- tests that say the same
 
@@ -53,20 +57,35 @@ hash-long : (t : List ℕ) (i : ℕ) → EntryIn t i → length (storedHash t i)
 unfolding storedHash
 hash-long t i p = length-part t _ 32 (omega (arith, p .inside))
 
-size-lt : (t : List ℕ) (i : ℕ) → Bytes t → EntryIn t i → storedSize t i < 256 ^ 8
+size-lt : (t : List ℕ) (i : ℕ) → Bytes t → EntryIn t i → storedSize t i < 2 ^ 64
 unfolding storedSize
 size-lt t i b p = omega (arith, eight-lt t (entryPlace i + 32) b (omega (arith, p .inside)))
+
+-- a number in 8 bytes stands for itself modulo 2^64
+over : (k y : ℕ) → be k (256 ^ k + y) ≡ be k y
+unfolding be
+over zero y = refl
+over (suc k) y =
+    let m : ℕ = 256 ^ k in
+    let e : 256 ^ suc k ≡ 256 * m = pow-succ' 256 k in
+    let a : (256 ^ suc k + y) / 256 ≡ m + y / 256 = omega (arith, e) in
+    let b : (256 ^ suc k + y) % 256 ≡ y % 256 = omega (arith, e) in
+    ap₂ (λ (x z : ℕ). be k x ++ (z ∷ [])) a b ∙ ap (λ (xs : List ℕ). xs ++ (y % 256 ∷ [])) (over k (y / 256))
+
+in-eight : (x : ℕ) → x < 2 ^ 65 → be 8 x ≡ be 8 (x % 2 ^ 64)
+in-eight x h = elim (decLt x (2 ^ 64)) [
+  | yes l ↦ ap (be 8) (let e : x ≡ x % 2 ^ 64 = omega arith in e)
+  | no l ↦ let e : x ≡ 2 ^ 64 + x % 2 ^ 64 = omega arith in ap (be 8) e ∙ over 8 (x % 2 ^ 64)
+]
 
 -- the message of a stored parent
 abbrev parentOf : List ℕ → ℕ → List ℕ
 parentOf t i = parentMessage (storedSize t (leftChild i) + storedSize t (rightChild i)) (storedHash t (leftChild i)) (storedHash t (rightChild i))
 
--- parent messages are the same exactly where the lengths and the child hashes are
-same-parents : (t u : List ℕ) (i : ℕ) → Bytes t → Bytes u → AtParent t i → AtParent u i
-    → storedSize t i ≡ storedSize t (leftChild i) + storedSize t (rightChild i)
-    → storedSize u i ≡ storedSize u (leftChild i) + storedSize u (rightChild i) → sameParent t u i ≡ sameList (parentOf t i) (parentOf u i)
-unfolding sameParent
-same-parents t u i b b′ p q e g = as-same (sameParent t u i) (parentOf t i) (parentOf u i) forth back
+-- parent messages are the same exactly where the sums, in 8 bytes, and the child hashes are
+same-parents : (t u : List ℕ) (i : ℕ) → Bytes t → Bytes u → AtParent t i → AtParent u i → sameParent t u i ≡ sameList (parentOf t i) (parentOf u i)
+unfolding sameParent parentMessage
+same-parents t u i b b′ p q = as-same (sameParent t u i) (parentOf t i) (parentOf u i) forth back
   where
     l : Bool
     l = sameList (storedHash t (leftChild i)) (storedHash u (leftChild i))
@@ -74,23 +93,34 @@ same-parents t u i b b′ p q e g = as-same (sameParent t u i) (parentOf t i) (p
     r : Bool
     r = sameList (storedHash t (rightChild i)) (storedHash u (rightChild i))
 
+    x : ℕ
+    x = storedSize t (leftChild i) + storedSize t (rightChild i)
+
+    y : ℕ
+    y = storedSize u (leftChild i) + storedSize u (rightChild i)
+
+    x-in : be 8 x ≡ be 8 (sumBelow t i)
+    x-in = in-eight x (omega (arith, size-lt t (leftChild i) b (p .left), size-lt t (rightChild i) b (p .right)))
+
+    y-in : be 8 y ≡ be 8 (sumBelow u i)
+    y-in = in-eight y (omega (arith, size-lt u (leftChild i) b′ (q .left), size-lt u (rightChild i) b′ (q .right)))
+
     forth : sameParent t u i ≡ true → parentOf t i ≡ parentOf u i
     forth h =
-        let a = both-right (eqb (storedSize t i) (storedSize u i)) (l && r) h in
+        let a = both-right (eqb (sumBelow t i) (sumBelow u i)) (l && r) h in
         let c = both-right l r (a .1) in
-        let s = sym e ∙ eqb-true (storedSize t i) (storedSize u i) (a .0) ∙ g in
-        let x = same-eq (storedHash t (leftChild i)) (storedHash u (leftChild i)) (c .0) in
-        let y = same-eq (storedHash t (rightChild i)) (storedHash u (rightChild i)) (c .1) in
-        λ j. parentMessage (s j) (x j) (y j)
+        let s : be 8 x ≡ be 8 y = x-in ∙ ap (be 8) (eqb-true (sumBelow t i) (sumBelow u i) (a .0)) ∙ sym y-in in
+        let g = same-eq (storedHash t (leftChild i)) (storedHash u (leftChild i)) (c .0) in
+        let k = same-eq (storedHash t (rightChild i)) (storedHash u (rightChild i)) (c .1) in
+        λ j. 1 ∷ (s j ++ (g j ++ k j))
 
     back : parentOf t i ≡ parentOf u i → sameParent t u i ≡ true
     back h =
         let s = parent-injective _ _ (storedHash t (leftChild i)) (storedHash u (leftChild i)) (storedHash t (rightChild i)) (storedHash u (rightChild i))
         (hash-long t (leftChild i) (p .left)) (hash-long u (leftChild i) (q .left)) h in
-        let z : storedSize t i ≡ storedSize u i =
-        be-injective 8 (storedSize t i) (storedSize u i) (size-lt t i b (p .entry)) (size-lt u i b′ (q .entry))
-        (ap (be 8) e ∙ s .sum ∙ ap (be 8) (sym g)) in
-        ap₂ _&&_ (eq-eqb (storedSize t i) (storedSize u i) z)
+        let z : sumBelow t i ≡ sumBelow u i =
+        be-injective 8 (sumBelow t i) (sumBelow u i) (omega arith) (omega arith) (sym x-in ∙ s .sum ∙ y-in) in
+        ap₂ _&&_ (eq-eqb (sumBelow t i) (sumBelow u i) z)
         (ap₂ _&&_ (same-of (storedHash t (leftChild i)) (storedHash u (leftChild i)) (s .left)) (same-of (storedHash t (rightChild i)) (storedHash u (rightChild i)) (s .right)))
 
 -- the stored message, by its index
@@ -105,47 +135,47 @@ odd-message t d i h =
 
 -- ---- one register at an entry
 
-module _ (t d : List ℕ) (n i start : ℕ) (p : ReadAt t d n i start) where
+-- bytes that begin where no data reach are none
+part-capped : (d : List ℕ) (x k : ℕ) → length d < 2 ^ 63 → part d (capped x) k ≡ part d x k
+unfolding part
+part-capped d x k h =
+    capped-either (λ y. take k (drop y d) ≡ take k (drop x d)) x (λ l. refl)
+    (λ l. ap (take k) (drop-of-length-le d {i = most} (omega arith) ∙ sym (drop-of-length-le d {i = x} (omega arith))))
+
+module _ (t : List ℕ) (n i start : ℕ) (p : ReadAt t n i start) where
   pub read-entry : EntryIn t i
-  read-entry = entry-in t n i (p .whole .room) (p .entry)
+  read-entry = entry-in t n i (p .room) (p .entry)
 
-  chunk-ends : i % 2 ≡ 0 → start + storedSize t i ≤ length d
-  unfolding entries
-  chunk-ends h =
-      let k : ℕ = i / 2 in
-      let a : start ≡ storedStart t k = p .here ∙ ap (storedStart t) (omega arith) in
-      let b : storedSize t i ≡ storedSize t (2 * k) = ap (storedSize t) (omega arith) in
-      omega (arith, p .whole .chunk k (omega (arith, p .entry)))
-
-  pub read-chunk : i % 2 ≡ 0 → ChunkIn t d i start
-  read-chunk h = record { entry = read-entry; fits = chunk-ends h }
-
-  pub read-started : length d < 2 ^ 64 → Started t i start
-  read-started l = record { entry = read-entry; here = p .here; fits = λ h. omega (arith, chunk-ends h) }
+  pub read-started : Started t i start
+  read-started = record { entry = read-entry; here = p .here }
 
   pub read-parent : (i % 2 ≡ 0 → ⊥) → filled n i ≡ true → AtParent t i
-  read-parent = parent-in t n i (p .whole .room)
+  read-parent = parent-in t n i (p .room)
 
-  chunk-is : i % 2 ≡ 0 → part d start (storedSize t i) ≡ storedChunk t d (i / 2)
+  chunk-is : (d : List ℕ) → length d < 2 ^ 63 → i % 2 ≡ 0 → part d start (storedSize t i) ≡ storedChunk t d (i / 2)
   unfolding storedChunk
-  chunk-is h = ap₂ (part d) (p .here ∙ ap (storedStart t) (omega arith)) (ap (storedSize t) (omega arith))
+  chunk-is d l h =
+      let a : (i + 1) / 2 ≡ i / 2 = omega arith in
+      let b : i ≡ 2 * (i / 2) = omega arith in
+      ap₂ (part d) (p .here ∙ ap (λ (x : ℕ). capped (storedStart t x)) a) (ap (storedSize t) b)
+      ∙ part-capped d (storedStart t (i / 2)) (storedSize t (2 * (i / 2))) l
 
 -- ---- two registers at an entry
 
-module _ (t d u e : List ℕ) (n i start begin : ℕ) (p : ReadAt t d n i start) (q : ReadAt u e n i begin) where
-  pub leaf-messages : (r : Bool) → i % 2 ≡ 0 → r ≡ sameList (part d start (storedSize t i)) (part e begin (storedSize u i))
-      → r ≡ sameList (storedMessage t d i) (storedMessage u e i)
-  leaf-messages r h s =
+module _ (t d u e : List ℕ) (n i start begin : ℕ) (p : ReadAt t n i start) (q : ReadAt u n i begin) where
+  pub leaf-messages : (r : Bool) → length d < 2 ^ 63 → length e < 2 ^ 63 → i % 2 ≡ 0
+      → r ≡ sameList (part d start (storedSize t i)) (part e begin (storedSize u i)) → r ≡ sameList (storedMessage t d i) (storedMessage u e i)
+  leaf-messages r l m h s =
       let k : ℕ = i / 2 in
       let w : 2 * k ≡ i = omega arith in
-      s ∙ ap₂ sameList (chunk-is t d n i start p h) (chunk-is u e n i begin q h) ∙ same-leaves (storedChunk t d k) (storedChunk u e k)
+      s ∙ ap₂ sameList (chunk-is t n i start p d l h) (chunk-is u n i begin q e m h) ∙ same-leaves (storedChunk t d k) (storedChunk u e k)
       ∙ ap₂ sameList (sym (even-message t d i k w)) (sym (even-message u e i k w))
 
   pub parent-messages : (r : Bool) → Bytes t → Bytes u → (i % 2 ≡ 0 → ⊥) → filled n i ≡ true → r ≡ sameParent t u i
       → r ≡ sameList (storedMessage t d i) (storedMessage u e i)
   parent-messages r b b′ h f s =
       let z = odd-depth i h in
-      s ∙ same-parents t u i b b′ (read-parent t d n i start p h f) (read-parent u e n i begin q h f) (p .whole .sum i f z) (q .whole .sum i f z)
+      s ∙ same-parents t u i b b′ (read-parent t n i start p h f) (read-parent u n i begin q h f)
       ∙ ap₂ sameList (sym (odd-message t d i z)) (sym (odd-message u e i z))
 
 -- ---- a collision, test by test
@@ -186,34 +216,42 @@ module _ (t d u e : List ℕ) (n i : ℕ) where
   collide-both m f h s = sym (as-three ∙ (λ j. three (f j) (sym s j) (h j)) ∙ first-last m)
 
 -- the tests of two parents in their order
-module _ (t u : List ℕ) (i : ℕ) where
-  pub parent-sizes : (x y : ℕ) → x ≡ storedSize t i → y ≡ storedSize u i → (x ≡ y → ⊥) → false ≡ sameParent t u i
+module _ (t u : List ℕ) (i x y : ℕ) (a : x ≡ sumBelow t i) (b : y ≡ sumBelow u i) where
+  pub parent-sums : (x ≡ y → ⊥) → false ≡ sameParent t u i
   unfolding sameParent
-  parent-sizes x y a b h = and-stop _ _ (ne-eqb (storedSize t i) (storedSize u i) (λ z. h (a ∙ z ∙ sym b)))
+  parent-sums h = and-stop _ _ (ne-eqb (sumBelow t i) (sumBelow u i) (λ z. h (a ∙ z ∙ sym b)))
 
-  pub parent-left : (x y l : ℕ) (r : Bool) → x ≡ storedSize t i → y ≡ storedSize u i → x ≡ y → l ≡ leftChild i
-      → r ≡ sameList (storedHash t l) (storedHash u l) → r ≡ false → false ≡ sameParent t u i
-  unfolding sameParent
-  parent-left x y l r a b h c s f =
-      and-pass _ _ false (eq-eqb (storedSize t i) (storedSize u i) (sym a ∙ h ∙ b))
-      (and-stop _ _ (ap (λ (k : ℕ). sameList (storedHash t k) (storedHash u k)) (sym c) ∙ sym s ∙ f))
+  module _ (h : x ≡ y) (l : ℕ) (c : l ≡ leftChild i) (r : Bool) (s : r ≡ sameList (storedHash t l) (storedHash u l)) where
+    pub parent-left : r ≡ false → false ≡ sameParent t u i
+    unfolding sameParent
+    parent-left f =
+        and-pass _ _ false (eq-eqb (sumBelow t i) (sumBelow u i) (sym a ∙ h ∙ b))
+        (and-stop _ _ (ap (λ (k : ℕ). sameList (storedHash t k) (storedHash u k)) (sym c) ∙ sym s ∙ f))
 
-  pub parent-right : (x y l k : ℕ) (r w : Bool) → x ≡ storedSize t i → y ≡ storedSize u i → x ≡ y → l ≡ leftChild i
-      → r ≡ sameList (storedHash t l) (storedHash u l) → r ≡ true → k ≡ rightChild i → w ≡ sameList (storedHash t k) (storedHash u k)
-      → w ≡ sameParent t u i
-  unfolding sameParent
-  parent-right x y l k r w a b h c s f g v =
-      and-pass _ _ w (eq-eqb (storedSize t i) (storedSize u i) (sym a ∙ h ∙ b))
-      (and-pass _ _ w (ap (λ (j : ℕ). sameList (storedHash t j) (storedHash u j)) (sym c) ∙ sym s ∙ f)
-      (v ∙ ap (λ (j : ℕ). sameList (storedHash t j) (storedHash u j)) g))
+    pub parent-right : r ≡ true → (k : ℕ) (w : Bool) → k ≡ rightChild i → w ≡ sameList (storedHash t k) (storedHash u k) → w ≡ sameParent t u i
+    unfolding sameParent
+    parent-right f k w g v =
+        and-pass _ _ w (eq-eqb (sumBelow t i) (sumBelow u i) (sym a ∙ h ∙ b))
+        (and-pass _ _ w (ap (λ (j : ℕ). sameList (storedHash t j) (storedHash u j)) (sym c) ∙ sym s ∙ f)
+        (v ∙ ap (λ (j : ℕ). sameList (storedHash t j) (storedHash u j)) g))
 
 -- ---- parts of the lent bytes
 
-pub chunk-parts : (t d u e : List ℕ) (i start begin len size m k : ℕ) (r : Bool) → len ≡ storedSize t i → size ≡ storedSize u i → m ≡ len → k ≡ size
-    → r ≡ sameList (take m (drop start d)) (take k (drop begin e)) → r ≡ sameList (part d start (storedSize t i)) (part e begin (storedSize u i))
-unfolding part
-chunk-parts t d u e i start begin len size m k r p q a b s =
-    s ∙ ap₂ (λ (x y : ℕ). sameList (take x (drop start d)) (take y (drop begin e))) (a ∙ p) (b ∙ q)
+-- what is cut out of the data, by where it begins and ends
+module _ (d : List ℕ) (start size : ℕ) where
+  pub cut-none : length d ≤ start → take 0 d ≡ part d start size
+  unfolding part
+  cut-none h = sym (ap (take size) (drop-of-length-le d h) ∙ take-nil size)
+
+  pub cut-short : length d - start ≤ size → take (length d - start) (drop start d) ≡ part d start size
+  unfolding part
+  cut-short h =
+      take-all (length d - start) (drop start d) (omega (arith, length-drop start d))
+      ∙ sym (take-all size (drop start d) (omega (arith, length-drop start d)))
+
+  pub cut-whole : (m : ℕ) → m ≡ size → take m (drop start d) ≡ part d start size
+  unfolding part
+  cut-whole m e = ap (λ (k : ℕ). take k (drop start d)) e
 
 pub root-parts : (t u : List ℕ) (n m k l : ℕ) (x y : List ℕ) (r : Bool) → k ≡ length (roots n) → l ≡ length (roots m)
     → take (1 + 48 * length (roots n)) x ≡ storedRootMessage t n → take (1 + 48 * length (roots m)) y ≡ storedRootMessage u m

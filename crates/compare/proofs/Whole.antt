@@ -1,7 +1,7 @@
 -- The checks of one register for a comparison: what passing them gives, and how the code makes them.
 -- Assumes nothing.
 use Prim.Native.Nat.{ℕ, zero, suc, _+_, _-_, _≤_, _<_}
-use mathlib.Core.Path.{_≡_, sym, ap, ap₂, _∙_}
+use mathlib.Core.Path.{_≡_, sym, ap, _∙_}
 use mathlib.Core.Bool.{Bool, true, false}
 use mathlib.Core.List.{List, []}
 use native.Mathlib.Nat.{zero-add}
@@ -29,8 +29,9 @@ use Rattle.checks.proofs.Passed.{passes, passed}
 use Rattle.audit.specs.Audit.{refusedAt, imagesVerdict, audit, Accepted}
 use Rattle.audit.specs.TreeWalk.{FilesIn}
 use Rattle.audit.proofs.Audited.{nowhere-right, right-nowhere, at-must}
+use Rattle.audit.proofs.Search.{andThen, then-assoc, stops, judged-then, refused-then}
 use Rattle.audit.proofs.Whole.{checks-refuse, checks-pass, files-in, images-of}
-use Rattle.compare.specs.Walk.{missing, wholeVerdict}
+use Rattle.compare.specs.Walk.{missing, heldThen, wholeVerdict}
 use Rattle.compare.specs.Theorems.{Whole, NeedsWholeForAll}
 
 -- a number that a search found is one of those that it went through
@@ -47,26 +48,26 @@ first-below right i (suc k) j e = go (right i) (first-below right (suc i) k j) e
 abbrev pub atLeaf : ℕ → Spot
 atLeaf k = tree (index 0 k)
 
-module _ (F : List ℕ → List ℕ) (r : Register) where
-  -- what comes behind 2 to 6
-  abbrev next : Verdict
-  next = refusedAt 18 atLeaf (missing r) (imagesVerdict F r)
+-- ---- the checks that look at no tree entry
 
-  -- ---- the checks as the code makes them
+module _ (r : Register) where
+  -- these, and what comes next
+  pub held-then : (next : Verdict) → heldThen r next ≡ andThen (heldThen r done) next
+  held-then next =
+      judged-then (registerChecks r) (refusedAt 18 atLeaf (missing r) next)
+      ∙ ap (andThen (judged (registerChecks r) done)) (refused-then 18 atLeaf (missing r) next)
+      ∙ then-assoc (judged (registerChecks r) done) (refusedAt 18 atLeaf (missing r) done) next
+      ∙ ap (λ (v : Verdict). andThen v next) (sym (judged-then (registerChecks r) (refusedAt 18 atLeaf (missing r) done)))
 
   module _ (x : Answer) (checked : said x ≡ judged (registerChecks r) done) where
-    pub whole-checks : (m : Refusal) → x ≡ Refused m → said x ≡ wholeVerdict F r
-    unfolding wholeVerdict
-    whole-checks = checks-refuse r _ x checked
+    pub held-checks : (m : Refusal) → x ≡ Refused m → said x ≡ heldThen r done
+    held-checks = checks-refuse r _ x checked
 
     module _ (ok : said x ≡ done) where
-      pub whole-files : FilesIn (r .tree) (r .bitfield) (r .content) (r .n) (r .size)
-      whole-files = files-in r done x checked ok
-
       -- the data bits of all chunks lie within the file
-      pub whole-bits : bitsPlace (entryCount (r .n)) ≤ length (r .bitfield)
+      pub held-bits : bitsPlace (entryCount (r .n)) ≤ length (r .bitfield)
       unfolding bitsPlace usedBitfield
-      whole-bits = whole-files .field .inside
+      held-bits = files-in r done x checked ok .field .inside
 
       module _ (l : Lowest) (searched : l ≡ lowest (storedHeld (r .bitfield)) 0 (r .n - 0)) where
         found : l ≡ missing r
@@ -75,19 +76,42 @@ module _ (F : List ℕ → List ℕ) (r : Register) where
 
         pub missing-below : (c : ℕ) → l ≡ first c → c < 2097152
         unfolding missing
-        missing-below c e = omega (arith, first-below (storedHeld (r .bitfield)) 0 (r .n) c (sym e ∙ found), whole-files .nodes .count)
+        missing-below c e = omega (arith, first-below (storedHeld (r .bitfield)) 0 (r .n) c (sym e ∙ found), files-in r done x checked ok .nodes .count)
 
-        pub missing-refuses : (c i : ℕ) (v : Verdict) → l ≡ first c → i ≡ index 0 c → v ≡ refused 18 (tree i) → v ≡ wholeVerdict F r
-        unfolding wholeVerdict refusedAt
+        pub missing-refuses : (c i : ℕ) (v : Verdict) → l ≡ first c → i ≡ index 0 c → v ≡ refused 18 (tree i) → v ≡ heldThen r done
+        unfolding refusedAt
         missing-refuses c i v e q u =
-            checks-pass r next x checked ok v
-            (u ∙ ap (λ (j : ℕ). refused 18 (tree j)) q ∙ ap (λ (m : Lowest). refusedAt 18 atLeaf m (imagesVerdict F r)) (sym e ∙ found))
+            checks-pass r (refusedAt 18 atLeaf (missing r) done) x checked ok v
+            (u ∙ ap (λ (j : ℕ). refused 18 (tree j)) q ∙ ap (λ (m : Lowest). refusedAt 18 atLeaf m done) (sym e ∙ found))
 
-        pub images-say : (v : Verdict) → l ≡ nowhere → v ≡ imagesVerdict F (registerOf (r .tree) [] (r .bitfield) (r .content) (r .n) 0 (r .size)) → v ≡ wholeVerdict F r
-        unfolding wholeVerdict refusedAt
-        images-say v e u =
-            checks-pass r next x checked ok v
-            (u ∙ images-of F r ∙ ap (λ (m : Lowest). refusedAt 18 atLeaf m (imagesVerdict F r)) (sym e ∙ found))
+        pub missing-none : l ≡ nowhere → done ≡ heldThen r done
+        unfolding refusedAt
+        missing-none e =
+            checks-pass r (refusedAt 18 atLeaf (missing r) done) x checked ok done (ap (λ (m : Lowest). refusedAt 18 atLeaf m done) (sym e ∙ found))
+
+module _ (F : List ℕ → List ℕ) (r : Register) where
+  -- what comes behind 2 to 6
+  abbrev next : Verdict
+  next = refusedAt 18 atLeaf (missing r) (imagesVerdict F r)
+
+  -- ---- all checks as the code makes them
+
+  module _ (x : Answer) (held : said x ≡ heldThen r done) where
+    whole-parts : wholeVerdict F r ≡ andThen (said x) (imagesVerdict F r)
+    unfolding wholeVerdict
+    whole-parts = held-then r (imagesVerdict F r) ∙ ap (λ (v : Verdict). andThen v (imagesVerdict F r)) (sym held)
+
+    pub whole-refuses : (m : Refusal) → x ≡ Refused m → said x ≡ wholeVerdict F r
+    whole-refuses m e = sym (whole-parts ∙ stops x m e (imagesVerdict F r))
+
+    module _ (ok : said x ≡ done) where
+      pub whole-files : FilesIn (r .tree) (r .bitfield) (r .content) (r .n) (r .size)
+      whole-files =
+          let p = passed r (refusedAt 18 atLeaf (missing r) done) (sym held ∙ ok) .0 in
+          record { nodes = record { count = p .count; inside = p .tree }; field = record { count = p .count; inside = p .bitfield }; bytes = p .content }
+
+      pub images-say : (v : Verdict) → v ≡ imagesVerdict F (registerOf (r .tree) [] (r .bitfield) (r .content) (r .n) 0 (r .size)) → v ≡ wholeVerdict F r
+      images-say v u = u ∙ images-of F r ∙ sym (whole-parts ∙ ap (λ (w : Verdict). andThen w (imagesVerdict F r)) ok)
 
   -- ---- what the verdict says
 

@@ -1,41 +1,31 @@
 -- What the inner functions of the comparing walk require and ensure.
-use Prim.Native.Nat.{ℕ, _+_, _*_, _%_, _^_, _≤_, _<_}
+use Prim.Native.Nat.{ℕ, _+_, _%_, _^_, _<_}
 use mathlib.Core.Path.{_≡_}
-use mathlib.Core.Bool.{Bool, true, _&&_}
+use mathlib.Core.Bool.{Bool, _&&_}
 use mathlib.Core.List.{List}
-use lib.ListN.{length}
 use lib.Dec.{eqb}
 use Rattle.byte_strings.specs.Lists.{sameList}
-use Rattle.tree_index.specs.Tree.{depth, leftChild, rightChild, filled, entries}
+use Rattle.tree_index.specs.Tree.{leftChild, rightChild, filled, entries}
 use Rattle.file_format.specs.Stored.{storedHash, storedSize, storedStart, storedMessage}
-use Rattle.file_format.specs.Inner.{EntryIn, RootsIn}
+use Rattle.file_format.specs.Inner.{RootsIn}
+use Rattle.checks.specs.Capped.{capped}
 use Rattle.audit.specs.TreeWalk.{leavesBefore}
 use Rattle.compare.specs.Walk.{collides}
 
--- what an audited register has, as far as the walk needs it
-pub record Walkable (tree content : List ℕ) (n : ℕ) : Type 0 where
+-- a tree file of n chunks at its entry i, with the start of its next leaf
+pub record ReadAt (tree : List ℕ) (n i start : ℕ) : Type 0 where
   pub room : RootsIn tree n
-  -- every chunk lies within the data
-  pub chunk : (k : ℕ) → k < n → storedStart tree k + storedSize tree (2 * k) ≤ length content
-  -- the length of a parent is the sum of its children's
-  pub sum : (i : ℕ) → filled n i ≡ true → 0 < depth i
-      → storedSize tree i ≡ storedSize tree (leftChild i) + storedSize tree (rightChild i)
-
--- a register at its entry i, with the start of its next leaf
-pub record ReadAt (tree content : List ℕ) (n i start : ℕ) : Type 0 where
-  pub whole : Walkable tree content n
   pub entry : i < entries n
-  pub here : start ≡ storedStart tree (leavesBefore i)
+  pub here : start ≡ capped (storedStart tree (leavesBefore i))
 
--- a chunk that lies within the data
-pub record ChunkIn (tree content : List ℕ) (i start : ℕ) : Type 0 where
-  pub entry : EntryIn tree i
-  pub fits : start + storedSize tree i ≤ length content
+-- the sum of the children's lengths, as 8 bytes tell it
+abbrev pub sumBelow : List ℕ → ℕ → ℕ
+sumBelow t i = (storedSize t (leftChild i) + storedSize t (rightChild i)) % 2 ^ 64
 
--- the parents at i have one length and the same child hashes
+-- the parents at i have one sum and the same child hashes
 unfoldable pub sameParent : List ℕ → List ℕ → ℕ → Bool
 sameParent t u i =
-    eqb (storedSize t i) (storedSize u i)
+    eqb (sumBelow t i) (sumBelow u i)
     && (sameList (storedHash t (leftChild i)) (storedHash u (leftChild i))
     && sameList (storedHash t (rightChild i)) (storedHash u (rightChild i)))
 

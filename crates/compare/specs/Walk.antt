@@ -1,6 +1,6 @@
 -- The comparing walk on two registers.
-use Prim.Native.Nat.{ℕ, zero, suc}
-use mathlib.Core.Bool.{Bool, true, false, cond, not, _&&_, _||_}
+use Prim.Native.Nat.{ℕ}
+use mathlib.Core.Bool.{Bool, cond, not, _&&_}
 use mathlib.Core.List.{List}
 use Rattle.refusals.specs.Verdict.{Spot, Verdict, tree, done, refused}
 use Rattle.byte_strings.specs.Lists.{sameList}
@@ -29,13 +29,23 @@ abbrev pub found : Lowest → Comparison
 found nowhere = equal
 found (first i) = atIndex i
 
--- the walk over messages and hashes, wherever these come from: "roots differ" if the root hashes do; or the collision, as "at the
--- roots" if the root messages differ, else at the lowest of the k tree indexes from 0 on
+-- "roots differ" if the root hashes do; or the collision, as "at the roots" if the root messages differ, else what comes next
+abbrev pub atTop : (rh₁ rh₂ rm₁ rm₂ : List ℕ) → Comparison → Comparison
+atTop rh₁ rh₂ rm₁ rm₂ next = cond (sameList rh₁ rh₂) (cond (sameList rm₁ rm₂) next atRoots) rootsDiffer
+
+-- a comparison, and what comes next where it is "equal"
+abbrev pub unlessTold : Comparison → Comparison → Comparison
+unlessTold equal next = next
+unlessTold (firstRefused m at) next = firstRefused m at
+unlessTold (secondRefused m at) next = secondRefused m at
+unlessTold rootsDiffer next = rootsDiffer
+unlessTold atRoots next = atRoots
+unlessTold (atIndex i) next = atIndex i
+
+-- the walk over messages and hashes, wherever these come from: the roots, then the lowest of the k tree indexes from 0 on
 unfoldable pub walk : (rh₁ rh₂ rm₁ rm₂ : List ℕ) (m₁ m₂ h₁ h₂ : ℕ → List ℕ) (is : ℕ → Bool) (k : ℕ) → Comparison
 walk rh₁ rh₂ rm₁ rm₂ m₁ m₂ h₁ h₂ is k =
-    cond (sameList rh₁ rh₂)
-    (cond (sameList rm₁ rm₂) (found (lowest (λ i. not (is i && collides (m₁ i) (m₂ i) (h₁ i) (h₂ i))) 0 k)) atRoots)
-    rootsDiffer
+    atTop rh₁ rh₂ rm₁ rm₂ (found (lowest (λ i. not (is i && collides (m₁ i) (m₂ i) (h₁ i) (h₂ i))) 0 k))
 
 -- a refusal of the first register, then of the second, then what comes next
 abbrev pub unlessRefused : Verdict → Verdict → Comparison → Comparison
@@ -47,11 +57,15 @@ unlessRefused done done next = next
 unfoldable pub missing : Register → Lowest
 missing r = lowest (storedHeld (r .bitfield)) 0 (r .n)
 
+-- 2 to 6; "It refuses with 18 .. a comparison that needs a chunk not held; the place is its leaf's tree index, the lowest for a comparison"; then what
+-- comes next
+abbrev pub heldThen : Register → Verdict → Verdict
+heldThen r next = judged (registerChecks r) (refusedAt 18 (λ k. tree (index 0 k)) (missing r) next)
+
 module _ (F : List ℕ → List ℕ) where
-  -- the checks of one register: 2 to 6; "It refuses with 18 .. a comparison that needs a chunk not held; the place is its leaf's tree index, the lowest
-  -- for a comparison"; then 10 and 11 as the audit has them
+  -- the checks of one register: these, then 10 and 11 as the audit has them
   unfoldable pub wholeVerdict : Register → Verdict
-  wholeVerdict r = judged (registerChecks r) (refusedAt 18 (λ k. tree (index 0 k)) (missing r) (imagesVerdict F r))
+  wholeVerdict r = heldThen r (imagesVerdict F r)
 
   -- "The comparing walk audits the first register, then the second, and a refusal says which", "which goes through all checks of the first register
   -- before the second's". Then the walk, over what the two store

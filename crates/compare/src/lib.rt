@@ -2,22 +2,24 @@
 mod messages;
 
 use bitfield::Found;
-use number_types::ByteOffset;
 use number_types::ChunkNumber;
 use number_types::TreeIndex;
 use refusals::Answer;
 use refusals::Refusal;
 ghost use mathlib.Core.Path.{_≡_};
 ghost use mathlib.Core.Bool.{not};
+ghost use Prim.Native.Nat.{_-_, _≤_};
+ghost use Rattle.refusals.specs.Verdict.{done};
 ghost use Rattle.refusals.specs.Meaning.{said};
 ghost use Rattle.tree_index.specs.Tree.{filled, entries};
 ghost use Rattle.blake2b.specs.Hash.{nodeHash};
 ghost use Rattle.file_format.specs.Stored.{storedHash, storedMessage, storedRootMessage};
+ghost use Rattle.file_format.specs.Inner.{RootsIn};
 ghost use Rattle.checks.specs.Lent.{registerOf};
 ghost use Rattle.audit.specs.Audit.{lowest};
 ghost use Rattle.compare.specs.Walk as spec;
-ghost use Rattle.compare.specs.Meaning.{compared};
-ghost use Rattle.compare.specs.Inner.{Walkable, collidesAt};
+ghost use Rattle.compare.specs.Meaning.{compared, rootsTold};
+ghost use Rattle.compare.specs.Inner.{collidesAt};
 
 // What the walk answers: a refusal and which register it is of, "roots differ", a collision at the roots or at a tree index, or "equal".
 pub enum Compared {
@@ -29,25 +31,42 @@ pub enum Compared {
     Equal,
 }
 
-// Inner: the lowest collision of two registers of n chunks, found by one walk from the left that carries the start of the next leaf of
-// both.
-fn lowest_collision(tree: &[u8], content: &[u8], tree2: &[u8], content2: &[u8], n: u64) -> Compared
-    requires { ⌜ Walkable (now tree) (now content) n × Walkable (now tree2) (now content2) n ⌝ }
+// What the roots of two registers say: their root hashes differ, or only their root messages do, or neither.
+pub enum Roots {
+    Differ,
+    Collide,
+    Same,
+}
+
+// Inner: the lowest collision of two registers of n chunks from `from` on and before `end`, found by one walk from the left that carries the start of
+// the next leaf of both. It asks for the files of n chunks and not for what an audit finds in them.
+pub fn lowest_collision(
+    tree: &[u8],
+    content: &[u8],
+    tree2: &[u8],
+    content2: &[u8],
+    n: u64,
+    from: TreeIndex,
+    end: TreeIndex,
+) -> Compared
+    requires { ⌜ RootsIn (now tree) n × RootsIn (now tree2) n × (end .0 ≤ entries n) ⌝ }
     ensures { λ r.
         ⌜
         compared r ≡
         spec.found
         (lowest
         (λ i. not (collidesAt (now (tree .entry)) (now (content .entry)) (now (tree2 .entry)) (now (content2 .entry)) n i))
-        0
-        (entries n))
+        (from .0)
+        (end .0 - from .0))
         ⌝ }
 {
-    let count = audit::entry_count(n);
-    let mut i = TreeIndex(0);
-    let mut start = ByteOffset(0);
-    let mut start2 = ByteOffset(0);
-    while i.0 < count {
+    if end.0 <= from.0 {
+        return Compared::Equal;
+    }
+    let mut i = from;
+    let mut start = audit::start_at(tree, n, from);
+    let mut start2 = audit::start_at(tree2, n, from);
+    while i.0 < end.0 {
         if messages::collides_at(tree, content, start, tree2, content2, start2, n, i) {
             return Compared::AtIndex(i);
         }
@@ -60,9 +79,34 @@ fn lowest_collision(tree: &[u8], content: &[u8], tree2: &[u8], content2: &[u8], 
     Compared::Equal
 }
 
+// Inner: what the roots of two registers say.
+pub fn compare_roots(tree: &[u8], n: u64, tree2: &[u8], n2: u64) -> Roots
+    requires { ⌜ RootsIn (now tree) n × RootsIn (now tree2) n2 ⌝ }
+    ensures { λ r.
+        ⌜
+        rootsTold r ≡
+        spec.atTop
+        (nodeHash (storedRootMessage (now (tree .entry)) n))
+        (nodeHash (storedRootMessage (now (tree2 .entry)) n2))
+        (storedRootMessage (now (tree .entry)) n)
+        (storedRootMessage (now (tree2 .entry)) n2)
+        spec.equal
+        ⌝ }
+{
+    let hash = file_format::roots::stored_root_hash(tree, n);
+    let hash2 = file_format::roots::stored_root_hash(tree2, n2);
+    if !byte_strings::same(&hash, &hash2) {
+        return Roots::Differ;
+    }
+    if !messages::same_roots(tree, n, tree2, n2) {
+        return Roots::Collide;
+    }
+    Roots::Same
+}
+
 // Inner: the walk on two registers that passed their checks: the root hashes first, then the root messages, then index by index.
 fn walk(tree: &[u8], content: &[u8], n: u64, tree2: &[u8], content2: &[u8], n2: u64) -> Compared
-    requires { ⌜ Walkable (now tree) (now content) n × Walkable (now tree2) (now content2) n2 ⌝ }
+    requires { ⌜ RootsIn (now tree) n × RootsIn (now tree2) n2 ⌝ }
     ensures { λ r.
         ⌜
         compared r ≡
@@ -79,18 +123,46 @@ fn walk(tree: &[u8], content: &[u8], n: u64, tree2: &[u8], content2: &[u8], n2: 
         (entries n)
         ⌝ }
 {
-    let hash = file_format::roots::stored_root_hash(tree, n);
-    let hash2 = file_format::roots::stored_root_hash(tree2, n2);
-    if !byte_strings::same(&hash, &hash2) {
-        return Compared::RootsDiffer;
+    match compare_roots(tree, n, tree2, n2) {
+        Roots::Differ => Compared::RootsDiffer,
+        Roots::Collide => Compared::AtRoots,
+        Roots::Same => {
+            let end = TreeIndex(audit::entry_count(n));
+            lowest_collision(tree, content, tree2, content2, n, TreeIndex(0), end)
+        }
     }
-    if !messages::same_roots(tree, n, tree2, n2) {
-        return Compared::AtRoots;
-    }
-    lowest_collision(tree, content, tree2, content2, n)
 }
 
-// Inner: the checks of one register: 2 to 6, then 18 at the leaf of the lowest chunk that is not held, then 10 and 11 as in the audit.
+// The checks of one register that look at no tree entry: 2 to 6, then 18 at the leaf of the lowest chunk that is not held.
+pub fn judge_held(
+    tree: &[u8],
+    signatures: &[u8],
+    bitfield: &[u8],
+    content: &[u8],
+    n: u64,
+    s: u64,
+    size: u64,
+) -> Answer
+    ensures { λ r.
+        ⌜
+        said r ≡
+        spec.heldThen
+        (registerOf (now (tree .entry)) (now (signatures .entry)) (now (bitfield .entry)) (now (content .entry)) n s size)
+        done
+        ⌝ }
+{
+    let checked = checks::judge(tree, signatures, bitfield, content, n, s, size);
+    let Answer::Done = checked else {
+        return checked;
+    };
+    let missing = bitfield::first_missing(bitfield, ChunkNumber(0), n);
+    if let Found::At(c) = missing {
+        return refusals::refuse_entry(18, tree_index::leaf_index(c));
+    }
+    Answer::Done
+}
+
+// Inner: the checks of one register: these, then 10 and 11 as in the audit.
 fn judge_whole(
     tree: &[u8],
     signatures: &[u8],
@@ -108,14 +180,10 @@ fn judge_whole(
         (registerOf (now (tree .entry)) (now (signatures .entry)) (now (bitfield .entry)) (now (content .entry)) n s size)
         ⌝ }
 {
-    let checked = checks::judge(tree, signatures, bitfield, content, n, s, size);
-    let Answer::Done = checked else {
-        return checked;
+    let held = judge_held(tree, signatures, bitfield, content, n, s, size);
+    let Answer::Done = held else {
+        return held;
     };
-    let missing = bitfield::first_missing(bitfield, ChunkNumber(0), n);
-    if let Found::At(c) = missing {
-        return refusals::refuse_entry(18, tree_index::leaf_index(c));
-    }
     audit::images(tree, bitfield, content, n, size)
 }
 

@@ -8,7 +8,23 @@ ghost use Rattle.file_format.specs.Stored.{storedHash, storedSize, storedMessag
 ghost use Rattle.file_format.specs.Inner.{EntryIn, RootsIn};
 ghost use Rattle.tree_index.specs.Tree.{filled};
 ghost use Rattle.audit.specs.TreeWalk.{AtParent};
-ghost use Rattle.compare.specs.Inner.{ReadAt, ChunkIn, sameParent, collidesAt};
+ghost use Rattle.compare.specs.Inner.{ReadAt, sumBelow, sameParent, collidesAt};
+
+// The so many bytes of the data from a start on, as far as there are any.
+fn bytes_from(content: &[u8], start: ByteOffset, size: u64) -> &[u8]
+    ensures { λ r. ⌜ now r ≡ part (now (content .entry)) (start .0) size ⌝ }
+{
+    let length = content.len() as u64;
+    if length <= start.0 {
+        return &content[0..0];
+    }
+    let from = start.0 as usize;
+    if length - start.0 <= size {
+        return &content[from..];
+    }
+    let end = from + (size as usize);
+    &content[from..end]
+}
 
 // Whether two chunks are the same, where they lie.
 fn same_chunk(
@@ -20,7 +36,7 @@ fn same_chunk(
     start2: ByteOffset,
     i: TreeIndex,
 ) -> bool
-    requires { ⌜ ChunkIn (now tree) (now content) (i .0) (start .0) × ChunkIn (now tree2) (now content2) (i .0) (start2 .0) ⌝ }
+    requires { ⌜ EntryIn (now tree) (i .0) × EntryIn (now tree2) (i .0) ⌝ }
     ensures { λ r.
         ⌜
         r ≡
@@ -31,11 +47,9 @@ fn same_chunk(
 {
     let size = file_format::entries::stored_size(tree, i);
     let size2 = file_format::entries::stored_size(tree2, i);
-    let from = start.0 as usize;
-    let end = from + (size as usize);
-    let from2 = start2.0 as usize;
-    let end2 = from2 + (size2 as usize);
-    byte_strings::same(&content[from..end], &content2[from2..end2])
+    let chunk = bytes_from(content, start, size);
+    let chunk2 = bytes_from(content2, start2, size2);
+    byte_strings::same(chunk, chunk2)
 }
 
 // Whether two hashes stored at an index are the same.
@@ -48,12 +62,22 @@ fn same_hash(tree: &[u8], tree2: &[u8], i: TreeIndex) -> bool
     byte_strings::same(&hash, &hash2)
 }
 
-// Whether two parents have one length and the same child hashes.
+// The sum of the lengths of a parent's children, as it stands in the parent's message: in 8 bytes.
+fn sum_below(tree: &[u8], i: TreeIndex) -> u64
+    requires { ⌜ AtParent (now tree) (i .0) ⌝ }
+    ensures { λ r. ⌜ r ≡ sumBelow (now (tree .entry)) (i .0) ⌝ }
+{
+    let first = file_format::entries::stored_size(tree, tree_index::left_child(i));
+    let second = file_format::entries::stored_size(tree, tree_index::right_child(i));
+    std::num::wrapping_add_u64(first, second)
+}
+
+// Whether two parents have one sum of lengths and the same child hashes.
 fn same_parent(tree: &[u8], tree2: &[u8], i: TreeIndex) -> bool
     requires { ⌜ AtParent (now tree) (i .0) × AtParent (now tree2) (i .0) ⌝ }
     ensures { λ r. ⌜ r ≡ sameParent (now (tree .entry)) (now (tree2 .entry)) (i .0) ⌝ }
 {
-    if file_format::entries::stored_size(tree, i) != file_format::entries::stored_size(tree2, i) {
+    if sum_below(tree, i) != sum_below(tree2, i) {
         return false;
     }
     if !same_hash(tree, tree2, tree_index::left_child(i)) {
@@ -74,9 +98,7 @@ fn same_message(
     i: TreeIndex,
 ) -> bool
     requires { ⌜
-        (filled n (i .0) ≡ true)
-        × ReadAt (now tree) (now content) n (i .0) (start .0)
-        × ReadAt (now tree2) (now content2) n (i .0) (start2 .0)
+        (filled n (i .0) ≡ true) × ReadAt (now tree) n (i .0) (start .0) × ReadAt (now tree2) n (i .0) (start2 .0)
         ⌝ }
     ensures { λ r.
         ⌜
@@ -103,7 +125,7 @@ pub fn collides_at(
     n: u64,
     i: TreeIndex,
 ) -> bool
-    requires { ⌜ ReadAt (now tree) (now content) n (i .0) (start .0) × ReadAt (now tree2) (now content2) n (i .0) (start2 .0) ⌝ }
+    requires { ⌜ ReadAt (now tree) n (i .0) (start .0) × ReadAt (now tree2) n (i .0) (start2 .0) ⌝ }
     ensures { λ r.
         ⌜
         r ≡

@@ -9,7 +9,8 @@ use lib.ListN.{length, getD, take, drop, length-append, length-drop, take-append
 use lib.Seq.{drop-at}
 use Rattle.byte_strings.specs.Lists.{Bytes, part, run, joined}
 use Rattle.byte_strings.specs.Numbers.{be, number}
-use Rattle.byte_strings.proofs.Lists.{length-part, getD-part, part-left, length-run, getD-run, run-ext, run-getD, part-joined, parts-joined, bytes-append, bytes-drop, bytes-part, bytes-run, bytes-joined}
+use Rattle.byte_strings.proofs.Lists.{length-part, getD-part, part-left, length-run, getD-run, run-ext, run-getD, part-joined, parts-joined, bytes-append}
+use Rattle.byte_strings.proofs.Lists.{bytes-drop, bytes-part, bytes-run, bytes-joined}
 use Rattle.byte_strings.proofs.Numbers.{length-be, bytes-be, number-be, be-number}
 use Rattle.coordinates.specs.Grouping.{count, word, words, difference, plane, planes, remaining, grouped, gathered, restored, ungrouped}
 use Rattle.coordinates.specs.Theorems.{EachUndoesTheOther}

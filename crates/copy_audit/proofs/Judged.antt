@@ -1,13 +1,11 @@
 -- The entries of a copy as the code judges them, one by one. Assumes nothing.
-use Prim.Native.Nat.{ℕ, zero, suc, _+_, _-_, _*_, _/_, _%_, _≤_, _<_}
-use mathlib.Core.Path.{_≡_, refl, sym, ap, ap₂, _∙_, subst}
+use Prim.Native.Nat.{ℕ, suc, _+_, _-_, _*_, _/_, _%_, _≤_, _<_}
+use mathlib.Core.Path.{_≡_, refl, sym, ap, ap₂, _∙_, subst, subst₂}
 use mathlib.Core.Bool.{Bool, true, false, cond, not, _&&_, _||_}
 use mathlib.Core.List.{List}
-use native.Mathlib.Nat.{zero-add}
 use native.Mathlib.Omega.{arith}
 use lib.Dec.{leb}
 use lib.ListN.{length, getD}
-use borrow.Author.Tests.{lt-leb, leb-true, leb-false}
 use Rattle.byte_strings.specs.Lists.{part, run, sameList, allZero}
 use Rattle.byte_strings.proofs.Lists.{length-run, getD-run}
 use Rattle.byte_strings.specs.Lowest.{Lowest, nowhere, first}
@@ -22,23 +20,22 @@ use Rattle.bitfield.specs.Known.{storedKnown}
 use Rattle.file_format.specs.Sizes.{longestChunk, usedBitfield}
 use Rattle.file_format.specs.Messages.{leafMessage}
 use Rattle.file_format.specs.Stored.{storedHash, storedSize}
-use Rattle.file_format.specs.Inner.{EntryIn}
 use Rattle.file_format.proofs.Nodes.{byDepth}
-use Rattle.checks.proofs.Steps.{and-stop, and-pass}
+use Rattle.checks.specs.Capped.{most, capped}
 use Rattle.audit.specs.Audit.{parentRight, holeRight}
 use Rattle.audit.specs.BitfieldEntries.{BitsIn}
 use Rattle.audit.specs.TreeWalk.{leafFrom, FilesIn, AtLeaf}
 use Rattle.audit.proofs.Bytes.{tree-bit}
+use Rattle.audit.proofs.Capped.{capped-leaf}
 use Rattle.audit.proofs.Entries.{entry-in, even-depth, odd-depth, parent-in}
 use Rattle.lookup.specs.Descent.{Ending, stopped, reached, unknown}
-use Rattle.lookup.specs.Capped.{most, capped, cappedEnding}
-use Rattle.lookup.proofs.Capped.{capped-low, capped-high}
+use Rattle.lookup.specs.Capped.{cappedEnding}
 use Rattle.copy_checks.specs.Copy.{Copy}
 use Rattle.copy_checks.specs.Descents.{copyToChunk}
 use Rattle.copy_checks.specs.Least.{lowerOf, leastOf}
 use Rattle.copy_checks.proofs.Least.{Lowering, lowering-none, lowering-next, lowering-all}
 use Rattle.copy_audit.specs.Audit.{wrongUnless, heldLeaf, bothKnown, leafRightFrom, wrongFrom, wrongByLeaf, wrongByParent, wrongByKnown, wrongByUnknown, wrongBy, wrongEntryOfCopy}
-use Rattle.copy_audit.specs.Inner.{heldAt, AtNode, AtChunk, AtFamily}
+use Rattle.copy_audit.specs.Inner.{heldAt, AtNode, AtFamily}
 
 -- ---- where things lie
 
@@ -63,9 +60,9 @@ module _ (tree bits content : List ℕ) (n size : ℕ) (p : FilesIn tree bits co
         right = tree-bit bits n (rightChild i) (p .field) (filled-rightChild n i (odd-depth i o) f);
       }
 
-  pub leaf-at : (k start : ℕ) → k < n → start ≤ size → AtLeaf tree content size k start
+  pub leaf-at : (k : ℕ) → k < n → AtLeaf tree content size k
   unfolding entries
-  leaf-at k start h g = record { entry = entry-in tree n (2 * k) (p .nodes) (omega arith); bytes = p .bytes; inside = g }
+  leaf-at k h = record { entry = entry-in tree n (2 * k) (p .nodes) (omega arith); bytes = p .bytes }
 
 -- ---- the tests
 
@@ -95,31 +92,7 @@ both-known true true r s e f q = q
 both-known false b r s e f q = let z : _≡_ {A = ℕ} 0 1 = cc in absurd (omega arith)
 both-known true false r s e f q = let z : _≡_ {A = ℕ} 0 1 = cc in absurd (omega arith)
 
--- a leaf whose data would begin past the data
-pub start-past : (F : List ℕ → List ℕ) (t d : List ℕ) (size : ℕ) (held : Bool) (k start : ℕ) → size < start → false ≡ leafFrom F t d size held k start
-unfolding leafFrom
-start-past F t d size held k start h = go (leb (storedSize t (2 * k)) longestChunk)
-  where
-    rest : Bool
-    rest = cond held (sameList (storedHash t (2 * k)) (F (leafMessage (part d start (storedSize t (2 * k)))))) (allZero (part d start (storedSize t (2 * k))))
-
-    go : (b : Bool) → false ≡ (b && (leb (start + storedSize t (2 * k)) size && rest))
-    go true = and-stop _ _ (lt-leb (start + storedSize t (2 * k)) size (omega arith))
-    go false = refl
-
 -- ---- a known leaf
-
--- a start that is told as the largest number that fits is past the data, and so is the start itself
-capped-leaf : (F : List ℕ → List ℕ) (t d : List ℕ) (size : ℕ) (held : Bool) (k start : ℕ) → size < most
-    → leafFrom F t d size held k (capped start) ≡ leafFrom F t d size held k start
-capped-leaf F t d size held k start h = go (leb start most) refl
-  where
-    go : (b : Bool) → leb start most ≡ b → leafFrom F t d size held k (capped start) ≡ leafFrom F t d size held k start
-    go true e = ap (leafFrom F t d size held k) (capped-low start (leb-true start most e))
-    go false e =
-        let l = leb-false start most e in
-        ap (leafFrom F t d size held k) (capped-high start (omega arith))
-        ∙ sym (start-past F t d size held k most h) ∙ start-past F t d size held k start (omega arith)
 
 module _ (F : List ℕ → List ℕ) (c : Copy) (k : ℕ) where
   -- the test of a leaf at the index i
@@ -196,35 +169,44 @@ module _ (F : List ℕ → List ℕ) (c : Copy) (i : ℕ) where
         q ∙ ap (λ (b : Bool). wrongUnless b i) e
         ∙ sym (ap (λ (x : ℕ). byDepth x (wrongByLeaf F c (block i)) (wrongByParent F c i)) d) ∙ known-is
 
--- ---- the walk over all entries
+-- ---- the walk over the entries from `from` on and before `end`
 
--- of the first i entries the lowest found wrong is x
-pub record Seeking (F : List ℕ → List ℕ) (c : Copy) (count i : ℕ) (x : Lowest) : Type 0 where
-  pub end : count ≡ entries (c .n)
-  pub lowering : Lowering (run (wrongBy F c) 0 (entries (c .n))) nowhere i x
+-- of those before i the lowest found wrong is x
+pub record Seeking (F : List ℕ → List ℕ) (c : Copy) (from end i : ℕ) (x : Lowest) : Type 0 where
+  pub behind : from ≤ i
+  pub lowering : Lowering (run (wrongBy F c) from (end - from)) nowhere (i - from) x
 
-module _ (F : List ℕ → List ℕ) (c : Copy) (count : ℕ) where
-  pub seeking-none : count ≡ entries (c .n) → Seeking F c count 0 nowhere
-  seeking-none e = record { end = e; lowering = lowering-none (run (wrongBy F c) 0 (entries (c .n))) nowhere }
+module _ (F : List ℕ → List ℕ) (c : Copy) (from end : ℕ) where
+  abbrev found : List Lowest
+  found = run (wrongBy F c) from (end - from)
 
-  module _ (i : ℕ) (x : Lowest) (w : Seeking F c count i x) where
-    pub seeking-entry : i < count → i < entries (c .n)
-    seeking-entry h = omega (arith, w .end)
+  pub seeking-none : Seeking F c from end from nowhere
+  seeking-none =
+      let z : 0 ≡ from - from = omega arith in
+      record { behind = omega arith; lowering = subst (λ (j : ℕ). Lowering found nowhere j nowhere) z (lowering-none found nowhere) }
 
-    pub seeking-next : (y z : Lowest) → i < count → y ≡ wrongBy F c i → z ≡ lowerOf x y → Seeking F c count (i + 1) z
+  module _ (i : ℕ) (x : Lowest) (w : Seeking F c from end i x) where
+    pub seeking-next : (y z : Lowest) → i < end → y ≡ wrongBy F c i → z ≡ lowerOf x y → Seeking F c from end (i + 1) z
     seeking-next y z h e q =
         let f = wrongBy F c in
-        let m = entries (c .n) in
+        let b = w .behind in
+        let j : i - from + 1 ≡ i + 1 - from = omega arith in
+        let at : from + (i - from) ≡ i = omega arith in
         record {
-          end = w .end;
-          lowering = subst (Lowering (run f 0 m) nowhere (i + 1)) (sym q)
-              (lowering-next (run f 0 m) nowhere i x y (w .lowering) (omega (arith, w .end, length-run f 0 m))
-              (e ∙ sym (getD-run f 0 m i nowhere (omega (arith, w .end)) ∙ ap f (zero-add i))));
+          behind = omega arith;
+          lowering = subst₂ (Lowering found nowhere) j (sym q)
+              (lowering-next found nowhere (i - from) x y (w .lowering) (omega (arith, length-run f from (end - from)))
+              (e ∙ sym (getD-run f from (end - from) (i - from) nowhere (omega arith) ∙ ap f at)));
         }
 
-    pub seeking-all : count ≤ i → x ≡ wrongEntryOfCopy F c
-    unfolding wrongEntryOfCopy lowerOf
+    pub seeking-all : end ≤ i → x ≡ leastOf found
+    unfolding lowerOf
     seeking-all h =
-        let f = wrongBy F c in
-        let m = entries (c .n) in
-        lowering-all (run f 0 m) nowhere i x (w .lowering) (omega (arith, w .end, length-run f 0 m))
+        let b = w .behind in
+        lowering-all found nowhere (i - from) x (w .lowering) (omega (arith, length-run (wrongBy F c) from (end - from)))
+
+-- the walk over all entries
+pub seeking-whole : (F : List ℕ → List ℕ) (c : Copy) (end : ℕ) (x : Lowest) → end ≡ entries (c .n) → x ≡ leastOf (run (wrongBy F c) 0 (end - 0))
+    → x ≡ wrongEntryOfCopy F c
+unfolding wrongEntryOfCopy
+seeking-whole F c end x e q = let k : end - 0 ≡ entries (c .n) = omega arith in q ∙ ap (λ (m : ℕ). leastOf (run (wrongBy F c) 0 m)) k

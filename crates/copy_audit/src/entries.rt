@@ -7,7 +7,8 @@ use number_types::ChunkNumber;
 use number_types::TreeIndex;
 ghost use mathlib.Core.Path.{_≡_};
 ghost use mathlib.Core.Bool.{_&&_, _||_, not};
-ghost use Prim.Native.Nat.{_<_};
+ghost use Prim.Native.Nat.{_-_, _≤_, _<_};
+ghost use Rattle.byte_strings.specs.Lists.{run};
 ghost use Rattle.bitfield.specs.Known.{storedKnown};
 ghost use Rattle.bitfield.specs.Release.{storedHeld};
 ghost use Rattle.tree_index.specs.Tree.{leftChild, rightChild, entries as entriesOf};
@@ -16,6 +17,7 @@ ghost use Rattle.file_format.specs.Inner.{EntryIn};
 ghost use Rattle.audit.specs.Audit.{parentRight, holeRight};
 ghost use Rattle.audit.specs.TreeWalk.{leafFrom, FilesIn};
 ghost use Rattle.copy_checks.specs.Copy.{copyOf};
+ghost use Rattle.copy_checks.specs.Least.{leastOf};
 ghost use Rattle.copy_checks.specs.Meaning.{foundOf};
 ghost use Rattle.copy_audit.specs.Audit.{wrongUnless, wrongByLeaf, wrongBy, wrongEntryOfCopy};
 ghost use Rattle.copy_audit.specs.Inner.{heldAt, AtNode, AtChunk, AtFamily};
@@ -90,9 +92,6 @@ fn leaf_right(
         leafFrom nodeHash (now (tree .entry)) (now (content .entry)) size (storedHeld (now (bitfield .entry)) (c .0)) (c .0) (start .0)
         ⌝ }
 {
-    if size < start.0 {
-        return false;
-    }
     let held = bitfield::is_held(bitfield, c);
     audit::leaf_right(tree, content, size, held, c, start)
 }
@@ -147,19 +146,42 @@ fn wrong_by(tree: &[u8], bitfield: &[u8], content: &[u8], n: u64, size: u64, i: 
     wrong_unless(parent_right(tree, bitfield, i), i)
 }
 
-// The lowest entry that is found wrong. A descent may stop above or below the leaf that it goes to, so all entries are gone through.
-pub fn wrong_entry(tree: &[u8], bitfield: &[u8], content: &[u8], n: u64, size: u64) -> Found
-    requires { ⌜ FilesIn (now tree) (now bitfield) (now content) n size ⌝ }
+// Inner: the lowest entry that is found wrong when the audit comes to those from `from` on and before `end`. A descent may stop above or below the
+// leaf that it goes to, so all of these are gone through.
+pub fn wrong_between(
+    tree: &[u8],
+    bitfield: &[u8],
+    content: &[u8],
+    n: u64,
+    size: u64,
+    from: TreeIndex,
+    end: TreeIndex,
+) -> Found
+    requires { ⌜ FilesIn (now tree) (now bitfield) (now content) n size × (end .0 ≤ entriesOf n) ⌝ }
     ensures { λ r.
-        ⌜ foundOf r ≡ wrongEntryOfCopy nodeHash (copyOf (now (tree .entry)) (now (bitfield .entry)) (now (content .entry)) n size) ⌝ }
+        ⌜
+        foundOf r ≡
+        leastOf
+        (run (wrongBy nodeHash (copyOf (now (tree .entry)) (now (bitfield .entry)) (now (content .entry)) n size)) (from .0)
+        (end .0 - from .0))
+        ⌝ }
 {
-    let count = audit::entry_count(n);
     let mut found = Found::Nothing;
-    let mut i = TreeIndex(0);
-    while i.0 < count {
+    let mut i = from;
+    while i.0 < end.0 {
         let here = wrong_by(tree, bitfield, content, n, size, i);
         found = copy_checks::lower_of(found, here);
         i = TreeIndex(i.0 + 1);
     }
     found
+}
+
+// The lowest of all.
+pub fn wrong_entry(tree: &[u8], bitfield: &[u8], content: &[u8], n: u64, size: u64) -> Found
+    requires { ⌜ FilesIn (now tree) (now bitfield) (now content) n size ⌝ }
+    ensures { λ r.
+        ⌜ foundOf r ≡ wrongEntryOfCopy nodeHash (copyOf (now (tree .entry)) (now (bitfield .entry)) (now (content .entry)) n size) ⌝ }
+{
+    let end = TreeIndex(audit::entry_count(n));
+    wrong_between(tree, bitfield, content, n, size, TreeIndex(0), end)
 }

@@ -3,6 +3,7 @@
 mod entries;
 
 use copy_checks::Found;
+pub use entries::wrong_between;
 use refusals::Answer;
 ghost use mathlib.Core.Path.{_≡_};
 ghost use Rattle.refusals.specs.Meaning.{said};

@@ -3,13 +3,12 @@
 use Prim.Native.Nat.{ℕ}
 use mathlib.Core.Path.{_≡_, refl, sym, ap, _∙_}
 use mathlib.Core.Bool.{Bool, true, false}
-use mathlib.Core.List.{List, []}
 use native.Mathlib.Omega.{arith}
 use lib.Dec.{eqb}
-use Rattle.refusals.specs.Verdict.{Verdict, tree, done, refused}
+use Rattle.refusals.specs.Verdict.{tree, done, refused}
 use Rattle.byte_strings.specs.Lowest.{Lowest, nowhere, first}
 use Rattle.audit.specs.Audit.{refusedAt}
-use Rattle.lookup.specs.Descent.{Ending, stopped, reached, unknown, always, chunkWithin, byteWithin, descent}
+use Rattle.lookup.specs.Descent.{Ending, reached, always, chunkWithin, byteWithin, descent}
 use Rattle.lookup.specs.Unknown.{firstUnknown}
 use Rattle.lookup.specs.Lookup.{stopRefused, toChunk, byteEnding, toByte}
 use Rattle.lookup.proofs.ReadOrder.{reads, pair, law-descent}

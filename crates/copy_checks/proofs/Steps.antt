@@ -1,18 +1,16 @@
 -- The checks of a copy number by number, and what a copy is that passes them. Assumes nothing.
-use Prim.Native.Nat.{ℕ, _≤_, _<_}
+use Prim.Native.Nat.{ℕ, _≤_}
 use mathlib.Core.Path.{_≡_, refl, sym, ap, ap₂, _∙_}
 use mathlib.Core.Bool.{Bool, true, false, cond, _&&_}
-use mathlib.Core.List.{List, [], _∷_, _++_}
+use mathlib.Core.List.{List, _++_}
 use native.Mathlib.Omega.{arith}
-use borrow.Author.Tests.{leb-true, le-leb, eqb-true}
+use borrow.Author.Tests.{leb-true, le-leb}
 use lib.ListN.{length, take}
 use Rattle.refusals.specs.Verdict.{Spot, Verdict, none, tree, done, refused}
-use Rattle.byte_strings.specs.Lists.{total}
 use Rattle.byte_strings.specs.Lowest.{Lowest, nowhere, first}
 use Rattle.byte_strings.proofs.Lists.{same-eq}
 use Rattle.file_format.specs.Headers.{treeHeader, bitfieldHeader}
 use Rattle.file_format.specs.Sizes.{mostChunks, usedTree, usedBitfield}
-use Rattle.file_format.specs.Stored.{storedRootSizes}
 use Rattle.file_format.specs.Inner.{RootsIn}
 use Rattle.checks.specs.Checks.{Check, judged, countRight, holds, headed, addsUp}
 use Rattle.checks.proofs.Judged.{AllRight, both-right, judged-right, judged-done, judged-refused, judged-append}

@@ -1,5 +1,4 @@
 -- The checks of a call on a copy, in their order.
-use Prim.Native.Nat.{ℕ}
 use mathlib.Core.Bool.{Bool, true}
 use mathlib.Core.List.{List, [], _∷_}
 use Rattle.refusals.specs.Verdict.{Verdict, tree}

@@ -21,7 +21,7 @@ use Rattle.lookup.specs.Read.{chunkBytes, andThen, readVerdict}
 use Rattle.lookup.specs.Meaning.{readFound}
 use Rattle.copy_checks.specs.Copy.{Copy, unsigned}
 use Rattle.copy_checks.specs.Descents.{copyToChunk}
-use Rattle.copy_checks.proofs.Steps.{Knowing, copy-passed}
+use Rattle.copy_checks.proofs.Steps.{copy-passed}
 use Rattle.copy_checks.proofs.Signed.{signed, signed-passes}
 use Rattle.copy_checks.proofs.Descents.{chunk-read, chunk-same}
 use Rattle.copy_lookup.specs.Lookups.{copyHeldVerdict, copyHeldPlaceOf}

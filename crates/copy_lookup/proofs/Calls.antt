@@ -1,13 +1,12 @@
 -- What the calls need of the definitions: how the checks of a copy and the inner lookups come together.
 -- Assumes nothing.
 use Prim.Native.Nat.{ℕ, _+_, _-_, _^_, _≤_, _<_}
-use mathlib.Core.Path.{_≡_, refl, sym, ap, ap₂, _∙_, subst}
+use mathlib.Core.Path.{_≡_, refl, sym, ap, _∙_}
 use mathlib.Core.Bool.{true, cond}
 use mathlib.Core.List.{List, [], _∷_}
 use lib.Dec.{leb, ltb}
 use lib.ListN.{length, take, drop}
-use Rattle.refusals.specs.Verdict.{Spot, Verdict, none, tree, done, refused}
-use Rattle.byte_strings.specs.Lists.{part}
+use Rattle.refusals.specs.Verdict.{Spot, Verdict, tree, done, refused}
 use Rattle.tree_index.specs.Tree.{index}
 use Rattle.bitfield.specs.Release.{storedHeld}
 use Rattle.file_format.specs.Stored.{storedSize}
@@ -16,13 +15,13 @@ use Rattle.checks.proofs.Passed.{passes}
 use Rattle.lookup.specs.Descent.{Ending}
 use Rattle.lookup.specs.Lookup.{Found, refusal, found, foundUnless, stopRefused, chunkOf, startOf, toChunk}
 use Rattle.lookup.specs.Inner.{SearchedFor, SearchedHeld, placeIn, heldPlaceIn, byteIn}
-use Rattle.lookup.specs.Read.{chunkBytes, partUnless, readVerdict, readPart}
-use Rattle.lookup.specs.Meaning.{PlacedIn, hashJudged, readFound}
+use Rattle.lookup.specs.Read.{chunkBytes, partUnless, readPart}
+use Rattle.lookup.specs.Meaning.{PlacedIn, hashJudged}
 use Rattle.lookup.proofs.Calls.{searched, found-refused, placed-in, hash-behind, lying}
 use Rattle.copy_checks.specs.Copy.{Copy, known, unsigned}
 use Rattle.copy_checks.specs.Descents.{copyToChunk, copyToByte}
 use Rattle.copy_checks.specs.Checks.{copyJudged}
-use Rattle.copy_checks.proofs.Steps.{Knowing, copy-passed, copy-passes, copy-refused-by}
+use Rattle.copy_checks.proofs.Steps.{copy-passed, copy-passes, copy-refused-by}
 use Rattle.copy_checks.proofs.Signed.{signed, signed-passes}
 use Rattle.copy_lookup.specs.Lookups.{copyPlaceVerdict, copyHeldVerdict, copyByteVerdict, copyPlaceOf, copyHeldPlaceOf, copyByteAt}
 use Rattle.copy_lookup.specs.Reading.{copyReadVerdict, copyReadPart, copyReadFound}

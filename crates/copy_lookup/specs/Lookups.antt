@@ -1,7 +1,7 @@
 -- The place lookup and the byte lookup on a copy: as on a register, with the checks of a copy, and with 20 in 10's turn.
 use Prim.Native.Nat.{ℕ, _-_}
 use mathlib.Core.Bool.{cond}
-use mathlib.Core.List.{List, [], _∷_}
+use mathlib.Core.List.{[], _∷_}
 use lib.Dec.{leb, ltb}
 use Rattle.refusals.specs.Verdict.{Verdict, tree, refused}
 use Rattle.tree_index.specs.Tree.{index}

@@ -1,10 +1,10 @@
 -- What the code of making a copy needs of the definitions. Assumes nothing.
-use Prim.Native.Nat.{ℕ, _+_, _-_, _*_, _≤_, _<_}
+use Prim.Native.Nat.{ℕ, _+_, _-_, _*_, _≤_}
 use mathlib.Core.Path.{_≡_, refl, sym, ap, ap₂, _∙_}
 use mathlib.Core.Bool.{Bool, true, false, cond, _&&_}
-use mathlib.Core.List.{List, [], _∷_, _++_}
+use mathlib.Core.List.{List, _++_}
 use native.Mathlib.Omega.{arith}
-use borrow.Author.Tests.{leb-true, le-leb, lt-leb}
+use borrow.Author.Tests.{leb-true}
 use lib.ListN.{length}
 use Rattle.refusals.specs.Verdict.{Spot, Verdict, none, done, refused, unlessRefused}
 use Rattle.byte_strings.specs.Lists.{put, zeros}
@@ -12,8 +12,8 @@ use Rattle.byte_strings.proofs.Lists.{put-append}
 use Rattle.tree_index.specs.Tree.{entries}
 use Rattle.bitfield.specs.Image.{entryCount}
 use Rattle.file_format.specs.Headers.{treeHeader, bitfieldHeader}
-use Rattle.file_format.specs.Sizes.{mostChunks, usedTree, usedBitfield}
-use Rattle.checks.specs.Checks.{Check, judged, countRight, holds}
+use Rattle.file_format.specs.Sizes.{usedTree, usedBitfield}
+use Rattle.checks.specs.Checks.{judged, countRight, holds}
 use Rattle.checks.proofs.Judged.{judged-done}
 use Rattle.copy_checks.specs.Copy.{Copy, Files, filesOf, filesLent}
 use Rattle.copy_checks.specs.Meaning.{longRight}

@@ -1,7 +1,6 @@
 -- What the calls need of the definitions: the checks of a copy, and what comes behind them. Assumes nothing.
 use Prim.Native.Nat.{ℕ, _-_, _≤_}
 use mathlib.Core.Path.{_≡_, sym, ap, _∙_}
-use mathlib.Core.List.{List}
 use borrow.Author.Tests.{eqb-true}
 use lib.ListN.{length}
 use Rattle.refusals.specs.Verdict.{Spot, Verdict, done, refused}

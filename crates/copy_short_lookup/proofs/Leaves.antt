@@ -7,7 +7,7 @@ use native.Mathlib.Nat.{mul-one, zero-add}
 use native.Mathlib.Omega.{arith}
 use lib.ListN.{length, getD, drop}
 use Rattle.refusals.specs.Verdict.{tree, done, refused}
-use Rattle.byte_strings.specs.Lowest.{Lowest, nowhere, first}
+use Rattle.byte_strings.specs.Lowest.{Lowest}
 use Rattle.byte_strings.proofs.Lists.{length-run, getD-run}
 use Rattle.tree_index.specs.Tree.{index}
 use Rattle.tree_index.proofs.Filled.{end-filled}

@@ -1,5 +1,5 @@
 -- What a short lookup answers says which leaves it read. Assumes nothing.
-use Prim.Native.Nat.{ℕ, zero, suc, _+_, _-_, _*_, _%_, _≤_, _<_}
+use Prim.Native.Nat.{ℕ, zero, suc, _+_, _-_, _%_, _≤_, _<_}
 use mathlib.Core.Path.{_≡_, refl, sym, ap, _∙_, subst}
 use mathlib.Core.Bool.{Bool, true, false, cond}
 use mathlib.Core.List.{List, [], _∷_}
@@ -26,7 +26,7 @@ use Rattle.short_lookup.proofs.Answers.{lowest-says}
 use Rattle.short_lookup.proofs.Walks.{byte-end}
 use Rattle.lookup.specs.Unknown.{firstUnknown}
 use Rattle.copy_short_lookup.specs.Leaves.{leavesBelow, walkedTo, leavesToChunk, leavesToByte}
-use Rattle.copy_short_lookup.specs.Inner.{ShortIn, shortPlaceBehind, shortByteBehind, leavesAt, AtLeaf, ReadBy}
+use Rattle.copy_short_lookup.specs.Inner.{shortPlaceBehind, shortByteBehind, leavesAt, AtLeaf, ReadBy}
 
 -- ---- 20 before what comes next
 

@@ -3,7 +3,7 @@ use Prim.Native.Nat.{ℕ, _-_}
 use mathlib.Core.List.{List, [], _∷_}
 use lib.Dec.{leb, ltb}
 use Rattle.refusals.specs.Verdict.{Verdict, tree, done}
-use Rattle.byte_strings.specs.Lowest.{Lowest, lowest}
+use Rattle.byte_strings.specs.Lowest.{lowest}
 use Rattle.bitfield.specs.Release.{storedHeld}
 use Rattle.checks.specs.Checks.{judged}
 use Rattle.audit.specs.Audit.{refusedAt}

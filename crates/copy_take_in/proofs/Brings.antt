@@ -1,49 +1,26 @@
 -- What a packet brings, as the rows that the code goes through. Assumes nothing.
 use Prim.Native.Nat.{ℕ, zero, suc, _+_, _-_, _*_, _/_, _%_, _^_, _≤_, _<_}
 use mathlib.Core.Path.{_≡_, refl, sym, ap, ap₂, _∙_, subst}
-use mathlib.Core.Bool.{Bool, true, false}
-use mathlib.Core.List.{List, [], _∷_, _++_, map, map-append}
+use mathlib.Core.List.{List, [], _∷_, _++_, map}
 use native.Mathlib.Nat.{zero-add, add-zero, add-suc, suc-add, le-of-suc-le-suc, not-suc-le-zero, div-one}
 use native.Mathlib.Numerals.{add-one}
 use native.Mathlib.Omega.{arith}
-use borrow.Author.Tests.{leb-true}
-use lib.ListN.{length, getD, take, drop, replicate, length-append, List·getD-append, List·getD-map}
-use lib.Seq.{getD-take}
+use lib.ListN.{length, getD, take, drop, replicate, List·getD-append}
 use Rattle.byte_strings.specs.Lists.{part, run, joined, total, Bytes}
-use Rattle.byte_strings.specs.Numbers.{be, number}
-use Rattle.byte_strings.specs.Lowest.{Lowest}
 use Rattle.byte_strings.proofs.Lists.{part-part, part-front, part-behind, length-run, run-ext, run-getD}
-use Rattle.tree_index.specs.Tree.{index, depth, block, filled, roots}
-use Rattle.tree_index.specs.Numbers.{numbers}
-use Rattle.tree_index.proofs.Filled.{end-filled, filled-end}
-use Rattle.tree_index.proofs.Index.{depth-index}
-use Rattle.tree_index.proofs.Roots.{root-filled}
-use Rattle.bitfield.specs.Append.{bitsPlace}
+use Rattle.tree_index.specs.Tree.{index}
 use Rattle.blake2b.specs.Hash.{nodeHash}
 use Rattle.blake2b.proofs.Laws.{node-length, node-byte}
-use Rattle.file_format.specs.Sizes.{mostChunks, usedTree, usedBitfield}
-use Rattle.file_format.specs.Messages.{leafMessage}
-use Rattle.file_format.specs.Entries.{Entry, hole, entryBytes, leaf, parentOf}
+use Rattle.file_format.specs.Entries.{Entry, hole, entryBytes, parentOf}
 use Rattle.file_format.specs.RootsByValue.{padded}
 use Rattle.file_format.proofs.Nodes.{Proper, entryBytes-length}
-use Rattle.audit.specs.BitfieldEntries.{BitsIn}
-use Rattle.lookup.proofs.Visits.{filled-entry}
-use Rattle.packet.specs.Packet.{rootAbove, siblings, otherRoots}
-use Rattle.packet.specs.Check.{chunkLength, siblingsPlace, othersPlace, packetChunk, entryIn, entriesIn, siblingEntries, otherEntries, packetTotal, ordered, Step, stepsAbove, steps}
-use Rattle.packet.specs.Inner.{ChunkOf, placeAbove, sizesIn, RowIn, Shaped}
-use Rattle.packet.proofs.Above.{place-root, place-below, few-siblings, few-others, root-spans}
+use Rattle.packet.specs.Check.{entryIn, entriesIn, ordered, Step, stepsAbove, steps}
+use Rattle.packet.specs.Inner.{PathRow}
 use Rattle.packet.proofs.Climb.{ordered-size, left-first, right-first, odd}
 use Rattle.packet.proofs.Pieces.{entry-in}
-use Rattle.packet.proofs.Right.{map-run}
-use Rattle.packet.proofs.Rows.{half, Filled, siblings-filled, others-filled}
-use Rattle.packet.proofs.Shape.{Sized, sized}
-use Rattle.copy_checks.specs.Least.{lowerOf, leastOf}
-use Rattle.copy_checks.proofs.Least.{lower-assoc}
-use Rattle.copy_checks.proofs.Roots.{tree-bit}
-use Rattle.copy_take_in.specs.TakeIn.{Given, givenAt, lying, ledTo, leftSize, packetStart, brought}
-use Rattle.copy_take_in.specs.Inner.{lies, rowGiven, KnowableIn, RowFor, aboveRow, WayOf, PathRow, Fits, Room, LedTo, Ready}
-use Rattle.copy_take_in.specs.declared.way.Way.{Way}
-use Rattle.copy_take_in.proofs.Entries.{left-whole}
+use Rattle.packet.proofs.Rows.{half}
+use Rattle.copy_take_in.specs.TakeIn.{Given, givenAt, ledTo}
+use Rattle.copy_take_in.specs.Inner.{lies, rowGiven, aboveRow}
 
 -- ---- rows that lie in the packet
 

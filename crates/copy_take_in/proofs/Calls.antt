@@ -1,5 +1,5 @@
 -- What the code of the taking in needs of the definitions. Assumes nothing.
-use Prim.Native.Nat.{ℕ, zero, suc, _+_, _-_, _*_, _/_, _^_, _≤_, _<_}
+use Prim.Native.Nat.{ℕ, zero, _+_, _-_, _*_, _/_, _^_, _≤_, _<_}
 use mathlib.Core.Path.{_≡_, refl, sym, ap, ap₂, _∙_, subst}
 use mathlib.Core.Bool.{Bool, true, false, cond, _&&_}
 use mathlib.Core.List.{List, [], _∷_, _++_, map, map-append, append-nil}
@@ -19,7 +19,7 @@ use Rattle.tree_index.specs.Tree.{index, depth, block, filled, roots}
 use Rattle.tree_index.specs.Numbers.{numbers}
 use Rattle.tree_index.proofs.Filled.{end-filled}
 use Rattle.tree_index.proofs.Roots.{root-filled}
-use Rattle.bitfield.specs.Append.{bitsPlace, setTreeBits}
+use Rattle.bitfield.specs.Append.{bitsPlace}
 use Rattle.bitfield.specs.Image.{entryCount}
 use Rattle.bitfield.specs.Release.{storedHeld}
 use Rattle.bitfield.specs.Known.{heldAgain}
@@ -28,7 +28,6 @@ use Rattle.blake2b.proofs.Laws.{node-length, node-byte}
 use Rattle.file_format.specs.Sizes.{mostChunks, usedTree, usedBitfield}
 use Rattle.file_format.specs.Messages.{leafMessage}
 use Rattle.file_format.specs.Entries.{Entry, entryBytes, leaf}
-use Rattle.file_format.specs.Inner.{EntryIn}
 use Rattle.file_format.specs.RootsByValue.{padded}
 use Rattle.file_format.proofs.Nodes.{Proper, entryBytes-length}
 use Rattle.checks.specs.Checks.{Check, judged, countRight, addsUp}
@@ -37,22 +36,24 @@ use Rattle.audit.specs.Audit.{refusedAt}
 use Rattle.lookup.specs.Read.{andThen}
 use Rattle.lookup.proofs.Visits.{filled-entry}
 use Rattle.packet.specs.Packet.{rootAbove, siblings, otherRoots}
-use Rattle.packet.specs.Check.{chunkLength, siblingsPlace, othersPlace, shapeRight, packetChunk, entryIn, entriesIn, siblingEntries, otherEntries, packetTotal, Step, stepsAbove, steps, rootRight, packetRootMessage, packetVerdict}
-use Rattle.packet.specs.Inner.{ChunkOf, placeAbove, sizesIn, RowIn, Shaped, Summed, Climbable}
+use Rattle.packet.specs.Check.{chunkLength, siblingsPlace, othersPlace, shapeRight, packetChunk, entryIn, entriesIn, siblingEntries, otherEntries, packetTotal}
+use Rattle.packet.specs.Check.{stepsAbove, steps, rootRight, packetRootMessage, packetVerdict}
+use Rattle.packet.specs.Inner.{ChunkOf, placeAbove, sizesIn, RowIn, Shaped, Summed, LedTo}
 use Rattle.packet.proofs.Above.{place-root, place-below, few-siblings, few-others, root-spans}
 use Rattle.packet.proofs.Pieces.{entry-in}
 use Rattle.packet.proofs.Right.{map-run}
 use Rattle.packet.proofs.Rows.{Filled, siblings-filled, others-filled}
-use Rattle.packet.proofs.Shape.{Sized, sized}
+use Rattle.packet.proofs.Shape.{sized}
 use Rattle.copy_checks.specs.Copy.{Copy, Files, filesOf, filesLent, copyOf}
 use Rattle.copy_checks.specs.Least.{lowerOf, leastOf}
 use Rattle.copy_checks.specs.Checks.{partlyJudged, unknownRoot, passedOver}
 use Rattle.copy_checks.proofs.Least.{lower-assoc}
 use Rattle.copy_checks.proofs.Roots.{tree-bit}
 use Rattle.copy_checks.proofs.Steps.{Lent, partly-passed, partly-passes, partly-refused-by}
-use Rattle.copy_take_in.specs.TakeIn.{Given, givenAt, lying, ledTo, leftSize, packetStart, contradicts, contradictsBytes, withGiven, withKnown, brought, contradiction, takeVerdict, takenIn, afterTaking}
-use Rattle.copy_take_in.specs.Inner.{lies, rowGiven, KnowableIn, RowFor, Addable, WithGiven, aboveRow, WayOf, PathRow, Fits, Room, Held, LedTo, Ready}
-use Rattle.copy_take_in.specs.Post.{TakePost, sizeVerdict, ownVerdict, OwnPost}
+use Rattle.copy_take_in.specs.TakeIn.{Given, givenAt, lying, ledTo, leftSize, packetStart, contradicts, contradictsBytes, withGiven, withKnown, brought}
+use Rattle.copy_take_in.specs.TakeIn.{contradiction, takeVerdict, takenIn, afterTaking}
+use Rattle.copy_take_in.specs.Inner.{lies, rowGiven, KnowableIn, RowFor, Addable, WithGiven, aboveRow, WayOf, Fits, Room, Held, LedRows, Ready}
+use Rattle.copy_take_in.specs.Post.{TakePost, totalVerdict, sizeVerdict, ownVerdict, OwnPost}
 use Rattle.copy_take_in.specs.declared.way.Way.{Way}
 use Rattle.copy_take_in.proofs.Entries.{left-le, left-whole}
 use Rattle.copy_take_in.proofs.Brings.{row-given, path-given}
@@ -375,28 +376,9 @@ module _ (p : List ℕ) (n c : ℕ) (f : Fits p n c) (w : Way) (way : WayOf n c 
 
 -- ---- what the packet leads to
 
-module _ (p : List ℕ) (n c : ℕ) (f : Fits p n c) (w : Way) (way : WayOf n c w) (first : ℕ) (e : first ≡ siblingsPlace p + 1) (l : Entry) {bytes : List ℕ}
-    (g : l ≡ leaf nodeHash bytes) (h : bytes ≡ packetChunk p) where
-  leaf-is : l ≡ leaf nodeHash (packetChunk p)
-  leaf-is = g ∙ ap (leaf nodeHash) h
-
-  pub climbable : Climbable p first (w .up) (l .size)
-  unfolding leaf
-  climbable =
-      record {
-        row = beside-in p n c (f .shaped) first e (w .up) (way .up);
-        sum = omega (arith, sums p n c f w way first e, f .small, chunk-long p n c (f .shaped), ap (λ (x : Entry). x .size) leaf-is);
-      }
-
-  pub led-to : (row path : List ℕ) → row ≡ entryBytes l → PathRow (stepsAbove nodeHash 0 c l (entriesIn p first (w .up))) path → LedTo p n c row path
-  unfolding siblingEntries
-  led-to row path a b =
-      record {
-        own = a ∙ ap entryBytes leaf-is;
-        upward =
-            subst (λ (es : List Entry). PathRow (stepsAbove nodeHash 0 c (leaf nodeHash (packetChunk p)) es) path)
-            (ap₂ (entriesIn p) e (way .up)) (subst (λ (x : Entry). PathRow (stepsAbove nodeHash 0 c x (entriesIn p first (w .up))) path) leaf-is b);
-      }
+-- the leaf as a row, and the parents as the check left them
+pub led-rows : {p : List ℕ} {n c : ℕ} {l : Entry} {row path : List ℕ} → LedTo nodeHash p n c l path → row ≡ entryBytes l → LedRows p n c row path
+led-rows led e = record { own = e ∙ ap entryBytes (led .leaves); upward = led .upward }
 
 -- ---- the chunk lies within the data
 
@@ -453,6 +435,38 @@ lent-bytes content start k = let e : start + k - start ≡ k = omega arith in ap
 abbrev pub totalCheck : Copy → List ℕ → ℕ → List Check
 totalCheck c p i = record { number = 6; right = eqb (packetTotal p (c .n) i) (c .size) } ∷ []
 
+-- a refusal is not done
+pub never : {A : Type 0} {v : Verdict} {m : ℕ} {at : Spot} → v ≡ refused m at → v ≡ done → A
+never e f = let z : _≡_ {A = ℕ} 0 1 = cc in absurd (omega arith)
+
+-- what the code of `judge_packet` says
+module _ (F : List ℕ → List ℕ) (p : List ℕ) (n size i : ℕ) (root : List ℕ) where
+  pub packet-refused : (m : ℕ) (at : Spot) → refused m at ≡ packetVerdict F p n i root → refused m at ≡ totalVerdict F p n size i root
+  unfolding totalVerdict
+  packet-refused m at f =
+      ap (λ (v : Verdict). andThen v (judged (record { number = 6; right = eqb (packetTotal p n i) size } ∷ []) done)) f
+
+  pub packet-total : done ≡ packetVerdict F p n i root → (v : Verdict) (right : Bool) → right ≡ eqb (packetTotal p n i) size
+      → v ≡ cond right done (refused 6 none) → v ≡ totalVerdict F p n size i root
+  unfolding totalVerdict judged
+  packet-total f v right g h =
+      h ∙ ap (λ (b : Bool). cond b done (refused 6 none)) g
+      ∙ ap (λ (w : Verdict). andThen w (judged (record { number = 6; right = eqb (packetTotal p n i) size } ∷ []) done)) f
+
+  -- a packet that passes the check
+  pub packet-fits : done ≡ packetVerdict F p n i root → Fits p n i
+  unfolding packetVerdict rootRight
+  packet-fits f =
+      let a = judged-done
+      (record { number = 2; right = countRight n } ∷ record { number = 9; right = ltb i n }
+      ∷ record { number = 12; right = shapeRight p n i }
+      ∷ record { number = 13; right = leb (packetTotal p n i) 68719476736 && sameList (F (packetRootMessage F p n i)) root } ∷ [])
+      done (sym f) .0 in
+      record {
+        shaped = record { chunk = record { count = leb-true _ _ (a .0); below = ltb-true _ _ (a .1 .0) }; shape = a .1 .1 .0 };
+        small = leb-true _ _ (both-right _ _ (a .1 .1 .1 .0) .0);
+      }
+
 module _ (F : List ℕ → List ℕ) (c : Copy) (p : List ℕ) (i : ℕ) (root : List ℕ) where
   abbrev pub staged : Verdict → Verdict
   staged next = partlyJudged c (andThen (packetVerdict F p (c .n) i root) (judged (totalCheck c p i) next))
@@ -499,44 +513,22 @@ module _ (F : List ℕ → List ℕ) (c : Copy) (p : List ℕ) (i : ℕ) (root :
 
   -- what the code of `judge` says
   pub judge-copy : (m : ℕ) (at : Spot) → refused m at ≡ partlyJudged c done → refused m at ≡ sizeVerdict F c p i root
-  unfolding sizeVerdict
+  unfolding sizeVerdict totalVerdict
   judge-copy m at e =
       sym (partly-refused-by c (andThen (packetVerdict F p (c .n) i root) (judged (totalCheck c p i) done)) m at (sym e))
 
-  module _ (e : done ≡ partlyJudged c done) where
-    pub judge-packet : (m : ℕ) (at : Spot) → refused m at ≡ packetVerdict F p (c .n) i root → refused m at ≡ sizeVerdict F c p i root
-    unfolding sizeVerdict
-    judge-packet m at f =
-        let a = partly-passed c done (sym e) in
-        ap (λ (v : Verdict). andThen v (judged (totalCheck c p i) done)) f
-        ∙ sym (partly-passes c (andThen (packetVerdict F p (c .n) i root) (judged (totalCheck c p i) done)) (a .0) (a .1 .0))
-
-    module _ (f : done ≡ packetVerdict F p (c .n) i root) where
-      pub judge-total : (v : Verdict) (right : Bool) → right ≡ eqb (packetTotal p (c .n) i) (c .size) → v ≡ cond right done (refused 6 none)
-          → v ≡ sizeVerdict F c p i root
-      unfolding sizeVerdict judged
-      judge-total v right g h =
-          let a = partly-passed c done (sym e) in
-          h ∙ ap (λ (b : Bool). cond b done (refused 6 none)) g
-          ∙ ap (λ (w : Verdict). andThen w (judged (totalCheck c p i) done)) f
-          ∙ sym (partly-passes c (andThen (packetVerdict F p (c .n) i root) (judged (totalCheck c p i) done)) (a .0) (a .1 .0))
+  pub judge-own : done ≡ partlyJudged c done → (v : Verdict) → v ≡ totalVerdict F p (c .n) (c .size) i root → v ≡ sizeVerdict F c p i root
+  unfolding sizeVerdict
+  judge-own e v f =
+      let a = partly-passed c done (sym e) in
+      f ∙ sym (partly-passes c (totalVerdict F p (c .n) (c .size) i root) (a .0) (a .1 .0))
 
   -- a packet that passes the check
   pub fits : done ≡ packetVerdict F p (c .n) i root → Fits p (c .n) i
-  unfolding packetVerdict rootRight
-  fits f =
-      let a = judged-done
-      (record { number = 2; right = countRight (c .n) } ∷ record { number = 9; right = ltb i (c .n) }
-      ∷ record { number = 12; right = shapeRight p (c .n) i }
-      ∷ record { number = 13; right = leb (packetTotal p (c .n) i) 68719476736 && sameList (F (packetRootMessage F p (c .n) i)) root } ∷ [])
-      done (sym f) .0 in
-      record {
-        shaped = record { chunk = record { count = leb-true _ _ (a .0); below = ltb-true _ _ (a .1 .0) }; shape = a .1 .1 .0 };
-        small = leb-true _ _ (both-right _ _ (a .1 .1 .1 .0) .0);
-      }
+  fits f = packet-fits F p (c .n) (c .size) i root f
 
   pub room : done ≡ sizeVerdict F c p i root → Room (c .tree) (c .bitfield) (c .content) p (c .n) i
-  unfolding sizeVerdict
+  unfolding sizeVerdict totalVerdict
   room e =
       let w = staged-passes done (sym e) .0 in
       record {
@@ -547,13 +539,13 @@ module _ (F : List ℕ → List ℕ) (c : Copy) (p : List ℕ) (i : ℕ) (root :
       }
 
   pub take-not : (m : ℕ) (at : Spot) → refused m at ≡ sizeVerdict F c p i root → TakePost F c p i root (refused m at) (filesOf c)
-  unfolding sizeVerdict takeVerdict afterTaking
+  unfolding sizeVerdict totalVerdict takeVerdict afterTaking
   take-not m at e =
       let f : refused m at ≡ takeVerdict F c p i root = sym (staged-refused (refusedAt 19 tree (contradiction F c p i) done) m at (sym e)) in
       record { answer = f; files = ap (λ (v : Verdict). unlessRefused v (filesOf (takenIn F c p i)) (filesOf c)) f }
 
   pub take-done : (v : Verdict) (left : Files) → done ≡ sizeVerdict F c p i root → OwnPost F c p i v left → TakePost F c p i root v left
-  unfolding sizeVerdict ownVerdict takeVerdict afterTaking
+  unfolding sizeVerdict totalVerdict ownVerdict takeVerdict afterTaking
   take-done v left e w =
       let f : v ≡ takeVerdict F c p i root =
       w .answer ∙ sym (passes-staged (refusedAt 19 tree (contradiction F c p i) done) (staged-passes done (sym e) .0)) in

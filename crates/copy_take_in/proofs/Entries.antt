@@ -8,17 +8,16 @@ use native.Mathlib.Numerals.{add-one}
 use native.Mathlib.Omega.{arith}
 use borrow.Author.Tests.{lt-ltb, le-ltb}
 use lib.Dec.{ltb}
-use lib.ListN.{length, getD, take, drop}
+use lib.ListN.{length, getD}
 use Rattle.byte_strings.specs.Lists.{part, put, run, total, sameList, Bytes}
 use Rattle.byte_strings.specs.Numbers.{be, number}
-use Rattle.byte_strings.specs.Lowest.{Lowest, nowhere, first}
+use Rattle.byte_strings.specs.Lowest.{nowhere, first}
 use Rattle.byte_strings.proofs.Lists.{length-part, part-add, bytes-part, length-run, getD-run, run-add, run-suc, total-append}
 use Rattle.byte_strings.proofs.Numbers.{be-number}
 use Rattle.bitfield.specs.Append.{bitsPlace, setTreeBit, setTreeBits}
 use Rattle.bitfield.specs.Known.{storedKnown}
 use Rattle.file_format.specs.Sizes.{entryPlace}
-use Rattle.file_format.specs.Entries.{Entry, entryBytes}
-use Rattle.file_format.specs.Inner.{EntryIn}
+use Rattle.file_format.specs.Entries.{entryBytes}
 use Rattle.packet.specs.Check.{entryIn}
 use Rattle.packet.specs.Inner.{sizesIn}
 use Rattle.packet.proofs.Right.{map-run}

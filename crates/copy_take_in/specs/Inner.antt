@@ -1,9 +1,9 @@
 -- Rows of entries, as the code goes through them, and what its inner functions require and ensure.
 use Prim.Native.Nat.{ℕ, _+_, _*_, _/_, _^_, _≤_, _<_}
 use mathlib.Core.Path.{_≡_}
-use mathlib.Core.List.{List, map}
-use lib.ListN.{length, getD, take}
-use Rattle.byte_strings.specs.Lists.{run, joined, total}
+use mathlib.Core.List.{List}
+use lib.ListN.{length, getD}
+use Rattle.byte_strings.specs.Lists.{run, total}
 use Rattle.tree_index.specs.Tree.{index}
 use Rattle.tree_index.specs.Numbers.{numbers}
 use Rattle.bitfield.specs.Append.{bitsPlace}
@@ -13,8 +13,8 @@ use Rattle.file_format.specs.Entries.{entryBytes, leaf}
 use Rattle.file_format.specs.Inner.{EntryIn}
 use Rattle.file_format.specs.RootsByValue.{padded}
 use Rattle.packet.specs.Packet.{siblings, otherRoots}
-use Rattle.packet.specs.Check.{packetChunk, entryIn, siblingEntries, packetTotal, Step, stepsAbove}
-use Rattle.packet.specs.Inner.{RowIn, sizesIn, Shaped}
+use Rattle.packet.specs.Check.{packetChunk, entryIn, siblingEntries, packetTotal, stepsAbove}
+use Rattle.packet.specs.Inner.{RowIn, sizesIn, PathRow, Shaped}
 use Rattle.copy_take_in.specs.TakeIn.{Given, packetStart, withGiven, withKnown}
 use Rattle.copy_take_in.specs.declared.way.Way.{Way}
 
@@ -76,13 +76,8 @@ pub record Held (bits content : List ℕ) (c start : ℕ) (bytes : List ℕ) : T
   pub bit : bitsPlace (c / 8192 + 1) ≤ length bits
   pub inside : start + length bytes ≤ length content
 
--- a row of the entries that steps give, one behind the other
-pub record PathRow (ss : List Step) (row : List ℕ) : Type 0 where
-  pub long : length row ≡ 800
-  pub front : take (40 * length ss) row ≡ joined (map (λ (s : Step). entryBytes (s .entry)) ss)
-
 -- what the packet of chunk c leads to: a row of the leaf, and a row of the parents on the way
-pub record LedTo (p : List ℕ) (n c : ℕ) (row path : List ℕ) : Type 0 where
+pub record LedRows (p : List ℕ) (n c : ℕ) (row path : List ℕ) : Type 0 where
   pub own : row ≡ entryBytes (leaf nodeHash (packetChunk p))
   pub upward : PathRow (stepsAbove nodeHash 0 c (leaf nodeHash (packetChunk p)) (siblingEntries p n c)) path
 
@@ -91,4 +86,4 @@ pub record Ready (t bits content p : List ℕ) (n c : ℕ) (w : Way) (start : �
   pub room : Room t bits content p n c
   pub way : WayOf n c w
   pub begins : start ≡ packetStart p n c
-  pub led : LedTo p n c row path
+  pub led : LedRows p n c row path

@@ -17,11 +17,14 @@ module _ (F : List ℕ → List ℕ) where
     pub answer : v ≡ takeVerdict F c p i root
     pub files : left ≡ afterTaking F c p i root
 
+  -- the packet's 9, 12 and 13, then the 6 of its total
+  unfoldable pub totalVerdict : List ℕ → ℕ → ℕ → ℕ → List ℕ → Verdict
+  totalVerdict p n size i root =
+      andThen (packetVerdict F p n i root) (judged (record { number = 6; right = eqb (packetTotal p n i) size } ∷ []) done)
+
   -- everything but 19
   unfoldable pub sizeVerdict : Copy → List ℕ → ℕ → List ℕ → Verdict
-  sizeVerdict c p i root =
-      partlyJudged c
-      (andThen (packetVerdict F p (c .n) i root) (judged (record { number = 6; right = eqb (packetTotal p (c .n) i) (c .size) } ∷ []) done))
+  sizeVerdict c p i root = partlyJudged c (totalVerdict p (c .n) (c .size) i root)
 
   -- 19, of a packet that passes everything else
   unfoldable pub ownVerdict : Copy → List ℕ → ℕ → Verdict

@@ -5,21 +5,24 @@ mod way;
 
 use copy_checks::Found;
 use number_types::ChunkNumber;
+use packet::Checked;
+use packet::Node;
 use refusals::Answer;
 use way::Way;
 ghost use mathlib.Core.Path.{_≡_};
-ghost use Prim.Native.Nat.{_+_, _/_, _≤_};
+ghost use Prim.Native.Nat.{_+_, _≤_};
 ghost use lib.Dec.{eqb};
 ghost use lib.ListN.{length};
+ghost use Rattle.refusals.specs.Verdict.{done};
 ghost use Rattle.refusals.specs.Meaning.{said};
-ghost use Rattle.bitfield.specs.Append.{bitsPlace};
 ghost use Rattle.blake2b.specs.Hash.{nodeHash};
 ghost use Rattle.packet.specs.Check.{packetTotal, siblingsPlace};
+ghost use Rattle.packet.specs.Inner.{entryOf, LedTo};
 ghost use Rattle.copy_checks.specs.Copy.{copyOf, filesOf, filesLent};
 ghost use Rattle.copy_checks.specs.Meaning.{foundOf};
 ghost use Rattle.copy_take_in.specs.TakeIn.{brought, packetStart, contradictsBytes, contradiction, takenIn};
 ghost use Rattle.copy_take_in.specs.Inner.{WayOf, WithGiven, Fits, Room, Held, Ready};
-ghost use Rattle.copy_take_in.specs.Post.{TakePost, OwnPost, sizeVerdict};
+ghost use Rattle.copy_take_in.specs.Post.{TakePost, OwnPost, totalVerdict, sizeVerdict};
 
 // Inner: where the siblings of a packet begin, behind their count.
 fn siblings_place(packet: &[u8]) -> usize
@@ -44,6 +47,27 @@ fn total_right(packet: &[u8], n: u64, chunk: ChunkNumber, size: u64) -> bool
     whole == size
 }
 
+// A packet's own check and, behind it, its total; with what was hashed for it.
+fn judge_packet(packet: &[u8], n: u64, size: u64, chunk: ChunkNumber, root: &[u8; 32]) -> Checked
+    ensures judged { λ r.
+        ⌜ said (r .answer) ≡ totalVerdict nodeHash (now (packet .entry)) n size (chunk .0) (now (root .entry)) ⌝ }
+    ensures led { λ r.
+        ⌜ (said (r .answer) ≡ done → LedTo nodeHash (now (packet .entry)) n (chunk .0) (entryOf (r .leaf)) (r .row)) ⌝ }
+{
+    let checked = packet::check_hashing(packet, n, chunk, root);
+    let answer = checked.answer;
+    match answer {
+        Answer::Refused(refusal) => packet::unhashed(Answer::Refused(refusal)),
+        Answer::Done => {
+            if total_right(packet, n, chunk, size) {
+                checked
+            } else {
+                packet::unhashed(refusals::refuse(6))
+            }
+        }
+    }
+}
+
 // Everything but 19: the copy's own checks, the packet's, and the packet's total.
 fn judge(
     tree: &[u8],
@@ -54,26 +78,19 @@ fn judge(
     packet: &[u8],
     chunk: ChunkNumber,
     root: &[u8; 32],
-) -> Answer
-    ensures { λ r.
+) -> Checked
+    ensures judged { λ r.
         ⌜
-        said r ≡
+        said (r .answer) ≡
         sizeVerdict nodeHash (copyOf (now (tree .entry)) (now (bitfield .entry)) (now (content .entry)) n size) (now (packet .entry))
         (chunk .0) (now (root .entry))
         ⌝ }
+    ensures led { λ r.
+        ⌜ (said (r .answer) ≡ done → LedTo nodeHash (now (packet .entry)) n (chunk .0) (entryOf (r .leaf)) (r .row)) ⌝ }
 {
     match copy_checks::judge_partly(tree, bitfield, content, n, size) {
-        Answer::Refused(refusal) => Answer::Refused(refusal),
-        Answer::Done => match packet::check_answer(packet, n, chunk, root) {
-            Answer::Refused(refusal) => Answer::Refused(refusal),
-            Answer::Done => {
-                if total_right(packet, n, chunk, size) {
-                    Answer::Done
-                } else {
-                    refusals::refuse(6)
-                }
-            }
-        },
+        Answer::Refused(refusal) => packet::unhashed(Answer::Refused(refusal)),
+        Answer::Done => judge_packet(packet, n, size, chunk, root),
     }
 }
 
@@ -226,7 +243,7 @@ fn write_all(
     byte_strings::copy_to(content, start, &packet[4..end]);
 }
 
-// Inner: 19, or the packet is taken in.
+// Inner: 19, or the packet is taken in. What the check hashed, the leaf and the parents on the way, is handed on.
 fn take_checked(
     tree: &mut [u8],
     bitfield: &mut [u8],
@@ -234,8 +251,11 @@ fn take_checked(
     n: u64,
     packet: &[u8],
     chunk: ChunkNumber,
+    leaf: Node,
+    path: &[u8],
 ) -> Answer
-    requires { ⌜ Room (now tree) (now bitfield) (now content) (now packet) n (chunk .0) ⌝ }
+    requires room { ⌜ Room (now tree) (now bitfield) (now content) (now packet) n (chunk .0) ⌝ }
+    requires led { ⌜ LedTo nodeHash (now packet) n (chunk .0) (entryOf leaf) (now path) ⌝ }
     ensures { λ r.
         ⌜
         OwnPost nodeHash (copyOf (now (tree .entry)) (now (bitfield .entry)) (now (content .entry)) n 0) (now (packet .entry)) (chunk .0)
@@ -244,11 +264,6 @@ fn take_checked(
 {
     let way = way::way_of(n, chunk);
     let start = start_of(packet, n, chunk, way);
-    let first = siblings_place(packet);
-    let end = first - 1;
-    let leaf = packet::leaf_node(&packet[4..end]);
-    let up = way.up;
-    let path = way::path_row(packet, first, up, chunk, leaf);
     let row = way::entry_row(leaf);
     let found = contradiction_of(
         tree,
@@ -260,7 +275,7 @@ fn take_checked(
         way,
         start,
         &row,
-        &path,
+        path,
     );
     match found {
         Found::At(i) => refusals::refuse_entry(19, i),
@@ -275,7 +290,7 @@ fn take_checked(
                 way,
                 start,
                 &row,
-                &path,
+                path,
             );
             Answer::Done
         }
@@ -299,9 +314,12 @@ pub fn take_in(
         (now (root .entry)) (said r) (filesLent (now (tree .exit)) (now (bitfield .exit)) (now (content .exit)))
         ⌝ }
 {
-    let answer = judge(tree, bitfield, content, n, size, packet, chunk, root);
+    let judged = judge(tree, bitfield, content, n, size, packet, chunk, root);
+    let answer = judged.answer;
+    let leaf = judged.leaf;
+    let path = judged.row;
     match answer {
         Answer::Refused(refusal) => Answer::Refused(refusal),
-        Answer::Done => take_checked(tree, bitfield, content, n, packet, chunk),
+        Answer::Done => take_checked(tree, bitfield, content, n, packet, chunk, leaf, &path),
     }
 }

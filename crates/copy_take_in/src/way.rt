@@ -1,20 +1,14 @@
-// The way of a chunk: the tree indexes of what its packet brings, and the entries that the packet leads to. All of these are inner.
+// The way of a chunk: the tree indexes of what its packet brings. All of these are inner.
 use number_types::ChunkNumber;
 use number_types::TreeIndex;
 use packet::Node;
 ghost use mathlib.Core.Path.{_≡_};
-ghost use mathlib.Core.List.{_++_};
-ghost use Prim.Native.Nat.{_+_, _≤_, _<_};
-ghost use lib.ListN.{length};
-ghost use Rattle.byte_strings.specs.Lists.{put};
-ghost use Rattle.byte_strings.specs.Numbers.{be};
+ghost use Prim.Native.Nat.{_≤_, _<_};
 ghost use Rattle.tree_index.specs.Numbers.{numbers};
-ghost use Rattle.blake2b.specs.Hash.{nodeHash};
 ghost use Rattle.file_format.specs.Entries.{entryBytes};
 ghost use Rattle.file_format.specs.RootsByValue.{padded};
-ghost use Rattle.packet.specs.Check.{entriesIn, stepsAbove};
-ghost use Rattle.packet.specs.Inner.{ChunkOf, Climbable, entryOf};
-ghost use Rattle.copy_take_in.specs.Inner.{aboveRow, WayOf, PathRow};
+ghost use Rattle.packet.specs.Inner.{ChunkOf, entryOf};
+ghost use Rattle.copy_take_in.specs.Inner.{aboveRow, WayOf};
 
 // How many siblings and how many other roots there are, and the tree indexes of parents, siblings and other roots.
 pub struct Way {
@@ -62,44 +56,12 @@ pub fn way_of(n: u64, chunk: ChunkNumber) -> Way
     }
 }
 
-// An entry at a place of a row. That its bytes are 40, which the type of the hash says, is handed on to whoever puts more behind it.
-fn put_entry(row: &mut [u8], at: usize, hash: &[u8; 32], size: u64)
-    requires { ⌜ at + 40 ≤ length (now row) ⌝ }
-    ensures placed { λ _. ⌜ now (row .exit) ≡ put (now (row .entry)) at (now (hash .entry) ++ be 8 size) ⌝ }
-    ensures whole { λ _. ⌜ length (now (hash .entry) ++ be 8 size) ≡ 40 ⌝ }
-{
-    let length = byte_strings::be64(size);
-    byte_strings::copy_to(row, at, hash);
-    byte_strings::copy_to(row, at + 32, &length);
-}
-
 // An entry as a row of its own.
 pub fn entry_row(node: Node) -> [u8; 40]
     ensures { λ r. ⌜ r ≡ entryBytes (entryOf node) ⌝ }
 {
     let hash = node.hash;
     let mut row = [0u8; 40];
-    put_entry(&mut row, 0, &hash, node.size);
-    row
-}
-
-// The parents that a packet's siblings lead to from a leaf, one behind the other.
-pub fn path_row(packet: &[u8], at: usize, count: usize, chunk: ChunkNumber, leaf: Node) -> [u8; 800]
-    requires { ⌜ Climbable (now packet) at count (leaf .size) ⌝ }
-    ensures { λ r. ⌜ PathRow (stepsAbove nodeHash 0 (chunk .0) (entryOf leaf) (entriesIn (now (packet .entry)) at count)) r ⌝ }
-{
-    let mut row = [0u8; 800];
-    let mut node = leaf;
-    let mut k = tree_index::block_over(chunk, 0);
-    let mut j: usize = 0;
-    while j < count {
-        let beside = packet::entry_node(packet, at + 40 * j);
-        let above = packet::step_up(k, node, beside);
-        let hash = above.hash;
-        put_entry(&mut row, 40 * j, &hash, above.size);
-        node = above;
-        k = k / 2;
-        j += 1;
-    }
+    packet::put_entry(&mut row, 0, &hash, node.size);
     row
 }

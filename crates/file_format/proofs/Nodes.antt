@@ -104,14 +104,16 @@ module _ (F : List ℕ → List ℕ) where
   pub message-leaf : (ss : List Slot) (k : ℕ) → messageFor F ss (index zero k) ≡ leafMessage (getD (contents ss) k [])
   unfolding messageFor
   message-leaf ss k =
-      ap (λ (x : ℕ). byDepth x (leafMessage (getD (contents ss) (block (index zero k)) [])) (over (nodeAt F (leaves F ss) (leftChild (index zero k))) (nodeAt F (leaves F ss) (rightChild (index zero k)))))
+      ap (λ (x : ℕ). byDepth x (leafMessage (getD (contents ss) (block (index zero k)) []))
+      (over (nodeAt F (leaves F ss) (leftChild (index zero k))) (nodeAt F (leaves F ss) (rightChild (index zero k)))))
       (depth-index zero k)
       ∙ ap (λ (b : ℕ). leafMessage (getD (contents ss) b [])) (block-index zero k)
 
   pub message-parent : (ss : List Slot) (d k : ℕ) → messageFor F ss (index (suc d) k) ≡ over (node F (leaves F ss) d (2 * k)) (node F (leaves F ss) d (2 * k + 1))
   unfolding messageFor
   message-parent ss d k =
-      ap (λ (x : ℕ). byDepth x (leafMessage (getD (contents ss) (block (index (suc d) k)) [])) (over (nodeAt F (leaves F ss) (leftChild (index (suc d) k))) (nodeAt F (leaves F ss) (rightChild (index (suc d) k)))))
+      ap (λ (x : ℕ). byDepth x (leafMessage (getD (contents ss) (block (index (suc d) k)) []))
+      (over (nodeAt F (leaves F ss) (leftChild (index (suc d) k))) (nodeAt F (leaves F ss) (rightChild (index (suc d) k)))))
       (depth-index (suc d) k)
       ∙ ap₂ over
       (ap (nodeAt F (leaves F ss)) (leftChild-index d k) ∙ nodeAt-index (leaves F ss) d (2 * k))

@@ -76,7 +76,8 @@ pub stored-leaf : (t content : List ℕ) (k : ℕ) → storedMessage t content (
 unfolding storedMessage
 stored-leaf t content k =
     let i : ℕ = index zero k in
-    ap (λ (x : ℕ). byDepth x (leafMessage (storedChunk t content (block i))) (parentMessage (storedSize t (leftChild i) + storedSize t (rightChild i)) (storedHash t (leftChild i)) (storedHash t (rightChild i))))
+    ap (λ (x : ℕ). byDepth x (leafMessage (storedChunk t content (block i)))
+    (parentMessage (storedSize t (leftChild i) + storedSize t (rightChild i)) (storedHash t (leftChild i)) (storedHash t (rightChild i))))
     (depth-index zero k)
     ∙ ap (λ (b : ℕ). leafMessage (storedChunk t content b)) (block-index zero k)
 
@@ -85,7 +86,8 @@ pub stored-parent : (t content : List ℕ) (d k : ℕ) → storedMessage t conte
 unfolding storedMessage
 stored-parent t content d k =
     let i : ℕ = index (suc d) k in
-    ap (λ (x : ℕ). byDepth x (leafMessage (storedChunk t content (block i))) (parentMessage (storedSize t (leftChild i) + storedSize t (rightChild i)) (storedHash t (leftChild i)) (storedHash t (rightChild i))))
+    ap (λ (x : ℕ). byDepth x (leafMessage (storedChunk t content (block i)))
+    (parentMessage (storedSize t (leftChild i) + storedSize t (rightChild i)) (storedHash t (leftChild i)) (storedHash t (rightChild i))))
     (depth-index (suc d) k)
     ∙ ap₂ (λ (a b : ℕ). parentMessage (storedSize t a + storedSize t b) (storedHash t a) (storedHash t b)) (leftChild-index d k) (rightChild-index d k)
 
@@ -181,10 +183,13 @@ module _ (F : List ℕ → List ℕ) (hf : HashFunction F) (ss : List Slot) (w :
     unfolding storedRootMessage rootMessageFor rootMessageOf
     stored-root-message =
         ap rootMessage (map-ext (λ i. rootItem (storedHash (r .tree) i) i (storedSize (r .tree) i)) (λ i. rootItem (nodeAt F (leaves F ss) i .hash) i (nodeAt F (leaves F ss) i .size)) (roots (r .n))
-        (λ j l. ap₂ (λ (h : List ℕ) (z : ℕ). rootItem h (getD (roots (r .n)) j 0) z) (stored-node-hash (getD (roots (r .n)) j 0) (root-filled (r .n) j l)) (stored-node-size (getD (roots (r .n)) j 0) (root-filled (r .n) j l)))
+        (λ j l. ap₂ (λ (h : List ℕ) (z : ℕ). rootItem h (getD (roots (r .n)) j 0) z) (stored-node-hash (getD (roots (r .n)) j 0) (root-filled (r .n) j l))
+        (stored-node-size (getD (roots (r .n)) j 0) (root-filled (r .n) j l)))
         ∙ ap (λ (n : ℕ). map (λ i. rootItem (nodeAt F (leaves F ss) i .hash) i (nodeAt F (leaves F ss) i .size)) (roots n)) (b .count ∙ sym (leaves-length F ss)))
 
     -- "The stored root lengths .. add up to the data size"
     pub stored-total : total (storedRootSizes (r .tree) (r .n)) ≡ r .size
     unfolding storedRootSizes
-    stored-total = cover (contents ss) (storedSize (r .tree)) (r .n) stored-span (subst (λ (n : ℕ). n ≤ 2 ^ 20) (sym (b .count)) (w .count)) ∙ ap (span (contents ss) 0) (b .count ∙ sym (contents-length ss)) ∙ span-all (contents ss) ∙ sym (b .total)
+    stored-total =
+        cover (contents ss) (storedSize (r .tree)) (r .n) stored-span (subst (λ (n : ℕ). n ≤ 2 ^ 20) (sym (b .count)) (w .count)) ∙ ap (span (contents ss) 0)
+        (b .count ∙ sym (contents-length ss)) ∙ span-all (contents ss) ∙ sym (b .total)

@@ -10,8 +10,7 @@ use borrow.Author.Tests.{ltb-true, ltb-false, lt-ltb, le-ltb, eqb-true, eqb-fals
 use lib.ListN.{length, getD, length-map, length-replicate}
 use lib.Dec.{ltb, eqb}
 use Rattle.bitfield.proofs.Bits.{cases, with-one}
-use Rattle.byte_strings.specs.Lists.{Bytes}
-use Rattle.file_format.specs.Entries.{Entry, hole, leaf}
+use Rattle.file_format.specs.Entries.{hole, leaf}
 use Rattle.file_format.specs.Slots.{Slot, held, released, isHeld, slotBytes, slotEntry, allHeld, contents, heldIn}
 use Rattle.file_format.specs.Images.{leaves}
 

@@ -126,6 +126,9 @@ fn on_one(
     if word == words::AUDIT {
         audited(tree, signatures, bitfield, data, told);
     }
+    if word == words::CUT {
+        super::cuts::audited(tree, signatures, bitfield, data, line, told);
+    }
     if word == words::ROOT {
         root(tree, signatures, bitfield, data, told);
     }
@@ -141,6 +144,9 @@ fn on_one(
 fn found(tree: &[u8], signatures: &[u8], bitfield: &[u8], data: &[u8], line: Line, told: Told) {
     let word = line.word;
     let x = line.numbers;
+    if word == words::ENTRY {
+        super::leaves::of_register(tree, signatures, bitfield, data, told, x[1]);
+    }
     if word == words::SEARCH {
         searched(tree, signatures, bitfield, data, told, x[1]);
     }

@@ -2,7 +2,9 @@
 // The registers of the script are parts of four arrays that held other bytes before; chunks, signatures and packets are parts of a fifth.
 mod asked;
 mod copy_ways;
+mod cuts;
 mod edited;
+mod leaves;
 mod packets;
 mod pairs;
 mod partial;

@@ -66,6 +66,20 @@ fn called<'a>(
             data2,
             told2,
         );
+    } else if word == words::PAIR_CUT {
+        super::cuts::walked(
+            tree,
+            signatures,
+            bitfield,
+            data,
+            told,
+            tree2,
+            signatures2,
+            bitfield2,
+            data2,
+            told2,
+            line,
+        );
     } else {
         get(
             tree,
@@ -113,7 +127,7 @@ fn compared(
     ));
 }
 
-fn say(answer: Compared) {
+pub fn say(answer: Compared) {
     match answer {
         Compared::FirstRefused(refusal) => first_refused(refusal),
         Compared::SecondRefused(refusal) => second_refused(refusal),

@@ -69,11 +69,17 @@ pub fn ask(tree: &[u8], bitfield: &[u8], data: &[u8], text: &[u8], line: Line, t
     if word == words::COPY_AUDIT {
         gate_printing::answer(copy_audit::audit(tree, bitfield, data, told.n, told.size));
     }
+    if word == words::COPY_CUT {
+        super::cuts::copied(tree, bitfield, data, line, told);
+    }
     if word == words::COPY_GET {
         got(tree, bitfield, data, line, told);
     }
     if word == words::COPY_PACKET {
         packed(tree, bitfield, data, line, told);
+    }
+    if word == words::COPY_ENTRY {
+        super::leaves::of_copy(tree, bitfield, data, line, told);
     }
     roots(tree, bitfield, data, line, told);
     records(tree, bitfield, data, text, line, told);

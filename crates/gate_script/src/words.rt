@@ -31,6 +31,9 @@ pub const ROOT: u64 = 0x726f;
 
 pub const OLD: u64 = 0x6f6c;
 
+// The stored entry of a leaf.
+pub const ENTRY: u64 = 0x656e;
+
 pub const SEARCH: u64 = 0x7365;
 
 pub const PLACE: u64 = 0x706c;
@@ -55,6 +58,11 @@ pub const CHECK: u64 = 0x6368;
 
 pub const WALK: u64 = 0x7761;
 
+// Parts: of an audit, and of the comparing walk.
+pub const CUT: u64 = 0x6375;
+
+pub const PAIR_CUT: u64 = 0x7877;
+
 // A packet of the second register, in a part of the text.
 pub const BRING: u64 = 0x6272;
 
@@ -67,9 +75,13 @@ pub const COPY_RELEASE: u64 = 0x5265;
 
 pub const COPY_AUDIT: u64 = 0x4175;
 
+pub const COPY_CUT: u64 = 0x4375;
+
 pub const COPY_ROOT: u64 = 0x526f;
 
 pub const COPY_OLD: u64 = 0x4f6c;
+
+pub const COPY_ENTRY: u64 = 0x456e;
 
 pub const COPY_GET: u64 = 0x4765;
 
@@ -118,7 +130,7 @@ pub fn on_packets(word: u64) -> bool {
 
 // Whether a call is on two registers.
 pub fn on_pairs(word: u64) -> bool {
-    word == COMPARE || word == GET
+    word == COMPARE || word == PAIR_CUT || word == GET
 }
 
 // Whether a call is made both ways, the quick one and the short one.

@@ -112,12 +112,16 @@ pub read-all : (whole : Input) (input : List ℕ) (count n at left : ℕ) (r : R
     → Reading whole (chunksIn (count - n) (drop at input) left) r → Read whole (eqb at (length input)) r
 read-all whole input count n at left r h l f s g =
     record {
-      refused = λ e. g .same ∙ ap (behind (g .cs)) (rest ∙ ap (λ (b : Bool). elim b [ true ↦ chunks [] | false ↦ other ]) (ne-eqb (length (drop at input)) 0 (λ z. eqb-false at (length input) e (omega (arith, length-drop at input))))) ∙ behind-other (g .cs);
+      refused =
+          λ e. g .same ∙ ap (behind (g .cs)) (rest ∙ ap (λ (b : Bool). elim b [ true ↦ chunks [] | false ↦ other ])
+          (ne-eqb (length (drop at input)) 0 (λ z. eqb-false at (length input) e (omega (arith, length-drop at input))))) ∙ behind-other (g .cs);
       taken = λ e.
           record {
             cs = g .cs;
             ready = g .ready;
-            same = g .same ∙ ap (behind (g .cs)) (rest ∙ ap (λ (b : Bool). elim b [ true ↦ chunks [] | false ↦ other ]) (eq-eqb (length (drop at input)) 0 (omega (arith, length-drop at input, eqb-true at (length input) e))));
+            same =
+                g .same ∙ ap (behind (g .cs)) (rest ∙ ap (λ (b : Bool). elim b [ true ↦ chunks [] | false ↦ other ])
+                (eq-eqb (length (drop at input)) 0 (omega (arith, length-drop at input, eqb-true at (length input) e))));
           };
       few = f;
       small = s;

@@ -329,7 +329,22 @@ module _ (F : List ℕ → List ℕ) (hf : HashFunction F) (ss : List Slot) (w :
 
   pub answered : Answers F r ss cs
   unfolding placeOf byteAt readVerdict readPart stopRefused
-  answered = record { place = at-place; noPlace = no-place-at; byte = at-byte; one = one-chunk; noOther = no-other; end = end-at; noByte = no-byte-at; readDone = done-at; read = read-at; notHeld = not-held-at; noRead = no-read-at }
+  answered =
+      record {
+        place =
+            at-place;
+        noPlace =
+            no-place-at;
+        byte = at-byte;
+        one = one-chunk;
+        noOther = no-other;
+        end = end-at;
+        noByte = no-byte-at;
+        readDone = done-at;
+        read = read-at;
+        notHeld = not-held-at;
+        noRead = no-read-at;
+      }
     where
       at-place : (i : ℕ) → i < length cs → placeOf r i ≡ found (startIn cs i) (length (getD cs i []))
       at-place i h =

@@ -25,14 +25,15 @@ use Rattle.checks.specs.Checks.{Check, judged, registerChecks}
 use Rattle.checks.proofs.Judged.{judged-append, judged-refused}
 use Rattle.checks.proofs.Passed.{all-must, all-pass, passes, passed}
 use Rattle.lookup.specs.Descent.{Ending, stopped, reached, unknown, always, chunkWithin, byteWithin, descent}
-use Rattle.lookup.specs.Lookup.{Found, refusal, found, stopRefused, foundUnless, chunkOf, startOf, toChunk, byteEnding, toByte, placeVerdict, heldVerdict, byteVerdict, placeOf, heldPlaceOf, byteAt}
+use Rattle.lookup.specs.Lookup.{Found, refusal, found, stopRefused, foundUnless, chunkOf, startOf, toChunk, byteEnding, toByte, placeVerdict, heldVerdict}
+use Rattle.lookup.specs.Lookup.{byteVerdict, placeOf, heldPlaceOf, byteAt}
 use Rattle.lookup.specs.Inner.{Searched, SearchedFor, SearchedHeld, placeIn, heldPlaceIn, byteIn}
 use Rattle.lookup.specs.Capped.{cappedEnding}
 use Rattle.lookup.specs.Read.{chunkBytes, andThen, partUnless, readVerdict, readPart}
 use Rattle.lookup.specs.Meaning.{LiesAt, PlacedIn, hashJudged, readFound}
 use Rattle.lookup.proofs.Descents.{Ends, ends, chunk-order, byte-order}
 use Rattle.lookup.proofs.Visits.{filled-entry}
-use Rattle.lookup.proofs.Capped.{capped-low}
+use Rattle.checks.proofs.Capped.{capped-low}
 use Rattle.lookup.proofs.Answers.{any-start, at-end, not-at-end, stays-inside}
 
 -- ---- after the checks 2 to 6

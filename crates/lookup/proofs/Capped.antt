@@ -2,12 +2,12 @@
 -- Assumes nothing.
 use Prim.Native.Nat.{ℕ, zero, suc, _+_, _-_, _*_, _^_, _≤_, _<_}
 use mathlib.Core.Path.{_≡_, refl, sym, ap, ap₂, _∙_, subst}
-use mathlib.Core.Bool.{Bool, true, false, cond}
-use mathlib.Core.List.{List, [], _∷_, _++_}
+use mathlib.Core.Bool.{Bool, true, false}
+use mathlib.Core.List.{List, _∷_, _++_}
 use native.Mathlib.Nat.{add-assoc, add-zero}
 use native.Mathlib.Numerals.{add-one}
 use native.Mathlib.Omega.{arith}
-use borrow.Author.Tests.{le-leb, leb-true, leb-false, ltb-true, ltb-false, lt-ltb, le-ltb}
+use borrow.Author.Tests.{ltb-true, ltb-false, lt-ltb, le-ltb}
 use lib.Dec.{leb, ltb, eqb}
 use lib.ListN.{length, getD, drop, replicate, List·getD-append, drop-of-length-le}
 use lib.Seq.{drop-cons}
@@ -27,31 +27,9 @@ use Rattle.lookup.proofs.Visits.{filled-entry}
 use Rattle.lookup.proofs.Unknown.{entry-bit}
 use Rattle.lookup.specs.Descent.{Ending, stopped, reached, unknown, ifKnown, chunkWithin, byteWithin, descend, fromRoots, descent}
 use Rattle.lookup.specs.Inner.{withinOf, knownIf, BitIn, FilesIn, Standing}
-use Rattle.lookup.specs.Capped.{most, capped, cappedEnding, movedBy, Passed, Behind}
-
--- ---- caps
-
-pub capped-low : (x : ℕ) → x ≤ most → capped x ≡ x
-unfolding capped
-capped-low x h = ap (λ (b : Bool). cond b x most) (le-leb x most h)
-
-pub capped-high : (x : ℕ) → most ≤ x → capped x ≡ most
-unfolding capped
-capped-high x h = go (leb x most) refl
-  where
-    go : (b : Bool) → leb x most ≡ b → cond b x most ≡ most
-    go true e = let l = leb-true x most e in omega arith
-    go false e = refl
-
--- it may be capped before something is added
-pub capped-before : (x y : ℕ) → capped (capped x + y) ≡ capped (x + y)
-capped-before x y = go (leb x most) refl
-  where
-    go : (b : Bool) → leb x most ≡ b → capped (capped x + y) ≡ capped (x + y)
-    go true e = ap (λ (z : ℕ). capped (z + y)) (capped-low x (leb-true x most e))
-    go false e =
-        let l = leb-false x most e in
-        ap (λ (z : ℕ). capped (z + y)) (capped-high x (omega arith)) ∙ capped-high (most + y) (omega arith) ∙ sym (capped-high (x + y) (omega arith))
+use Rattle.checks.specs.Capped.{capped}
+use Rattle.checks.proofs.Capped.{capped-low, capped-before}
+use Rattle.lookup.specs.Capped.{cappedEnding, movedBy, Passed, Behind}
 
 pub moved-capped : (s : ℕ) (e : Ending) → cappedEnding (movedBy (capped s) e) ≡ cappedEnding (movedBy s e)
 unfolding cappedEnding movedBy

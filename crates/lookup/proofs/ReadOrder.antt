@@ -9,7 +9,7 @@ use lib.Dec.{eqb}
 use Rattle.byte_strings.specs.Lowest.{Lowest, nowhere, first}
 use Rattle.tree_index.specs.Tree.{index, depth, block, roots}
 use Rattle.file_format.specs.Stored.{storedSize}
-use Rattle.lookup.specs.Descent.{Ending, stopped, reached, unknown, ifKnown, always, descend, fromRoots, descent}
+use Rattle.lookup.specs.Descent.{Ending, stopped, unknown, ifKnown, always, descend, fromRoots, descent}
 use Rattle.lookup.specs.Unknown.{firstUnknown}
 
 module _ (within : ℕ → ℕ → ℕ → ℕ → Bool) (t : List ℕ) where

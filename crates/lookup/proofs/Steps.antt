@@ -1,21 +1,20 @@
 -- The steps of the descent at one node, by its tree index.
 -- Assumes nothing.
-use Prim.Native.Nat.{ℕ, zero, suc, _+_, _*_, _^_, _≤_, _<_}
+use Prim.Native.Nat.{ℕ, zero, suc, _+_, _*_, _<_}
 use mathlib.Core.Path.{_≡_, refl, sym, ap, ap₂, _∙_, subst}
 use mathlib.Core.Bool.{Bool, true, false, cond}
 use mathlib.Core.List.{List, [], _∷_}
 use native.Mathlib.Omega.{arith}
 use borrow.Author.Tests.{eq-eqb, ne-eqb}
-use lib.Dec.{leb, eqb}
+use lib.Dec.{eqb}
 use Rattle.byte_strings.specs.Lowest.{Lowest, nowhere, first}
 use Rattle.tree_index.specs.Tree.{index, depth, block, leftChild, rightChild, filled}
 use Rattle.tree_index.proofs.Index.{depth-index, block-index}
-use Rattle.file_format.specs.Sizes.{longestChunk}
 use Rattle.file_format.specs.Stored.{storedSize}
 use Rattle.lookup.proofs.Visits.{filled-entry, filled-stands, by-parents, at-wrong-sum}
 use Rattle.lookup.specs.Unknown.{firstUnknown, childrenRead}
 use Rattle.lookup.proofs.Unknown.{filled-children, children-leaf, children-parent, entry-bit}
-use Rattle.lookup.specs.Descent.{Ending, stopped, reached, unknown, ifKnown, always, descend}
+use Rattle.lookup.specs.Descent.{Ending, stopped, unknown, ifKnown, always, descend}
 use Rattle.lookup.specs.Inner.{ChildrenIn, Standing, StandsAt, Turned, Onward}
 
 -- ---- where a descent may stand

@@ -1,21 +1,13 @@
 -- The ending of a descent where the lengths of the roots need not add up to a number that fits: the audit of a copy passes over 6 while a root is unknown.
 use Prim.Native.Nat.{ℕ, _+_, _≤_}
 use mathlib.Core.Path.{_≡_}
-use mathlib.Core.Bool.{cond}
-use lib.Dec.{leb}
+use Rattle.checks.specs.Capped.{capped}
 use Rattle.lookup.specs.Descent.{Ending, stopped, reached, unknown}
 use Rattle.lookup.specs.Inner.{withinOf}
 use Rattle.lookup.specs.declared.descent.Sought.{Sought}
 use Rattle.lookup.specs.declared.descent.Sought.the-variants.{Chunk, Byte}
 
--- the largest number that fits
-abbrev pub most : ℕ
-most = 18446744073709551615
-
--- a start is told up to it
-unfoldable pub capped : ℕ → ℕ
-capped x = cond (leb x most) x most
-
+-- a start is told up to the largest number that fits
 unfoldable pub cappedEnding : Ending → Ending
 cappedEnding (stopped i) = stopped i
 cappedEnding (reached k start) = reached k (capped start)

@@ -9,7 +9,7 @@ ghost use Rattle.tree_index.specs.Tree.{depth, block};
 ghost use Rattle.lookup.specs.Descent as spec;
 ghost use Rattle.lookup.specs.Unknown.{firstUnknown, childrenRead, unknownOf};
 ghost use Rattle.lookup.specs.Inner.{withinOf, endingOf, knownIf, BitIn, ChildrenIn, FilesIn, Standing, StandsAt, Visited};
-ghost use Rattle.lookup.specs.Capped.{capped, cappedEnding, movedBy, Passed, Behind};
+ghost use Rattle.lookup.specs.Capped.{cappedEnding, movedBy, Passed, Behind};
 
 // What a lookup seeks.
 pub enum Sought {
@@ -134,16 +134,6 @@ fn descend(
     }
 }
 
-// The end of so many bytes behind a start, at most the largest number that fits.
-fn add_capped(start: ByteOffset, size: u64) -> ByteOffset
-    ensures { λ r. ⌜ r .0 ≡ capped (start .0 + size) ⌝ }
-{
-    if 18446744073709551615 - start.0 < size {
-        return ByteOffset(18446744073709551615);
-    }
-    ByteOffset(start.0 + size)
-}
-
 // An ending in a block whose bytes begin at a start, from its ending in the block alone.
 fn moved(ending: Ending, start: ByteOffset) -> Ending
     ensures { λ r. ⌜ endingOf r ≡ cappedEnding (movedBy (start .0) (endingOf ending)) ⌝ }
@@ -151,7 +141,7 @@ fn moved(ending: Ending, start: ByteOffset) -> Ending
     match ending {
         Ending::Stopped(i) => Ending::Stopped(i),
         Ending::Unknown(i) => Ending::Unknown(i),
-        Ending::Reached(chunk, from) => Ending::Reached(chunk, add_capped(start, from.0)),
+        Ending::Reached(chunk, from) => Ending::Reached(chunk, checks::add_capped(start, from.0)),
     }
 }
 
@@ -193,7 +183,7 @@ pub fn from_roots(tree: &[u8], bitfield: &[u8], partly: bool, n: u64, sought: So
         }
         let next = behind(left, size);
         left = next;
-        let end = add_capped(start, size);
+        let end = checks::add_capped(start, size);
         start = end;
         j += 1;
     }

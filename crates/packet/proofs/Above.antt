@@ -4,9 +4,9 @@ use Prim.Native.Nat.{ℕ, zero, suc, _+_, _-_, _*_, _/_, _%_, _^_, _≤_, _<_}
 use mathlib.Core.Path.{_≡_, refl, sym, ap, ap₂, _∙_, subst}
 use mathlib.Core.Bool.{Bool, true, false, cond}
 use mathlib.Core.Logic.{_⊎_, inl, inr}
-use mathlib.Core.List.{List, [], _∷_, _++_, map}
-use native.Mathlib.Nat.{add-zero, add-suc, zero-add, div-one, mul-one, mul-assoc, le-of-suc-le-suc, not-suc-le-zero, zero-lt-suc, suc-inj, lt-of-lt-of-le, le-trans}
-use native.Mathlib.Numerals.{add-one, one-add}
+use mathlib.Core.List.{List, [], _∷_, _++_}
+use native.Mathlib.Nat.{add-zero, zero-add, div-one, mul-one, mul-assoc, le-of-suc-le-suc, not-suc-le-zero, zero-lt-suc, lt-of-lt-of-le}
+use native.Mathlib.Numerals.{add-one}
 use native.Mathlib.Omega.{arith}
 use lib.Dec.{leb, ltb, eqb}
 use lib.ListN.{length, getD, take, drop, replicate, length-append, length-drop, List·getD-append}
@@ -14,7 +14,7 @@ use lib.Seq.{drop-cons, drop-length, length-take-le, getD-take, getD-drop, ext-g
 use lib.Pow.{shr-shr}
 use borrow.Author.Tests.{ltb-true, ltb-false, lt-ltb, le-ltb, leb-true, leb-false, eq-eqb, ne-eqb}
 use Rattle.byte_strings.specs.Lists.{run}
-use Rattle.byte_strings.proofs.Lists.{getD-behind, length-run, getD-run, run-ext, run-from}
+use Rattle.byte_strings.proofs.Lists.{getD-behind, length-run, getD-run}
 use Rattle.number_types.specs.declared.TreeIndex.{TreeIndex}
 use Rattle.tree_index.specs.Tree.{index, depth, block, filled, entries, rootOf, rootsBelow, roots}
 use Rattle.tree_index.specs.Numbers.{numbers}

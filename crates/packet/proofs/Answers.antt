@@ -5,19 +5,19 @@ use mathlib.Core.Path.{_≡_, refl, sym, ap, ap₂, _∙_, subst}
 use mathlib.Core.Bool.{Bool, true, false, cond}
 use mathlib.Core.Logic.{_⊎_, inl, inr}
 use mathlib.Core.List.{List, [], _∷_, _++_, map}
-use native.Mathlib.Nat.{zero-add, add-zero, add-suc, suc-add, add-comm, add-assoc, div-one, div-eq-of-lt-le, le-of-suc-le-suc, not-suc-le-zero}
+use native.Mathlib.Nat.{zero-add, add-zero, add-suc, suc-add, add-assoc, div-one, div-eq-of-lt-le, le-of-suc-le-suc, not-suc-le-zero}
 use native.Mathlib.Omega.{arith}
 use lib.Dec.{leb, ltb, eqb}
 use lib.ListN.{length, getD, take, drop, length-map}
 use lib.Seq.{ext-getD}
-use borrow.Author.Tests.{ltb-true, ltb-false, lt-ltb, le-ltb, eqb-true, eqb-false, le-leb}
+use borrow.Author.Tests.{ltb-true, ltb-false, le-ltb, eqb-true, eqb-false, le-leb}
 use Rattle.refusals.specs.Verdict.{Verdict, done}
 use Rattle.byte_strings.specs.Lists.{part, run, total, sameList}
 use Rattle.byte_strings.proofs.Lists.{length-run, getD-run, run-ext, same-refl}
-use Rattle.tree_index.specs.Tree.{index, depth, block, filled, roots}
+use Rattle.tree_index.specs.Tree.{index, depth, filled, roots}
 use Rattle.tree_index.proofs.Filled.{filled-below}
 use Rattle.tree_index.proofs.Roots.{bit, root-filled}
-use Rattle.file_format.specs.Sizes.{mostChunks, entryPlace}
+use Rattle.file_format.specs.Sizes.{entryPlace}
 use Rattle.file_format.specs.Messages.{HashFunction, rootItem, rootMessage}
 use Rattle.file_format.specs.Entries.{Entry, hole, entryBytes, leaf, parentOf, node, nodeAt, rootMessageOf}
 use Rattle.file_format.specs.Images.{leaves, dataSize, rootMessageFor, rootHashFor}
@@ -30,18 +30,19 @@ use Rattle.file_format.proofs.Nodes.{nodeAt-index, entryAt-filled, nodeAt-prope
 use Rattle.file_format.proofs.OfImage.{stored-entry, stored-node-size, stored-total}
 use Rattle.checks.specs.Checks.{judged, registerChecks, holds}
 use Rattle.checks.proofs.Judged.{right-both}
-use Rattle.lookup.specs.Read.{andThen, chunkBytes, readVerdict, readPart}
+use Rattle.lookup.specs.Read.{andThen, chunkBytes, readVerdict}
 use Rattle.lookup.specs.Theorems.{Answers}
 use Rattle.lookup.proofs.Answers.{answers}
 use Rattle.packet.specs.Packet.{rootAbove, beside, siblings, otherRoots, packetOf, roomOr14, makeVerdict}
-use Rattle.packet.specs.Check.{chunkLength, siblingsPlace, othersPlace, shapeRight, packetChunk, entryIn, entriesIn, siblingEntries, otherEntries, packetTotal, ordered, inTurn, items, Step, stepsAbove, steps, lastEntry, packetRoot, packetRootMessage, rootRight, packetVerdict, checkedChunk, chunkUnless}
-use Rattle.packet.specs.Inner.{placeAbove, ChunkOf, skipped, otherRow, turned, turnEntry, packetWith, Readable, climbed}
+use Rattle.packet.specs.Check.{chunkLength, siblingsPlace, othersPlace, shapeRight, packetChunk, entryIn, entriesIn, siblingEntries, otherEntries}
+use Rattle.packet.specs.Check.{packetTotal, ordered, inTurn, items, steps, lastEntry, packetRoot, packetRootMessage, rootRight, packetVerdict}
+use Rattle.packet.specs.Inner.{placeAbove, skipped, otherRow, turned, turnEntry, packetWith, Readable, climbed}
 use Rattle.packet.specs.Theorems.{PacketAnswers, PacketAnswersForAll}
 use Rattle.packet.proofs.Above.{place-root, place-below, root-spans, other-count}
 use Rattle.packet.proofs.Climb.{left-first, right-first, ordered-size, steps-climb, turned-before, turned-here, turned-behind}
 use Rattle.packet.proofs.InTurn.{all, whole, length-all, entry-at}
 use Rattle.packet.proofs.Right.{checked-by, verdict-done}
-use Rattle.packet.proofs.Rows.{beside-even, beside-odd, half, siblings-filled, others-filled, others-row, skipped-below, packet-long}
+use Rattle.packet.proofs.Rows.{beside-even, beside-odd, half, siblings-filled, others-filled, others-row, packet-long}
 use Rattle.packet.proofs.Makes.{readable, read-bytes}
 use Rattle.packet.proofs.Pieces.{entry-in, length-back, chunk-back, shape-right, sibling-at, other-at}
 

@@ -9,7 +9,6 @@ use native.Mathlib.Nat.{add-comm}
 use native.Mathlib.Numerals.{add-one}
 use native.Mathlib.Omega.{arith}
 use lib.Dec.{eqb}
-use lib.ListN.{length}
 use borrow.Author.Tests.{lt-ltb, le-ltb, eq-eqb, ne-eqb}
 use Rattle.byte_strings.specs.Lists.{run, total}
 use Rattle.tree_index.proofs.Roots.{bit}

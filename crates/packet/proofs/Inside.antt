@@ -1,13 +1,10 @@
 -- The part of a packet that passes the check lies within the packet. Assumes nothing.
-use Prim.Native.Nat.{ℕ, _+_, _≤_}
-use mathlib.Core.Path.{_≡_, ap, _∙_}
-use mathlib.Core.List.{List}
+use mathlib.Core.Path.{ap}
 use native.Mathlib.Omega.{arith}
-use lib.ListN.{length}
 use Rattle.refusals.specs.Verdict.{Verdict, done}
 use Rattle.checks.proofs.Passed.{all-must}
 use Rattle.packet.specs.Check.{packetChunk, packetVerdict, checkedChunk, chunkUnless}
-use Rattle.packet.specs.Theorems.{PartStaysInside, PartStaysInsideForAll}
+use Rattle.packet.specs.Theorems.{PartStaysInsideForAll}
 use Rattle.packet.proofs.Shape.{sized}
 
 pub part-stays-inside : PartStaysInsideForAll

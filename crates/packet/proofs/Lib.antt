@@ -3,6 +3,7 @@ pub mod Above
 pub mod Sums
 pub mod Shape
 pub mod Climb
+pub mod Rising
 pub mod InTurn
 pub mod Right
 pub mod Rows

@@ -1,21 +1,19 @@
 -- Where the pieces of a packet stand in it.
 -- Assumes nothing.
-use Prim.Native.Nat.{ℕ, zero, suc, _+_, _-_, _*_, _^_, _≤_, _<_}
-use mathlib.Core.Path.{_≡_, refl, sym, ap, ap₂, _∙_, subst}
-use mathlib.Core.Bool.{Bool, true}
+use Prim.Native.Nat.{ℕ, zero, suc, _+_, _-_, _*_, _≤_, _<_}
+use mathlib.Core.Path.{_≡_, refl, sym, ap, ap₂, _∙_}
+use mathlib.Core.Bool.{true}
 use mathlib.Core.List.{List, [], _∷_, _++_, map, append-assoc, append-nil}
 use native.Mathlib.Nat.{add-zero, le-of-suc-le-suc, not-suc-le-zero}
-use native.Mathlib.Numerals.{one-add}
 use native.Mathlib.Omega.{arith}
 use lib.Dec.{eqb}
-use lib.ListN.{length, getD, take, drop, length-append}
-use lib.Seq.{take-all}
+use lib.ListN.{length, getD, length-append}
 use borrow.Author.Tests.{eq-eqb}
 use Rattle.byte_strings.specs.Lists.{part, joined}
 use Rattle.byte_strings.specs.Numbers.{be, number}
 use Rattle.byte_strings.proofs.Lists.{getD-behind, length-part, part-part, part-left, part-behind, part-front, part-at}
 use Rattle.byte_strings.proofs.Numbers.{length-be, number-be}
-use Rattle.file_format.specs.Sizes.{longestChunk, entryPlace}
+use Rattle.file_format.specs.Sizes.{entryPlace}
 use Rattle.file_format.specs.Entries.{Entry, entryBytes}
 use Rattle.file_format.proofs.Nodes.{Proper}
 use Rattle.lookup.proofs.Visits.{filled-entry}

@@ -2,11 +2,11 @@
 -- Assumes nothing.
 use Prim.Native.Nat.{ℕ, zero, suc, _+_, _-_, _*_, _≤_, _<_}
 use mathlib.Core.Path.{_≡_, refl, sym, ap, ap₂, _∙_, subst}
-use mathlib.Core.Bool.{Bool, true, false, cond, _&&_}
-use mathlib.Core.List.{List, [], _∷_, map}
+use mathlib.Core.Bool.{Bool, true, false, cond}
+use mathlib.Core.List.{List, _∷_, map}
 use native.Mathlib.Omega.{arith}
-use lib.Dec.{leb, ltb, eqb}
-use lib.ListN.{length, getD, take, drop}
+use lib.Dec.{leb, ltb}
+use lib.ListN.{length}
 use borrow.Author.Tests.{leb-true, leb-false, le-leb, lt-leb, lt-ltb, le-ltb}
 use Rattle.refusals.specs.Verdict.{Verdict, none, done, refused}
 use Rattle.byte_strings.specs.Lists.{part, run, total, sameList}
@@ -14,11 +14,12 @@ use Rattle.byte_strings.proofs.Lists.{length-part}
 use Rattle.file_format.specs.Sizes.{mostChunks}
 use Rattle.file_format.specs.Entries.{Entry, leaf}
 use Rattle.checks.specs.Checks.{Check, judged, countRight}
-use Rattle.checks.proofs.Judged.{both-right}
 use Rattle.checks.proofs.Steps.{and-stop, and-pass}
 use Rattle.packet.specs.Packet.{siblings, otherRoots}
-use Rattle.packet.specs.Check.{chunkLength, siblingsPlace, othersPlace, shapeRight, packetChunk, entryIn, entriesIn, siblingEntries, otherEntries, packetTotal, Step, stepsAbove, steps, lastEntry, packetRoot, packetRootMessage, rootRight, packetVerdict, chunkUnless, checkedChunk}
-use Rattle.packet.specs.Inner.{ChunkOf, sizesIn, Summed, RowIn, OthersIn, Climbable, climbed, messageWith, Shaped}
+use Rattle.packet.specs.Check.{chunkLength, siblingsPlace, othersPlace, shapeRight, packetChunk, entryIn, entriesIn, siblingEntries, otherEntries}
+use Rattle.packet.specs.Check.{packetTotal, Step, stepsAbove, steps, lastEntry, packetRoot, packetRootMessage, rootRight, packetVerdict, chunkUnless}
+use Rattle.packet.specs.Check.{checkedChunk}
+use Rattle.packet.specs.Inner.{sizesIn, Summed, RowIn, OthersIn, Climbable, climbed, messageWith, PathRow, LedTo, Shaped}
 use Rattle.packet.proofs.Above.{few-siblings, few-others}
 use Rattle.packet.proofs.Shape.{Sized, sized}
 use Rattle.packet.proofs.Climb.{steps-climb}
@@ -137,6 +138,20 @@ module _ (p : List ℕ) (n c : ℕ) (s : Shaped p n c) (l u o : ℕ) (a : l ≡ 
             (ap (λ (x : List ℕ). sameList x root)
             (k ∙ ap₂ (λ (x y : ℕ). F (messageWith p (4 + x + 1 + 40 * y + 1) n c r)) a b
             ∙ ap (λ (x : Entry). F (messageWith p (4 + chunkLength p + 1 + 40 * length (siblings n c) + 1) n c x)) (root-is r j)))
+
+        -- what the climb from the leaf leads to
+        pub led-to : (row : List ℕ) → PathRow (stepsAbove F 0 c e (entriesIn p (4 + l + 1) u)) row → LedTo F p n c e row
+        unfolding siblingEntries siblingsPlace
+        led-to row q =
+            let own : e ≡ leaf F (packetChunk p) = i ∙ ap (leaf F) chunk-is in
+            record {
+              leaves = own;
+              upward =
+                  subst (λ (ss : List Step). PathRow ss row)
+                  (ap₂ (λ (x : Entry) (y : ℕ). stepsAbove F 0 c x (entriesIn p (4 + y + 1) u)) own a
+                  ∙ ap (λ (y : ℕ). stepsAbove F 0 c (leaf F (packetChunk p)) (entriesIn p (4 + chunkLength p + 1) y)) b)
+                  q;
+            }
 
 -- ---- the verdict
 

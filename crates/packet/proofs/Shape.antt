@@ -1,14 +1,12 @@
 -- The shape of a packet: its counts, its chunk's length, and its own.
 -- Assumes nothing.
 use Prim.Native.Nat.{ℕ, _+_, _*_, _≤_, _<_}
-use mathlib.Core.Path.{_≡_, refl, sym, ap, ap₂, _∙_, subst}
+use mathlib.Core.Path.{_≡_, ap, ap₂, _∙_, subst}
 use mathlib.Core.Bool.{Bool, true, false, _&&_}
 use mathlib.Core.List.{List}
-use native.Mathlib.Omega.{arith}
 use lib.Dec.{leb, eqb}
 use lib.ListN.{length, getD}
 use borrow.Author.Tests.{leb-true, le-leb, lt-leb, eqb-true, eq-eqb, ne-eqb}
-use Rattle.file_format.specs.Sizes.{longestChunk}
 use Rattle.checks.proofs.Judged.{both-right}
 use Rattle.checks.proofs.Steps.{and-stop, and-pass}
 use Rattle.packet.specs.Packet.{siblings, otherRoots}

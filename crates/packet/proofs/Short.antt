@@ -20,7 +20,7 @@ use Rattle.file_format.specs.Belongs.{Register}
 use Rattle.lookup.specs.Read.{andThen, chunkBytes, readVerdict}
 use Rattle.packet.specs.Packet.{siblings, otherRoots, section, packetOf, packetExtra, roomOr14, makeVerdict}
 use Rattle.packet.specs.Inner.{placeAbove, ChunkOf}
-use Rattle.packet.specs.Theorems.{PacketStaysShort, PacketStaysShortForAll}
+use Rattle.packet.specs.Theorems.{PacketStaysShortForAll}
 use Rattle.packet.proofs.Above.{place-below, sibling-count, other-count, few-siblings, few-others}
 
 -- ---- how many entries there are
@@ -76,7 +76,17 @@ packet-short r i h =
     let x = chunkBytes r i in
     let a = section (r .tree) (siblings (r .n) i) in
     let b = section (r .tree) (otherRoots (r .n) i) in
-    omega (arith, length-append (be 4 (length x)) (x ++ (a ++ b)), length-append x (a ++ b), length-append a b, length-be 4 (length x), section-short (r .tree) (siblings (r .n) i), section-short (r .tree) (otherRoots (r .n) i), few-entries (r .n) i h)
+    omega (
+      arith,
+      length-append (be 4 (length x)) (x ++ (a ++ b)),
+      length-append x (a ++ b),
+      length-append a b,
+      length-be 4 (length x),
+      section-short (r .tree)
+          (siblings (r .n) i),
+      section-short (r .tree) (otherRoots (r .n) i),
+      few-entries (r .n) i h,
+    )
 
 -- ---- a buffer that is long enough
 

@@ -1,17 +1,17 @@
 -- The check of a packet: "takes packet, n, i and root hash; it answers the chunk's part of the packet unless 2, 9, 12 or 13 holds".
-use Prim.Native.Nat.{ℕ, zero, suc, _+_, _-_, _*_, _/_, _%_, _^_}
-use mathlib.Core.Bool.{Bool, true, false, _&&_, cond}
-use mathlib.Core.List.{List, [], _∷_, _++_, map}
+use Prim.Native.Nat.{ℕ, zero, suc, _+_, _*_, _/_, _%_}
+use mathlib.Core.Bool.{Bool, true, false, _&&_}
+use mathlib.Core.List.{List, [], _∷_, map}
 use lib.ListN.{length, getD}
 use lib.Dec.{leb, ltb, eqb}
 use Rattle.refusals.specs.Verdict.{Verdict, done, refused}
 use Rattle.byte_strings.specs.Lists.{part, run, total, sameList}
 use Rattle.byte_strings.specs.Numbers.{number}
-use Rattle.tree_index.specs.Tree.{index, depth, roots}
+use Rattle.tree_index.specs.Tree.{index, roots}
 use Rattle.file_format.specs.Sizes.{longestChunk}
 use Rattle.file_format.specs.Messages.{leafMessage, parentMessage, rootItem, rootMessage}
 use Rattle.file_format.specs.Entries.{Entry, leaf, parentOf}
-use Rattle.checks.specs.Checks.{Check, judged, countRight}
+use Rattle.checks.specs.Checks.{judged, countRight}
 use Rattle.packet.specs.Packet.{rootAbove, siblings, otherRoots}
 
 -- the chunk's length as the packet gives it, and where its parts begin

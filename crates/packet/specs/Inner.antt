@@ -1,18 +1,18 @@
 -- Making and checking in the steps that the code takes, and what its inner functions require.
-use Prim.Native.Nat.{ℕ, zero, suc, _+_, _-_, _*_, _/_, _^_, _≤_, _<_}
+use Prim.Native.Nat.{ℕ, suc, _+_, _-_, _*_, _/_, _^_, _≤_, _<_}
 use mathlib.Core.Path.{_≡_}
-use mathlib.Core.Bool.{Bool, true, false, cond}
+use mathlib.Core.Bool.{true, false, cond}
 use mathlib.Core.List.{List, [], _∷_, _++_, map}
-use lib.ListN.{length, getD}
-use lib.Dec.{leb, ltb, eqb}
+use lib.ListN.{length, getD, take}
+use lib.Dec.{ltb, eqb}
 use Rattle.byte_strings.specs.Lists.{part, run, joined, total}
 use Rattle.byte_strings.specs.Numbers.{be}
 use Rattle.tree_index.specs.Tree.{index, depth, block, roots}
 use Rattle.file_format.specs.Sizes.{mostChunks, longestChunk, entryPlace, usedTree}
 use Rattle.file_format.specs.Messages.{rootMessage}
-use Rattle.file_format.specs.Entries.{Entry, parentOf}
+use Rattle.file_format.specs.Entries.{Entry, entryBytes, leaf, parentOf}
 use Rattle.packet.specs.Packet.{rootAbove, beside, siblings, otherRoots, section}
-use Rattle.packet.specs.Check.{shapeRight, entryIn, entriesIn, ordered, inTurn, items}
+use Rattle.packet.specs.Check.{shapeRight, packetChunk, entryIn, entriesIn, siblingEntries, ordered, inTurn, items, Step, stepsAbove}
 use Rattle.packet.specs.declared.checking.Node.{Node}
 
 -- which of the roots is, counted from the left, is the first whose block ends behind chunk c; their count where none does
@@ -127,3 +127,14 @@ module _ (F : List ℕ → List ℕ) where
 pub record Shaped (p : List ℕ) (n c : ℕ) : Type 0 where
   pub chunk : ChunkOf n c
   pub shape : shapeRight p n c ≡ true
+
+-- a row of the entries that steps give, one behind the other
+pub record PathRow (ss : List Step) (row : List ℕ) : Type 0 where
+  pub long : length row ≡ 800
+  pub front : take (40 * length ss) row ≡ joined (map (λ (s : Step). entryBytes (s .entry)) ss)
+
+module _ (F : List ℕ → List ℕ) where
+  -- what the packet of chunk c leads to: its leaf, and a row of the parents on the way
+  pub record LedTo (p : List ℕ) (n c : ℕ) (own : Entry) (row : List ℕ) : Type 0 where
+    pub leaves : own ≡ leaf F (packetChunk p)
+    pub upward : PathRow (stepsAbove F 0 c (leaf F (packetChunk p)) (siblingEntries p n c)) row

@@ -4,26 +4,44 @@ use file_format::roots::Roots;
 use number_types::ChunkNumber;
 use refusals::Answer;
 ghost use mathlib.Core.Path.{_≡_};
-ghost use mathlib.Core.List.{List};
-ghost use Prim.Native.Nat.{ℕ, _+_, _-_, _*_, _≤_, _<_};
+ghost use mathlib.Core.List.{_++_};
+ghost use mathlib.Core.Bool.{true};
+ghost use Prim.Native.Nat.{_+_, _-_, _*_, _≤_, _<_};
 ghost use lib.ListN.{length};
-ghost use lib.Dec.{leb};
+ghost use Rattle.refusals.specs.Verdict.{done};
 ghost use Rattle.refusals.specs.Meaning.{said};
-ghost use Rattle.byte_strings.specs.Lists.{part, run, total, zeros};
-ghost use Rattle.byte_strings.specs.Numbers.{number};
-ghost use Rattle.tree_index.specs.Tree.{roots as rootsOf};
+ghost use Rattle.byte_strings.specs.Lists.{put, total, zeros};
+ghost use Rattle.byte_strings.specs.Numbers.{be};
 ghost use Rattle.blake2b.specs.Hash.{nodeHash};
-ghost use Rattle.file_format.specs.Messages.{rootMessage};
 ghost use Rattle.file_format.specs.Entries.{leaf, parentOf};
 ghost use Rattle.file_format.specs.RootsByValue.{padded};
-ghost use Rattle.packet.specs.Packet.{rootAbove, siblings, otherRoots};
-ghost use Rattle.packet.specs.Check.{shapeRight, entryIn, entriesIn, ordered, rootRight, packetVerdict, checkedChunk};
-ghost use Rattle.packet.specs.Inner.{ChunkOf, turnEntry, hashRow, sizeRow, messageWith, sizesIn, Summed, entryOf, RowIn, TurnIn, TurnsIn, OthersIn, Climbable, climbed, Shaped};
+ghost use Rattle.packet.specs.Check.{shapeRight, entryIn, entriesIn, ordered, stepsAbove, rootRight, packetVerdict, checkedChunk};
+ghost use Rattle.packet.specs.Inner.{ChunkOf, turnEntry, hashRow, sizeRow, messageWith, sizesIn, Summed, entryOf, RowIn, TurnIn, TurnsIn, OthersIn, Climbable, climbed, PathRow, LedTo, Shaped};
 
 // An entry by value.
 pub struct Node {
     pub hash: [u8; 32],
     pub size: u64,
+}
+
+// What a climb leads to: the root above a chunk, and the parents on the way to it, one behind the other.
+pub struct Ascent {
+    pub top: Node,
+    pub row: [u8; 800],
+}
+
+// An answer, and what was hashed for it: the leaf and the parents on the way.
+pub struct Checked {
+    pub answer: Answer,
+    pub leaf: Node,
+    pub row: [u8; 800],
+}
+
+// The same of the root hash alone.
+struct Hashed {
+    right: bool,
+    leaf: Node,
+    row: [u8; 800],
 }
 
 // A byte as a count.
@@ -106,6 +124,14 @@ pub fn entry_node(packet: &[u8], at: usize) -> Node
     Node { hash, size }
 }
 
+// An entry where there is none: nothing is said of it.
+fn no_node() -> Node {
+    Node {
+        hash: [0u8; 32],
+        size: 0,
+    }
+}
+
 // The leaf of a chunk.
 pub fn leaf_node(chunk: &[u8]) -> Node
     ensures { λ r. ⌜ entryOf r ≡ leaf nodeHash (now (chunk .entry)) ⌝ }
@@ -131,22 +157,37 @@ pub fn step_up(k: u64, node: Node, beside: Node) -> Node
     Node { hash, size }
 }
 
-// Inner: from a leaf up along its siblings, to the root above it.
-fn climb(packet: &[u8], at: usize, count: usize, chunk: ChunkNumber, leaf: Node) -> Node
-    requires { ⌜ Climbable (now packet) at count (leaf .size) ⌝ }
-    ensures { λ r. ⌜ entryOf r ≡ climbed nodeHash (chunk .0) (entryOf leaf) (entriesIn (now (packet .entry)) at count) ⌝ }
+// Inner: an entry at a place of a row. That its bytes are 40, which the type of the hash says, is handed on to whoever puts more behind it.
+pub fn put_entry(row: &mut [u8], at: usize, hash: &[u8; 32], size: u64)
+    requires { ⌜ at + 40 ≤ length (now row) ⌝ }
+    ensures placed { λ _. ⌜ now (row .exit) ≡ put (now (row .entry)) at (now (hash .entry) ++ be 8 size) ⌝ }
+    ensures whole { λ _. ⌜ length (now (hash .entry) ++ be 8 size) ≡ 40 ⌝ }
 {
+    let length = byte_strings::be64(size);
+    byte_strings::copy_to(row, at, hash);
+    byte_strings::copy_to(row, at + 32, &length);
+}
+
+// Inner: from a leaf up along its siblings, to the root above it.
+fn climb(packet: &[u8], at: usize, count: usize, chunk: ChunkNumber, leaf: Node) -> Ascent
+    requires { ⌜ Climbable (now packet) at count (leaf .size) ⌝ }
+    ensures above { λ r. ⌜ entryOf (r .top) ≡ climbed nodeHash (chunk .0) (entryOf leaf) (entriesIn (now (packet .entry)) at count) ⌝ }
+    ensures passed { λ r. ⌜ PathRow (stepsAbove nodeHash 0 (chunk .0) (entryOf leaf) (entriesIn (now (packet .entry)) at count)) (r .row) ⌝ }
+{
+    let mut row = [0u8; 800];
     let mut node = leaf;
     let mut k = tree_index::block_over(chunk, 0);
     let mut j: usize = 0;
     while j < count {
         let beside = entry_node(packet, at + 40 * j);
         let above = step_up(k, node, beside);
+        let hash = above.hash;
+        put_entry(&mut row, 40 * j, &hash, above.size);
         node = above;
         k = k / 2;
         j += 1;
     }
-    node
+    Ascent { top: node, row }
 }
 
 // Inner: the entry of the root j, where `node` stands for the root at a place and the others lie in the packet.
@@ -220,9 +261,10 @@ fn root_hash_with(packet: &[u8], at: usize, n: u64, chunk: ChunkNumber, node: No
 
 // Inner: "13. The packet's lengths add up to over 68,719,476,736, or its root hash is another." The sum is judged first, so that no
 // parent's length wraps.
-fn root_right(packet: &[u8], n: u64, chunk: ChunkNumber, root: &[u8; 32]) -> bool
+fn root_right(packet: &[u8], n: u64, chunk: ChunkNumber, root: &[u8; 32]) -> Hashed
     requires { ⌜ Shaped (now packet) n (chunk .0) ⌝ }
-    ensures { λ r. ⌜ r ≡ rootRight nodeHash (now (packet .entry)) n (chunk .0) (now (root .entry)) ⌝ }
+    ensures judged { λ r. ⌜ r .right ≡ rootRight nodeHash (now (packet .entry)) n (chunk .0) (now (root .entry)) ⌝ }
+    ensures led { λ r. ⌜ (r .right ≡ true → LedTo nodeHash (now (packet .entry)) n (chunk .0) (entryOf (r .leaf)) (r .row)) ⌝ }
 {
     let up = super::path::sibling_count(n, chunk) as usize;
     let others = super::path::other_count(n, chunk);
@@ -232,31 +274,65 @@ fn root_right(packet: &[u8], n: u64, chunk: ChunkNumber, root: &[u8; 32]) -> boo
     let sum = add_lengths(packet, first + 1, up, length);
     let whole = add_lengths(packet, second + 1, others, sum);
     if 68719476736 < whole {
-        return false;
+        return Hashed {
+            right: false,
+            leaf: no_node(),
+            row: [0u8; 800],
+        };
     }
     let leaf = leaf_node(&packet[4..first]);
-    let node = climb(packet, first + 1, up, chunk, leaf);
-    let hash = root_hash_with(packet, second + 1, n, chunk, node);
-    byte_strings::same(&hash, root)
+    let ascent = climb(packet, first + 1, up, chunk, leaf);
+    let top = ascent.top;
+    let row = ascent.row;
+    let hash = root_hash_with(packet, second + 1, n, chunk, top);
+    let right = byte_strings::same(&hash, root);
+    Hashed { right, leaf, row }
+}
+
+// An answer before anything is hashed.
+pub fn unhashed(answer: Answer) -> Checked
+    ensures { λ r. ⌜ r .answer ≡ answer ⌝ }
+{
+    Checked {
+        answer,
+        leaf: no_node(),
+        row: [0u8; 800],
+    }
+}
+
+// Whether a packet passes the check, or its refusal, with what was hashed for it, so that whoever goes on need not hash it again.
+pub fn check_hashing(packet: &[u8], n: u64, chunk: ChunkNumber, root: &[u8; 32]) -> Checked
+    ensures judged { λ r. ⌜ said (r .answer) ≡ packetVerdict nodeHash (now (packet .entry)) n (chunk .0) (now (root .entry)) ⌝ }
+    ensures led { λ r. ⌜ (said (r .answer) ≡ done → LedTo nodeHash (now (packet .entry)) n (chunk .0) (entryOf (r .leaf)) (r .row)) ⌝ }
+{
+    if 1048576 < n {
+        return unhashed(refusals::refuse(2));
+    }
+    if n <= chunk.0 {
+        return unhashed(refusals::refuse(9));
+    }
+    if !shape_right(packet, n, chunk) {
+        return unhashed(refusals::refuse(12));
+    }
+    let hashed = root_right(packet, n, chunk, root);
+    if !hashed.right {
+        return unhashed(refusals::refuse(13));
+    }
+    let leaf = hashed.leaf;
+    let row = hashed.row;
+    Checked {
+        answer: Answer::Done,
+        leaf,
+        row,
+    }
 }
 
 // Whether a packet passes the check, or its refusal.
 pub fn check_answer(packet: &[u8], n: u64, chunk: ChunkNumber, root: &[u8; 32]) -> Answer
     ensures { λ r. ⌜ said r ≡ packetVerdict nodeHash (now (packet .entry)) n (chunk .0) (now (root .entry)) ⌝ }
 {
-    if 1048576 < n {
-        return refusals::refuse(2);
-    }
-    if n <= chunk.0 {
-        return refusals::refuse(9);
-    }
-    if !shape_right(packet, n, chunk) {
-        return refusals::refuse(12);
-    }
-    if !root_right(packet, n, chunk, root) {
-        return refusals::refuse(13);
-    }
-    Answer::Done
+    let checked = check_hashing(packet, n, chunk, root);
+    checked.answer
 }
 
 // The chunk's part of a packet that passes the check; nothing after a refusal, which `check_answer` tells.

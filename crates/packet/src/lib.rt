@@ -3,13 +3,17 @@ mod checking;
 mod making;
 mod path;
 
+pub use checking::Checked;
 pub use checking::Node;
 pub use checking::add_lengths;
 pub use checking::check;
 pub use checking::check_answer;
+pub use checking::check_hashing;
 pub use checking::entry_node;
 pub use checking::leaf_node;
+pub use checking::put_entry;
 pub use checking::step_up;
+pub use checking::unhashed;
 pub use making::Made;
 pub use making::make;
 pub use making::make_read;

@@ -1,6 +1,6 @@
 -- Where the steps of a packet stand, and what they hash.
 -- Assumes nothing.
-use Prim.Native.Nat.{ℕ, zero, suc, _+_, _-_, _*_, _/_, _%_, _^_, _≤_, _<_}
+use Prim.Native.Nat.{ℕ, zero, suc, _+_, _-_, _*_, _/_, _%_, _^_, _<_}
 use mathlib.Core.Path.{_≡_, refl, sym, ap, ap₂, _∙_, subst}
 use mathlib.Core.Logic.{_⊎_, inl, inr}
 use mathlib.Core.Bool.{true}
@@ -11,18 +11,18 @@ use native.Mathlib.Omega.{arith}
 use lib.ListN.{length, getD}
 use Rattle.byte_strings.specs.Lists.{run}
 use Rattle.byte_strings.proofs.Lists.{length-run, getD-run}
-use Rattle.tree_index.specs.Tree.{index, depth, block, leftChild, rightChild, filled, roots}
+use Rattle.tree_index.specs.Tree.{index, depth, leftChild, rightChild, filled, roots}
 use Rattle.tree_index.proofs.Index.{index-of, leftChild-index, rightChild-index}
 use Rattle.tree_index.proofs.Filled.{filled-left, filled-right}
 use Rattle.tree_index.proofs.Roots.{bit, root-filled}
 use Rattle.file_format.specs.Messages.{leafMessage}
 use Rattle.file_format.specs.Entries.{Entry, hole, leaf, parentOf}
 use Rattle.packet.specs.Packet.{rootAbove, beside, siblings}
-use Rattle.packet.specs.Check.{Step, ordered, parentMessageOf, packetChunk, entryIn, entriesIn, siblingEntries, siblingsPlace, stepsAbove, steps}
+use Rattle.packet.specs.Check.{Step, ordered, parentMessageOf, packetChunk, entriesIn, siblingEntries, stepsAbove, steps}
 use Rattle.packet.specs.Inner.{placeAbove, ChunkOf}
 use Rattle.packet.proofs.Above.{place-root, place-below, root-spans}
 use Rattle.packet.proofs.Rows.{beside-even, beside-odd, half}
-use Rattle.packet_compare.specs.Theorems.{stepAt, Stands, StandsForAll}
+use Rattle.packet_compare.specs.Theorems.{stepAt, StandsForAll}
 use Rattle.packet.proofs.Climb.{arranged}
 use Rattle.packet_compare.proofs.Up.{ordered-hash}
 

@@ -9,7 +9,7 @@ use borrow.Author.Tests.{leb-true, ltb-true}
 use lib.Dec.{ltb}
 use lib.ListN.{length}
 use Rattle.refusals.specs.Verdict.{Spot, Verdict, done, refused}
-use Rattle.byte_strings.specs.Lists.{Bytes, sameList, run}
+use Rattle.byte_strings.specs.Lists.{Bytes, run}
 use Rattle.byte_strings.proofs.Lists.{same-eq, bytes-part, length-run}
 use Rattle.tree_index.specs.Tree.{index}
 use Rattle.blake2b.specs.Hash.{nodeHash}
@@ -24,13 +24,14 @@ use Rattle.checks.proofs.Passed.{same-of}
 use Rattle.compare.proofs.Local.{false-same}
 use Rattle.compare.proofs.Apart.{leaf-injective}
 use Rattle.packet.specs.Packet.{siblings}
-use Rattle.packet.specs.Check.{Step, chunkLength, shapeRight, packetChunk, entriesIn, siblingEntries, packetTotal, stepsAbove, steps, lastEntry, packetRoot, packetRootMessage, rootRight, packetVerdict}
+use Rattle.packet.specs.Check.{Step, chunkLength, shapeRight, packetChunk, entriesIn, siblingEntries, packetTotal, stepsAbove, steps, lastEntry, packetRoot}
+use Rattle.packet.specs.Check.{packetRootMessage, rootRight, packetVerdict}
 use Rattle.packet.specs.Inner.{ChunkOf}
 use Rattle.packet.proofs.Shape.{Sized, sized}
-use Rattle.packet_compare.specs.Walk.{Walk, sameChunk, firstPair, rootPair, walk, unlessRefused, comparePackets, atRoots, neither, pair}
-use Rattle.packet_compare.specs.Theorems.{Pair, Names, byIndex, byRoots, Tells, Refuses, TellsForAll, RefusesForAll}
+use Rattle.packet_compare.specs.Walk.{sameChunk, firstPair, rootPair, walk, unlessRefused, comparePackets, atRoots, neither, pair}
+use Rattle.packet_compare.specs.Theorems.{Pair, Names, byIndex, byRoots, Tells, TellsForAll, RefusesForAll}
 use Rattle.packet_compare.specs.Inner.{Whole}
-use Rattle.packet_compare.proofs.Up.{Wholes, Outcome, found, through, pair-true, one-step, walk-up, last-whole}
+use Rattle.packet_compare.proofs.Up.{Outcome, found, through, pair-true, one-step, walk-up, last-whole}
 use Rattle.packet_compare.proofs.Roots.{siblings-whole, roots-differ}
 
 -- what the check says of a packet that it accepts

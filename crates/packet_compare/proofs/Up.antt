@@ -20,7 +20,7 @@ use Rattle.packet.specs.Check.{Step, ordered, parentMessageOf, stepsAbove, last
 use Rattle.packet.proofs.Climb.{arranged}
 use Rattle.packet_compare.specs.Walk.{Walk, atIndex, pair, firstPair}
 use Rattle.packet_compare.specs.Inner.{Whole}
-use Rattle.packet_compare.specs.Theorems.{Pair, stepAt, PairAt}
+use Rattle.packet_compare.specs.Theorems.{stepAt, PairAt}
 
 -- ---- entries with a hash of 32 bytes
 

@@ -8,12 +8,16 @@ use Rattle.file_format.specs.Messages.{leafMessage, parentMessage, rootItem, ro
 use Rattle.file_format.specs.Entries.{leaf, parentOf}
 use Rattle.checks.specs.Checks.{judged}
 use Rattle.packet.specs.Packet.{rootAbove, beside, siblings, without, otherRoots}
-use Rattle.packet.specs.Check.{chunkLength, siblingsPlace, othersPlace, wholeLength, shapeRight, packetChunk, entryIn, entriesIn, siblingEntries, otherEntries, packetTotal, ordered, inTurn, items, lastEntry, stepsAbove, steps, packetRoot, packetRootMessage, rootRight, packetVerdict}
+use Rattle.packet.specs.Check.{chunkLength, siblingsPlace, othersPlace, wholeLength, shapeRight, packetChunk, entryIn, entriesIn, siblingEntries, otherEntries}
+use Rattle.packet.specs.Check.{packetTotal, ordered, inTurn, items, lastEntry, stepsAbove, steps, packetRoot, packetRootMessage, rootRight, packetVerdict}
 use Rattle.packet_compare.specs.Walk.{pair, firstPair, rootPair, walk, comparePackets}
 use Rattle.packet_compare.specs.WeakHash.{weak, weakEntry, weakPacket, WeakWalks}
 
 pub weak-walks : WeakWalks
-unfolding weak weakEntry weakPacket comparePackets walk rootPair firstPair pair packetVerdict rootRight packetRootMessage packetRoot steps stepsAbove lastEntry items inTurn ordered packetTotal otherEntries siblingEntries entriesIn entryIn packetChunk shapeRight wholeLength othersPlace siblingsPlace chunkLength otherRoots without siblings beside rootAbove judged leaf parentOf leafMessage parentMessage rootItem rootMessage roots rootsBelow rootOf block depth trailingOnes index be number numberFrom part run joined total sameList
+unfolding weak weakEntry weakPacket comparePackets walk rootPair firstPair pair packetVerdict rootRight packetRootMessage packetRoot steps stepsAbove lastEntry items
+    inTurn ordered packetTotal otherEntries siblingEntries entriesIn entryIn packetChunk shapeRight wholeLength othersPlace siblingsPlace chunkLength otherRoots
+    without siblings beside rootAbove judged leaf parentOf leafMessage parentMessage rootItem rootMessage roots rootsBelow rootOf block depth trailingOnes index
+    be number numberFrom part run joined total sameList
 weak-walks =
     record {
       leaf = refl;

@@ -2,8 +2,8 @@
 use Prim.Native.Nat.{ℕ, zero, suc, _+_, _-_, _*_, _^_, _<_, _≤_}
 use mathlib.Core.Path.{_≡_, refl, sym, ap, _∙_, subst}
 use mathlib.Core.Bool.{Bool, true, false, cond}
-use mathlib.Core.List.{List, [], _∷_, _++_}
-use mathlib.Core.Option.{Option, none, some}
+use mathlib.Core.List.{List, _∷_}
+use mathlib.Core.Option.{none, some}
 use native.Mathlib.Omega.{arith}
 use native.Mathlib.Numerals.{add-one}
 use lib.Dec.{ltb}
@@ -11,10 +11,10 @@ use lib.ListN.{length, getD, take, drop, length-drop, drop-of-length-le}
 use lib.Seq.{drop-cons, drop-drop}
 use borrow.Author.Tests.{ltb-true, ltb-false, lt-ltb, le-ltb}
 use Rattle.byte_strings.specs.Lists.{part}
-use Rattle.record_fields.specs.Varints.{digits, varint, Fits}
+use Rattle.record_fields.specs.Varints.{digits, Fits}
 use Rattle.record_fields.specs.Reading.{Begins, BeginsNot, Any}
 use Rattle.record_fields.specs.Fields.{numberField, partField, Most, Longest, Later}
-use Rattle.record_fields.specs.Inner.{Upto, DigitsRead, joinedOf, NumberRead, NoPart, BytesRead}
+use Rattle.record_fields.specs.Inner.{DigitsRead, joinedOf, NumberRead, NoPart, BytesRead}
 use Rattle.record_fields.specs.declared.varints.Varint.{Varint}
 use Rattle.record_fields.specs.declared.varints.Varint.the-variants.{Bad, Is}
 use Rattle.record_fields.specs.declared.rows.Number.the-variants.{Absent, Given}

@@ -1,9 +1,9 @@
 -- The front of bytes that were written says what was written. Assumes nothing.
 use Prim.Native.Nat.{ℕ, zero, suc, _+_, _-_, _*_, _/_, _%_, _^_, _<_, _≤_}
-use mathlib.Core.Path.{_≡_, refl, sym, ap, _∙_, subst}
-use mathlib.Core.Bool.{Bool, true, false, cond}
+use mathlib.Core.Path.{_≡_, refl, ap, _∙_}
+use mathlib.Core.Bool.{false}
 use mathlib.Core.Logic.{⊎-elim}
-use mathlib.Core.List.{List, [], _∷_, _++_, append-assoc}
+use mathlib.Core.List.{List, _∷_, _++_}
 use mathlib.Core.Option.{Option, none, some}
 use native.Mathlib.Omega.{arith}
 use native.Mathlib.Nat.{div-add-mod}
@@ -12,7 +12,7 @@ use lib.ListN.{length, getD, take, drop}
 use lib.Seq.{take-at, drop-at}
 use borrow.Author.Tests.{lt-ltb, le-ltb, eq-eqb, ne-eqb}
 use Rattle.record_fields.specs.Varints.{digits, varint, Fits}
-use Rattle.record_fields.specs.Fields.{numberField, partField, Most, Longest, Later}
+use Rattle.record_fields.specs.Fields.{numberField, partField, Most, Later}
 use Rattle.record_fields.specs.Fronts.{frontVarint, frontNumber, frontBytes, frontPart}
 use Rattle.record_fields.proofs.Digits.{two, small, large, fits-rest}
 use Rattle.record_fields.proofs.Fields.{number-tag, part-tag, word-fits}
@@ -55,7 +55,8 @@ pub number-front : (k : ℕ) (o : Option ℕ) (t : List ℕ) → k < 16 → Most
 unfolding numberField frontNumber
 number-front k none t h w f = rw (later-other k (8 * k) t (omega arith) f)
 number-front k (some x) t h w f =
-    ap (λ (s : List ℕ). frontNumber k s) (number-tag k x t h) ∙ rw (eq-eqb (8 * k) (8 * k) refl) (ap {B = Option ℕ × List ℕ} (λ (p : ℕ × List ℕ). (some (p .0), p .1)) (varint-front 9 x t (word-fits x (omega arith))))
+    ap (λ (s : List ℕ). frontNumber k s) (number-tag k x t h) ∙ rw (eq-eqb (8 * k) (8 * k) refl)
+    (ap {B = Option ℕ × List ℕ} (λ (p : ℕ × List ℕ). (some (p .0), p .1)) (varint-front 9 x t (word-fits x (omega arith))))
 
 bytes-front : (bs t : List ℕ) → length bs < 2 ^ 64 → frontBytes (varint (length bs) ++ (bs ++ t)) ≡ (bs, t)
 unfolding frontBytes

@@ -1,15 +1,15 @@
 -- Where the parts that were read lie, and that they are the bytes written there. Assumes nothing.
-use Prim.Native.Nat.{ℕ, _+_, _-_, _*_, _<_, _≤_}
-use mathlib.Core.Path.{_≡_, refl, sym, ap, _∙_, subst}
-use mathlib.Core.List.{List, [], _∷_, _++_, append-assoc}
+use Prim.Native.Nat.{ℕ, _+_, _-_, _*_, _≤_}
+use mathlib.Core.Path.{_≡_, refl, sym, ap, _∙_}
+use mathlib.Core.List.{List, _++_, append-assoc}
 use mathlib.Core.Option.{Option, none, some}
 use native.Mathlib.Omega.{arith}
 use lib.ListN.{length, drop, length-append, length-drop}
 use Rattle.byte_strings.specs.Lists.{part}
 use Rattle.byte_strings.proofs.Lists.{part-at, length-part}
-use Rattle.record_fields.specs.Varints.{digits, varint}
-use Rattle.record_fields.specs.Fields.{partField, Longest, Later}
-use Rattle.record_fields.specs.Inner.{Upto, PartUpto, EndsAt, partOf, bytesOf, Inside, BytesInside, headOf, partPlaced, bytesPlaced}
+use Rattle.record_fields.specs.Varints.{varint}
+use Rattle.record_fields.specs.Fields.{partField}
+use Rattle.record_fields.specs.Inner.{Upto, PartUpto, partOf, bytesOf, Inside, BytesInside, headOf, partPlaced, bytesPlaced}
 use Rattle.record_fields.specs.declared.rows.Part.{Part}
 use Rattle.record_fields.specs.declared.rows.Bytes.{Bytes}
 use Rattle.record_fields.specs.declared.rows.Bytes.the-variants.{Absent as NoBytes, Given as GivenBytes}

@@ -1,17 +1,16 @@
 -- No two numbers, and no two fields, have the same bytes; how many bytes they take at most. Assumes nothing.
 use Prim.Native.Nat.{ℕ, zero, suc, _+_, _-_, _*_, _/_, _%_, _^_, _<_, _≤_}
-use mathlib.Core.Path.{_≡_, refl, sym, ap, _∙_, subst}
+use mathlib.Core.Path.{_≡_, refl, sym, ap, _∙_}
 use mathlib.Core.Logic.{⊎-elim}
-use mathlib.Core.List.{List, [], _∷_, _++_, append-assoc, append-nil}
+use mathlib.Core.List.{List, _∷_, _++_}
 use mathlib.Core.Option.{Option, none, some}
 use native.Mathlib.Omega.{arith}
-use native.Mathlib.Nat.{div-add-mod}
-use lib.ListN.{length, getD, take, drop, length-append}
+use lib.ListN.{length, take, drop, length-append}
 use lib.Seq.{take-at, drop-at}
 use Rattle.record_fields.specs.Varints.{digits, varint, Fits}
 use Rattle.record_fields.specs.Fields.{numberField, partField, Most, Longest, Later}
-use Rattle.record_fields.proofs.Digits.{two, small, large, nil-cons, head-eq, tail-eq, last-read, above-last, Opened, opened}
-use Rattle.record_fields.proofs.Fields.{number-tag, part-tag, word-fits, later-nil, later-later, later-number, later-part, later-tag}
+use Rattle.record_fields.proofs.Digits.{two, small, large, tail-eq, last-read, opened}
+use Rattle.record_fields.proofs.Fields.{number-tag, part-tag, word-fits, later-tag}
 
 -- ---- varints
 

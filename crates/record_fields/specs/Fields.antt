@@ -2,7 +2,7 @@
 --
 -- A field is its tag and its value. The tag is 8 times the number and the wire type: 0 for a number, 2 for a part, which is a length and bytes.
 use Prim.Native.Nat.{ℕ, _+_, _*_, _<_, _≤_}
-use mathlib.Core.List.{List, [], _∷_, _++_}
+use mathlib.Core.List.{List, [], _++_}
 use mathlib.Core.Option.{Option, none, some}
 use lib.ListN.{length, getD}
 use Rattle.record_fields.specs.Varints.{varint}

@@ -2,7 +2,6 @@
 ghost use mathlib.Core.Path.{_≡_};
 ghost use Prim.Native.Nat.{_≤_, _<_};
 ghost use lib.ListN.{length};
-ghost use Rattle.record_fields.specs.Varints.{Fits};
 ghost use Rattle.record_fields.specs.Varints as varint;
 ghost use Rattle.record_fields.specs.Inner.{DigitsRead, joinedOf, PutAt, Roomy};
 

@@ -1,14 +1,14 @@
 -- What is told of a chunk, from its read and its bytes. Assumes nothing.
 use Prim.Native.Nat.{ℕ, _+_, _-_, _<_, _≤_}
-use mathlib.Core.Path.{_≡_, refl, sym, ap, _∙_, subst}
-use mathlib.Core.Bool.{Bool, true, false}
+use mathlib.Core.Path.{_≡_, sym, ap, _∙_, subst}
+use mathlib.Core.Bool.{Bool, false}
 use mathlib.Core.List.{List}
-use mathlib.Core.Option.{Option, none, some}
+use mathlib.Core.Option.{none, some}
 use native.Mathlib.Omega.{arith}
 use lib.ListN.{length, take, drop}
 use Rattle.refusals.specs.Verdict.{Spot, Verdict, tree, done, refused}
 use Rattle.refusals.specs.Verdict as verdicts
-use Rattle.refusals.specs.Meaning.{said, refusalOf, spotOf}
+use Rattle.refusals.specs.Meaning.{refusalOf, spotOf}
 use Rattle.refusals.specs.declared.Refusal.{Refusal}
 use Rattle.refusals.specs.declared.Answer.{Answer}
 use Rattle.refusals.specs.declared.Answer.the-variants.{Done, Refused}
@@ -17,7 +17,7 @@ use Rattle.tree_index.specs.Tree.{index}
 use Rattle.file_format.specs.Belongs.{Register}
 use Rattle.file_format.specs.Stored.{storedSize}
 use Rattle.lookup.specs.Lookup.{found, foundUnless, startOf, toChunk, heldVerdict, heldPlaceOf}
-use Rattle.lookup.specs.Read.{readVerdict, readPart}
+use Rattle.lookup.specs.Read.{readVerdict}
 use Rattle.lookup.specs.Meaning.{readFound}
 use Rattle.lookup.proofs.Calls.{Lying, lying, placing, done-first}
 use Rattle.record_fields.specs.Inner.{partOf}
@@ -33,7 +33,7 @@ use Rattle.record_node.specs.Theorems.{Placed}
 use Rattle.record_node.specs.declared.reading.Node.{Node as CodeNode}
 use Rattle.record_node.proofs.Lying.{nodes-placed}
 use Rattle.record_find.specs.ChunkRecords.{readPath, comparedTold, afterRead}
-use Rattle.record_find.specs.declared.chunks.Compared.the-variants.{Refused as NotCompared, Same, Other}
+use Rattle.record_find.specs.declared.chunks.Compared.the-variants.{Refused as NotCompared}
 
 -- ---- the bytes of a chunk
 
@@ -84,7 +84,8 @@ module _ (d : List ℕ) (i : ℕ) where
           let k : n .path .at + n .path .len - n .path .at ≡ n .path .len = omega arith in
           ap (λ (m : ℕ). take m (drop (n .path .at) d)) k ∙ ap (λ (m : CodeNode). partOf d (m .path)) (read .1 .1) ∙ ap (λ (m : Node). m .path) (placed .fields)
 
-      pub path-compared : (path : List ℕ) (b : Bool) → b ≡ sameList (take (n .path .at + n .path .len - n .path .at) (drop (n .path .at) d)) path → _≡_ {A = Verdict × Bool} (done, b) (readPath path (tree i) d)
+      pub path-compared : (path : List ℕ) (b : Bool) → b ≡ sameList (take (n .path .at + n .path .len - n .path .at) (drop (n .path .at) d)) path → _≡_ {A = Verdict × Bool}
+          (done, b) (readPath path (tree i) d)
       path-compared path b q =
           ap {B = Verdict × Bool} (λ (x : Bool). (done, x)) (q ∙ ap (λ (x : List ℕ). sameList x path) cut)
           ∙ ap (toldOf (tree i) false (same-path path)) (sym (read .1 .0))

@@ -1,14 +1,14 @@
 -- What is found where the chunks are records. Assumes nothing.
-use Prim.Native.Nat.{ℕ, zero, suc, _+_, _-_, _<_, _≤_}
+use Prim.Native.Nat.{ℕ, zero, suc, _-_, _<_, _≤_}
 use mathlib.Core.Path.{_≡_, refl, sym, ap, _∙_, subst}
 use mathlib.Core.Logic.{⊎-elim}
-use mathlib.Core.Bool.{Bool, true, false, cond}
+use mathlib.Core.Bool.{Bool, true, false}
 use mathlib.Core.List.{List, [], _∷_, map}
 use mathlib.Core.Option.{some}
 use borrow.Author.Tests.{lt-ltb}
 use native.Mathlib.Omega.{arith}
 use lib.ListN.{length, getD}
-use Rattle.refusals.specs.Verdict.{Verdict, tree, done, refused}
+use Rattle.refusals.specs.Verdict.{Verdict, tree, done}
 use Rattle.byte_strings.specs.Lists.{sameList}
 use Rattle.byte_strings.proofs.Lists.{same-eq, same-refl}
 use Rattle.tree_index.specs.Tree.{index}
@@ -38,8 +38,16 @@ Below path ns k nowhere = (j : ℕ) → j < k → pathAt ns j ≡ path → ⊥
 -- one more, which has another path
 one-more : (path : List ℕ) (ns : List Node) (k : ℕ) → (pathAt ns k ≡ path → ⊥) → (o : Outcome) → Below path ns k o → Below path ns (suc k) o
 one-more path ns k n (failed m spot) h = h
-one-more path ns k n (at c) h =
-    (h .0, (h .1 .0, (omega (arith, h .1 .1 .0), (h .1 .1 .1 .0, λ j l m q. ⊎-elim (λ (a : j < k). h .1 .1 .1 .1 j l a q) (λ (b : k ≤ j). let z : j ≡ k = omega arith in n (sym (ap (pathAt ns) z) ∙ q)) (two j k)))))
+one-more path ns k n (at c) h = (
+  h .0,
+  (
+    h .1 .0,
+    (
+      omega (arith, h .1 .1 .0),
+      (h .1 .1 .1 .0, λ j l m q. ⊎-elim (λ (a : j < k). h .1 .1 .1 .1 j l a q) (λ (b : k ≤ j). let z : j ≡ k = omega arith in n (sym (ap (pathAt ns) z) ∙ q)) (two j k)),
+    ),
+  ),
+)
 one-more path ns k n nowhere h =
     λ j l q. ⊎-elim (λ (a : j < k). h j a q) (λ (b : k ≤ j). let z : j ≡ k = omega arith in n (sym (ap (pathAt ns) z) ∙ q)) (two j k)
 

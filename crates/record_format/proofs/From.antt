@@ -5,19 +5,22 @@ use mathlib.Core.Bool.{Bool, true, false, cond, _&&_}
 use mathlib.Core.List.{List, [], _∷_, _++_, append-assoc, append-nil}
 use mathlib.Core.Option.{Option, none, some}
 use native.Mathlib.Omega.{arith}
-use lib.ListN.{length, getD}
+use lib.ListN.{length}
 use Rattle.byte_strings.specs.Lists.{sameList}
 use Rattle.byte_strings.proofs.Lists.{same-refl, same-eq}
-use Rattle.record_fields.specs.Fields.{numberField, partField, Most, Longest, Later}
+use Rattle.record_fields.specs.Fields.{numberField, partField, Most, Longest}
 use Rattle.record_fields.specs.Fronts.{frontNumber, frontPart, orNothing}
 use Rattle.record_fields.proofs.Fields.{later-nil}
 use Rattle.record_fields.proofs.Unique.{longest-sized}
 use Rattle.record_fields.proofs.Fronts.{number-front, given-front, part-front, part-absent}
-use Rattle.record_format.specs.Records.{Header, HeaderWithin, headerBytes, Stat, StatWithin, statBytes, rowsOf, rowsBytes, RowsWithin, Writer, WriterWithin, writerBytes, Node, NodeWithin, nodeBytes, statPart, writersBytes, ValueWithin, WritersWithin}
-use Rattle.record_format.specs.From.{frontHeader, frontRows, statOfRows, frontStat, frontValue, frontWriter, oneMore, frontWriters, behindPath, behindValue, behindTrie, behindWriters, frontNode, headerTest, nodeTest, asWritten, headerFrom, nodeFrom}
+use Rattle.record_format.specs.Records.{Header, HeaderWithin, headerBytes, Stat, StatWithin, statBytes, rowsOf, rowsBytes, RowsWithin, Writer}
+use Rattle.record_format.specs.Records.{WriterWithin, writerBytes, Node, NodeWithin, nodeBytes, statPart, writersBytes, ValueWithin, WritersWithin}
+use Rattle.record_format.specs.From.{frontHeader, frontRows, statOfRows, frontStat, frontValue, frontWriter, oneMore, frontWriters, behindPath}
+use Rattle.record_format.specs.From.{behindValue, behindTrie, behindWriters, frontNode, headerTest, nodeTest, asWritten, headerFrom, nodeFrom}
 use Rattle.record_format.specs.Theorems.{Accepted, Rejected, Reads, EachRead}
 use Rattle.record_format.proofs.Tests.{both-true, true-both, header-in, in-header, node-in, in-node}
-use Rattle.record_format.proofs.Unique.{row-word, rows-later, writer-size, Untagged, later-untagged, same-header, same-writer, same-node, named, value-sized, value-later, trie-later, last-later}
+use Rattle.record_format.proofs.Unique.{row-word, rows-later, writer-size, Untagged, later-untagged, same-header, same-writer, same-node, named}
+use Rattle.record_format.proofs.Unique.{value-sized, value-later, trie-later, last-later}
 
 -- ---- the front of what was written
 
@@ -66,7 +69,8 @@ writers-front zero (v ∷ ws) t h w f = absurd (omega arith)
 writers-front (suc m) [] t h w f = ap (λ (p : Option (List ℕ) × List ℕ). oneMore (p .0) t (frontWriters m (p .1))) (part-absent 4 t f)
 writers-front (suc m) (v ∷ ws) t h w f =
     let s = (partField 4 (some (writerBytes v)) ++ writersBytes ws) ++ t in
-    let e = ap (frontPart 4) (append-assoc (partField 4 (some (writerBytes v))) (writersBytes ws) t) ∙ given-front 4 (writerBytes v) (writersBytes ws ++ t) (omega arith) (omega (arith, writer-size v (w .0))) in
+    let e = ap (frontPart 4) (append-assoc (partField 4 (some (writerBytes v))) (writersBytes ws) t) ∙ given-front 4 (writerBytes v) (writersBytes ws ++ t) (omega arith)
+    (omega (arith, writer-size v (w .0))) in
     ap (λ (p : Option (List ℕ) × List ℕ). oneMore (p .0) s (frontWriters m (p .1))) e
     ∙ ap (λ (p : List Writer × List ℕ). oneMore (some (writerBytes v)) s p) (writers-front m ws t (omega arith) (w .1) f)
     ∙ ap {B = List Writer × List ℕ} (λ (x : Writer). (x ∷ ws, t)) (writer-front v (w .0))

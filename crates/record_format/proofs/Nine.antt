@@ -1,14 +1,14 @@
 -- The fields of a Stat, three and three, as its reader takes them. Assumes nothing.
-use Prim.Native.Nat.{ℕ, zero, suc, _+_, _-_, _*_, _^_, _<_, _≤_}
+use Prim.Native.Nat.{ℕ, _+_, _-_, _<_, _≤_}
 use mathlib.Core.Path.{_≡_, refl, sym, ap, _∙_, subst}
-use mathlib.Core.List.{List, [], _∷_, _++_, append-assoc, append-nil}
-use mathlib.Core.Option.{Option, none, some}
+use mathlib.Core.List.{List, [], _++_, append-assoc, append-nil}
+use mathlib.Core.Option.{Option}
 use native.Mathlib.Omega.{arith}
 use lib.ListN.{length, drop, length-drop, drop-of-length-le}
-use Rattle.record_fields.specs.Reading.{Begins, BeginsNot, both, Both}
+use Rattle.record_fields.specs.Reading.{BeginsNot, both, Both}
 use Rattle.record_fields.specs.Fields.{numberField, Most, Later}
 use Rattle.record_format.specs.Records.{Stat, StatWithin, statBytes, rowsOf, rowsBytes, mostOf, RowsWithin, Given}
-use Rattle.record_format.specs.Theorems.{Accepted, Rejected}
+use Rattle.record_format.specs.Theorems.{Rejected}
 use Rattle.record_fields.specs.Inner.{Upto, numberOf, NumberRead}
 use Rattle.record_format.specs.Post.{statOf, StatReadAs}
 use Rattle.record_format.specs.Inner.{threeFields, ThreeMost, ThreeRead, withMode, withModeOf}
@@ -53,19 +53,24 @@ module _ (d : List ℕ) (at k most : ℕ) (kind : k < 14) where
   module _ (v : NumberRow) (a : Number) (second : ℕ) (e : v ≡ ReadNumber a second) (g : NumberRead d at k most v) where
     pub three-second : (u : NumberRow) → u ≡ BadNumber → NumberRead d second (k + 1) most u → ThreeRead d at k most BadThree
     three-second u f h =
-        then-not (numberField k) (Most most) (Later k) (both (numberField (k + 1)) (numberField (k + 2))) (Both (Most most) (Most most)) (Later (k + 2)) first-leads d at (subst (NumberRead d at k most) e g)
+        then-not (numberField k) (Most most) (Later k) (both (numberField (k + 1)) (numberField (k + 2))) (Both (Most most) (Most most)) (Later (k + 2)) first-leads d at
+        (subst (NumberRead d at k most) e g)
         (first-not (numberField (k + 1)) (Most most) (Later (k + 1)) (numberField (k + 2)) (Most most) (Later (k + 2)) second-leads (subst (NumberRead d second (k + 1) most) f h))
 
     module _ (u : NumberRow) (b : Number) (third : ℕ) (f : u ≡ ReadNumber b third) (h : NumberRead d second (k + 1) most u) where
       pub three-third : (q : NumberRow) → q ≡ BadNumber → NumberRead d third (k + 2) most q → ThreeRead d at k most BadThree
       three-third q i j =
-          then-not (numberField k) (Most most) (Later k) (both (numberField (k + 1)) (numberField (k + 2))) (Both (Most most) (Most most)) (Later (k + 2)) first-leads d at (subst (NumberRead d at k most) e g)
-          (then-not (numberField (k + 1)) (Most most) (Later (k + 1)) (numberField (k + 2)) (Most most) (Later (k + 2)) second-leads d second (subst (NumberRead d second (k + 1) most) f h) (subst (NumberRead d third (k + 2) most) i j))
+          then-not (numberField k) (Most most) (Later k) (both (numberField (k + 1)) (numberField (k + 2))) (Both (Most most) (Most most)) (Later (k + 2)) first-leads d at
+          (subst (NumberRead d at k most) e g)
+          (then-not (numberField (k + 1)) (Most most) (Later (k + 1)) (numberField (k + 2)) (Most most) (Later (k + 2)) second-leads d second
+          (subst (NumberRead d second (k + 1) most) f h) (subst (NumberRead d third (k + 2) most) i j))
 
       pub three-read : (q : NumberRow) (c : Number) (end : ℕ) → q ≡ ReadNumber c end → NumberRead d third (k + 2) most q → ThreeRead d at k most (ReadThree a b c end)
       three-read q c end i j =
-          then-read (numberField k) (Most most) (Later k) (both (numberField (k + 1)) (numberField (k + 2))) (Both (Most most) (Most most)) (Later (k + 2)) first-leads d at (subst (NumberRead d at k most) e g)
-          (then-read (numberField (k + 1)) (Most most) (Later (k + 1)) (numberField (k + 2)) (Most most) (Later (k + 2)) second-leads d second (subst (NumberRead d second (k + 1) most) f h) (subst (NumberRead d third (k + 2) most) i j))
+          then-read (numberField k) (Most most) (Later k) (both (numberField (k + 1)) (numberField (k + 2))) (Both (Most most) (Most most)) (Later (k + 2)) first-leads d at
+          (subst (NumberRead d at k most) e g)
+          (then-read (numberField (k + 1)) (Most most) (Later (k + 1)) (numberField (k + 2)) (Most most) (Later (k + 2)) second-leads d second
+          (subst (NumberRead d second (k + 1) most) f h) (subst (NumberRead d third (k + 2) most) i j))
 
 -- ---- nine fields
 
@@ -131,14 +136,16 @@ module _ (d : List ℕ) where
     stat-second u f h =
         nine-rejected d
         (then-not (threeFields 1) (ThreeMost 4294967295) (Later 3) later LaterMost (Later 9) fourth-leads d 0 (subst (ThreeRead d 0 1 4294967295) e g)
-        (first-not (threeFields 4) (ThreeMost 18446744073709551615) (Later 6) (threeFields 7) (ThreeMost 18446744073709551615) (Later 9) seventh-leads (subst (ThreeRead d fourth 4 18446744073709551615) f h)))
+        (first-not (threeFields 4) (ThreeMost 18446744073709551615) (Later 6) (threeFields 7) (ThreeMost 18446744073709551615) (Later 9) seventh-leads
+        (subst (ThreeRead d fourth 4 18446744073709551615) f h)))
 
     module _ (u : Three) (size blocks offset : Number) (seventh : ℕ) (f : u ≡ ReadThree size blocks offset seventh) (h : ThreeRead d fourth 4 18446744073709551615 u) where
       pub stat-third : (q : Three) → q ≡ BadThree → ThreeRead d seventh 7 18446744073709551615 q → StatReadAs d BadStat
       stat-third q i j =
           nine-rejected d
           (then-not (threeFields 1) (ThreeMost 4294967295) (Later 3) later LaterMost (Later 9) fourth-leads d 0 (subst (ThreeRead d 0 1 4294967295) e g)
-          (then-not (threeFields 4) (ThreeMost 18446744073709551615) (Later 6) (threeFields 7) (ThreeMost 18446744073709551615) (Later 9) seventh-leads d fourth (subst (ThreeRead d fourth 4 18446744073709551615) f h) (subst (ThreeRead d seventh 7 18446744073709551615) i j)))
+          (then-not (threeFields 4) (ThreeMost 18446744073709551615) (Later 6) (threeFields 7) (ThreeMost 18446744073709551615) (Later 9) seventh-leads d fourth
+          (subst (ThreeRead d fourth 4 18446744073709551615) f h) (subst (ThreeRead d seventh 7 18446744073709551615) i j)))
 
       module _ (q : Three) (byteOffset mtime ctime : Number) (end : ℕ) (i : q ≡ ReadThree byteOffset mtime ctime end) (j : ThreeRead d seventh 7 18446744073709551615 q) where
         abbrev read : Trio × (Trio × Trio)
@@ -148,7 +155,8 @@ module _ (d : List ℕ) where
         all : Upto nine NineMost (Later 9) d 0 read end
         all =
             then-read (threeFields 1) (ThreeMost 4294967295) (Later 3) later LaterMost (Later 9) fourth-leads d 0 (subst (ThreeRead d 0 1 4294967295) e g)
-            (then-read (threeFields 4) (ThreeMost 18446744073709551615) (Later 6) (threeFields 7) (ThreeMost 18446744073709551615) (Later 9) seventh-leads d fourth (subst (ThreeRead d fourth 4 18446744073709551615) f h) (subst (ThreeRead d seventh 7 18446744073709551615) i j))
+            (then-read (threeFields 4) (ThreeMost 18446744073709551615) (Later 6) (threeFields 7) (ThreeMost 18446744073709551615) (Later 9) seventh-leads d fourth
+            (subst (ThreeRead d fourth 4 18446744073709551615) f h) (subst (ThreeRead d seventh 7 18446744073709551615) i j))
 
         -- any Stat whose bytes these are has the fields that were read, and nothing is left
         alone : (s : Stat) → StatWithin s → statBytes s ≡ d → (nineOf s ≡ read) × ([] ≡ drop end d)
@@ -169,7 +177,17 @@ module _ (d : List ℕ) where
                 → StatReadAs d (withModeOf m (record { mode = mode; uid = uid; gid = gid; size = size; blocks = blocks; offset = offset; «byte_offset» = byteOffset; mtime = mtime; ctime = ctime }))
             go Absent k = λ s w p. subst Given (ap (λ (z : Trio × (Trio × Trio)). z .0 .0) (alone s w p .0) ∙ ap numberOf (sym k)) (w .mode)
             go (GivenNumber n) k =
-                let fields : Stat = statOf (record { mode = mode; uid = uid; gid = gid; size = size; blocks = blocks; offset = offset; «byte_offset» = byteOffset; mtime = mtime; ctime = ctime }) in record {
+                let fields : Stat = statOf (record {
+                  mode = mode;
+                  uid = uid;
+                  gid = gid;
+                  size = size;
+                  blocks = blocks;
+                  offset = offset;
+                  «byte_offset» = byteOffset;
+                  mtime = mtime;
+                  ctime = ctime;
+                }) in record {
                   within = record { mode = subst Given (ap numberOf k) tt; rows = nine-rows fields (all .begins .within) };
                   bytes = nine-bytes fields ∙ sym bytes;
                 }

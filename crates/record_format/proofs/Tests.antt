@@ -1,6 +1,6 @@
 -- The tests decide the bounds. Assumes nothing.
-use Prim.Native.Nat.{ℕ, zero, suc, _≤_}
-use mathlib.Core.Path.{_≡_, refl, sym, ap, _∙_}
+use Prim.Native.Nat.{ℕ, suc}
+use mathlib.Core.Path.{_≡_, refl, ap, _∙_}
 use mathlib.Core.Bool.{Bool, true, false, _&&_}
 use mathlib.Core.List.{List, [], _∷_}
 use mathlib.Core.Option.{Option, none, some}
@@ -11,7 +11,7 @@ use borrow.Author.Tests.{leb-true, le-leb, eqb-true, eq-eqb}
 use Rattle.byte_strings.specs.Lists.{sameList}
 use Rattle.byte_strings.proofs.Lists.{same-refl, same-eq}
 use Rattle.record_fields.specs.Fields.{Most, Longest}
-use Rattle.record_format.specs.Records.{Header, HeaderWithin, hyperdrive, Stat, StatWithin, rowsOf, mostOf, RowsWithin, Given, Writer, WriterWithin, WritersWithin, Node, NodeWithin, PathWithin, ValueWithin}
+use Rattle.record_format.specs.Records.{Header, HeaderWithin, hyperdrive, Stat, rowsOf, mostOf, RowsWithin, Given, Writer, WritersWithin, Node, NodeWithin, PathWithin, ValueWithin}
 use Rattle.record_format.specs.From.{numberTest, partTest, headerTest, pathTest, givenTest, rowsTest, valueTest, writersTest, nodeTest}
 
 pub both-true : (a b : Bool) → a && b ≡ true → (a ≡ true) × (b ≡ true)

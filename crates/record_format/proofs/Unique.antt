@@ -1,20 +1,18 @@
 -- No two records within the bounds have the same bytes. Assumes nothing.
-use Prim.Native.Nat.{ℕ, zero, suc, _+_, _-_, _*_, _/_, _%_, _^_, _<_, _≤_}
+use Prim.Native.Nat.{ℕ, suc, _+_, _-_, _*_, _^_, _<_, _≤_}
 use mathlib.Core.Path.{_≡_, refl, sym, ap, _∙_, subst}
-use mathlib.Core.Logic.{⊎-elim}
 use mathlib.Core.Bool.{Bool, true, false, cond}
 use mathlib.Core.List.{List, [], _∷_, _++_, append-assoc, append-nil}
 use mathlib.Core.Option.{Option, none, some}
 use native.Mathlib.Omega.{arith}
-use native.Mathlib.Nat.{div-add-mod}
 use lib.Dec.{ltb}
-use lib.ListN.{length, getD, take, drop, length-append}
-use lib.Seq.{take-at, drop-at}
-use Rattle.record_fields.specs.Varints.{digits, varint, Fits}
-use Rattle.record_fields.specs.Fields.{numberField, partField, Most, Longest, Later}
-use Rattle.record_format.specs.Records.{Header, HeaderWithin, headerBytes, hyperdrive, Stat, StatWithin, statBytes, rowsOf, rowsBytes, mostOf, RowsWithin, Writer, WriterWithin, writerBytes, Node, NodeWithin, nodeBytes, statPart, writersBytes, ValueWithin, WritersWithin}
-use Rattle.record_format.specs.Theorems.{Accepted, Restored, EachRestored}
-use Rattle.record_fields.proofs.Fields.{part-tag, later-nil, later-later, later-number, later-part, later-tag}
+use lib.ListN.{length, getD, length-append}
+use Rattle.record_fields.specs.Fields.{numberField, partField, Most, Later}
+use Rattle.record_format.specs.Records.{Header, HeaderWithin, headerBytes, hyperdrive, Stat, StatWithin, statBytes, rowsOf, rowsBytes, mostOf, RowsWithin}
+use Rattle.record_format.specs.Records.{Writer, WriterWithin, writerBytes, Node, NodeWithin, nodeBytes, statPart, writersBytes, ValueWithin}
+use Rattle.record_format.specs.Records.{WritersWithin}
+use Rattle.record_format.specs.Theorems.{Restored, EachRestored}
+use Rattle.record_fields.proofs.Fields.{part-tag, later-nil, later-later, later-number, later-part}
 use Rattle.record_fields.proofs.Unique.{number-unique, given-unique, Sized, part-unique, longest-sized, number-size, part-size, part-within}
 
 -- ---- lengths: each part is far shorter than its length can say
@@ -92,7 +90,8 @@ pub writer-unique : (w v : Writer) → WriterWithin w → WriterWithin v → wri
 unfolding writerBytes
 writer-unique w v g h e =
     let q = given-unique 1 (w .key) (v .key) (partField 2 (w .permission)) (partField 2 (v .permission)) (omega arith) (omega (arith, g .key)) (omega (arith, h .key)) e in
-    let p = part-unique 2 (w .permission) (v .permission) [] [] (omega arith) (longest-sized 16 (w .permission) (omega arith) (g .permission)) (longest-sized 16 (v .permission) (omega arith) (h .permission))
+    let p = part-unique 2 (w .permission) (v .permission) [] [] (omega arith) (longest-sized 16 (w .permission) (omega arith) (g .permission))
+    (longest-sized 16 (v .permission) (omega arith) (h .permission))
     (later-nil 2 (omega arith)) (later-nil 2 (omega arith)) (append-nil (partField 2 (w .permission)) ∙ q .1 ∙ sym (append-nil (partField 2 (v .permission)))) in
     same-writer w v (q .0) (p .0)
 
@@ -202,8 +201,10 @@ unfolding nodeBytes
 node-unique n m v w e =
     let p = given-unique 1 (n .path) (m .path) _ _ (omega arith) (omega (arith, v .path .short)) (omega (arith, w .path .short)) e in
     let a = part-unique 2 (statPart (n .value)) (statPart (m .value)) _ _ (omega arith) (value-sized (n .value)) (value-sized (m .value)) (value-later n) (value-later m) (p .1) in
-    let t = part-unique 3 (n .trie) (m .trie) _ _ (omega arith) (longest-sized 1024 (n .trie) (omega arith) (v .trie)) (longest-sized 1024 (m .trie) (omega arith) (w .trie)) (trie-later n) (trie-later m) (a .1) in
-    let r = writers-unique (n .writers) (m .writers) _ _ (v .writers) (w .writers) (later-untagged (numberField 5 (n .writersSequence)) (last-later (n .writersSequence))) (later-untagged (numberField 5 (m .writersSequence)) (last-later (m .writersSequence))) (t .1) in
+    let t = part-unique 3 (n .trie) (m .trie) _ _ (omega arith) (longest-sized 1024 (n .trie) (omega arith) (v .trie)) (longest-sized 1024 (m .trie) (omega arith) (w .trie))
+    (trie-later n) (trie-later m) (a .1) in
+    let r = writers-unique (n .writers) (m .writers) _ _ (v .writers) (w .writers) (later-untagged (numberField 5 (n .writersSequence)) (last-later (n .writersSequence)))
+    (later-untagged (numberField 5 (m .writersSequence)) (last-later (m .writersSequence))) (t .1) in
     let q = number-unique 5 (n .writersSequence) (m .writersSequence) [] [] (omega arith) (v .writersSequence) (w .writersSequence) (later-nil 5 (omega arith)) (later-nil 5 (omega arith))
     (append-nil (numberField 5 (n .writersSequence)) ∙ r .1 ∙ sym (append-nil (numberField 5 (m .writersSequence)))) in
     same-node n m (p .0) (value-unique (n .value) (m .value) (v .value) (w .value) (a .0)) (t .0) (r .0) (q .0)

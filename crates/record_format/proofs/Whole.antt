@@ -2,7 +2,7 @@
 use Prim.Native.Nat.{ℕ, _+_, _-_, _<_, _≤_}
 use mathlib.Core.Path.{_≡_, refl, sym, ap, _∙_, subst}
 use mathlib.Core.Bool.{Bool, true, false}
-use mathlib.Core.List.{List, [], _∷_, _++_, append-nil}
+use mathlib.Core.List.{List, [], _++_, append-nil}
 use mathlib.Core.Option.{Option, none, some}
 use native.Mathlib.Omega.{arith}
 use lib.ListN.{length, take, drop, length-append, length-drop, take-append-drop}
@@ -17,10 +17,11 @@ use Rattle.byte_strings.proofs.Lists.{part-at, put-append, same-eq, same-refl}
 use Rattle.record_fields.specs.Varints.{digits, varint}
 use Rattle.record_fields.specs.Fields.{partField}
 use Rattle.record_format.specs.Records.{Header, headerBytes, hyperdrive, HeaderWithin}
-use Rattle.record_fields.specs.Inner.{partOf, Inside}
+use Rattle.record_fields.specs.Inner.{partOf}
 use Rattle.record_format.specs.From.{headerFrom}
-use Rattle.record_format.specs.Theorems.{Accepted, Rejected}
-use Rattle.record_format.specs.Post.{writeVerdict, lengthUnless, frontUnless, writtenVerdict, writtenLength, Decides, WrittenAs, headerOf, HeaderWrittenAs, headerStart, toldOf, noPart, contentPart, readHeader, headerTold, ContentPlaced, HeadersWrittenBack}
+use Rattle.record_format.specs.Theorems.{Rejected}
+use Rattle.record_format.specs.Post.{writeVerdict, lengthUnless, frontUnless, writtenVerdict, writtenLength, Decides, WrittenAs, headerOf}
+use Rattle.record_format.specs.Post.{HeaderWrittenAs, headerStart, toldOf, noPart, contentPart, readHeader, headerTold, ContentPlaced, HeadersWrittenBack}
 use Rattle.record_format.specs.declared.answers.Written.{Written}
 use Rattle.record_format.specs.declared.answers.Written.the-variants.{Refused, Length}
 use Rattle.record_format.specs.declared.headers.HeaderRead.the-variants.{Refused as NoHeader, Content}
@@ -56,7 +57,8 @@ pub written-given : (W : Type 0) (bytes given out : List ℕ) (answer : Written)
     → WrittenAs W bytes out answer after
 written-given W bytes given out answer after w e g =
     subst (λ (b : List ℕ). WrittenAs W b out answer after) e
-    (says W given out true answer after (writeVerdict true (length given) (length out)) w refl (g .verdict ∙ ap (λ (b : Bool). writeVerdict b (length given) (length out)) (in-bounds (g .fits) (g .decides)))
+    (says W given out true answer after (writeVerdict true (length given) (length out)) w refl
+    (g .verdict ∙ ap (λ (b : Bool). writeVerdict b (length given) (length out)) (in-bounds (g .fits) (g .decides)))
     (g .long ∙ ap (λ (b : Bool). lengthUnless (writeVerdict b (length given) (length out)) (length given)) (in-bounds (g .fits) (g .decides)))
     (g .buffer ∙ ap (λ (b : Bool). frontUnless (writeVerdict b (length given) (length out)) given out) (in-bounds (g .fits) (g .decides))))
   where
@@ -121,7 +123,8 @@ read-started d start same r s e f q =
 pub read-content : (d start : List ℕ) (same : Bool) → length d ≡ 46 → start ≡ headerStart → same ≡ sameList (take 14 d) start → same ≡ true
     → headerTold (Content (record { at = 14; len = 32 })) ≡ readHeader verdicts.none d
 read-content d start same l s e f =
-    ap (toldOf verdicts.none noPart (λ (h : Header). contentPart)) (sym (each-read .headers .accepts d (headerOf (drop 14 d)) (record { within = record { named = refl; sized = sized }; bytes = bytes })))
+    ap (toldOf verdicts.none noPart (λ (h : Header). contentPart))
+    (sym (each-read .headers .accepts d (headerOf (drop 14 d)) (record { within = record { named = refl; sized = sized }; bytes = bytes })))
   where
     sized : length (drop 14 d) ≡ 32
     sized = length-drop 14 d ∙ omega arith
@@ -175,7 +178,8 @@ headers-written-back d p e out answer after g room =
     let c : partOf d p ≡ h .content = ap (partOf d) (t .1 .1) ∙ content-placed d h (t .1 .0) .1 in
     let same : headerOf (partOf d p) ≡ h = ap headerOf c ∙ ap (λ (x : List ℕ). record { type = x; content = h .content }) (sym (a .within .named)) in
     let bytes : headerBytes (headerOf (partOf d p)) ≡ d = ap headerBytes same ∙ a .bytes in
-    let r = written-whole (HeaderWithin (headerOf (partOf d p))) (headerBytes (headerOf (partOf d p))) out answer after (subst HeaderWithin (sym same) (a .within)) g (omega (arith, ap length bytes)) in
+    let r = written-whole (HeaderWithin (headerOf (partOf d p))) (headerBytes (headerOf (partOf d p))) out answer after (subst HeaderWithin (sym same) (a .within)) g
+    (omega (arith, ap length bytes)) in
     (r .0 ∙ ap {B = Written} (λ (x : List ℕ). Length (length x)) bytes, r .1 ∙ ap (put out 0) bytes)
 
 -- ---- writing a Header

@@ -1,6 +1,6 @@
 -- What is put of a Stat, and when its fields are in bounds. Assumes nothing.
 use Prim.Native.Nat.{ℕ, _+_, _<_, _≤_}
-use mathlib.Core.Path.{_≡_, refl, sym, ap, _∙_, subst}
+use mathlib.Core.Path.{_≡_, sym, subst}
 use mathlib.Core.Bool.{Bool, true, false}
 use mathlib.Core.List.{List, _++_}
 use mathlib.Core.Option.{Option}
@@ -15,9 +15,9 @@ use Rattle.record_fields.proofs.Put.{put-next, put-three}
 use Rattle.record_format.specs.Records.{Stat, StatWithin, statBytes, rowsOf, RowsWithin}
 use Rattle.record_format.specs.Records as fields
 use Rattle.record_format.specs.Post.{Decides, statOf}
-use Rattle.record_format.specs.Inner.{threeFields, ThreeMost}
+use Rattle.record_format.specs.Inner.{threeFields}
 use Rattle.record_format.specs.declared.stats.Stat.{Stat as CodeStat}
-use Rattle.record_format.proofs.Nine.{nine, nineOf, NineMost, nine-bytes, rows-most, nine-rows, Trio}
+use Rattle.record_format.proofs.Nine.{nine, nine-bytes}
 
 -- ---- whether something holds
 
@@ -87,5 +87,6 @@ pub stat-put : (s : Stat) (out : List ℕ) (fourth seventh end : ℕ) (one two a
     → PutAt (threeFields 7 (s .byteOffset, (s .mtime, s .ctime))) two seventh end after → PutAt (statBytes s) out 0 end after
 stat-put s out fourth seventh end one two after l p q r =
     subst (λ (bs : List ℕ). PutAt bs out 0 end after) (sym (nine-bytes s))
-    (put-three (threeFields 1 (s .mode, (s .uid, s .gid))) (threeFields 4 (s .size, (s .blocks, s .offset))) (threeFields 7 (s .byteOffset, (s .mtime, s .ctime))) out 0 fourth seventh end one two after
+    (put-three (threeFields 1 (s .mode, (s .uid, s .gid))) (threeFields 4 (s .size, (s .blocks, s .offset))) (threeFields 7 (s .byteOffset, (s .mtime, s .ctime)))
+    out 0 fourth seventh end one two after
     (omega (arith, three-size 1 (s .mode, (s .uid, s .gid)) (omega arith))) p q r)

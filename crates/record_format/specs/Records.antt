@@ -1,7 +1,7 @@
 -- The records: which fields they have, what the fields are bound to, and the bytes that are written of them.
 --
 -- The schema is that of the SLEEP paper. "Strings" are bytes here. Where a field is absent its value is none.
-use Prim.Native.Nat.{ℕ, suc, _<_, _≤_}
+use Prim.Native.Nat.{ℕ, suc, _≤_}
 use mathlib.Core.Path.{_≡_}
 use mathlib.Core.Bool.{cond}
 use mathlib.Core.List.{List, [], _∷_, _++_}

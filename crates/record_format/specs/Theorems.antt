@@ -3,7 +3,7 @@ use mathlib.Core.Path.{_≡_}
 use mathlib.Core.List.{List}
 use mathlib.Core.Option.{Option, none, some}
 use Prim.Native.Nat.{ℕ}
-use Rattle.record_format.specs.Records.{Header, HeaderWithin, headerBytes, Stat, StatWithin, statBytes, Writer, WriterWithin, writerBytes, Node, NodeWithin, nodeBytes}
+use Rattle.record_format.specs.Records.{HeaderWithin, headerBytes, StatWithin, statBytes, WriterWithin, writerBytes, NodeWithin, nodeBytes}
 use Rattle.record_format.specs.From.{headerFrom, nodeFrom}
 
 -- "the reader accepts those records only": bytes are read as fields that are within the bounds and whose writing is these very bytes

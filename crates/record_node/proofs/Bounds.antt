@@ -1,26 +1,26 @@
 -- When the fields of a Node are within the bounds. Assumes nothing.
-use Prim.Native.Nat.{ℕ, zero, suc, _+_, _<_, _≤_}
-use mathlib.Core.Path.{_≡_, refl, sym, ap, _∙_, subst}
-use mathlib.Core.Bool.{Bool, true, false}
+use Prim.Native.Nat.{ℕ, zero, _+_, _<_, _≤_}
+use mathlib.Core.Path.{_≡_, sym, ap, _∙_, subst}
+use mathlib.Core.Bool.{Bool}
 use mathlib.Core.Logic.{⊎-elim}
 use mathlib.Core.List.{List}
-use mathlib.Core.Option.{Option, none, some}
+use mathlib.Core.Option.{none, some}
 use native.Mathlib.Omega.{arith}
 use native.Mathlib.Nat.{add-zero}
 use lib.ListN.{length, getD}
 use Rattle.byte_strings.specs.Lists.{part, run}
 use Rattle.byte_strings.proofs.Lists.{getD-part, length-part, length-run}
-use Rattle.record_fields.specs.Fields.{Most, Longest}
-use Rattle.record_fields.specs.Inner.{partOf, bytesOf, numberOf, Inside, BytesInside}
+use Rattle.record_fields.specs.Fields.{Most}
+use Rattle.record_fields.specs.Inner.{partOf, numberOf, Inside}
 use Rattle.record_fields.specs.declared.rows.Part.{Part}
 use Rattle.record_fields.specs.declared.rows.Bytes.{Bytes}
 use Rattle.record_fields.specs.declared.rows.Bytes.the-variants.{Absent as NoBytes, Given as GivenBytes}
 use Rattle.record_fields.proofs.Digits.{two}
-use Rattle.record_format.specs.Records.{WriterWithin, WritersWithin, PathWithin, ValueWithin, StatWithin}
+use Rattle.record_format.specs.Records.{StatWithin}
 use Rattle.record_format.specs.Post.{Decides, statOf}
 use Rattle.record_format.specs.declared.stats.Stat.{Stat as CodeStat}
 use Rattle.record_format.proofs.Writing.{carried}
-use Rattle.record_node.specs.Post.{writerOf, noWriter, writerAt, writersOf, valueOf, nodeOf, WriterInside, WritersInside, NodeInside, NodeFits}
+use Rattle.record_node.specs.Post.{noWriter, writerAt, NodeFits}
 use Rattle.record_node.specs.Inner.{Lies, PathLies, BytesLie, WriterLies, WritersLie, ValueFits}
 use Rattle.record_node.specs.declared.writers.Writer.{Writer as CodeWriter}
 use Rattle.record_node.specs.declared.writers.Writers.{Writers}

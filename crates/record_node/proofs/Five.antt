@@ -1,5 +1,5 @@
 -- The five fields of a Node, as its reader takes them. Assumes nothing.
-use Prim.Native.Nat.{ℕ, _+_, _-_, _*_, _^_, _<_, _≤_}
+use Prim.Native.Nat.{ℕ, _+_, _-_, _<_, _≤_}
 use mathlib.Core.Path.{_≡_, refl, sym, ap, _∙_, subst}
 use mathlib.Core.List.{List, [], _++_, append-assoc, append-nil}
 use mathlib.Core.Option.{Option, none, some}
@@ -10,9 +10,9 @@ use Rattle.refusals.specs.Verdict as verdicts
 use Rattle.refusals.specs.declared.Answer.{Answer}
 use Rattle.refusals.specs.declared.Answer.the-variants.{Done}
 use Rattle.byte_strings.specs.Lists.{part}
-use Rattle.record_fields.specs.Reading.{Begins, BeginsNot, both, Both}
+use Rattle.record_fields.specs.Reading.{BeginsNot, both, Both}
 use Rattle.record_fields.specs.Fields.{numberField, partField, Most, Longest, Later}
-use Rattle.record_fields.specs.Inner.{Upto, PartUpto, BytesRead, NumberRead, numberOf, numberTold, partOf, bytesOf, Inside, BytesInside, bytesPlaced}
+use Rattle.record_fields.specs.Inner.{Upto, PartUpto, BytesRead, NumberRead, numberOf, numberTold, partOf, bytesOf, BytesInside, bytesPlaced}
 use Rattle.record_fields.specs.declared.rows.Part.{Part}
 use Rattle.record_fields.specs.declared.rows.Number.{Number}
 use Rattle.record_fields.specs.declared.rows.Number.the-variants.{Absent as NoNumber, Given as GivenNumber}
@@ -25,16 +25,17 @@ use Rattle.record_fields.specs.declared.rows.NumberRow.the-variants.{Bad as Bad
 use Rattle.record_fields.proofs.Reading.{Leads, first-not, then-not, then-read}
 use Rattle.record_fields.proofs.Fields.{later-nil, later-part, later-number}
 use Rattle.record_fields.proofs.Placed.{upto-next, bytes-placed}
-use Rattle.record_format.specs.Records.{Stat, statBytes, StatWithin, Writer, writersBytes, WritersWithin, Node, NodeWithin, nodeBytes, statPart, PathWithin, ValueWithin}
-use Rattle.record_format.specs.Theorems.{Accepted, Rejected}
-use Rattle.record_format.specs.Post.{Decides, statOf, statTold, toldOf, StatReadAs}
+use Rattle.record_format.specs.Records.{Stat, statBytes, writersBytes, Node, NodeWithin, nodeBytes, statPart, PathWithin}
+use Rattle.record_format.specs.Theorems.{Rejected}
+use Rattle.record_format.specs.Post.{statOf, statTold, toldOf, StatReadAs}
 use Rattle.record_format.specs.declared.stats.Stat.{Stat as CodeStat}
 use Rattle.record_format.specs.declared.stats.StatRead.{StatRead}
 use Rattle.record_format.specs.declared.stats.StatRead.the-variants.{Bad as BadStat, Read as ReadStat}
 use Rattle.record_format.proofs.Unique.{stat-size, writers-later}
 use Rattle.record_format.proofs.From.{each-read}
-use Rattle.record_node.specs.Post.{writersOf, valueOf, nodeOf, allPlaced, valueTold, nodePlaced, noNode, nodeTold, readNode, WritersInside}
-use Rattle.record_node.specs.Inner.{WritersFew, WritersUpto, WritersRead, threeParts, PartsLongest, PartsUpto, PartsRead, tailBytes, TailWithin, TailAt, TailRead, RawFields, rawBytes, RawWithin, RawAt, RawRead, PathLies, WithPathAs, ValueReadAs, NodeAt}
+use Rattle.record_node.specs.Post.{writersOf, valueOf, nodeOf, allPlaced, valueTold, nodePlaced, noNode, nodeTold, readNode}
+use Rattle.record_node.specs.Inner.{WritersFew, WritersUpto, WritersRead, threeParts, PartsLongest, PartsUpto, PartsRead, tailBytes, TailWithin, TailAt}
+use Rattle.record_node.specs.Inner.{TailRead, RawFields, rawBytes, RawWithin, RawAt, RawRead, PathLies, WithPathAs, ValueReadAs, NodeAt}
 use Rattle.record_node.proofs.Keyed.{given-part}
 use Rattle.record_node.specs.declared.writers.Writers.{Writers}
 use Rattle.record_node.specs.declared.writers.Row.{Row}
@@ -176,7 +177,17 @@ module _ (d : List ℕ) where
         n (r .1) (w .1) (sym (o .1))
 
     pub raw-read : (u : Last) (ws : Writers) (sequence : Number) → u ≡ ReadTail sequence → TailRead d fourth u ws → RawRead d (ReadRaw path value trie sequence) ws
-    raw-read u ws sequence f h = record { parts = three .inside; writers = tail .inside; accepted = record { within = all .begins .within; bytes = sym bytes }; only = only; first = three .first; third = three .third; fourth = placed }
+    raw-read u ws sequence f h =
+        record {
+          parts =
+              three .inside;
+          writers = tail .inside;
+          accepted = record { within = all .begins .within; bytes = sym bytes };
+          only = only;
+          first = three .first;
+          third = three .third;
+          fourth = placed;
+        }
       where
         tail : TailAt d fourth ws (numberOf sequence)
         tail = subst (λ (x : Last). TailRead d fourth x ws) f h
@@ -253,7 +264,8 @@ module _ (d : List ℕ) (field : Bytes) where
         let y : statBytes s ≡ partOf d p = cc in
         subst (StatReadAs b) f g s w (y ∙ sym cut ∙ sym q)
 
-    pub value-right : (b : List ℕ) → b ≡ take (p .at + p .len - p .at) (drop (p .at) d) → (r : StatRead) (s : CodeStat) → r ≡ ReadStat s → StatReadAs b r → ValueReadAs d field (ReadValue (GivenValue s))
+    pub value-right : (b : List ℕ) → b ≡ take (p .at + p .len - p .at) (drop (p .at) d) → (r : StatRead) (s : CodeStat) → r ≡ ReadStat s → StatReadAs b r → ValueReadAs d field
+        (ReadValue (GivenValue s))
     value-right b q r s f g =
         let a = subst (StatReadAs b) f g in
         (a .within, ap {B = Option (List ℕ)} some (a .bytes ∙ q ∙ cut) ∙ sym (ap (bytesOf d) e))

@@ -1,5 +1,5 @@
 -- One Writer, read. Assumes nothing.
-use Prim.Native.Nat.{ℕ, zero, suc, _+_, _-_, _*_, _^_, _<_, _≤_}
+use Prim.Native.Nat.{ℕ, zero, suc, _+_, _-_, _^_, _<_, _≤_}
 use mathlib.Core.Path.{_≡_, refl, sym, ap, ap₂, _∙_, subst}
 use mathlib.Core.List.{List, [], _∷_, _++_, append-assoc, append-nil}
 use mathlib.Core.Option.{Option, none, some}
@@ -9,9 +9,9 @@ use lib.ListN.{length, getD, take, drop, length-drop, drop-of-length-le, take-ap
 use lib.Seq.{length-take-le, take-nil}
 use Rattle.byte_strings.specs.Lists.{part}
 use Rattle.byte_strings.proofs.Lists.{part-left, length-part}
-use Rattle.record_fields.specs.Reading.{Begins, BeginsNot, both, Both}
+use Rattle.record_fields.specs.Reading.{BeginsNot, both, Both}
 use Rattle.record_fields.specs.Fields.{partField, givenField, Longest, Later}
-use Rattle.record_fields.specs.Inner.{Upto, PartUpto, NoPart, BytesRead, partOf, bytesOf, Inside, BytesInside, headOf, partPlaced, bytesPlaced}
+use Rattle.record_fields.specs.Inner.{Upto, PartUpto, BytesRead, partOf, bytesOf, Inside, BytesInside, headOf, partPlaced, bytesPlaced}
 use Rattle.record_fields.specs.declared.rows.Part.{Part}
 use Rattle.record_fields.specs.declared.rows.Bytes.{Bytes}
 use Rattle.record_fields.specs.declared.rows.Bytes.the-variants.{Absent as NoBytes, Given as GivenBytes}
@@ -22,10 +22,10 @@ use Rattle.record_fields.proofs.Fields.{part-tag, later-nil, later-part}
 use Rattle.record_fields.proofs.Unique.{given-unique}
 use Rattle.record_fields.proofs.Placed.{upto-next, part-placed, bytes-placed}
 use Rattle.record_format.specs.Records.{Writer, WriterWithin, writerBytes, writersBytes, WritersWithin}
-use Rattle.record_format.specs.Theorems.{Accepted, Rejected}
+use Rattle.record_format.specs.Theorems.{Rejected}
 use Rattle.record_format.proofs.Unique.{later-untagged, writer-size}
 use Rattle.record_node.specs.Post.{writerOf, WriterInside, writerPlaced}
-use Rattle.record_node.specs.Inner.{WithKeyAs, WriterAt, WriterReadAs, OneAt, OneRead}
+use Rattle.record_node.specs.Inner.{WithKeyAs, WriterAt, WriterReadAs, OneRead}
 use Rattle.record_node.specs.declared.writers.Writer.{Writer as CodeWriter}
 use Rattle.record_node.specs.declared.writers.WriterRead.{WriterRead}
 use Rattle.record_node.specs.declared.writers.WriterRead.the-variants.{Bad as BadWriter, Read as ReadWriter}
@@ -87,7 +87,8 @@ module _ (d : List ℕ) (at : ℕ) where
       all : Upto two Bounds (Later 2) d at (bytesOf d key, bytesOf d permission) end
       all = then-read (partField 1) (Longest 32) (Later 1) (partField 2) (Longest 16) (Later 2) leads d at (one .read) (other .read)
 
-      alone : (w : Writer) → WriterWithin w → writerBytes w ≡ drop at d → (_≡_ {A = Option (List ℕ) × Option (List ℕ)} (some (w .key), w .permission) (bytesOf d key, bytesOf d permission)) × ([] ≡ drop end d)
+      alone : (w : Writer) → WriterWithin w → writerBytes w ≡ drop at d →
+          (_≡_ {A = Option (List ℕ) × Option (List ℕ)} (some (w .key), w .permission) (bytesOf d key, bytesOf d permission)) × ([] ≡ drop end d)
       unfolding writerBytes
       alone w i p =
           all .begins .only (some (w .key), w .permission) [] (in-bounds w i) (later-nil 2 (omega arith)) (sym p ∙ sym (append-nil (two (some (w .key), w .permission))))

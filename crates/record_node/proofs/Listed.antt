@@ -1,9 +1,8 @@
 -- Writers one behind the other. Assumes nothing.
-use Prim.Native.Nat.{ℕ, zero, suc, _+_, _-_, _*_, _^_, _<_, _≤_}
+use Prim.Native.Nat.{ℕ, zero, suc, _+_, _-_, _*_, _<_, _≤_}
 use mathlib.Core.Path.{_≡_, refl, sym, ap, ap₂, _∙_, subst}
 use mathlib.Core.Logic.{_⊎_, ⊎-elim}
 use mathlib.Core.List.{List, [], _∷_, _++_, append-assoc, append-nil}
-use mathlib.Core.Option.{some}
 use native.Mathlib.Omega.{arith}
 use native.Mathlib.Numerals.{add-one}
 use native.Mathlib.Nat.{zero-add}
@@ -11,18 +10,16 @@ use lib.ListN.{length, getD, set, drop, replicate, length-set, length-append, le
 use lib.Seq.{getD-set-same, getD-set-other, set-at}
 use Rattle.byte_strings.specs.Lists.{run}
 use Rattle.byte_strings.proofs.Lists.{run-suc, run-ext, length-run}
-use Rattle.record_fields.specs.Reading.{Begins, BeginsNot}
-use Rattle.record_fields.specs.Fields.{partField, givenField, Later}
-use Rattle.record_fields.specs.Inner.{Upto, headOf}
+use Rattle.record_fields.specs.Reading.{BeginsNot}
+use Rattle.record_fields.specs.Fields.{givenField, Later}
+use Rattle.record_fields.specs.Inner.{headOf}
 use Rattle.record_fields.proofs.Digits.{two}
 use Rattle.record_format.specs.Records.{Writer, WriterWithin, writerBytes, writersBytes, WritersWithin}
-use Rattle.record_format.proofs.Unique.{Untagged, later-untagged, writer-tag, first-same, writers-unique, writer-size}
+use Rattle.record_format.proofs.Unique.{later-untagged, writer-tag, first-same, writers-unique}
 use Rattle.record_node.specs.Post.{writerOf, noWriter, WriterInside, writerPlaced, writersPlaced}
-use Rattle.record_node.specs.Inner.{OneAt, OneRead, WritersFew, WritersUpto, WritersRead}
+use Rattle.record_node.specs.Inner.{OneAt, OneRead, WritersFew, WritersUpto}
 use Rattle.record_node.specs.declared.writers.Writer.{Writer as CodeWriter}
 use Rattle.record_node.specs.declared.writers.Writers.{Writers}
-use Rattle.record_node.specs.declared.writers.Row.{Row}
-use Rattle.record_node.specs.declared.writers.Row.the-variants.{Bad as BadWriters, Upto as ReadWriters}
 use Rattle.record_node.specs.declared.writers.WriterRow.{WriterRow}
 use Rattle.record_node.specs.declared.writers.WriterRow.the-variants.{Bad as BadRow, End, Read as ReadRow}
 
@@ -131,7 +128,8 @@ unfolding writersPlaced
 placed-length at [] = refl
 placed-length at (w ∷ ws) = ap suc (placed-length (at + length (givenField 4 (writerBytes w))) ws)
 
-placed-snoc : (at : ℕ) (ws : List Writer) (w : Writer) → writersPlaced at (ws ++ (w ∷ [])) ≡ writersPlaced at ws ++ (writerPlaced (at + length (writersBytes ws) + length (headOf 4 (writerBytes w))) w ∷ [])
+placed-snoc : (at : ℕ) (ws : List Writer) (w : Writer) → writersPlaced at (ws ++ (w ∷ [])) ≡ writersPlaced at ws ++
+    (writerPlaced (at + length (writersBytes ws) + length (headOf 4 (writerBytes w))) w ∷ [])
 unfolding writersPlaced writersBytes
 placed-snoc at [] w = let e : at ≡ at + 0 = omega arith in ap (λ (n : ℕ). writerPlaced (n + length (headOf 4 (writerBytes w))) w ∷ []) e
 placed-snoc at (v ∷ ws) w =
@@ -173,7 +171,8 @@ module _ (d : List ℕ) (at : ℕ) (list : List CodeWriter) (count next : ℕ) (
       };
       inside = g .ends;
     };
-    placed = ap₂ {C = Writers} (λ (n : ℕ) (xs : List CodeWriter). record { count = n; list = xs }) (sym many) (g .placed ∙ ap (λ (n : ℕ). writersPlaced at ws ++ replicate (8 - n) noWriter) (sym many));
+    placed =
+        ap₂ {C = Writers} (λ (n : ℕ) (xs : List CodeWriter). record { count = n; list = xs }) (sym many) (g .placed ∙ ap (λ (n : ℕ). writersPlaced at ws ++ replicate (8 - n) noWriter) (sym many));
   }
     where
       many : length (run (listed d list) 0 count) ≡ count
@@ -207,7 +206,9 @@ module _ (d : List ℕ) (at : ℕ) (list : List CodeWriter) (count next : ℕ) (
       others j l = getD-set-other list count j w noWriter (λ q. omega (arith, q))
 
       each : (P : CodeWriter → Type 0) → P w → ((j : ℕ) → j < count → P (getD list j noWriter)) → (j : ℕ) → j < count + 1 → P (getD (set list count w) j noWriter)
-      each P p h j l = ⊎-elim (λ (a : j < count). subst P (sym (others j a)) (h j a)) (λ (b : count ≤ j). let q : count ≡ j = omega arith in subst (λ (n : ℕ). P (getD (set list count w) n noWriter)) q (subst P (sym same) p)) (two j count)
+      each P p h j l =
+          ⊎-elim (λ (a : j < count). subst P (sym (others j a)) (h j a))
+          (λ (b : count ≤ j). let q : count ≡ j = omega arith in subst (λ (n : ℕ). P (getD (set list count w) n noWriter)) q (subst P (sym same) p)) (two j count)
 
       one-more : run (listed d (set list count w)) 0 (count + 1) ≡ ws ++ (writerOf d w ∷ [])
       unfolding ws

@@ -9,17 +9,18 @@ use Rattle.refusals.specs.Verdict as verdicts
 use Rattle.byte_strings.specs.Lists.{run, put}
 use Rattle.byte_strings.proofs.Lists.{run-ext, run-getD}
 use Rattle.record_fields.specs.Fields.{numberField, partField, givenField}
-use Rattle.record_fields.specs.Inner.{partOf, bytesOf, Inside, BytesInside, headOf, bytesPlaced, numberOf, numberTold}
+use Rattle.record_fields.specs.Inner.{headOf, bytesPlaced, numberOf, numberTold}
 use Rattle.record_fields.proofs.Placed.{field-head, part-inside, part-bytes, Lying, lying}
 use Rattle.record_format.specs.Records.{Stat, Writer, writerBytes, writersBytes, Node, NodeWithin, nodeBytes, statPart}
 use Rattle.record_format.specs.From.{nodeFrom}
-use Rattle.record_format.specs.Post.{statOf, statTold, toldOf}
+use Rattle.record_format.specs.Post.{statOf, statTold}
 use Rattle.record_format.specs.declared.answers.Written.{Written}
 use Rattle.record_format.specs.declared.answers.Written.the-variants.{Length}
 use Rattle.record_format.proofs.Unique.{same-writer, same-node}
 use Rattle.record_format.proofs.From.{each-read}
 use Rattle.record_format.proofs.Whole.{told-some, written-whole}
-use Rattle.record_node.specs.Post.{writerOf, noWriter, writersOf, valueOf, nodeOf, WriterInside, WritersInside, NodeInside, NodeFits, writerPlaced, writersPlaced, allPlaced, trieAt, writersAt, valueTold, nodePlaced, noNode}
+use Rattle.record_node.specs.Post.{writerOf, noWriter, writersOf, valueOf, nodeOf, WriterInside, WritersInside, NodeInside, NodeFits, writerPlaced}
+use Rattle.record_node.specs.Post.{writersPlaced, allPlaced, trieAt, writersAt, valueTold, nodePlaced, noNode}
 use Rattle.record_node.specs.Theorems.{Placed, NodesPlaced, NodesWrittenBack, RoomForAny}
 use Rattle.record_node.specs.declared.writers.Writer.{Writer as CodeWriter}
 use Rattle.record_node.proofs.Listed.{placed-length}
@@ -56,7 +57,8 @@ module _ (d : List ℕ) where
       let head = headOf 4 (writerBytes w) in
       let rest = writersBytes ws ++ t in
       writer-lying (front ++ head) rest (at + length head) w (length-append front head ∙ ap (λ (n : ℕ). n + length head) l)
-      (e ∙ ap (λ (x : List ℕ). front ++ x) (append-assoc (givenField 4 (writerBytes w)) (writersBytes ws) t ∙ ap (λ (x : List ℕ). x ++ rest) (field-head 4 (writerBytes w)) ∙ append-assoc head (writerBytes w) rest)
+      (e ∙ ap (λ (x : List ℕ). front ++ x) (append-assoc (givenField 4 (writerBytes w)) (writersBytes ws) t ∙ ap (λ (x : List ℕ). x ++ rest) (field-head 4 (writerBytes w))
+      ∙ append-assoc head (writerBytes w) rest)
       ∙ sym (append-assoc front head (writerBytes w ++ rest)))
   writers-lying front t at (w ∷ ws) l e (suc j) h =
       let field = givenField 4 (writerBytes w) in

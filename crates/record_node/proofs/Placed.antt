@@ -1,26 +1,25 @@
 -- What is put of a Node. Assumes nothing.
-use Prim.Native.Nat.{ℕ, zero, suc, _+_, _-_, _*_, _^_, _<_, _≤_}
+use Prim.Native.Nat.{ℕ, _+_, _-_, _*_, _<_, _≤_}
 use mathlib.Core.Path.{_≡_, refl, sym, ap, _∙_, subst}
-use mathlib.Core.List.{List, [], _++_}
+use mathlib.Core.List.{List, _++_}
 use mathlib.Core.Option.{Option, none, some}
 use native.Mathlib.Omega.{arith}
-use lib.ListN.{length, getD, take, drop, length-drop, length-append}
-use lib.Seq.{length-take-le}
+use lib.ListN.{length, take, drop, length-append}
 use Rattle.byte_strings.specs.Lists.{part, put, run}
 use Rattle.byte_strings.proofs.Lists.{length-part, part-put}
 use Rattle.record_fields.specs.Fields.{numberField, partField, givenField, Longest}
-use Rattle.record_fields.specs.Inner.{numberOf, partOf, bytesOf, Inside, BytesInside, sizeOf, PutAt, BytesRoomy}
+use Rattle.record_fields.specs.Inner.{numberOf, partOf, bytesOf, BytesInside, sizeOf, PutAt, BytesRoomy}
 use Rattle.record_fields.specs.declared.rows.Part.{Part}
 use Rattle.record_fields.specs.declared.rows.Bytes.{Bytes}
 use Rattle.record_fields.specs.declared.rows.Bytes.the-variants.{Absent as NoBytes, Given as GivenBytes}
 use Rattle.record_fields.proofs.Unique.{number-size, part-size, part-within}
-use Rattle.record_fields.proofs.Put.{put-length, put-then, put-next, put-nothing}
+use Rattle.record_fields.proofs.Put.{put-then, put-next, put-nothing}
 use Rattle.record_format.specs.Records.{Stat, statBytes, Writer, WriterWithin, writerBytes, writersBytes, Node, nodeBytes, statPart}
 use Rattle.record_format.specs.Post.{statOf}
 use Rattle.record_format.specs.declared.stats.Stat.{Stat as CodeStat}
 use Rattle.record_format.proofs.Unique.{stat-size, writer-size}
-use Rattle.record_node.specs.Post.{writerOf, noWriter, writerAt, writersOf, valueOf, nodeOf, WriterInside, NodeFits}
-use Rattle.record_node.specs.Inner.{WriterLies, WritersLie, WriterRoomy, WritersRoomy, NodeRoomy}
+use Rattle.record_node.specs.Post.{writerOf, writerAt, writersOf, valueOf, nodeOf, NodeFits}
+use Rattle.record_node.specs.Inner.{WriterLies, WriterRoomy, WritersRoomy}
 use Rattle.record_node.specs.declared.writers.Writer.{Writer as CodeWriter}
 use Rattle.record_node.specs.declared.writers.Writers.{Writers}
 use Rattle.record_node.specs.declared.reading.Value.{Value}
@@ -185,7 +184,8 @@ module _ (d : List ℕ) (n : CodeNode) (w : NodeFits d n) where
   all-size =
       omega (
         arith,
-        writers-size (listed d (n .writers .list)) (n .writers .count) (λ j l. field-size (listed d (n .writers .list) j) (all-within (listed d (n .writers .list)) (n .writers .count) (w .within .writers) j l)),
+        writers-size (listed d (n .writers .list)) (n .writers .count)
+            (λ j l. field-size (listed d (n .writers .list) j) (all-within (listed d (n .writers .list)) (n .writers .count) (w .within .writers) j l)),
         w .inside .writers .count,
       )
 

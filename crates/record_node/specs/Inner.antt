@@ -1,15 +1,15 @@
 -- What the inner functions find in the bytes lent, and what they put into a buffer.
-use Prim.Native.Nat.{ℕ, _+_, _*_, _≤_}
+use Prim.Native.Nat.{ℕ, _+_, _≤_}
 use mathlib.Core.Path.{_≡_}
-use mathlib.Core.List.{List, [], _∷_, _++_}
-use mathlib.Core.Option.{Option, none, some}
-use lib.ListN.{length, getD, take, drop}
+use mathlib.Core.List.{List, _++_}
+use mathlib.Core.Option.{Option, some}
+use lib.ListN.{length, getD, drop}
 use Rattle.record_fields.specs.Reading.{BeginsNot, both, Both}
 use Rattle.record_fields.specs.Fields.{numberField, partField, givenField, Most, Longest, Later}
 use Rattle.record_fields.specs.Inner.{Upto, numberOf, partOf, bytesOf, Inside, BytesInside, headOf, bytesPlaced}
 use Rattle.record_fields.specs.declared.rows.Part.{Part}
 use Rattle.record_fields.specs.declared.rows.Bytes.{Bytes}
-use Rattle.record_fields.specs.declared.rows.Bytes.the-variants.{Absent as NoBytes, Given as GivenBytes}
+use Rattle.record_fields.specs.declared.rows.Bytes.the-variants.{Given as GivenBytes}
 use Rattle.record_format.specs.Records.{Stat, Writer, WriterWithin, writerBytes, writersBytes, WritersWithin, PathWithin, ValueWithin, statPart, Node, NodeWithin, nodeBytes}
 use Rattle.record_format.specs.Theorems.{Accepted, Rejected}
 use Rattle.record_node.specs.Post.{writerOf, writersOf, valueOf, nodeOf, WriterInside, WritersInside, NodeInside, NodeFits, writerPlaced, allPlaced, nodePlaced}

@@ -5,8 +5,6 @@ use super::writers::Writer;
 use super::writers::Writers;
 use record_fields::Bytes;
 use record_fields::Part;
-ghost use mathlib.Core.Path.{_≡_};
-ghost use Prim.Native.Nat.{_≤_};
 ghost use Rattle.record_format.specs.Post.{Decides};
 ghost use Rattle.record_node.specs.Post.{NodeFits};
 ghost use Rattle.record_node.specs.Inner.{Lies, PathLies, BytesLie, WriterLies, WritersLie, ValueFits};

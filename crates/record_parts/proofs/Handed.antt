@@ -1,7 +1,6 @@
 -- A part that is handed back is that of the one record which the bytes are. Assumes nothing.
 use Prim.Native.Nat.{ℕ, _+_, _-_, _<_, _≤_}
 use mathlib.Core.Path.{_≡_, refl, sym, ap, _∙_, subst}
-use mathlib.Core.Bool.{Bool, true, false, cond}
 use mathlib.Core.Logic.{⊎-elim}
 use mathlib.Core.List.{List, [], _++_}
 use mathlib.Core.Option.{none, some}
@@ -33,7 +32,7 @@ use Rattle.record_format.specs.declared.headers.HeaderRead.{HeaderRead}
 use Rattle.record_format.specs.declared.headers.HeaderRead.the-variants.{Refused as NoHeader, Content}
 use Rattle.record_format.proofs.From.{each-read}
 use Rattle.record_format.proofs.Whole.{told-refused, told-some, content-placed}
-use Rattle.record_node.specs.Post.{writerOf, writersOf, writerAt, noWriter, noWriters, nodeOf, nodePlaced, noNode, nodeTold, readNode, WriterInside, WritersInside, NodeInside}
+use Rattle.record_node.specs.Post.{writerOf, writersOf, writerAt, noWriter, nodeOf, nodePlaced, noNode, nodeTold, readNode, WriterInside, WritersInside, NodeInside}
 use Rattle.record_node.specs.declared.writers.Writer.{Writer as CodeWriter}
 use Rattle.record_node.specs.declared.writers.Writers.{Writers}
 use Rattle.record_node.specs.declared.reading.Node.{Node as CodeNode}

@@ -1,15 +1,15 @@
 -- What a release leaves behind: on a register that belongs to chunks, held or released, and on every one on which it is done.
 -- Assumes nothing.
 use Prim.Native.Nat.{ℕ, _+_, _*_, _≤_, _<_}
-use mathlib.Core.Path.{_≡_, refl, sym, ap, ap₂, _∙_, subst}
+use mathlib.Core.Path.{_≡_, sym, ap, ap₂, _∙_, subst}
 use mathlib.Core.Bool.{true, false}
 use mathlib.Core.List.{List, [], _++_}
 use native.Mathlib.Nat.{mul-one}
 use native.Mathlib.Omega.{arith}
 use lib.ListN.{length, getD, set, take, drop, length-replicate, take-append-drop}
 use lib.Seq.{length-take-le, take-at}
-use Rattle.refusals.specs.Verdict.{none, tree, done, refused}
-use Rattle.byte_strings.specs.Lists.{put, zeros, Bytes}
+use Rattle.refusals.specs.Verdict.{tree, done}
+use Rattle.byte_strings.specs.Lists.{put, zeros}
 use Rattle.byte_strings.proofs.Lists.{take-behind, length-put, drop-put, bytes-put, bytes-zeros}
 use Rattle.tree_index.specs.Tree.{index}
 use Rattle.tree_index.proofs.Filled.{end-filled}
@@ -19,22 +19,21 @@ use Rattle.bitfield.proofs.Image.{length-entries, put-local}
 use Rattle.bitfield.proofs.Bits.{without-one}
 use Rattle.bitfield.proofs.Append.{entries-ext}
 use Rattle.bitfield.proofs.Release.{released-image}
-use Rattle.file_format.specs.Sizes.{longestChunk, usedBitfield}
+use Rattle.file_format.specs.Sizes.{usedBitfield}
 use Rattle.file_format.specs.Messages.{HashFunction}
 use Rattle.file_format.specs.Entries.{Entry, hole, node}
 use Rattle.file_format.specs.Images.{leaves, dataSize, dataImage, bitfieldImage, treeImage}
-use Rattle.file_format.specs.Stored.{storedHash, storedSize}
-use Rattle.file_format.specs.Slots.{Slot, released, slotEntry, contents, heldIn, Within}
-use Rattle.file_format.specs.Belongs.{Register, Lent, Belongs}
+use Rattle.file_format.specs.Stored.{storedSize}
+use Rattle.file_format.specs.Slots.{Slot, released, contents, heldIn, Within}
+use Rattle.file_format.specs.Belongs.{Register, Belongs}
 use Rattle.file_format.proofs.Spans.{span}
-use Rattle.file_format.proofs.Slots.{slotAt, contents-length, leaf-at}
+use Rattle.file_format.proofs.Slots.{contents-length, leaf-at}
 use Rattle.file_format.proofs.Nodes.{Proper, nodeAt-index, node-proper}
 use Rattle.file_format.proofs.OfImage.{stored-node-hash, stored-node-size}
 use Rattle.file_format.proofs.Held.{bits-room, bits-cut}
-use Rattle.checks.specs.Checks.{judged, registerChecks}
 use Rattle.checks.proofs.Passed.{Passed, passes, passed}
 use Rattle.lookup.specs.Lookup.{startOf, toChunk, heldVerdict}
-use Rattle.lookup.proofs.Calls.{Placing, placing, held-done}
+use Rattle.lookup.proofs.Calls.{held-done}
 use Rattle.lookup.proofs.Answers.{no-held, to-chunk, leaf-of, held-n, held-as, held-done-at}
 use Rattle.release.specs.Release.{releaseVerdict, releasedRegister}
 use Rattle.release.specs.Theorems.{leafEntry, releasedIn, Releases, ReleaseAnswers, ReleaseAnswersForAll, ReleaseStays, ReleaseStaysForAll}

@@ -5,12 +5,11 @@ use mathlib.Core.Bool.{cond}
 use mathlib.Core.List.{List, [], _∷_, _++_}
 use native.Mathlib.Omega.{arith}
 use lib.Dec.{ltb}
-use lib.ListN.{length}
 use borrow.Author.Tests.{ltb-true}
 use Rattle.refusals.specs.Verdict.{Spot, Verdict, tree, done, refused, unlessRefused}
 use Rattle.byte_strings.specs.Lists.{put, zeros}
 use Rattle.tree_index.specs.Tree.{index}
-use Rattle.bitfield.specs.Release.{storedHeld, releasedBits}
+use Rattle.bitfield.specs.Release.{storedHeld}
 use Rattle.file_format.specs.Stored.{storedSize}
 use Rattle.file_format.specs.Belongs.{Register, buffersOf}
 use Rattle.checks.specs.Checks.{Check, judged, registerChecks}

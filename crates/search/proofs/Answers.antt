@@ -1,7 +1,7 @@
 -- What the code of a search needs of the definitions, and what a search of a register answers that belongs to chunks, held or released.
 -- Assumes nothing.
 use Prim.Native.Nat.{ℕ, _+_, _-_, _*_, _≤_, _<_}
-use mathlib.Core.Path.{_≡_, refl, sym, ap, ap₂, _∙_, subst}
+use mathlib.Core.Path.{_≡_, sym, ap, _∙_}
 use mathlib.Core.Bool.{Bool}
 use mathlib.Core.List.{List, _++_}
 use native.Mathlib.Nat.{zero-add}
@@ -26,7 +26,7 @@ use Rattle.file_format.specs.Belongs.{Register, Belongs}
 use Rattle.file_format.proofs.Held.{bits-cut, stored-held}
 use Rattle.checks.specs.Checks.{judged, registerChecks}
 use Rattle.checks.proofs.Passed.{passed}
-use Rattle.search.specs.Search.{firstMissing, Sought, refusal, answer, soughtUnless, searchFor}
+use Rattle.search.specs.Search.{firstMissing, refusal, answer, soughtUnless, searchFor}
 use Rattle.search.specs.Inner.{DataIn}
 use Rattle.search.specs.Theorems.{IndexFollows, SearchAnswersForAll}
 use Rattle.search.proofs.Steps.{data-in}

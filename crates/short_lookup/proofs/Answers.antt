@@ -20,7 +20,8 @@ use Rattle.lookup.specs.Lookup.{Found, refusal, found}
 use Rattle.search.proofs.Cut.{cut-none, lowest-none}
 use Rattle.short_lookup.specs.ShortLookup.{leafFits, leafPassed, placeByLeaves, byteByLeaves, shortPlaceOf, shortByteAt}
 use Rattle.short_lookup.specs.Theorems.{LeavesFit, FirstLong, ShortLookups, ShortLookupsForAll}
-use Rattle.short_lookup.proofs.Walks.{start-next, start-none, leaf-fits, leaf-long, passed-on, passed-long, passed-here, place-nowhere, place-first, byte-nowhere, byte-first-long, byte-first-here, place-nine, place-there, byte-nine, byte-end, byte-there}
+use Rattle.short_lookup.proofs.Walks.{start-next, start-none, leaf-fits, leaf-long, passed-on, passed-long, passed-here, place-nowhere, place-first}
+use Rattle.short_lookup.proofs.Walks.{byte-nowhere, byte-first-long, byte-first-here, place-nine, place-there, byte-nine, byte-end, byte-there}
 use Rattle.short_lookup.proofs.Calls.{place-passed, byte-passed}
 
 -- ---- the lowest number that a test finds wrong

@@ -1,16 +1,16 @@
 -- What a serving answers, hands back and leaves, from whose turn it is. Assumes nothing.
 use Prim.Native.Nat.{ℕ}
-use mathlib.Core.Path.{_≡_, refl, sym, ap, _∙_}
+use mathlib.Core.Path.{_≡_, refl, ap, _∙_}
 use mathlib.Core.List.{List, []}
 use native.Mathlib.Omega.{arith}
 use borrow.Author.Tests.{eq-eqb, ne-eqb}
-use Rattle.refusals.specs.Verdict.{Spot, Verdict, done, refused}
+use Rattle.refusals.specs.Verdict.{Verdict, done, refused}
 use Rattle.file_format.specs.Belongs.{Register}
 use Rattle.lookup.specs.Read.{Name, metadata, contents, named, chunkBytes, partUnless, readVerdict, readPart}
 use Rattle.station_table.specs.Table.{Read, Table, Turn, nobody, turn, without, next, served}
 use Rattle.station_table.specs.Words.{tableOf}
 use Rattle.station_table.specs.Post.{Left}
-use Rattle.station_serving.specs.Serving.{namedBy, Serving, none, station, serving, servedPart, afterServing, Serves, Agrees, AgreesForAll}
+use Rattle.station_serving.specs.Serving.{namedBy, Serving, none, station, serving, servedPart, afterServing, Serves, AgreesForAll}
 
 -- the register that a number names
 pub first-named : (k : ℕ) → k ≡ 0 → metadata ≡ namedBy k

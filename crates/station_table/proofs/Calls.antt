@@ -1,9 +1,8 @@
 -- What the calls on a table answer and leave, from the case that each came to. Assumes nothing.
 use Prim.Native.Nat.{ℕ, zero, suc, _+_, _-_, _%_, _<_, _≤_}
-use mathlib.Core.Path.{_≡_, refl, sym, ap, ap₂, _∙_, subst}
+use mathlib.Core.Path.{_≡_, refl, sym, ap, ap₂, _∙_}
 use mathlib.Core.List.{List, [], _∷_}
 use native.Mathlib.Omega.{arith}
-use native.Mathlib.Nat.{zero-add, not-suc-le-zero}
 use lib.ListN.{length, getD, set}
 use lib.Seq.{getD-set-same, getD-set-other}
 use borrow.Author.Tests.{lt-ltb, le-ltb}
@@ -16,8 +15,8 @@ use Rattle.byte_strings.proofs.Lists.{run-ext}
 use Rattle.station_table.specs.Table.{Read, Table, Turn, nobody, turn, waitingFor, behind, afterTurn, without, roundFrom, firstOf, enterVerdict, entered, next, served, fresh}
 use Rattle.station_table.specs.Words.{countAt, firstAt, readAt, waitingAt, lastAt, tableOf, behindAt, storedAt, droppedAt, leftAt}
 use Rattle.station_table.specs.Post.{Entered, Left}
-use Rattle.station_table.proofs.Numbers.{for-station, length-waiting, first-below, last-below, count-is, tabled, stored, stored-table, dropped, dropped-table}
-use Rattle.station_table.proofs.Turns.{Found, passed, met, ended, found}
+use Rattle.station_table.proofs.Numbers.{for-station, length-waiting, first-below, count-is, tabled, stored, stored-table, dropped, dropped-table}
+use Rattle.station_table.proofs.Turns.{passed, met, ended, found}
 
 -- ---- entering
 

@@ -1,18 +1,19 @@
 -- What holds of every run of calls from a fresh table. Assumes nothing.
-use Prim.Native.Nat.{ℕ, zero, suc, _+_, _-_, _%_, _<_, _≤_}
-use mathlib.Core.Path.{_≡_, refl, sym, ap, ap₂, _∙_, subst}
+use Prim.Native.Nat.{ℕ, zero, _+_, _-_, _%_, _<_, _≤_}
+use mathlib.Core.Path.{_≡_, refl, sym, ap, _∙_, subst}
 use mathlib.Core.Bool.{Bool, true, false, cond, _||_}
 use mathlib.Core.List.{List, [], _∷_, _++_, append-assoc, append-nil}
 use native.Mathlib.Omega.{arith}
 use native.Mathlib.Nat.{zero-add}
 use lib.Dec.{ltb, eqb}
-use lib.ListN.{length, getD, set, drop, replicate, length-append, length-drop, length-set, length-replicate, getD-replicate, List·getD-eq-default}
+use lib.ListN.{length, getD, set, drop, replicate, length-append, length-drop, length-set, getD-replicate, List·getD-eq-default}
 use lib.Seq.{getD-set-same, getD-set-other}
 use borrow.Author.Tests.{ltb-true, ltb-false, eqb-true, eqb-false}
 use Rattle.refusals.specs.Verdict.{Verdict, Spot, none, done, refused, unlessRefused}
-use Rattle.byte_strings.specs.Lists.{run, among}
-use Rattle.station_table.specs.Table.{Read, Table, Turn, nobody, turn, waitingFor, Waits, behind, afterTurn, without, roundFrom, firstOf, enterVerdict, entered, next, served, fresh}
-use Rattle.station_table.specs.Runs.{Call, enter, serve, Event, came, turnedAway, went, idle, entryOf, servingOf, event, after, afterAll, events, comes, goes, cameFor, wentFor, whom, servings, ifFor, Fair, FairForAll, Grown, begun, andEntered, andServed, FairAsLent}
+use Rattle.byte_strings.specs.Lists.{among}
+use Rattle.station_table.specs.Table.{Read, Table, Turn, nobody, turn, waitingFor, Waits, behind, afterTurn, without, roundFrom, enterVerdict, entered, next, served, fresh}
+use Rattle.station_table.specs.Runs.{Call, enter, serve, Event, entryOf, servingOf, event, after, afterAll, events, comes, goes, cameFor, wentFor, whom}
+use Rattle.station_table.specs.Runs.{servings, Fair, FairForAll, Grown, begun, andEntered, andServed, FairAsLent}
 use Rattle.station_table.specs.Words.{tableOf}
 use Rattle.station_table.proofs.Turns.{Found, found, silent, all-silent}
 use Rattle.station_table.proofs.Calls.{verdict-21, verdict-22, verdict-done}

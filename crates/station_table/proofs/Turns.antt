@@ -1,12 +1,12 @@
 -- The first station of some in a row that has a read waiting. Assumes nothing.
-use Prim.Native.Nat.{ℕ, zero, suc, _+_, _<_, _≤_}
+use Prim.Native.Nat.{ℕ, zero, suc, _+_, _<_}
 use mathlib.Core.Path.{_≡_, refl, sym, ap, _∙_}
 use mathlib.Core.List.{List, [], _∷_}
 use native.Mathlib.Omega.{arith}
 use native.Mathlib.Nat.{add-zero, suc-add, add-suc, not-suc-le-zero}
 use lib.ListN.{getD}
 use Rattle.byte_strings.specs.Lists.{run}
-use Rattle.station_table.specs.Table.{Read, Turn, nobody, turn, turnOr, firstOf}
+use Rattle.station_table.specs.Table.{Read, nobody, turn, turnOr, firstOf}
 
 -- station x, with its first read r, is the first of f i, f (i + 1), .., n of them, that has one
 pub record Found (w : List (List Read)) (f : ℕ → ℕ) (i n x : ℕ) (r : Read) : Type 0 where

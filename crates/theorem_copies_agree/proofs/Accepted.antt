@@ -33,7 +33,8 @@ use Rattle.copy_checks.specs.Least.{leastOf}
 use Rattle.copy_checks.proofs.Least.{lower-none}
 use Rattle.copy_checks.proofs.Steps.{Lent, partly-passed}
 use Rattle.copy_checks.specs.Descents.{copyToChunk}
-use Rattle.copy_audit.specs.Audit.{wrongUnless, bothKnown, leafRightFrom, wrongFrom, wrongByLeaf, wrongByParent, wrongByKnown, wrongByUnknown, wrongBy, wrongEntryOfCopy, knownBits, copyBitfieldImage, copyByteRight, wrongByteOfCopy, auditCopy}
+use Rattle.copy_audit.specs.Audit.{wrongUnless, bothKnown, leafRightFrom, wrongFrom, wrongByLeaf, wrongByParent, wrongByKnown, wrongByUnknown, wrongBy}
+use Rattle.copy_audit.specs.Audit.{wrongEntryOfCopy, knownBits, copyBitfieldImage, copyByteRight, wrongByteOfCopy, auditCopy}
 use Rattle.theorem_copies_agree.specs.Theorems.{AllKnown, CopyShortAgreesForAll}
 use Rattle.theorem_copies_agree.proofs.Agree.{copy-lookups-agree, copy-search-agrees}
 

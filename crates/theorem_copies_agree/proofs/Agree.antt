@@ -1,8 +1,8 @@
 -- The agreements on copies, from those of tree and bitfield files. Assumes nothing.
-use Prim.Native.Nat.{ℕ, _-_, _≤_, _<_}
+use Prim.Native.Nat.{ℕ, _-_}
 use mathlib.Core.Path.{_≡_, refl, sym, ap, _∙_}
 use mathlib.Core.Bool.{Bool, true, false}
-use mathlib.Core.List.{List, [], _∷_}
+use mathlib.Core.List.{[], _∷_}
 use borrow.Author.Tests.{ltb-true, ltb-false, leb-false, eqb-true}
 use lib.Dec.{leb, ltb}
 use Rattle.refusals.specs.Verdict.{Spot, Verdict, tree, done, refused}

@@ -2,3 +2,4 @@
 pub mod Known
 pub mod Agree
 pub mod Accepted
+pub mod ShortLookups

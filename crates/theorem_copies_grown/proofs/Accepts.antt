@@ -1,22 +1,22 @@
 -- A copy of which that holds is accepted.
 -- Assumes nothing.
-use Prim.Native.Nat.{ℕ, zero, suc, _+_, _-_, _*_, _/_, _%_, _^_, _≤_, _<_}
+use Prim.Native.Nat.{ℕ, zero, suc, _+_, _-_, _*_, _^_, _≤_, _<_}
 use mathlib.Core.Path.{_≡_, refl, sym, ap, ap₂, _∙_, subst}
 use mathlib.Core.Bool.{Bool, true, false, cond, not, _&&_, _||_}
 use mathlib.Core.Logic.{_⊎_, inl, inr}
 use mathlib.Core.List.{List, [], _∷_, _++_}
 use native.Mathlib.Omega.{arith}
-use borrow.Author.Tests.{le-leb, lt-ltb, le-ltb, ltb-true, ltb-false, eq-eqb, eqb-true, eqb-false}
+use borrow.Author.Tests.{le-leb, ltb-true, ltb-false, eq-eqb}
 use lib.Dec.{leb, ltb, eqb}
 use lib.ListN.{length, getD, take}
 use lib.Seq.{getD-take}
-use Rattle.refusals.specs.Verdict.{Verdict, tree, bitfield, done}
+use Rattle.refusals.specs.Verdict.{tree, bitfield, done}
 use Rattle.byte_strings.specs.Lists.{part, run, joined, total, sameList, allZero, zeros}
 use Rattle.byte_strings.specs.Lowest.{Lowest, nowhere, first, lowest}
 use Rattle.byte_strings.proofs.Lists.{length-part, getD-part, run-ext, same-refl}
 use Rattle.tree_index.specs.Tree.{index, depth, block, leftChild, rightChild, filled, rootOf, rootsBelow, roots, entries}
 use Rattle.tree_index.proofs.Index.{depth-index, block-index, by-coordinates, leftChild-index, rightChild-index}
-use Rattle.tree_index.proofs.Filled.{filled-below, filled-end, filled-left, filled-right}
+use Rattle.tree_index.proofs.Filled.{filled-below, filled-end, filled-left}
 use Rattle.bitfield.specs.Image.{entry, entryCount}
 use Rattle.bitfield.specs.Release.{storedHeld}
 use Rattle.bitfield.specs.Known.{storedKnown}
@@ -33,11 +33,12 @@ use Rattle.packet.specs.Inner.{ChunkOf}
 use Rattle.copy_checks.specs.Copy.{Copy, known}
 use Rattle.copy_checks.specs.Least.{lowerOf, leastOf}
 use Rattle.lookup.specs.Unknown.{firstUnknown}
-use Rattle.copy_checks.specs.Checks.{unknownRoot, passedOver, partlyJudged}
-use Rattle.copy_checks.proofs.Steps.{Lent, partly-passes}
+use Rattle.copy_checks.specs.Checks.{unknownRoot, passedOver}
+use Rattle.copy_checks.proofs.Steps.{partly-passes}
 use Rattle.lookup.proofs.ReadOrder.{reads}
 use Rattle.copy_checks.proofs.Descents.{unknownToChunk, chunk-same}
-use Rattle.copy_audit.specs.Audit.{wrongUnless, heldLeaf, bothKnown, leafRightFrom, wrongFrom, wrongByLeaf, wrongByParent, wrongByKnown, wrongByUnknown, wrongBy, wrongEntryOfCopy, knownBits, copyBitfieldImage, copyByteRight, wrongByteOfCopy, auditCopy, AcceptedCopy}
+use Rattle.copy_audit.specs.Audit.{wrongUnless, heldLeaf, bothKnown, leafRightFrom, wrongFrom, wrongByLeaf, wrongByParent, wrongByKnown, wrongByUnknown}
+use Rattle.copy_audit.specs.Audit.{wrongBy, wrongEntryOfCopy, knownBits, copyBitfieldImage, copyByteRight, wrongByteOfCopy, auditCopy, AcceptedCopy}
 use Rattle.theorem_taking_laws.proofs.Members.{In}
 use Rattle.theorem_taking_laws.proofs.Shown.{entriesFor, shown, shown-used}
 use Rattle.theorem_taking_laws.proofs.Brought.{above-root, in-roots-filled}
@@ -192,7 +193,8 @@ module _ (F : List ℕ → List ℕ) (c : Copy) (g : Grows F c) where
       stored = ap (known c) (leftChild-index d k) ∙ stored-known F c g (index d (2 * k)) (filled-below (c .n) (index d (2 * k)) (filled-left (c .n) d k f))
 
       pick : (b : Bool) → g .knowsOf (index d (2 * k)) ≡ b → judged (known c (leftChild (index (suc d) k))) (parentRight F t (index (suc d) k)) ≡ true
-      pick true e = ap (judged (known c (leftChild (index (suc d) k)))) (parent-right d k (g .follows d k f e)) ∙ or-true (not (known c (leftChild (index (suc d) k)) && known c (rightChild (index (suc d) k))))
+      pick true e =
+          ap (judged (known c (leftChild (index (suc d) k)))) (parent-right d k (g .follows d k f e)) ∙ or-true (not (known c (leftChild (index (suc d) k)) && known c (rightChild (index (suc d) k))))
       pick false e = ap (λ (a : Bool). judged a (parentRight F t (index (suc d) k))) (stored ∙ e)
 
   known-none : (d k : ℕ) → g .knowsOf (index d k) ≡ true → wrongByKnown F c (index d k) ≡ nowhere

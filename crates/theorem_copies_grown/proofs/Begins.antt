@@ -1,14 +1,12 @@
 -- It holds of a copy that is made.
 -- Assumes nothing.
-use Prim.Native.Nat.{ℕ, zero, suc, _+_, _-_, _*_, _/_, _%_, _^_, _≤_, _<_}
+use Prim.Native.Nat.{ℕ, zero, suc, _+_, _-_, _*_, _≤_, _<_}
 use mathlib.Core.Path.{_≡_, refl, sym, ap, ap₂, _∙_, subst}
 use mathlib.Core.Bool.{Bool, true, false}
 use mathlib.Core.List.{List, [], _∷_, _++_, append-assoc}
-use native.Mathlib.Nat.{zero-add}
 use native.Mathlib.Omega.{arith}
 use lib.ListN.{length, getD, take, drop, replicate, length-append, length-replicate, replicate-append-replicate, List·getD-append}
 use lib.Seq.{take-at, ext-getD}
-use Rattle.refusals.specs.Verdict.{done}
 use Rattle.byte_strings.specs.Lists.{part, put, run, joined, zeros}
 use Rattle.byte_strings.proofs.Lists.{length-put, part-behind, part-left, length-part, getD-part, zeros-suc}
 use Rattle.tree_index.specs.Tree.{depth, block, entries}
@@ -17,11 +15,10 @@ use Rattle.bitfield.specs.Index.{tuple, four, tuples, combine, combined, node, 
 use Rattle.bitfield.specs.Image.{dataBytes, treeBytes, entry, entryCount}
 use Rattle.file_format.specs.Headers.{treeHeader, bitfieldHeader}
 use Rattle.file_format.specs.Sizes.{entryPlace, usedTree, usedBitfield}
-use Rattle.file_format.proofs.OfImage.{treeHeader-length, bitfieldHeader-length}
+use Rattle.file_format.proofs.OfImage.{treeHeader-length}
 use Rattle.copy_checks.specs.Copy.{Copy}
 use Rattle.copy_checks.proofs.Steps.{Lent}
-use Rattle.copy_make.specs.Make.{makeVerdict, madeCopy, Roomy}
-use Rattle.copy_make.proofs.Calls.{roomy}
+use Rattle.copy_make.specs.Make.{madeCopy, Roomy}
 use Rattle.theorem_taking_laws.proofs.Shown.{entriesFor, shown, shown-long}
 use Rattle.theorem_copies_grown.proofs.Grows.{Grows}
 use Rattle.theorem_copies_grown.proofs.Takes.{shown-front}

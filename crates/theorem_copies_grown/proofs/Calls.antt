@@ -4,7 +4,6 @@ use Prim.Native.Nat.{ℕ}
 use mathlib.Core.Path.{_≡_, refl, sym, ap, _∙_, subst}
 use mathlib.Core.Bool.{true}
 use mathlib.Core.List.{List}
-use native.Mathlib.Omega.{arith}
 use Rattle.refusals.specs.Verdict.{Verdict, done, refused, unlessRefused}
 use Rattle.byte_strings.specs.Lists.{Bytes}
 use Rattle.blake2b.specs.Hash.{nodeHash}
@@ -29,13 +28,13 @@ module _ (F : List ℕ → List ℕ) where
       subst (λ (x : Files). Grown F (leftAs c x)) (sym (w .files ∙ ap (λ (y : Verdict). unlessRefused y (filesOf (madeCopy c)) (filesOf c)) d)) (made c d z)
 
   taken-left : (c : Copy) → Grown F c → (p : List ℕ) (i : ℕ) (root : List ℕ) (v : Verdict) (left : Files) → Bytes p
-      → leavesShort (lying p (c .n) i) ≡ true → TakePost F c p i root v left → Grown F (leftAs c left)
+      → (v ≡ done → leavesShort (lying p (c .n) i) ≡ true) → TakePost F c p i root v left → Grown F (leftAs c left)
   unfolding afterTaking takenIn
   taken-left c g p i root v left b s w = subst (λ (x : Files). Grown F (leftAs c x)) (sym (w .files)) (pick (takeVerdict F c p i root) refl)
     where
       pick : (y : Verdict) → takeVerdict F c p i root ≡ y → Grown F (leftAs c (unlessRefused (takeVerdict F c p i root) (filesOf (takenIn F c p i)) (filesOf c)))
       pick done e =
-          subst (λ (y : Verdict). Grown F (leftAs c (unlessRefused y (filesOf (takenIn F c p i)) (filesOf c)))) (sym e) (grew c g p i root b e s)
+          subst (λ (y : Verdict). Grown F (leftAs c (unlessRefused y (filesOf (takenIn F c p i)) (filesOf c)))) (sym e) (grew c g p i root b e (s (w .answer ∙ e)))
       pick (refused m at) e = subst (λ (y : Verdict). Grown F (leftAs c (unlessRefused y (filesOf (takenIn F c p i)) (filesOf c)))) (sym e) g
 
   released-left : (c : Copy) → Grown F c → (i : ℕ) (v : Verdict) (left : Files) → ReleasePost c i v left → Grown F (leftAs c left)

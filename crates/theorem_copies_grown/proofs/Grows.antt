@@ -1,10 +1,10 @@
 -- What holds of a copy all the while it grows, and what follows for the descents to its known leaves.
 -- Assumes nothing.
-use Prim.Native.Nat.{ℕ, zero, suc, _+_, _-_, _*_, _/_, _%_, _^_, _≤_, _<_}
-use mathlib.Core.Path.{_≡_, refl, sym, ap, ap₂, _∙_, subst}
+use Prim.Native.Nat.{ℕ, zero, suc, _+_, _-_, _*_, _/_, _^_, _≤_, _<_}
+use mathlib.Core.Path.{_≡_, refl, sym, ap, _∙_, subst}
 use mathlib.Core.Bool.{Bool, true, false}
 use mathlib.Core.Logic.{_⊎_, inl, inr}
-use mathlib.Core.List.{List, [], _∷_}
+use mathlib.Core.List.{List}
 use native.Mathlib.Nat.{div-one, mul-one}
 use native.Mathlib.Omega.{arith}
 use borrow.Author.Tests.{ltb-true, ltb-false}
@@ -20,7 +20,6 @@ use Rattle.file_format.specs.Sizes.{longestChunk, entryPlace}
 use Rattle.file_format.specs.Messages.{leafMessage, parentMessage}
 use Rattle.file_format.specs.Stored.{storedHash, storedSize, storedRootSizes}
 use Rattle.lookup.specs.Descent.{reached, chunkWithin, descent, always}
-use Rattle.lookup.specs.Theorems.{Right}
 use Rattle.packet.specs.Packet.{siblings}
 use Rattle.packet.specs.Inner.{ChunkOf}
 use Rattle.copy_checks.specs.Copy.{Copy}

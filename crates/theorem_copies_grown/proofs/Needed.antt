@@ -28,7 +28,7 @@ use Rattle.lookup.specs.Descent.{Ending, stopped, reached, unknown}
 use Rattle.copy_checks.specs.Copy.{Copy, known}
 use Rattle.copy_checks.specs.Least.{leastOf}
 use Rattle.lookup.specs.Unknown.{firstUnknown}
-use Rattle.copy_checks.specs.Checks.{lentChecks, sizeCheck, unknownRoot, passedOver, partlyJudged}
+use Rattle.copy_checks.specs.Checks.{sizeCheck, unknownRoot, passedOver, partlyJudged}
 use Rattle.copy_checks.proofs.Least.{lower-none}
 use Rattle.copy_checks.proofs.Steps.{Lent, lent-passes, partly-passed}
 use Rattle.copy_make.specs.Make.{makeVerdict, madeCopy}
@@ -41,9 +41,8 @@ use Rattle.theorem_taking_laws.proofs.Shown.{shown-known}
 use Rattle.theorem_taking_laws.proofs.Brought.{lying-brought, brought-filled}
 use Rattle.theorem_released_back.proofs.Took.{Took, took}
 use Rattle.theorem_copies_grown.specs.Grown.{leafShort, leavesShort, Grown}
-use Rattle.theorem_copies_grown.specs.Needed.{Needed, NeededForAll}
-use Rattle.theorem_copies_grown.proofs.Grows.{Grows}
-use Rattle.theorem_copies_grown.proofs.Takes.{there, u, now, holdsNow, holds, bits-now, new-now, entry-place}
+use Rattle.theorem_copies_grown.specs.Needed.{NeededForAll}
+use Rattle.theorem_copies_grown.proofs.Takes.{there, now, holdsNow, holds, bits-now, new-now, entry-place}
 use Rattle.theorem_copies_grown.proofs.Begins.{made-lent}
 use Rattle.theorem_copies_grown.proofs.Grown.{grown-grows}
 

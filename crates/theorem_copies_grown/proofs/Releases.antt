@@ -1,12 +1,12 @@
 -- Releasing a chunk keeps it.
 -- Assumes nothing.
-use Prim.Native.Nat.{ℕ, zero, suc, _+_, _-_, _*_, _/_, _%_, _^_, _≤_, _<_}
+use Prim.Native.Nat.{ℕ, zero, suc, _+_, _-_, _≤_, _<_}
 use mathlib.Core.Path.{_≡_, refl, sym, ap, ap₂, _∙_, subst}
 use mathlib.Core.Bool.{Bool, true, false, cond, not, _&&_}
 use mathlib.Core.Logic.{_⊎_, inl, inr}
 use mathlib.Core.List.{List, [], _∷_}
 use native.Mathlib.Omega.{arith}
-use borrow.Author.Tests.{leb-true, leb-false, ltb-true, ltb-false, eqb-true, eqb-false, eq-eqb}
+use borrow.Author.Tests.{leb-true, leb-false, ltb-true, ltb-false, eqb-true, eqb-false}
 use lib.Dec.{leb, ltb, eqb}
 use lib.ListN.{length, getD, take, length-replicate}
 use Rattle.refusals.specs.Verdict.{Verdict, tree, done, refused}
@@ -21,17 +21,16 @@ use Rattle.file_format.specs.Stored.{storedHash, storedSize}
 use Rattle.checks.specs.Checks.{judged}
 use Rattle.checks.proofs.Judged.{judged-done}
 use Rattle.lookup.specs.Lookup.{startOf, stopRefused, toChunk}
-use Rattle.lookup.specs.Descent.{Ending}
 use Rattle.release.specs.Release.{releasedRegister}
 use Rattle.copy_checks.specs.Copy.{Copy, unsigned}
-use Rattle.copy_checks.proofs.Steps.{Lent, copy-passed}
+use Rattle.copy_checks.proofs.Steps.{copy-passed}
 use Rattle.copy_checks.specs.Descents.{copyToChunk}
 use Rattle.copy_lookup.specs.Lookups.{copyHeldVerdict}
 use Rattle.copy_release.specs.Release.{copyReleaseVerdict, releasedCopy}
 use Rattle.theorem_taking_laws.proofs.Shown.{shown, shown-long, held-less}
 use Rattle.theorem_taking_laws.proofs.Places.{getD-beside}
 use Rattle.theorem_taking_laws.proofs.Descents.{chunkStart}
-use Rattle.theorem_copies_grown.proofs.Grows.{Outside, Grows, stored-held, chunk-there, comes-to, inside-data, lie-apart}
+use Rattle.theorem_copies_grown.proofs.Grows.{Outside, Grows, stored-held, comes-to, inside-data, lie-apart}
 use Rattle.theorem_copies_grown.proofs.Takes.{shown-front}
 
 -- what a release that is done was asked

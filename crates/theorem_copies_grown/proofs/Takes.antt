@@ -2,25 +2,23 @@
 -- Assumes nothing.
 use Prim.Native.Nat.{ℕ, zero, suc, _+_, _-_, _*_, _/_, _%_, _^_, _≤_, _<_}
 use mathlib.Core.Path.{_≡_, refl, sym, ap, ap₂, _∙_, subst}
-use mathlib.Core.Bool.{Bool, true, false, cond, _&&_, _||_}
+use mathlib.Core.Bool.{Bool, true, false, cond, _||_}
 use mathlib.Core.Logic.{_⊎_, inl, inr}
-use mathlib.Core.List.{List, [], _∷_, _++_, map}
-use native.Mathlib.Nat.{div-one, not-suc-le-zero}
+use mathlib.Core.List.{List, [], _∷_, map}
+use native.Mathlib.Nat.{div-one}
 use native.Mathlib.Omega.{arith}
-use borrow.Author.Tests.{leb-true, ltb-true, ltb-false, eqb-true, eqb-false, eq-eqb, ne-eqb}
+use borrow.Author.Tests.{leb-true, ltb-true, ltb-false, eqb-true, eqb-false, eq-eqb}
 use lib.Dec.{leb, ltb, eqb}
 use lib.ListN.{length, getD, take}
 use lib.Seq.{take-at}
-use Rattle.byte_strings.specs.Lists.{part, put, total, among, zeros, Bytes}
+use Rattle.byte_strings.specs.Lists.{part, put, total, among, Bytes}
 use Rattle.byte_strings.proofs.Lists.{part-part, length-put, part-put, part-put-before, part-put-behind}
 use Rattle.byte_strings.specs.Numbers.{number}
 use Rattle.tree_index.specs.Tree.{index, depth, block, parent, filled, roots, entries}
 use Rattle.tree_index.proofs.Index.{depth-index, block-index}
-use Rattle.tree_index.proofs.Filled.{filled-below}
-use Rattle.bitfield.specs.Image.{entryCount}
 use Rattle.bitfield.specs.Known.{storedKnown, heldAgain}
 use Rattle.bitfield.proofs.Bits.{with-one}
-use Rattle.file_format.specs.Headers.{treeHeader, bitfieldHeader}
+use Rattle.file_format.specs.Headers.{bitfieldHeader}
 use Rattle.file_format.specs.Sizes.{longestChunk, entryPlace, usedTree, usedBitfield}
 use Rattle.file_format.specs.Messages.{HashFunction, leafMessage, parentMessage}
 use Rattle.file_format.specs.Entries.{Entry, entryBytes, leaf, parentOf}
@@ -31,27 +29,28 @@ use Rattle.checks.proofs.Judged.{both-right}
 use Rattle.lookup.specs.Descent.{reached, chunkWithin, descent, always}
 use Rattle.lookup.proofs.Visits.{filled-entry}
 use Rattle.packet.specs.Packet.{siblings, otherRoots, beside}
-use Rattle.packet.specs.Check.{packetChunk, packetTotal, entryIn}
+use Rattle.packet.specs.Check.{packetChunk, entryIn}
 use Rattle.packet.specs.Inner.{ChunkOf}
-use Rattle.packet.proofs.Above.{Apart, Distinct}
+use Rattle.packet.proofs.Above.{Distinct}
 use Rattle.packet.proofs.Pieces.{entry-in}
 use Rattle.packet.proofs.Rows.{beside-even}
 use Rattle.packet_compare.proofs.Stands.{sibling-is}
 use Rattle.copy_checks.specs.Copy.{Copy}
-use Rattle.copy_checks.proofs.Steps.{Lent}
 use Rattle.copy_take_in.specs.TakeIn.{Given, lying, packetStart, withGiven, withKnown, brought, takenIn}
 use Rattle.lookup.proofs.ReadOrder.{reads}
 use Rattle.theorem_taking_laws.proofs.Members.{In, in-place, in-map, map-in, without-in, apart-out}
-use Rattle.theorem_taking_laws.proofs.Shown.{shown, shown-long, Under as Below, or-among, more-known, held-more}
+use Rattle.theorem_taking_laws.proofs.Shown.{shown, shown-long, or-among, more-known, held-more}
 use Rattle.theorem_taking_laws.proofs.Places.{getD-beside}
-use Rattle.theorem_taking_laws.proofs.Given.{bytesFor, placesOf, Fitting, AllFitting, AllSaying, among-in, in-among, length-given, front-given, given-keeps, given-gives, given-other}
-use Rattle.theorem_taking_laws.proofs.Brought.{sibling, sibling-index, parent-left, wayIndex, sideIndex, wayEntry, sideEntry, otherEntry, Brings, onWay, besideWay, otherRoot, Made, made, way-leaf, brings, way-brought, side-lies, other-lies, brought-filled, root-brought, Under, under-parent, brought-under, parent-brought, sibling-brought, brought-distinct}
+use Rattle.theorem_taking_laws.proofs.Given.{bytesFor, placesOf, AllFitting, among-in, in-among, length-given, front-given, given-keeps, given-gives, given-other}
+use Rattle.theorem_taking_laws.proofs.Brought.{sibling, sibling-index, parent-left, wayIndex, wayEntry, Brings, onWay, besideWay, otherRoot, Made, made}
+use Rattle.theorem_taking_laws.proofs.Brought.{way-leaf, brings, way-brought, side-lies, other-lies, brought-filled, root-brought, Under, under-parent}
+use Rattle.theorem_taking_laws.proofs.Brought.{brought-under, parent-brought, sibling-brought, brought-distinct}
 use Rattle.theorem_taking_laws.proofs.Descents.{leftAt, chunkStart, descent-same, descents-apart, descent-inside}
 use Rattle.theorem_taking_laws.proofs.Starts.{HoldsEntry, HoldsAll, start-is, packet-descent, roots-total, brought-proper}
 use Rattle.theorem_released_back.proofs.Took.{Took, chunk-short}
 use Rattle.theorem_released_back.proofs.Stays.{none-contradicts, under-filled}
 use Rattle.theorem_copies_grown.specs.Grown.{leafShort, leavesShort}
-use Rattle.theorem_copies_grown.proofs.Grows.{Follows, Outside, Grows, stored-held, stored-known, filled-known, chunk-there, way-known, side-known, comes-to, reads-known, inside-data, lie-apart}
+use Rattle.theorem_copies_grown.proofs.Grows.{Follows, Outside, Grows, filled-known, chunk-there, side-known, comes-to, reads-known}
 
 -- ---- entries of two tree files
 
@@ -277,8 +276,10 @@ module _ (F : List ℕ → List ℕ) (hf : HashFunction F) (c : Copy) (g : Grows
           record {
             size = size-kept (index (suc d) k) up ∙ o .size ∙ sym (ap₂ (λ (x y : ℕ). x + y) (size-kept (index d (2 * k)) l) (size-kept (index d (2 * k + 1)) r));
             hash = hash-kept (index (suc d) k) up ∙ o .hash
-                ∙ sym (ap₂ (λ (x y : ℕ). F (parentMessage (x + y) (storedHash u (index d (2 * k))) (storedHash u (index d (2 * k + 1))))) (size-kept (index d (2 * k)) l) (size-kept (index d (2 * k + 1)) r)
-                ∙ ap₂ (λ (x y : List ℕ). F (parentMessage (storedSize t (index d (2 * k)) + storedSize t (index d (2 * k + 1))) x y)) (hash-kept (index d (2 * k)) l) (hash-kept (index d (2 * k + 1)) r));
+                ∙ sym (ap₂ (λ (x y : ℕ). F (parentMessage (x + y) (storedHash u (index d (2 * k))) (storedHash u (index d (2 * k + 1))))) (size-kept (index d (2 * k)) l)
+                (size-kept (index d (2 * k + 1)) r)
+                ∙ ap₂ (λ (x y : List ℕ). F (parentMessage (storedSize t (index d (2 * k)) + storedSize t (index d (2 * k + 1))) x y)) (hash-kept (index d (2 * k)) l)
+                (hash-kept (index d (2 * k + 1)) r));
           }
 
   -- ---- the leaves

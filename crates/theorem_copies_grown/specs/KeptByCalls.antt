@@ -18,6 +18,7 @@ leftAs c left = copyOf (left .tree) (left .bitfield) (left .content) (c .n) (c .
 
 pub record KeptByCalls (F : List ℕ → List ℕ) : Type 0 where
   pub making : (c : Copy) (v : Verdict) (left : Files) → MakePost c v left → v ≡ done → (c .n ≡ 0 → c .size ≡ 0) → Grown F (leftAs c left)
+  -- of a packet that is refused nothing is asked
   pub taking : (c : Copy) → Grown F c → (p : List ℕ) (i : ℕ) (root : List ℕ) (v : Verdict) (left : Files) → Bytes p
-      → leavesShort (lying p (c .n) i) ≡ true → TakePost F c p i root v left → Grown F (leftAs c left)
+      → (v ≡ done → leavesShort (lying p (c .n) i) ≡ true) → TakePost F c p i root v left → Grown F (leftAs c left)
   pub releasing : (c : Copy) → Grown F c → (i : ℕ) (v : Verdict) (left : Files) → ReleasePost c i v left → Grown F (leftAs c left)

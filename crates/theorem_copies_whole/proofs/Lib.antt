@@ -4,6 +4,8 @@ pub mod Full
 pub mod Packets
 pub mod Partly
 pub mod Alike
+pub mod Known
 pub mod Releases
+pub mod Handed
 pub mod Takes
 pub mod Whole

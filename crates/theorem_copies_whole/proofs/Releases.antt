@@ -33,7 +33,7 @@ use Rattle.lookup.specs.Descent.{reached, chunkWithin, descent, always}
 use Rattle.lookup.specs.Lookup.{startOf, stopRefused, toChunk}
 use Rattle.release.specs.Release.{releasedRegister}
 use Rattle.copy_checks.specs.Copy.{Copy, unsigned, known}
-use Rattle.copy_checks.proofs.Steps.{copy-passed}
+use Rattle.copy_checks.proofs.Steps.{Knowing, copy-passed}
 use Rattle.copy_checks.specs.Descents.{copyToChunk}
 use Rattle.lookup.proofs.ReadOrder.{reads}
 use Rattle.copy_checks.proofs.Descents.{unknownToChunk, chunk-read}
@@ -50,10 +50,12 @@ must-hold : (b : Bool) (v : Verdict) (i : ℕ) → cond b v (refused 18 (tree i)
 must-hold true v i e = (refl, e)
 must-hold false v i e = absurd (let z : _≡_ {A = ℕ} 0 1 = cc in omega arith)
 
--- a release that is done: the chunk is there and held, its descent reads known entries alone
+-- a release that is done: the copy passes the checks of a call, the chunk is there and held, its descent comes to the leaf and reads known entries alone
 pub record Releasing (c : Copy) (i : ℕ) : Type 0 where
+  pub knowing : Knowing c
   pub below : i < c .n
   pub holds : storedHeld (c .bitfield) i ≡ true
+  pub stop : stopRefused (copyToChunk c i) ≡ done
   pub unknown : unknownToChunk c i ≡ nowhere
 
 pub releasing : (c : Copy) (i : ℕ) → copyReleaseVerdict c i ≡ done → Releasing c i
@@ -65,8 +67,10 @@ releasing c i e =
     let b = judged-done (check ∷ []) next (a .1) in
     let d = must-hold (storedHeld (c .bitfield) i) (stopRefused (copyToChunk c i)) (index 0 i) (b .1) in
     record {
+      knowing = a .0;
       below = ltb-true i (c .n) (b .0 .0);
       holds = d .0;
+      stop = d .1;
       unknown = chunk-read c i (d .1);
     }
 
@@ -82,7 +86,7 @@ module _ (F : List ℕ → List ℕ) (hf : HashFunction F) (cs : List (List ℕ)
   known-size : (j : ℕ) → knows j ≡ true → storedSize (c .tree) j ≡ nodeAt F es j .size
   known-size j e = entry-size (c .tree) j (nodeAt F es j) (nodeAt-proper F hf (allHeld cs) w j (in-all j (q .knownOnly j e))) (q .entry j e)
 
-  same-count : full F hf cs w .n ≡ c .n
+  pub same-count : full F hf cs w .n ≡ c .n
   same-count = full-count F hf cs w ∙ sym (q .count)
 
   pub known-full : (j : ℕ) → knows j ≡ true → storedSize (c .tree) j ≡ storedSize (full F hf cs w .tree) j
@@ -91,7 +95,7 @@ module _ (F : List ℕ → List ℕ) (hf : HashFunction F) (cs : List (List ℕ)
       ∙ sym (stored-node-size F hf (allHeld cs) w (full F hf cs w) (full-belongs F hf cs w) j (ap (λ (n : ℕ). filled n j) same-count ∙ q .knownOnly j e))
 
   module _ (i : ℕ) (r : Releasing c i) where
-    has-it : has i ≡ true
+    pub has-it : has i ≡ true
     has-it = sym (ap (λ (x : List ℕ). storedHeld x i) (q .bits) ∙ shown-held has knows (c .n) tail i (r .below)) ∙ r .holds
 
     read-known : (j : ℕ) → In j (reads (chunkWithin i) (c .tree) (c .n)) → knows j ≡ true
@@ -101,7 +105,7 @@ module _ (F : List ℕ → List ℕ) (hf : HashFunction F) (cs : List (List ℕ)
         ∙ shown-known has knows (c .n) tail j (tree-bit-in (c .n) j (filled-below (c .n) j (reads-filled (chunkWithin i) (c .tree) (c .n) j l))))
         ∙ all-known (known c) (reads (chunkWithin i) (c .tree) (c .n)) (r .unknown) j l
 
-    lands : toChunk (unsigned c) i ≡ reached i (span cs 0 i)
+    pub lands : toChunk (unsigned c) i ≡ reached i (span cs 0 i)
     unfolding toChunk
     lands =
         descent-same (chunkWithin i) (c .tree) (full F hf cs w .tree) (c .n) (λ j l. known-full j (read-known j l))
@@ -115,7 +119,7 @@ module _ (F : List ℕ → List ℕ) (hf : HashFunction F) (cs : List (List ℕ)
         subst (λ (x : ℕ). knows (index 0 x) ≡ true) (div-one i)
         (q .way i has-it 0 (subst (λ (x : ℕ). filled (c .n) (index 0 x) ≡ true) (sym (div-one i)) leaf-filled))
 
-    size-is : storedSize (c .tree) (index 0 i) ≡ length (getD cs i [])
+    pub size-is : storedSize (c .tree) (index 0 i) ≡ length (getD cs i [])
     unfolding node
     size-is =
         known-size (index 0 i) leaf-known ∙ ap (λ (e : Entry). e .size) (nodeAt-index F es 0 i) ∙ leaf-size F (allHeld cs) i

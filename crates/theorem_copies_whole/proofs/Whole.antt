@@ -14,13 +14,15 @@ use Rattle.file_format.specs.Slots.{allHeld, Within}
 use Rattle.file_format.proofs.Hashed.{hash-function}
 use Rattle.file_format.proofs.Spans.{span, span-none, span-cons}
 use Rattle.lookup.specs.Theorems.{startIn}
-use Rattle.copy_checks.specs.Copy.{Copy}
+use Rattle.packet.specs.Packet.{packetOf}
+use Rattle.copy_checks.specs.Copy.{Copy, unsigned}
 use Rattle.theorem_released_back.proofs.Took.{took}
-use Rattle.theorem_copies_whole.specs.Whole.{Grown, made, andTook, andReleased, GrownOf, GrownForAll}
+use Rattle.theorem_copies_whole.specs.Whole.{Grown, made, andTook, andTookFrom, andReleased, GrownOf, GrownForAll}
 use Rattle.theorem_copies_whole.proofs.Partly.{Partly, none, made-partly, took-partly, known-is, held-lies, whole}
 use Rattle.theorem_copies_whole.proofs.Packets.{nodes, piece, start}
 use Rattle.theorem_copies_whole.proofs.Takes.{takes}
 use Rattle.theorem_copies_whole.proofs.Releases.{releasing, released-partly}
+use Rattle.theorem_copies_whole.proofs.Handed.{handed}
 
 -- where a chunk starts
 start-in : (cs : List (List ℕ)) (k : ℕ) → k ≤ length cs → startIn cs k ≡ span cs 0 k
@@ -43,6 +45,18 @@ module _ (F : List ℕ → List ℕ) (hf : HashFunction F) (cs : List (List ℕ)
             (start F hf cs w (c .n) (x .3 .count) p i m (t .packet .shaped .chunk))
             (piece F hf cs w (c .n) (x .3 .count) p i m (t .packet .shaped .chunk .below)),
       )
+  grows _ (andTookFrom c d i out g f m e) =
+      let x = grows c g in
+      let y = grows d f in
+      let t = took F c (packetOf (unsigned d) i) i (rootHashFor F (allHeld cs)) e in
+      let h = handed F hf cs w d (y .0) (y .1) (y .2) (y .3) i out m in (
+        _,
+        _,
+        x .2,
+        took-partly F cs hf w c (x .0) (x .1) (x .2) (x .3) (packetOf (unsigned d) i) i t (nodes F hf cs w (c .n) (x .3 .count) (packetOf (unsigned d) i) i h)
+            (start F hf cs w (c .n) (x .3 .count) (packetOf (unsigned d) i) i h (t .packet .shaped .chunk))
+            (piece F hf cs w (c .n) (x .3 .count) (packetOf (unsigned d) i) i h (t .packet .shaped .chunk .below)),
+      )
   grows _ (andReleased c i g e) =
       let x = grows c g in (_, x .1, x .2, released-partly F hf cs w c (x .0) (x .1) (x .2) (x .3) i (releasing c i e))
 
@@ -54,6 +68,9 @@ module _ (F : List ℕ → List ℕ) (hf : HashFunction F) (cs : List (List ℕ)
         lies = λ k l e. ap (λ (a : ℕ). part (c .content) a (length (getD cs k []))) (start-in cs k (starts-within k (x .3 .count) l)) ∙ held-lies F cs hf w c (x .0) (x .1) (x .2) (x .3) k l e;
         whole = whole F cs hf w c (x .0) (x .1) (x .2) (x .3);
         takes = takes F hf cs w c (x .0) (x .1) (x .2) (x .3);
+        takesFrom = λ d i out f m.
+            let y = grows d f in
+            takes F hf cs w c (x .0) (x .1) (x .2) (x .3) (packetOf (unsigned d) i) i (handed F hf cs w d (y .0) (y .1) (y .2) (y .3) i out m);
       }
     where
       starts-within : {n : ℕ} (k : ℕ) → n ≡ length cs → k < n → k ≤ length cs

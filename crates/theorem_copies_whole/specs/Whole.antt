@@ -1,11 +1,12 @@
 -- A copy made for a chunk sequence's count and data size that took in each chunk's packet, in any order and as often as it likes, made from registers of
--- that sequence, as that chunk and under that sequence's root hash, and that holds every chunk, has that sequence's tree, bitfield and data images: in
--- demand 2's words it belongs to the sequence. Pieces may have been released in between, and the registers may have released others. Such a copy takes in
--- every such packet.
+-- that sequence or from such copies, as that chunk and under that sequence's root hash, and that holds every chunk, has that sequence's tree, bitfield and
+-- data images: in demand 2's words it belongs to the sequence. Pieces may have been released in between, and the registers may have released others. Such a
+-- copy takes in every such packet.
 --
 -- The notions in it: `HashFunction` (files, Messages), `Slot`, `allHeld` and `Within` (files, Slots), `Register` and `Belongs` (files, Belongs), `rootHashFor`
 -- (files, Images), `Copy` and `unsigned` (copies, Copy), `makeVerdict` and `madeCopy` (make_copy, Make), `packetOf` and the making of a packet (packet,
--- Packet), `takeVerdict` and `takenIn` (take_in, TakeIn), `copyReleaseVerdict` and `releasedCopy` (copy_release, Release).
+-- Packet) and from a copy (copy_packet, Making), `takeVerdict` and `takenIn` (take_in, TakeIn), `copyReleaseVerdict` and `releasedCopy` (copy_release,
+-- Release).
 use Prim.Native.Nat.{ℕ, _<_}
 use mathlib.Core.Path.{_≡_}
 use mathlib.Core.Logic.{_⊎_}
@@ -26,6 +27,7 @@ use Rattle.packet.specs.Packet.{packetOf, makeVerdict}
 use Rattle.lookup.specs.Theorems.{startIn}
 use Rattle.copy_checks.specs.Copy.{Copy, unsigned, known}
 use Rattle.copy_make.specs.Make.{makeVerdict as makingVerdict, madeCopy}
+use Rattle.copy_packet.specs.Making.{copyMakeVerdict}
 use Rattle.copy_take_in.specs.TakeIn.{takeVerdict, takenIn}
 use Rattle.copy_release.specs.Release.{copyReleaseVerdict, releasedCopy}
 
@@ -50,6 +52,9 @@ module _ (F : List ℕ → List ℕ) (cs : List (List ℕ)) where
   pub data Grown : Copy → Type 0 where
     made : (c : Copy) → c .n ≡ length cs → c .size ≡ dataSize cs → makingVerdict c ≡ done → Grown (madeCopy c)
     andTook : (c : Copy) (p : List ℕ) (i : ℕ) → Grown c → MadeFrom p i → takeVerdict F c p i (rootHashFor F (allHeld cs)) ≡ done → Grown (takenIn F c p i)
+    -- a packet that is made from one of these copies, which hand on what they hold
+    andTookFrom : (c d : Copy) (i : ℕ) (out : List ℕ) → Grown c → Grown d → copyMakeVerdict F d i out ≡ done
+        → takeVerdict F c (packetOf (unsigned d) i) i (rootHashFor F (allHeld cs)) ≡ done → Grown (takenIn F c (packetOf (unsigned d) i) i)
     andReleased : (c : Copy) (i : ℕ) → Grown c → copyReleaseVerdict c i ≡ done → Grown (releasedCopy c i)
 
   -- what is claimed of each of them
@@ -60,6 +65,9 @@ module _ (F : List ℕ → List ℕ) (cs : List (List ℕ)) where
     pub lies : (k : ℕ) → k < c .n → storedHeld (c .bitfield) k ≡ true → part (c .content) (startIn cs k) (length (getD cs k [])) ≡ getD cs k []
     -- no packet that is made from a register of the sequence is refused
     pub takes : (p : List ℕ) (i : ℕ) → MadeFrom p i → takeVerdict F c p i (rootHashFor F (allHeld cs)) ≡ done
+    -- nor one that is made from a copy of the sequence
+    pub takesFrom : (d : Copy) (i : ℕ) (out : List ℕ) → Grown d → copyMakeVerdict F d i out ≡ done
+        → takeVerdict F c (packetOf (unsigned d) i) i (rootHashFor F (allHeld cs)) ≡ done
     -- and a copy that holds every chunk is the whole
     pub whole : ((k : ℕ) → k < c .n → storedHeld (c .bitfield) k ≡ true) → Belongs F (unsigned c) (allHeld cs)
 

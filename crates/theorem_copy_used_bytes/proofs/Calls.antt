@@ -1,7 +1,7 @@
 -- Each call gets the same of a copy and of the same cut to its used sizes. Where a call is done, the copy counts as a register that passes the checks 2 to
 -- 6. Assumes nothing.
 use Prim.Native.Nat.{ℕ, _+_, _-_, _≤_, _<_}
-use mathlib.Core.Path.{_≡_, refl, sym, ap, _∙_}
+use mathlib.Core.Path.{_≡_, refl, sym, ap, ap₂, _∙_}
 use mathlib.Core.Bool.{Bool, cond}
 use mathlib.Core.List.{List, [], _∷_}
 use native.Mathlib.Nat.{mul-one}
@@ -32,7 +32,7 @@ use Rattle.packet.specs.Packet.{packetOf, roomOr14, outUnless, lengthUnless}
 use Rattle.release.specs.Release.{releasedRegister}
 use Rattle.search.specs.Search.{soughtUnless}
 use Rattle.theorem_used_bytes.proofs.Cut.{held-cut, hash-cut, size-cut, root-message-cut, old-message-cut}
-use Rattle.theorem_used_bytes.proofs.Lookups.{found-same, then-same, then-first, place-found, bytes-cut}
+use Rattle.theorem_used_bytes.proofs.Lookups.{chunk-cut, found-same, then-same, then-first, place-found, bytes-cut}
 use Rattle.theorem_used_bytes.proofs.Packets.{packet-cut}
 use Rattle.theorem_used_bytes.proofs.Released.{first-cut, released-cut}
 use Rattle.copy_checks.specs.Copy.{Copy, known, unsigned, lentAsCopy}
@@ -41,8 +41,8 @@ use Rattle.copy_checks.specs.Checks.{copyJudged}
 use Rattle.copy_checks.proofs.Steps.{copy-passed}
 use Rattle.copy_checks.proofs.Signed.{signed}
 use Rattle.copy_checks.specs.Descents.{copyToChunk, copyToByte}
-use Rattle.copy_lookup.specs.Lookups.{copyPlaceVerdict, copyHeldVerdict, copyByteVerdict, copyPlaceOf, copyByteAt}
-use Rattle.copy_lookup.specs.Reading.{copyReadVerdict, copyReadPart}
+use Rattle.copy_lookup.specs.Lookups.{copyPlaceVerdict, copyHeldVerdict, copyByteVerdict, copyPlaceOf, copyHeldPlaceOf, copyByteAt}
+use Rattle.copy_lookup.specs.Reading.{copyReadVerdict, copyReadPart, copyReadFound}
 use Rattle.copy_lookup.proofs.AsRegister.{held-as, read-as}
 use Rattle.copy_roots.specs.Roots.{copyRootVerdict, copyPrefixVerdict, rootUnless, copyRootAnswer, copyPrefixRoot, copySearch}
 use Rattle.copy_packet.specs.Making.{copyMakeVerdict, copyAfterMake, copyMadeLength}
@@ -139,6 +139,14 @@ module _ (c : Copy) (i : ℕ) where
       (judged-same nine (behind (storedHeld (cutCopy c .bitfield) i) (stopRefused (copyToChunk (cutCopy c) i))) (behind (storedHeld (c .bitfield) i) (stopRefused (copyToChunk c i)))
       (λ p j. behind (held-cut (c .bitfield) (c .n) i (ltb-true i (c .n) (p .0)) j) (stopRefused (to-chunk-cut c i j))))
 
+  pub held-place-cut : copyHeldPlaceOf (cutCopy c) i ≡ copyHeldPlaceOf c i
+  unfolding copyHeldPlaceOf
+  held-place-cut =
+      ap (λ (v : Verdict). foundUnless v (startOf (copyToChunk (cutCopy c) i)) (storedSize (cutCopy c .tree) (index 0 i))) held-verdict-cut
+      ∙ found-same (copyHeldVerdict c i) (startOf (copyToChunk (cutCopy c) i)) (startOf (copyToChunk c i))
+      (storedSize (cutCopy c .tree) (index 0 i)) (storedSize (c .tree) (index 0 i)) (ap startOf (to-chunk-cut c i))
+      (λ e. size-cut (c .tree) (c .n) (index 0 i) (leaf-below (c .n) i (place-found (signed c) i (held-done (signed c) i (held-as c i e) .1) .1)))
+
   module _ (e : copyHeldVerdict c i ≡ done) where
     as-place : placeVerdict (signed c) i ≡ done
     as-place = held-done (signed c) i (held-as c i e) .1
@@ -177,6 +185,16 @@ module _ (F : List ℕ → List ℕ) (c : Copy) (i : ℕ) where
       go : (v : Verdict) → copyReadVerdict F c i ≡ v → partUnless F v (chunkBytes (unsigned (cutCopy c)) i) ≡ partUnless F v (chunkBytes (unsigned c) i)
       go done e = held-bytes-cut c i (then-first (copyHeldVerdict c i) _ e)
       go (refused m at) e = refl
+
+  pub read-found-cut : copyReadFound F (cutCopy c) i ≡ copyReadFound F c i
+  unfolding copyReadFound copyReadVerdict toChunk
+  read-found-cut =
+      let at : Copy → ℕ = λ d. startOf (toChunk (unsigned d) i) in
+      let same : at (cutCopy c) ≡ at c = ap startOf (chunk-cut (unsigned c) i) in
+      ap (λ (v : Verdict). foundUnless v (at (cutCopy c)) (at (cutCopy c) + storedSize (cutCopy c .tree) (index 0 i))) read-verdict-cut
+      ∙ found-same (copyReadVerdict F c i) (at (cutCopy c)) (at c) (at (cutCopy c) + storedSize (cutCopy c .tree) (index 0 i)) (at c + storedSize (c .tree) (index 0 i)) same
+      (λ e. ap₂ _+_ same
+      (size-cut (c .tree) (c .n) (index 0 i) (leaf-below (c .n) i (held-below c i (then-first (copyHeldVerdict c i) _ e)))))
 
   copy-packet-cut : copyReadVerdict F c i ≡ done → packetOf (unsigned (cutCopy c)) i ≡ packetOf (unsigned c) i
   unfolding packetOf chunkBytes toChunk

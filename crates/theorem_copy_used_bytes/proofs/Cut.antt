@@ -23,7 +23,7 @@ use Rattle.audit.specs.Audit.{refusedAt}
 use Rattle.theorem_used_bytes.proofs.Cut.{holds-cut, headed-cut, tree-32, bitfield-32, adds-cut}
 use Rattle.copy_checks.specs.Copy.{Copy, known}
 use Rattle.lookup.specs.Unknown.{firstUnknown}
-use Rattle.copy_checks.specs.Checks.{lentChecks, unknownRoot, sizeCheck, copyJudged}
+use Rattle.copy_checks.specs.Checks.{lentChecks, unknownRoot, sizeCheck, passedOver, copyJudged, partlyJudged}
 use Rattle.theorem_copy_used_bytes.specs.UsedBytes.{SameUsed}
 
 abbrev pub cutCopy : Copy → Copy
@@ -100,3 +100,9 @@ module _ (c : Copy) where
   unfolding copyJudged
   judged-cut next =
       λ i. judged (lent-cut i) (refusedAt 20 tree (root-known-cut i) (judged (sizeCheck (adds-cut (c .tree) (c .n) (c .size) i)) next))
+
+  -- the checks of the audit and of the taking in
+  pub partly-cut : (next : Verdict) → partlyJudged (cutCopy c) next ≡ partlyJudged c next
+  unfolding partlyJudged
+  partly-cut next =
+      λ i. judged (lent-cut i) (judged (sizeCheck (passedOver (root-known-cut i) (adds-cut (c .tree) (c .n) (c .size) i))) next)

@@ -2,4 +2,10 @@
 pub mod Cut
 pub mod Descents
 pub mod Calls
+pub mod Audits
+pub mod Short
+pub mod Bits
+pub mod Taking
+pub mod Making
 pub mod UsedBytes
+pub mod Leaves

@@ -1,2 +1,4 @@
 -- What no call on a copy looks at, as a statement.
 pub mod UsedBytes
+pub mod Leaves
+pub mod Behind

@@ -68,7 +68,8 @@ module _ (F : List ℕ → List ℕ) (H : HashFunction F) (cs ds : List (List �
   pub compare-walks : Accepted F a → Accepted F b → compare F a b ≡ walkFor F cs ds
   unfolding compare walk walkFor walked rootHashFor
   compare-walks p q =
-      (λ t. unlessRefused (belongs-whole F a (allHeld cs) B (each-held F cs) p t) (belongs-whole F b (allHeld ds) B′ (each-held F ds) q t) (walked (storedRootMessage (a .tree) (a .n)) (storedRootMessage (b .tree) (b .n)) l))
+      (λ t. unlessRefused (belongs-whole F a (allHeld cs) B (each-held F cs) p t) (belongs-whole F b (allHeld ds) B′ (each-held F ds) q t)
+      (walked (storedRootMessage (a .tree) (a .n)) (storedRootMessage (b .tree) (b .n)) l))
       ∙ (λ t. walked (stored-root-message F H (allHeld cs) W a B t) (stored-root-message F H (allHeld ds) W′ b B′ t) l)
       ∙ ap (λ (c : Comparison). cond (sameList (F (rootMessageFor F (allHeld cs))) (F (rootMessageFor F (allHeld ds)))) c rootsDiffer)
       (cond-same (sameList (rootMessageFor F (allHeld cs)) (rootMessageFor F (allHeld ds))) (found l) (found (lowest (free F cs ds) 0 (entries (length cs)))) atRoots

@@ -12,9 +12,8 @@ use Rattle.file_format.specs.Stored.{storedRootMessage}
 use Rattle.file_format.specs.Slots.{Slot}
 use Rattle.file_format.specs.Belongs.{Buffers, Register, buffersOf}
 use Rattle.file_format.proofs.Slots.{contents-length}
-use Rattle.checks.specs.Checks.{judged, registerChecks, holds}
+use Rattle.checks.specs.Checks.{holds}
 use Rattle.checks.proofs.Passed.{Passed, passes}
-use Rattle.audit.specs.Audit.{Accepted}
 use Rattle.audit.specs.Theorems.{Imaged}
 use Rattle.audit.proofs.Audited.{accepted-audited}
 use Rattle.audit.proofs.Exact.{imaged-accepted, audit-exact}

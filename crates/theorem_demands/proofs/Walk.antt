@@ -32,7 +32,8 @@ module _ (F : List ℕ → List ℕ) (cs ds : List (List ℕ)) where
   -- the walk over two chunk sequences' own hashes and messages
   unfoldable pub walkFor : Comparison
   walkFor =
-      walk (rootHashFor F (allHeld cs)) (rootHashFor F (allHeld ds)) (rootMessageFor F (allHeld cs)) (rootMessageFor F (allHeld ds)) (messageFor F (allHeld cs)) (messageFor F (allHeld ds)) (hashFor F cs)
+      walk (rootHashFor F (allHeld cs)) (rootHashFor F (allHeld ds)) (rootMessageFor F (allHeld cs)) (rootMessageFor F (allHeld ds)) (messageFor F (allHeld cs))
+      (messageFor F (allHeld ds)) (hashFor F cs)
       (hashFor F ds) (filled (length cs)) (entries (length cs))
 
   -- the four answers, each with what it says

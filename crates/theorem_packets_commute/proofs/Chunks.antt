@@ -28,11 +28,11 @@ use Rattle.theorem_packets_commute.proofs.Turns.{Lying, fitting, own-ag
 -- ---- a tree file holds what was written into it, and what the second of two lists that agree was written over
 
 module _ (t : List ℕ) (gs : List Given) (proper : (g : Given) → In g gs → Proper (g .entry)) where
-  bytes-hold : ((g : Given) → In g gs → part t (entryPlace (g .at)) 40 ≡ bytesFor g) → HoldsAll t gs
+  pub bytes-hold : ((g : Given) → In g gs → part t (entryPlace (g .at)) 40 ≡ bytesFor g) → HoldsAll t gs
   bytes-hold h g m =
       record { hash = entry-hash t (g .at) (g .entry) (proper g m) (h g m); size = entry-size t (g .at) (g .entry) (proper g m) (h g m) }
 
-written : (t : List ℕ) (gs : List Given) → AllFitting t gs → Agree gs gs → (g : Given) → In g gs
+pub written : (t : List ℕ) (gs : List Given) → AllFitting t gs → Agree gs gs → (g : Given) → In g gs
     → part (withGiven t gs) (entryPlace (g .at)) 40 ≡ bytesFor g
 written t gs f own g m = given-gives (g .at) (bytesFor g) t gs f (λ h l e. own h g l m e) (map-in (λ (h : Given). h .at) g gs m)
 
@@ -43,7 +43,7 @@ written-over t gs hs f w own both g m =
 
 -- ---- two packets
 
-short-chunk : (p : List ℕ) (n c : ℕ) → Fits p n c → length (packetChunk p) ≤ longestChunk
+pub short-chunk : (p : List ℕ) (n c : ℕ) → Fits p n c → length (packetChunk p) ≤ longestChunk
 short-chunk p n c f = let z = placed p n c (f .shaped) in omega (arith, chunk-long p n c (f .shaped), z .chunk)
 
 module _ (F : List ℕ → List ℕ) (n : ℕ) (t p q : List ℕ) (i j : ℕ) (fp : Fits p n i) (fq : Fits q n j) (hp : HoldsAll t (brought F p n i))

@@ -129,7 +129,7 @@ module _ (bits : List ℕ) (gs : List Given) (k : ℕ) (room : AllRoom bits gs) 
   known-still : (i : ℕ) → storedKnown bits i ≡ true → storedKnown (heldAgain (withKnown bits gs) k) i ≡ true
   known-still i e = known-after i ∙ or-right (among i (placesOf gs)) (storedKnown bits i) e
 
-  known-now : (i : ℕ) → In i (placesOf gs) → storedKnown (heldAgain (withKnown bits gs) k) i ≡ true
+  pub known-now : (i : ℕ) → In i (placesOf gs) → storedKnown (heldAgain (withKnown bits gs) k) i ≡ true
   known-now i m = known-after i ∙ ap (λ (b : Bool). b || storedKnown bits i) (in-among i (placesOf gs) m)
 
 -- ---- two lists

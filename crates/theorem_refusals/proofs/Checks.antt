@@ -1,13 +1,12 @@
 -- The first check that is not passed is the answer. Assumes nothing.
 use Prim.Native.Nat.{ℕ, zero, suc, _<_}
-use mathlib.Core.Path.{_≡_, refl, sym, ap, _∙_}
+use mathlib.Core.Path.{_≡_, refl, ap, _∙_}
 use mathlib.Core.Bool.{Bool, true, false, cond}
 use mathlib.Core.List.{List, [], _∷_, _++_}
 use native.Mathlib.Omega.{arith}
 use lib.ListN.{length, getD}
 use Rattle.refusals.specs.Verdict.{Spot, Verdict, done, refused}
 use Rattle.refusals.specs.Verdict as verdicts
-use Rattle.file_format.specs.Belongs.{Register}
 use Rattle.checks.specs.Checks.{Check, judged, registerChecks}
 use Rattle.writing.specs.Append.{appendChecks, appendVerdict}
 use Rattle.writing.specs.Sign.{signChecks, signVerdict}

@@ -2,14 +2,15 @@
 --
 -- The notions in it: `Check`, `judged` and `registerChecks` (checks, Checks), the checks and verdicts of an append and of a signature (writing, Append
 -- and Sign), of a list (list_append, Append), of the root hash and of an old one (writing, RootHash; prefix_root, PrefixRoot), `entryRight`, `byteRight` and
--- `audit` (audit, Audit), `wholeVerdict` and `compare` (compare, Walk).
-use Prim.Native.Nat.{ℕ, _<_, _≤_}
+-- `audit` (audit, Audit), `IsLowest` (byte_strings, Lowest), `wholeVerdict` and `compare` (compare, Walk).
+use Prim.Native.Nat.{ℕ, _-_, _<_}
 use mathlib.Core.Path.{_≡_}
 use mathlib.Core.Logic.{_↔_}
 use mathlib.Core.Bool.{Bool, true, false}
 use mathlib.Core.List.{List}
 use lib.ListN.{length, getD}
 use Rattle.refusals.specs.Verdict.{Spot, Verdict, none, tree, bitfield, done, refused}
+use Rattle.byte_strings.specs.Lowest.{nowhere, first, IsLowest}
 use Rattle.tree_index.specs.Tree.{entries}
 use Rattle.file_format.specs.Sizes.{usedBitfield}
 use Rattle.file_format.specs.Belongs.{Register}
@@ -43,17 +44,8 @@ pub record FirstFailsOfCalls : Type 0 where
   -- what refuses the root hash refuses each old one in the same way
   pub old : (r : Register) (m k : ℕ) (at : Spot) → rootVerdict r ≡ refused k at → prefixVerdict r m ≡ refused k at
 
--- ---- "then 10 at the lowest wrong tree index, then 11 at the lowest wrong byte of the bitfield file"
-
--- i is the lowest number from `from` to below `end` that a test finds wrong
-pub record LowestWrong (right : ℕ → Bool) (from end i : ℕ) : Type 0 where
-  pub above : from ≤ i
-  pub below : i < end
-  pub wrong : right i ≡ false
-  pub lower : (j : ℕ) → from ≤ j → j < i → right j ≡ true
-
-abbrev pub NoneWrong : (ℕ → Bool) → ℕ → ℕ → Type 0
-NoneWrong right from end = (j : ℕ) → from ≤ j → j < end → right j ≡ true
+-- ---- "10. .. the audit finds a wrong tree entry; the place is the tree index, the lowest for the audit", and "11. The audit finds a wrong bitfield byte; the place is
+-- the lowest."
 
 module _ (F : List ℕ → List ℕ) (r : Register) where
   abbrev pub entry : ℕ → Bool
@@ -63,8 +55,8 @@ module _ (F : List ℕ → List ℕ) (r : Register) where
   byte = byteRight (r .bitfield) (r .n)
 
   pub record AuditNames : Type 0 where
-    pub ten : (i : ℕ) → (audit F r ≡ refused 10 (tree i)) ↔ LowestWrong entry 0 (entries (r .n)) i
-    pub eleven : (b : ℕ) → (audit F r ≡ refused 11 (bitfield b)) ↔ (NoneWrong entry 0 (entries (r .n)) × LowestWrong byte 32 (usedBitfield (r .n)) b)
+    pub ten : (i : ℕ) → (audit F r ≡ refused 10 (tree i)) ↔ IsLowest entry 0 (entries (r .n)) (first i)
+    pub eleven : (b : ℕ) → (audit F r ≡ refused 11 (bitfield b)) ↔ (IsLowest entry 0 (entries (r .n)) nowhere × IsLowest byte 32 (usedBitfield (r .n) - 32) (first b))
 
 -- of every register that passes 2 to 6, for every F
 abbrev pub AuditNamesForAll : Type 0

@@ -48,7 +48,7 @@ module _ (t bits : List ℕ) where
 
 -- ---- the tree
 
-put-part : (xs : List ℕ) (a k : ℕ) → a + k ≤ length xs → put xs a (part xs a k) ≡ xs
+pub put-part : (xs : List ℕ) (a k : ℕ) → a + k ≤ length xs → put xs a (part xs a k) ≡ xs
 unfolding put
 put-part xs a k h = ap (λ (m : ℕ). take a xs ++ (part xs a k ++ drop (a + m) xs)) (length-part xs a k h) ∙ around xs a k
 

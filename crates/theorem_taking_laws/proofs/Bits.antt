@@ -14,7 +14,6 @@ use lib.Bits.{bitOr, or-step, or-shr}
 use lib.Pow.{pow-add, pow-lt, shl-shr}
 use lib.ListN.{length, getD, set}
 use lib.Seq.{set-comm, set-set, set-out, getD-set-same, getD-set-other}
-use Rattle.byte_strings.specs.Lists.{part}
 use Rattle.bitfield.specs.Bits.{digit, bitAt, changeBit, withDigit, setBit}
 use Rattle.bitfield.proofs.Levels.{same-or}
 

@@ -6,7 +6,7 @@ use mathlib.Core.Path.{_≡_, refl, sym, ap, ap₂, _∙_, subst}
 use mathlib.Core.Bool.{Bool, true, false}
 use mathlib.Core.Logic.{_⊎_, inl, inr}
 use mathlib.Core.List.{List, [], _∷_, _++_, map, map-append}
-use native.Mathlib.Nat.{zero-add, div-one, mul-assoc, div-mul-le-self, lt-div-mul-add, not-suc-le-zero, le-of-suc-le-suc}
+use native.Mathlib.Nat.{zero-add, mul-assoc, lt-div-mul-add, not-suc-le-zero, le-of-suc-le-suc}
 use native.Mathlib.Numerals.{add-one}
 use native.Mathlib.Omega.{arith}
 use borrow.Author.Tests.{leb-true, leb-false}
@@ -15,21 +15,21 @@ use lib.Pow.{pow-pos}
 use lib.ListN.{length, getD}
 use Rattle.byte_strings.specs.Lists.{run}
 use Rattle.byte_strings.proofs.Lists.{length-run}
-use Rattle.tree_index.specs.Tree.{index, depth, block, parent, leftChild, rightChild, filled, roots}
-use Rattle.tree_index.proofs.Index.{depth-index, block-index, index-of, by-coordinates, leftChild-index, rightChild-index, pow-twice}
-use Rattle.tree_index.proofs.Filled.{block-end, filled-index, filled-end, end-filled, end-hole}
+use Rattle.tree_index.specs.Tree.{index, depth, block, parent, filled, roots}
+use Rattle.tree_index.proofs.Index.{depth-index, block-index, pow-twice}
+use Rattle.tree_index.proofs.Filled.{block-end, end-hole}
 use Rattle.tree_index.proofs.Roots.{bit, root-filled, root-at}
 use Rattle.file_format.specs.Entries.{Entry, hole, leaf, parentOf}
 use Rattle.packet.specs.Packet.{rootAbove, beside, siblings, without, otherRoots}
-use Rattle.packet.specs.Check.{packetChunk, ordered, entryIn, entriesIn, siblingEntries, otherEntries, Step, stepsAbove, steps}
+use Rattle.packet.specs.Check.{packetChunk, ordered, entriesIn, siblingEntries, otherEntries, Step, stepsAbove, steps}
 use Rattle.packet.specs.Inner.{placeAbove, ChunkOf}
 use Rattle.packet.proofs.Above.{place-root, place-below, Distinct, roots-distinct}
 use Rattle.packet.proofs.Climb.{left-first, right-first}
 use Rattle.packet.proofs.Rows.{beside-even, beside-odd, half, sibling-filled, others-filled}
 use Rattle.packet_compare.specs.Theorems.{stepAt}
-use Rattle.packet_compare.proofs.Stands.{stands, above-count, rest-is, sides-count, from-chunk, sibling-is, top-index}
+use Rattle.packet_compare.proofs.Stands.{stands, rest-is, sides-count, from-chunk, sibling-is, top-index}
 use Rattle.copy_take_in.specs.TakeIn.{Given, givenAt, lying, ledTo, brought}
-use Rattle.theorem_taking_laws.proofs.Members.{In, in-left, in-right, in-either, in-place, place-in, in-map, map-in, in-without, without-in, distinct-append, distinct-without, distinct-by}
+use Rattle.theorem_taking_laws.proofs.Members.{In, in-left, in-right, in-either, in-place, place-in, in-map, in-without, without-in, distinct-append, distinct-without, distinct-by}
 
 -- ---- a node's sibling and parent
 
@@ -121,7 +121,7 @@ given-in g (i ∷ is) [] h = absurd h
 given-in g (i ∷ is) (x ∷ es) (inl e) = (0, omega arith, ap (λ (y : Given). y .at) (sym e), ap (λ (y : Given). y .entry) (sym e))
 given-in g (i ∷ is) (x ∷ es) (inr h) = let q = given-in g is es h in (suc (q .0), omega (arith, q .1), q .2, q .3)
 
-given-indexes : (is : List ℕ) (es : List Entry) → length es ≡ length is → map (λ (g : Given). g .at) (givenAt is es) ≡ is
+pub given-indexes : (is : List ℕ) (es : List Entry) → length es ≡ length is → map (λ (g : Given). g .at) (givenAt is es) ≡ is
 unfolding givenAt
 given-indexes [] es e = refl
 given-indexes (i ∷ is) [] e = absurd (omega arith)
@@ -139,12 +139,12 @@ led-in g [] h = absurd h
 led-in g (s ∷ ss) (inl e) = (0, omega arith, sym e)
 led-in g (s ∷ ss) (inr h) = let q = led-in g ss h in (suc (q .0), omega (arith, q .1), q .2)
 
-led-indexes : (ss : List Step) (j : ℕ) → j < length ss → getD (map (λ (g : Given). g .at) (map ledTo ss)) j 0 ≡ stepAt ss j .at
+pub led-indexes : (ss : List Step) (j : ℕ) → j < length ss → getD (map (λ (g : Given). g .at) (map ledTo ss)) j 0 ≡ stepAt ss j .at
 led-indexes [] j h = absurd (not-suc-le-zero h)
 led-indexes (s ∷ ss) zero h = refl
 led-indexes (s ∷ ss) (suc j) h = led-indexes ss j (le-of-suc-le-suc h)
 
-led-many : (ss : List Step) → length (map (λ (g : Given). g .at) (map ledTo ss)) ≡ length ss
+pub led-many : (ss : List Step) → length (map (λ (g : Given). g .at) (map ledTo ss)) ≡ length ss
 led-many [] = refl
 led-many (s ∷ ss) = ap suc (led-many ss)
 

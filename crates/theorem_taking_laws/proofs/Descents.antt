@@ -5,17 +5,16 @@ use mathlib.Core.Path.{_≡_, refl, sym, ap, ap₂, _∙_, subst}
 use mathlib.Core.Bool.{Bool, true, false, cond}
 use mathlib.Core.Logic.{_⊎_, inl, inr}
 use mathlib.Core.List.{List, [], _∷_, _++_, map}
-use native.Mathlib.Nat.{zero-add, add-zero, add-assoc, div-one, mul-one, mul-assoc, zero-mul, one-mul, div-mul-le-self, lt-div-mul-add, div-lt-iff-lt-mul, div-eq-of-lt-le, le-trans, not-suc-le-zero, mul-le-mul-right, div-eq-of-lt}
-use native.Mathlib.Numerals.{add-one}
+use native.Mathlib.Nat.{zero-add, add-zero, add-assoc, div-one, mul-one, zero-mul, one-mul, div-mul-le-self, lt-div-mul-add, div-eq-of-lt-le, le-trans, div-eq-of-lt}
 use native.Mathlib.Omega.{arith}
-use borrow.Author.Tests.{leb-true, leb-false, le-leb, ltb-true, ltb-false, lt-ltb, le-ltb, eqb-true, eqb-false, eq-eqb, ne-eqb}
+use borrow.Author.Tests.{le-leb, ltb-true, ltb-false, lt-ltb, le-ltb, eqb-true, eq-eqb, ne-eqb}
 use lib.Dec.{leb, ltb, eqb}
 use lib.Pow.{pow-pos}
-use lib.ListN.{length, getD}
+use lib.ListN.{length}
 use Rattle.byte_strings.specs.Lists.{run, total}
 use Rattle.byte_strings.proofs.Lists.{run-suc, total-append}
 use Rattle.tree_index.specs.Tree.{index, trailingOnes, depth, block, rootOf, rootsBelow, roots}
-use Rattle.tree_index.proofs.Index.{depth-index, block-index, index-of, index-sum, index-leaf, by-coordinates, pow-twice}
+use Rattle.tree_index.proofs.Index.{depth-index, block-index, index-of, index-sum, index-leaf}
 use Rattle.tree_index.proofs.Filled.{block-end}
 use Rattle.tree_index.proofs.Roots.{bit, no-root, one-root}
 use Rattle.tree_index.proofs.Cover.{high-bits}

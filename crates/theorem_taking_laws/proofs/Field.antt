@@ -128,7 +128,7 @@ module _ (xs : List ℕ) (e : ℕ) (r : RoomFor xs e) where
       length-put xs (32 + 3328 * e + 3072) (indexBytes (part xs (32 + 3328 * e) 1024)) (omega (arith, length-index (part xs (32 + 3328 * e) 1024)))
 
   -- bits beside the Index stay
-  bit-anew : (p b : ℕ) → (p + b / 8 < bitsPlace e + 3072) ⊎ (bitsPlace e + 3328 ≤ p + b / 8) → bitAt (regenerated xs e) p b ≡ bitAt xs p b
+  pub bit-anew : (p b : ℕ) → (p + b / 8 < bitsPlace e + 3072) ⊎ (bitsPlace e + 3328 ≤ p + b / 8) → bitAt (regenerated xs e) p b ≡ bitAt xs p b
   unfolding regenerated bitsPlace
   bit-anew p b w =
       let l = length-index (part xs (32 + 3328 * e) 1024) in
@@ -188,7 +188,7 @@ anew-turn xs e f r s n =
     ]))
 
 -- what was made anew before the bit was set plays no part
-anew-once : (xs : List ℕ) (k : ℕ) → RoomFor xs (k / 8192) → regenerated (setDataBit (regenerated xs (k / 8192)) k) (k / 8192) ≡ heldAgain xs k
+pub anew-once : (xs : List ℕ) (k : ℕ) → RoomFor xs (k / 8192) → regenerated (setDataBit (regenerated xs (k / 8192)) k) (k / 8192) ≡ heldAgain xs k
 unfolding heldAgain regenerated setDataBit bitsPlace
 anew-once xs k r =
     let a : ℕ = 32 + 3328 * (k / 8192) in

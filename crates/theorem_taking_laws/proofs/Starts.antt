@@ -5,10 +5,10 @@ use Prim.Native.Nat.{ℕ, zero, suc, _+_, _-_, _*_, _/_, _%_, _^_, _≤_, _<_}
 use mathlib.Core.Path.{_≡_, refl, sym, ap, ap₂, _∙_, subst}
 use mathlib.Core.Bool.{Bool, true, false, cond}
 use mathlib.Core.Logic.{_⊎_, inl, inr}
-use mathlib.Core.List.{List, [], _∷_, _++_, map, map-append}
-use native.Mathlib.Nat.{zero-add, add-zero, div-one, not-suc-le-zero, le-of-suc-le-suc}
+use mathlib.Core.List.{List, [], _∷_, map, map-append}
+use native.Mathlib.Nat.{zero-add, add-zero, div-one}
 use native.Mathlib.Omega.{arith}
-use borrow.Author.Tests.{eqb-true, eqb-false, ltb-true, ltb-false}
+use borrow.Author.Tests.{eqb-true, eqb-false}
 use lib.Dec.{ltb, eqb}
 use lib.ListN.{length, getD}
 use Rattle.byte_strings.specs.Lists.{part, run, total, Bytes}
@@ -26,16 +26,18 @@ use Rattle.lookup.specs.Theorems.{Right}
 use Rattle.packet.specs.Packet.{rootAbove, siblings, without, otherRoots}
 use Rattle.packet.specs.Check.{chunkLength, siblingsPlace, othersPlace, packetChunk, entryIn, entriesIn, siblingEntries, otherEntries, packetTotal, ordered}
 use Rattle.packet.specs.Inner.{ChunkOf, Shaped}
-use Rattle.packet.proofs.Above.{Apart, Distinct, roots-distinct}
+use Rattle.packet.proofs.Above.{Distinct, roots-distinct}
 use Rattle.packet.proofs.Climb.{ordered-size, left-first, right-first}
 use Rattle.packet.proofs.Right.{map-run}
 use Rattle.packet_compare.proofs.Stands.{sides-count, sibling-is}
 use Rattle.lookup.proofs.ReadOrder.{reads}
 use Rattle.copy_take_in.specs.TakeIn.{Given, givenAt, lying, leftSize, packetStart, brought}
 use Rattle.copy_take_in.specs.Inner.{Fits}
-use Rattle.copy_take_in.proofs.Calls.{Placed, placed, chunk-long}
-use Rattle.theorem_taking_laws.proofs.Members.{In, in-place, without-in, apart-out}
-use Rattle.theorem_taking_laws.proofs.Brought.{wayIndex, sideIndex, wayEntry, sideEntry, otherEntry, Brings, onWay, besideWay, otherRoot, Made, made, way-leaf, way-next, brings, way-brought, side-brought, other-brought, others-count, top-root, above-root, root-brought}
+use Rattle.copy_take_in.proofs.Calls.{placed, chunk-long}
+use Rattle.theorem_taking_laws.proofs.Members.{In, apart-out}
+use Rattle.theorem_taking_laws.proofs.Brought.{wayIndex, sideIndex, wayEntry, sideEntry, otherEntry, Brings, onWay, besideWay, otherRoot, made, way-leaf}
+use Rattle.theorem_taking_laws.proofs.Brought.{way-next, brings, way-brought, side-brought, other-brought, others-count, top-root, above-root}
+use Rattle.theorem_taking_laws.proofs.Brought.{root-brought}
 use Rattle.theorem_taking_laws.proofs.Descents.{NearWay, reads-near, leftAt, chunkStart, WayRight, reaches}
 
 -- a tree file holds an entry at its index

@@ -31,14 +31,14 @@ use Rattle.audit.proofs.Search.{lowest-agree}
 use Rattle.compare.specs.Walk.{Comparison, rootsDiffer, atRoots, found, collides, walk, unlessRefused, missing, wholeVerdict, compare}
 use Rattle.compare.proofs.Local.{cond-same}
 use Rattle.compare.proofs.RootMessages.{same-count}
-use Rattle.compare.proofs.Walked.{walkable}
+use Rattle.compare.proofs.Walked.{rooted}
 use Rattle.compare.proofs.Whole.{whole-accepted}
 use Rattle.theorem_used_bytes.proofs.Cut.{cut, held-cut, part-cut, entry-cut, hash-cut, size-cut, start-cut, root-message-cut, checks-cut}
 
 -- ---- a chunk within the data
 
 -- what stands behind a test is read only where that is true
-and-same : (b x y : Bool) → (b ≡ true → x ≡ y) → (b && x) ≡ (b && y)
+pub and-same : (b x y : Bool) → (b ≡ true → x ≡ y) → (b && x) ≡ (b && y)
 and-same true x y h = h refl
 and-same false x y h = refl
 
@@ -87,7 +87,7 @@ module _ (t bits content : List ℕ) (n size : ℕ) where
         (lastTest held (storedHash t (2 * k)) (storedChunk t content k))
         (λ e. ap (lastTest held (storedHash t (2 * k))) (chunk-cut k h (leb-true (storedStart t k + storedSize t (2 * k)) size e))))
 
-    parent-cut : (i : ℕ) → i < entries n → 0 < depth i → filled n i ≡ true → parentRight F u i ≡ parentRight F t i
+    pub parent-cut : (i : ℕ) → i < entries n → 0 < depth i → filled n i ≡ true → parentRight F u i ≡ parentRight F t i
     unfolding parentRight
     parent-cut i h p f =
         let c = children-below n i p f in
@@ -99,11 +99,11 @@ module _ (t bits content : List ℕ) (n size : ℕ) where
         let y = hash-cut t n (rightChild i) (c .1) in
         λ j. eqb (z j) (a j + b j) && sameList (g j) (F (parentMessage (a j + b j) (x j) (y j)))
 
-    hole-cut : (i : ℕ) → i < entries n → holeRight F u i ≡ holeRight F t i
+    pub hole-cut : (i : ℕ) → i < entries n → holeRight F u i ≡ holeRight F t i
     unfolding holeRight
     hole-cut i h = ap (λ (l : List ℕ). sameList l (zeros 40)) (entry-cut t n i h)
 
-    leaf-below : (i : ℕ) → depth i ≡ zero → filled n i ≡ true → block i < n
+    pub leaf-below : (i : ℕ) → depth i ≡ zero → filled n i ≡ true → block i < n
     unfolding filled
     leaf-below i z f = omega (arith, leb-true ((block i + 1) * 2 ^ depth i) n f, ap (λ (d : ℕ). (block i + 1) * 2 ^ d) z)
 
@@ -222,7 +222,7 @@ module _ (F : List ℕ → List ℕ) (a b : Register) where
         ap (λ (w : Comparison). cond (sameList (F rootA) (F rootB)) w rootsDiffer)
         (cond-same (sameList rootA rootB) (found (lowest (free (cut a) (cut b)) 0 (entries (a .n)))) (found (lowest (free a b) 0 (entries (a .n)))) atRoots
         (λ s.
-        let same : a .n ≡ b .n = same-count (a .tree) (b .tree) (a .n) (b .n) (walkable F a d .room) (walkable F b e .room) (same-eq rootA rootB s) in
+        let same : a .n ≡ b .n = same-count (a .tree) (b .tree) (a .n) (b .n) (rooted F a d) (rooted F b e) (same-eq rootA rootB s) in
         ap found (lowest-agree (free (cut a) (cut b)) (free a b) 0 (entries (a .n)) (λ j p q before. free-cut same j (omega arith)))))
 
   pub compare-cut : compare F (cut a) (cut b) ≡ compare F a b

@@ -10,3 +10,4 @@ pub mod Verdicts
 pub mod Writing
 pub mod UsedBytes
 pub mod Records
+pub mod Leaves

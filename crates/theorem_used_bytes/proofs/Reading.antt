@@ -61,7 +61,7 @@ old-cut F r m =
 -- ---- all of them
 
 -- an answer that is the same of a register and of the same cut
-by-cut : {A : Type 0} (f : Register → A) → ((r : Register) → f (cut r) ≡ f r) → (a b : Register) → SameUsed a b → f a ≡ f b
+pub by-cut : {A : Type 0} (f : Register → A) → ((r : Register) → f (cut r) ≡ f r) → (a b : Register) → SameUsed a b → f a ≡ f b
 by-cut f same a b h = sym (same a) ∙ ap f (same-cut a b h) ∙ same b
 
 pub reads : (F : List ℕ → List ℕ) → ReadsUsed F

@@ -34,11 +34,11 @@ module _ (t : List ℕ) (n : ℕ) where
   unfolding entries
   leaf-cut k h = size-cut t n (index 0 k) (omega (arith, index-leaf k))
 
-  fits-cut : (k : ℕ) → k < n → leafFits t' k ≡ leafFits t k
+  pub fits-cut : (k : ℕ) → k < n → leafFits t' k ≡ leafFits t k
   unfolding leafFits
   fits-cut k h = ap (λ (z : ℕ). leb z longestChunk) (leaf-cut k h)
 
-  passed-cut : (b k : ℕ) → k < n → leafPassed t' b k ≡ leafPassed t b k
+  pub passed-cut : (b k : ℕ) → k < n → leafPassed t' b k ≡ leafPassed t b k
   unfolding leafPassed
   passed-cut b k h =
       ap₂ _&&_ (fits-cut k h) (ap₂ (λ (s z : ℕ). leb (s + z) b) (start-cut t n k (omega arith)) (leaf-cut k h))
@@ -53,7 +53,7 @@ module _ (t : List ℕ) (n : ℕ) where
       ∙ ap₂ (λ (s z : ℕ). elim (lowest (leafFits t) 0 (c + 1)) [ nowhere ↦ found s z | first k ↦ refusal 10 (tree (index 0 k)) ])
       (start-cut t n c (omega arith)) (leaf-cut c h)
 
-  place-in-cut : (c : ℕ) → shortPlaceIn t' n c ≡ shortPlaceIn t n c
+  pub place-in-cut : (c : ℕ) → shortPlaceIn t' n c ≡ shortPlaceIn t n c
   unfolding shortPlaceIn
   place-in-cut c = pick (ltb c n) refl
     where
@@ -84,7 +84,7 @@ module _ (t : List ℕ) (n : ℕ) where
       pick nowhere e = refl
       pick (first k) e = at-leaf-cut b k (omega (arith, lowest-says (leafPassed t b) 0 n k e .below))
 
-  byte-in-cut : (size b : ℕ) → shortByteIn t' n size b ≡ shortByteIn t n size b
+  pub byte-in-cut : (size b : ℕ) → shortByteIn t' n size b ≡ shortByteIn t n size b
   unfolding shortByteIn
   byte-in-cut size b = ap (λ (f : Found). cond (ltb size b) (refusal 9 none) (cond (eqb b size) (found n 0) f)) (byte-by-cut b)
 

@@ -22,9 +22,16 @@ use Rattle.append_needs.specs.Needs.{leafRuns}
 use Rattle.lookup.specs.Descent.{byteWithin, descend, fromRoots, descent}
 use Rattle.lookup.specs.Lookup.{stopRefused, byteEnding, toByte, byteVerdict, byteAt}
 use Rattle.listing_lines.specs.Input.{nextLength, chunkStands, chunksIn, inputOf}
-use Rattle.listing_lines.specs.Lines.{digits, chunksWord, bytesWord, rootsWord, leafWord, parentWord, holeWord, firstLine, firstUnder, countUnder, startOf, lengthOf, line, kindWord, entryLine, linesOf, linesFor, listing}
+use Rattle.listing_lines.specs.Lines.{digits, chunksWord, bytesWord, rootsWord, leafWord, parentWord, holeWord, firstLine, firstUnder, countUnder, startOf}
+use Rattle.listing_lines.specs.Lines.{lengthOf, line, kindWord, entryLine, linesOf, linesFor, listing}
 use Rattle.theorem_worked_cases.specs.Table.{newlyFilled, indexOf, three, registerOf, inputFor, printedLines, table, Holds}
 
 pub holds : Holds
-unfolding table newlyFilled indexOf three registerOf inputFor printedLines index trailingOnes depth block leftChild rightChild parent filled rootOf rootsBelow roots entries completed filledBy trailingZeros part run joined total sameList be numberFrom number byteOf bytesOf tuple four tuples combine combined node indexByte indexBytes dataBytes treeBytes entry entryCount entriesOf front header treeHeader signaturesHeader bitfieldHeader entryPlace usedTree usedSignatures usedBitfield leafMessage parentMessage hole entryBytes leaf parentOf Nodes.node nodeAt entryAt treeEntries dataSize dataImage bitfieldImage signaturesImage leaves treeImage allHeld heldIn storedSize storedRootSizes judged addsUp laterChecks registerChecks byteWithin descend fromRoots descent stopRefused byteEnding toByte byteVerdict byteAt keyBlock input blocks inner runsOf runs leafRuns nextLength chunkStands chunksIn inputOf digits chunksWord bytesWord rootsWord leafWord parentWord holeWord firstLine firstUnder countUnder startOf lengthOf line kindWord entryLine linesOf linesFor listing
+unfolding table newlyFilled indexOf three registerOf inputFor printedLines index trailingOnes depth block leftChild rightChild parent filled rootOf rootsBelow roots
+    entries completed filledBy trailingZeros part run joined total sameList be numberFrom number byteOf bytesOf tuple four tuples combine combined node
+    indexByte indexBytes dataBytes treeBytes entry entryCount entriesOf front header treeHeader signaturesHeader bitfieldHeader entryPlace usedTree
+    usedSignatures usedBitfield leafMessage parentMessage hole entryBytes leaf parentOf Nodes.node nodeAt entryAt treeEntries dataSize dataImage bitfieldImage
+    signaturesImage leaves treeImage allHeld heldIn storedSize storedRootSizes judged addsUp laterChecks registerChecks byteWithin descend fromRoots descent
+    stopRefused byteEnding toByte byteVerdict byteAt keyBlock input blocks inner runsOf runs leafRuns nextLength chunkStands chunksIn inputOf digits chunksWord
+    bytesWord rootsWord leafWord parentWord holeWord firstLine firstUnder countUnder startOf lengthOf line kindWord entryLine linesOf linesFor listing
 holds = (refl, refl)

@@ -5,7 +5,8 @@ use mathlib.Core.Path.{_≡_, refl, sym, ap, ap₂, _∙_, subst}
 use mathlib.Core.Bool.{true}
 use mathlib.Core.Logic.{_⊎_, inl, inr}
 use mathlib.Core.List.{List, [], _∷_, _++_, append-assoc, append-nil}
-use native.Mathlib.Nat.{le-refl, le-trans, le-dest, le-of-suc-le-suc, eq-or-lt-of-le, eq-zero-or-pos, mod-one, mod-lt, mod-eq-of-lt, div-mul-le-self, div-le-self, div-div-eq-div-mul, div-eq-of-eq-mul-left, pow-suc, pow-succ', add-zero, add-suc, suc-add, zero-add, add-comm}
+use native.Mathlib.Nat.{le-refl, le-trans, le-dest, le-of-suc-le-suc, eq-or-lt-of-le, eq-zero-or-pos, mod-one, mod-lt, mod-eq-of-lt, div-mul-le-self}
+use native.Mathlib.Nat.{div-le-self, div-div-eq-div-mul, div-eq-of-eq-mul-left, pow-suc, pow-succ', add-zero, add-suc, suc-add, zero-add, add-comm}
 use native.Mathlib.Numerals.{one-add}
 use native.Mathlib.Omega.{arith}
 use lib.Arith.{digits-div}
@@ -72,7 +73,9 @@ pub length-roots-le : (n : ℕ) → n ≤ 2 ^ 20 → length (roots n) ≤ 20
 length-roots-le n h = subst (λ (x : ℕ). x ≤ 20) (sym (length-roots n (omega arith))) (pick (eq-or-lt-of-le h))
   where
     pick : (n ≡ 2 ^ 20) ⊎ (n < 2 ^ 20) → ones n ≤ 20
-    pick (inl e) = subst (λ (x : ℕ). ones x ≤ 20) (sym e) (le-trans (subst (λ (x : ℕ). x ≤ ones 1 + ones 0) (sym (ones-cat 20 1 0 (pow-pos 20))) (le-refl (ones 1 + ones 0))) (omega (arith, ones-le 1 1 (omega arith), ones-le 0 0 (omega arith))))
+    pick (inl e) =
+        subst (λ (x : ℕ). ones x ≤ 20) (sym e) (le-trans (subst (λ (x : ℕ). x ≤ ones 1 + ones 0) (sym (ones-cat 20 1 0 (pow-pos 20))) (le-refl (ones 1 + ones 0)))
+        (omega (arith, ones-le 1 1 (omega arith), ones-le 0 0 (omega arith))))
     pick (inr l) = ones-le 20 n l
 
 -- what holds of the root of each one bit holds of every root

@@ -75,7 +75,9 @@ module _ (F : List ℕ → List ℕ) (hf : HashFunction F) (ss : List Slot) (w :
         tree = appended-tree F hf ss w r b c longer-within (a .tree);
         bitfield = bits-image (r .bitfield) (heldIn ss) (r .n) (none-from F ss r b) (a .fewer) (a .bitfield) (b .bitfield) (heldIn (ss ++ (held c ∷ [])))
             (λ j. ap (λ (n : ℕ). with-one (heldIn ss) n j) (b .count) ∙ held-snoc ss c j);
-        content = take-put-end (r .content) (r .size) (length c) c refl (omega (arith, a .content)) ∙ ap (λ (h : List ℕ). h ++ c) (b .content) ∙ sym (ap dataImage (contents-snoc ss c) ∙ dataImage-snoc (contents ss) c);
+        content =
+            take-put-end (r .content) (r .size) (length c) c refl (omega (arith, a .content)) ∙ ap (λ (h : List ℕ). h ++ c) (b .content) ∙ sym
+            (ap dataImage (contents-snoc ss c) ∙ dataImage-snoc (contents ss) c);
       }
 
   -- the answer is the new root hash

@@ -3,7 +3,7 @@
 use Prim.Native.Nat.{ℕ, _+_, _<_}
 use mathlib.Core.Path.{_≡_, refl, ap}
 use mathlib.Core.Bool.{Bool, true, false, not, _||_}
-use mathlib.Core.List.{List, [], _∷_, _++_}
+use mathlib.Core.List.{List}
 use native.Mathlib.Omega.{arith}
 use borrow.Author.Tests.{leb-true, ltb-true, eqb-true, eqb-false, le-leb, lt-ltb, eq-eqb, ne-eqb, not-true}
 use lib.Dec.{eqb}
@@ -11,7 +11,7 @@ use lib.ListN.{length}
 use Rattle.refusals.specs.Verdict.{done}
 use Rattle.file_format.specs.Sizes.{mostChunks, longestChunk, usedTree, usedSignatures, usedBitfield}
 use Rattle.file_format.specs.Belongs.{Register}
-use Rattle.checks.specs.Checks.{Check, signedRight, laterChecks, registerChecks}
+use Rattle.checks.specs.Checks.{signedRight, laterChecks, registerChecks}
 use Rattle.checks.proofs.Passed.{Passed, all-must, all-pass, all-right, right-all}
 use Rattle.writing.specs.Append.{ownChecks, appendChecks, appendVerdict}
 use Rattle.writing.specs.Sign.{ownSignChecks, signChecks, signVerdict}

@@ -1,7 +1,7 @@
 -- An append: "adds one chunk, writes the leaf, every completed parent and the new hole, if any, sets the bits, regenerates the Index of
 -- the new chunk's bitfield entry (zeroed first if it is new), and answers the new root hash".
 use Prim.Native.Nat.{ℕ, zero, suc, _+_, _-_, _*_, _/_, _^_}
-use mathlib.Core.Bool.{Bool, cond}
+use mathlib.Core.Bool.{cond}
 use mathlib.Core.List.{List, [], _∷_, _++_}
 use lib.ListN.{length}
 use lib.Dec.{leb, ltb, eqb}

@@ -1,17 +1,16 @@
 -- What the inner functions require and ensure.
 use Prim.Native.Nat.{ℕ, zero, suc, _+_, _-_, _/_, _^_, _≤_, _<_}
 use mathlib.Core.Path.{_≡_}
-use mathlib.Core.List.{List, [], _∷_}
+use mathlib.Core.List.{List}
 use lib.ListN.{length}
 use Rattle.byte_strings.specs.Lists.{put, total}
 use Rattle.tree_index.specs.Tree.{index, completed, filledBy}
 use Rattle.bitfield.specs.Append.{appended}
 use Rattle.blake2b.specs.Hash.{nodeHash}
 use Rattle.file_format.specs.Headers.{treeHeader, signaturesHeader, bitfieldHeader}
-use Rattle.file_format.specs.Sizes.{mostChunks, longestChunk, usedTree, usedSignatures, usedBitfield}
+use Rattle.file_format.specs.Sizes.{mostChunks, usedTree, usedBitfield}
 use Rattle.file_format.specs.Entries.{Entry, parentOf}
 use Rattle.file_format.specs.Stored.{storedSize, storedRootSizes, storedRootMessage}
-use Rattle.file_format.specs.Belongs.{Register}
 use Rattle.writing.specs.Append.{storedEntry, sibling, withHole, withEntries, climb, appendedTree}
 use Rattle.writing.specs.declared.appending.Node.{Node}
 

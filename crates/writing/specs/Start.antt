@@ -1,5 +1,4 @@
 -- Start: "only lent four buffers and writes the three headers; its one refusal is 14".
-use Prim.Native.Nat.{ℕ}
 use mathlib.Core.List.{List, [], _∷_}
 use Rattle.refusals.specs.Verdict.{Verdict, done, unlessRefused}
 use Rattle.byte_strings.specs.Lists.{put}

@@ -12,15 +12,29 @@ given c =
     (c .args .size)
 
 store-requires : tie.Need-store-requires
-store-requires c κs = let s = c .before .before .before .before .before .before .before .before .before .before .before .before .before .before .before .before .before in store-fits (given s) (s .args .lengths .now) (s .args .bytes .now) (c .before .before .before .before .before .before .judge .result) (c .before .before .before .before .before .before .judge .ensures) (c .before .before .before .before .enum-told .given .1)
+store-requires c κs =
+    let at-enum-told = c .before .before .before .before in
+    let at-judge = at-enum-told .before .before in
+    let start = at-judge .before .before .before .before .before .before .before .before .before .before .before in
+    let s = start in store-fits (given s) (s .args .lengths .now) (s .args .bytes .now) (at-judge .judge .result) (at-judge .judge .ensures) (at-enum-told .enum-told .given .1)
 
 returns : tie.Need-returns
-returns c = let s = c .before .before .before .before .before .before .before .before .before .before .before .before .before .before in list-not (given s) (s .args .lengths .now) (s .args .bytes .now) (c .before .before .before .judge .result) (c .before .before .before .judge .ensures) (c .before .found .given .0 .0) (c .before .found .given .1)
+returns c =
+    let at-judge = c .before .before .before in
+    let start = at-judge .before .before .before .before .before .before .before .before .before .before .before in
+    let s = start in list-not (given s) (s .args .lengths .now) (s .args .bytes .now) (at-judge .judge .result) (at-judge .judge .ensures) (c .before .found .given .0 .0) (c .before .found .given .1)
 
 returns-2 : tie.Need-returns-2
-returns-2 c = let s = c .before .before .before .before .before .before .before .before .before .before .before .before .before .before .before .before .before .before .before .before .before .before .before .before .before .before in list-done (given s) (s .args .lengths .now) (s .args .bytes .now) (c .before .before .before .before .before .before .before .before .before .before .before .before .before .before .before .judge .result) (c .before .before .before .before .before .before .before .before .before .before .before .before .before .before .before .judge .ensures) _ _ _ _ _ (c .before .before .before .before .before .before .before .before .before .before .before .before .before .enum-told .given .1) (c .before .before .before .before .before .before .before .before .store .ensures)
+returns-2 c =
+    let at-store = c .before .before .before .before .before .before .before .before in
+    let at-enum-told = at-store .before .before .before .before .before in
+    let at-judge = at-enum-told .before .before in
+    let start = at-judge .before .before .before .before .before .before .before .before .before .before .before in
+    let s = start in list-done (given s) (s .args .lengths .now) (s .args .bytes .now) (at-judge .judge .result) (at-judge .judge .ensures) _ _ _ _ _
+    (at-enum-told .enum-told .given .1) (at-store .store .ensures)
 
 pub append-list-spec : {M : Type 1} → statement M
 append-list-spec =
     tie.close
-    (tie.spec (λ c κs. search needs) (λ c. search needs) (λ c. search needs) store-requires (λ c. search needs) (λ c. search needs) (λ c. search needs) (λ c. search needs) returns (λ c. search needs) (λ c. search needs) (λ c. search needs) (λ c. search needs) returns-2)
+    (tie.spec (λ c κs. search needs) (λ c. search needs) (λ c. search needs) store-requires (λ c. search needs) (λ c. search needs) (λ c. search needs) (λ c. search needs) returns
+    (λ c. search needs) (λ c. search needs) (λ c. search needs) (λ c. search needs) returns-2)

@@ -27,40 +27,53 @@ short c = sym (c .before .all-short .ensures) ∙ not-false _ (c .if3 .left)
 
 returns : tie.Need-returns
 returns c =
-    let a = c .before .before .before .before .args in
+    let start = c .before .before .before .before in
+    let a = start .args in
     by-tests (a .n) (a .size) (a .lengths .now) (said (c .refuse .result)) false _ _ _
     (sym (c .before .before .count-after .ensures) ∙ lt-leb _ _ (c .before .if1 .taken)) refl refl refl (c .refuse .ensures)
 
 returns-2 : tie.Need-returns-2
 returns-2 c =
-    let a = c .before .before .before .before .before .args in
+    let start = c .before .before .before .before .before in
+    let a = start .args in
     by-tests (a .n) (a .size) (a .lengths .now) (said (c .refuse2 .result)) true false _ _
     (count (c .before .before)) (lt-leb _ _ (c .before .if2 .taken)) refl refl (c .refuse2 .ensures)
 
 returns-3 : tie.Need-returns-3
 returns-3 c =
-    let a = c .before .before .before .before .before .before .before .args in
+    let earlier = c .before .before .before in
+    let earlier-2 = earlier .before in
+    let start = earlier-2 .before .before .before in
+    let a = start .args in
     by-tests (a .n) (a .size) (a .lengths .now) (said (c .refuse3 .result)) true true false _
-    (count (c .before .before .before .before)) (few (c .before .before .before))
+    (count earlier-2) (few earlier)
     (sym (c .before .before .all-short .ensures) ∙ not-true _ (c .before .if3 .taken)) refl (c .refuse3 .ensures)
 
 mul-if4 : tie.Need-mul-if4
 mul-if4 c =
-    let a = c .before .before .before .before .before .before .args in
-    omega (arith, leb-true (a .n + length (a .lengths .now)) mostChunks (count (c .before .before .before)))
+    let earlier = c .before .before .before in
+    let start = earlier .before .before .before in
+    let a = start .args in
+    omega (arith, leb-true (a .n + length (a .lengths .now)) mostChunks (count earlier))
 
 returns-4 : tie.Need-returns-4
 returns-4 c =
-    let a = c .before .before .before .before .before .before .before .before .args in
+    let earlier = c .before .before .before .before in
+    let earlier-2 = earlier .before in
+    let start = earlier-2 .before .before .before in
+    let a = start .args in
     by-tests (a .n) (a .size) (a .lengths .now) (said (c .refuse4 .result)) true true true false
-    (count (c .before .before .before .before .before)) (few (c .before .before .before .before)) (short (c .before .before))
+    (count earlier-2) (few earlier) (short (c .before .before))
     (lt-leb _ _ (c .before .if4 .taken)) (c .refuse4 .ensures)
 
 returns-5 : tie.Need-returns-5
 returns-5 c =
-    let a = c .before .before .before .before .before .before .before .args in
+    let earlier = c .before .before .before in
+    let earlier-2 = earlier .before in
+    let start = earlier-2 .before .before .before in
+    let a = start .args in
     by-tests (a .n) (a .size) (a .lengths .now) done true true true true
-    (count (c .before .before .before .before)) (few (c .before .before .before)) (short (c .before)) (le-leb _ _ (c .if4 .left)) refl
+    (count earlier-2) (few earlier) (short (c .before)) (le-leb _ _ (c .if4 .left)) refl
 
 pub judge-spec : {M : Type 1} → statement M
 judge-spec =

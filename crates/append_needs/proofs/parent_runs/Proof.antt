@@ -9,7 +9,9 @@ use Rattle.append_needs.proofs.parent_runs.Tie as tie
 counted : (c : tie.After-parents2)
     → New (c .before .before .before .args .n) (c .before .before .before .args .count) (c .before .before .runs-of .result) (c .parents2 .result)
     (c .before .parents .result)
-counted c = new-parents _ _ _ _ _ (c .before .before .before .pre) (c .before .before .runs-of .ensures) (c .parents2 .ensures) (c .before .parents .ensures)
+counted c =
+    let entered = c .before .before .before in
+    new-parents _ _ _ _ _ (entered .pre) (c .before .before .runs-of .ensures) (c .parents2 .ensures) (c .before .parents .ensures)
 
 mul-result : tie.Need-mul-result
 mul-result c = omega (arith, counted c .small)

@@ -25,10 +25,11 @@ loop-holds c = let a = c .before .before .before .args in (made-first (a .tree .
 
 above-requires : tie.Need-above-requires Inv-loop μ-loop
 above-requires c κs =
-    let s = c .before .before .before .before .before in
+    let at-chunk-behind = c .before .before .before in
+    let s = at-chunk-behind .before .before in
     let l = c .before .loop in
     above-fits (s .args .tree .now) (s .args .n) (entryOf (s .args .leaf)) (l .d) (entryOf (l .node)) (s .pre)
-    (omega (arith, c .loop-test .taken, c .before .before .completed .ensures ∙ ap completed (c .before .before .before .chunk-behind .ensures))) (l .inv .0)
+    (omega (arith, c .loop-test .taken, c .before .before .completed .ensures ∙ ap completed (at-chunk-behind .chunk-behind .ensures))) (l .inv .0)
 
 loop-again : tie.Need-loop-again Inv-loop μ-loop
 loop-again c =
@@ -38,10 +39,12 @@ loop-again c =
 
 returns : tie.Need-returns Inv-loop μ-loop
 returns c =
-    let a = c .before .before .before .before .before .args in
+    let at-chunk-behind = c .before .before .before in
+    let start = at-chunk-behind .before .before in
+    let a = start .args in
     let l = c .before .loop in
     let last : l .d ≡ completed (a .n) =
-    omega (arith, l .inv .1, c .loop-test .left, c .before .before .completed .ensures ∙ ap completed (c .before .before .before .chunk-behind .ensures)) in
+    omega (arith, l .inv .1, c .loop-test .left, c .before .before .completed .ensures ∙ ap completed (at-chunk-behind .chunk-behind .ensures)) in
     l .inv .0 ∙ ap (made nodeHash (a .tree .now) (a .n) (entryOf (a .leaf))) last
 
 pub climbed-spec : {M : Type 1} → statement M

@@ -6,7 +6,9 @@ use Rattle.append_preview.proofs.new_root.Statement.{statement}
 use Rattle.append_preview.proofs.new_root.Tie as tie
 
 hash-with-requires : tie.Need-hash-with-requires
-hash-with-requires c κs = let s = c .before .before .before .before in (s .pre .few, room-before (s .args .tree .now) (s .args .n) (s .pre .room))
+hash-with-requires c κs =
+    let start = c .before .before .before .before in
+    let s = start in (s .pre .few, room-before (s .args .tree .now) (s .args .n) (s .pre .room))
 
 returns : tie.Need-returns
 returns c =

@@ -19,13 +19,15 @@ new-root-requires c κs =
 
 returns : tie.Need-returns
 returns c =
-    let s = c .before .before .before .before .before .before .before .before .before in
-    preview-not (given s) (s .args .chunk .now) (c .before .before .before .judge .result) (c .before .before .before .judge .ensures) (c .before .found .given .0 .0) (c .before .found .given .1)
+    let at-judge = c .before .before .before in
+    let s = at-judge .before .before .before .before .before .before in
+    preview-not (given s) (s .args .chunk .now) (at-judge .judge .result) (at-judge .judge .ensures) (c .before .found .given .0 .0) (c .before .found .given .1)
 
 returns-2 : tie.Need-returns-2
 returns-2 c =
-    let s = c .before .before .before .before .before .before .before .before .before in
-    preview-done (given s) (s .args .chunk .now) (c .before .before .before .judge .result) (c .before .before .before .judge .ensures) (c .new-root .result) (c .before .enum-told .given .1) (c .new-root .ensures)
+    let at-judge = c .before .before .before in
+    let s = at-judge .before .before .before .before .before .before in
+    preview-done (given s) (s .args .chunk .now) (at-judge .judge .result) (at-judge .judge .ensures) (c .new-root .result) (c .before .enum-told .given .1) (c .new-root .ensures)
 
 pub preview-spec : {M : Type 1} → statement M
 preview-spec =

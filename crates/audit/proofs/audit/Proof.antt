@@ -11,14 +11,28 @@ use Rattle.audit.proofs.audit.Tie as tie
 
 returns : tie.Need-returns
 unfolding audit
-returns c = let a = c .before .before .before .before .before .before .before .args in checks-refuse (registerOf (a .tree .now) (a .signatures .now) (a .bitfield .now) (a .content .now) (a .n) (a .s) (a .size)) (imagesVerdict nodeHash (registerOf (a .tree .now) (a .signatures .now) (a .bitfield .now) (a .content .now) (a .n) (a .s) (a .size))) (c .before .before .judge .result) (c .before .before .judge .ensures) _ (c .enum-told2 .given .1)
+returns c =
+    let start = c .before .before .before .before .before .before .before in
+    let a = start .args in checks-refuse (registerOf (a .tree .now) (a .signatures .now) (a .bitfield .now) (a .content .now) (a .n) (a .s) (a .size))
+    (imagesVerdict nodeHash (registerOf (a .tree .now) (a .signatures .now) (a .bitfield .now) (a .content .now) (a .n) (a .s) (a .size))) (c .before .before .judge .result)
+    (c .before .before .judge .ensures) _ (c .enum-told2 .given .1)
 
 images-requires : tie.Need-images-requires
-images-requires c κs = let a = c .before .before .before .before .before .before .before .args in files-in (registerOf (a .tree .now) (a .signatures .now) (a .bitfield .now) (a .content .now) (a .n) (a .s) (a .size)) (imagesVerdict nodeHash (registerOf (a .tree .now) (a .signatures .now) (a .bitfield .now) (a .content .now) (a .n) (a .s) (a .size))) (c .before .before .judge .result) (c .before .before .judge .ensures) (ap said (c .enum-told .given .1))
+images-requires c κs =
+    let start = c .before .before .before .before .before .before .before in
+    let a = start .args in files-in (registerOf (a .tree .now) (a .signatures .now) (a .bitfield .now) (a .content .now) (a .n) (a .s) (a .size))
+    (imagesVerdict nodeHash (registerOf (a .tree .now) (a .signatures .now) (a .bitfield .now) (a .content .now) (a .n) (a .s) (a .size))) (c .before .before .judge .result)
+    (c .before .before .judge .ensures) (ap said (c .enum-told .given .1))
 
 returns-2 : tie.Need-returns-2
 unfolding audit
-returns-2 c = let a = c .before .before .before .before .before .before .before .before .args in checks-pass (registerOf (a .tree .now) (a .signatures .now) (a .bitfield .now) (a .content .now) (a .n) (a .s) (a .size)) (imagesVerdict nodeHash (registerOf (a .tree .now) (a .signatures .now) (a .bitfield .now) (a .content .now) (a .n) (a .s) (a .size))) (c .before .before .before .judge .result) (c .before .before .before .judge .ensures) (ap said (c .before .enum-told .given .1)) (said (c .images .result)) (c .images .ensures ∙ images-of nodeHash (registerOf (a .tree .now) (a .signatures .now) (a .bitfield .now) (a .content .now) (a .n) (a .s) (a .size)))
+returns-2 c =
+    let at-judge = c .before .before .before in
+    let start = at-judge .before .before .before .before .before in
+    let a = start .args in checks-pass (registerOf (a .tree .now) (a .signatures .now) (a .bitfield .now) (a .content .now) (a .n) (a .s) (a .size))
+    (imagesVerdict nodeHash (registerOf (a .tree .now) (a .signatures .now) (a .bitfield .now) (a .content .now) (a .n) (a .s) (a .size))) (at-judge .judge .result)
+    (at-judge .judge .ensures) (ap said (c .before .enum-told .given .1)) (said (c .images .result))
+    (c .images .ensures ∙ images-of nodeHash (registerOf (a .tree .now) (a .signatures .now) (a .bitfield .now) (a .content .now) (a .n) (a .s) (a .size)))
 
 pub audit-spec : {M : Type 1} → statement M
 audit-spec = tie.close (tie.spec (λ c κs. search needs) (λ c. search needs) (λ c. search needs) returns images-requires returns-2)

@@ -11,7 +11,8 @@ use Rattle.bitfield.proofs.bit_is_set.Tie as tie
 returns : tie.Need-returns
 unfolding bitAt digit
 returns c =
-    let a = c .before .before .before .args in
+    let start = c .before .before .before in
+    let a = start .args in
     ap (λ (m : ℕ). eqb (getD (a .xs .now) (a .p + a .b / 8) 0 / m % 2) 1) (c .before .bit-value .ensures .0)
 
 pub bit-is-set-spec : {M : Type 1} → statement M

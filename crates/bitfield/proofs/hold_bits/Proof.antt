@@ -13,7 +13,9 @@ unfolding heldAgain
 steps xs a b k p q = q ∙ ap (λ (l : List ℕ). regenerated l (k / 8192)) p
 
 returns : tie.Need-returns
-returns c = steps _ _ _ _ (c .before .before .before .before .before .before .set-data-bit .ensures) (c .before .before .make-index .ensures)
+returns c =
+    let at-set-data-bit = c .before .before .before .before .before .before in
+    steps _ _ _ _ (at-set-data-bit .set-data-bit .ensures) (c .before .before .make-index .ensures)
 
 pub hold-bits-spec : {M : Type 1} → statement M
 hold-bits-spec = tie.close (tie.spec (λ c κs. search needs) (λ c κs. search needs) (λ c. search needs) returns)

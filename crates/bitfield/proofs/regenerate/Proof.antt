@@ -3,7 +3,7 @@ use borrow.Author.Needs.{needs}
 use native.Mathlib.Omega.{arith}
 use mathlib.Core.Path.{_≡_, ap, _∙_}
 use mathlib.Core.List.{List}
-use Prim.Native.Nat.{ℕ, _+_, _-_, _*_}
+use Prim.Native.Nat.{ℕ, _+_, _-_}
 use lib.ListN.{length, take, drop}
 use Rattle.byte_strings.specs.Lists.{part, put}
 use Rattle.bitfield.specs.Index.{indexBytes}
@@ -42,8 +42,10 @@ together xs zs bs e at f p q =
 
 returns : tie.Need-returns
 returns c =
-    together _ _ _ _ _ (c .before .before .before .before .before .before .before .before .entry-place .ensures) (c .before .before .copy-to .ensures)
-    (c .before .before .before .before .before .index-of .ensures)
+    let at-index-of = c .before .before .before .before .before in
+    let at-entry-place = at-index-of .before .before .before in
+    together _ _ _ _ _ (at-entry-place .entry-place .ensures) (c .before .before .copy-to .ensures)
+    (at-index-of .index-of .ensures)
 
 pub regenerate-spec : {M : Type 1} → statement M
 regenerate-spec =

@@ -11,7 +11,8 @@ use Rattle.bitfield.proofs.set_bit.Tie as tie
 returns : tie.Need-returns
 unfolding changeBit
 returns c =
-    let a = c .before .before .before .args in
+    let start = c .before .before .before in
+    let a = start .args in
     ap (λ (m : ℕ). set (a .xs .now) (a .p + a .b / 8) (bitOr (getD (a .xs .now) (a .p + a .b / 8) 0) m)) (c .bit-value .ensures .0)
 
 pub set-bit-spec : {M : Type 1} → statement M

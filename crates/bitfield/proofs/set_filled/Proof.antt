@@ -37,7 +37,9 @@ loop-holds : tie.Need-loop-holds Inv-loop μ-loop
 loop-holds c = (search needs, no-bits (c .before .before .args .xs .now) (c .before .before .args .c .0), refl)
 
 node-ending-requires : tie.Need-node-ending-requires Inv-loop μ-loop
-node-ending-requires c κs = (c .before .before .before .before .pre .0, below c)
+node-ending-requires c κs =
+    let entered = c .before .before .before .before in
+    (entered .pre .0, below c)
 
 set-tree-bit-requires : tie.Need-set-tree-bit-requires Inv-loop μ-loop
 set-tree-bit-requires c κs =
@@ -69,8 +71,8 @@ loop-again c =
 
 returns : tie.Need-returns Inv-loop μ-loop
 returns c =
-    let l = c .before .loop in
     let start = c .before .before .before .before in
+    let l = c .before .loop in
     l .inv .1
     ∙ end (start .args .xs .now) (start .args .c .0) (l .d) (omega (arith, l .inv .0, c .loop-test .left, c .before .before .completed .ensures))
 

@@ -28,7 +28,8 @@ returns c =
 
 returns-2 : tie.Need-returns-2
 returns-2 c =
-    let a = c .before .before .before .args in
+    let start = c .before .before .before in
+    let a = start .args in
     sym (zeroed-old (a .xs .now) (a .c .0) (λ e. c .if1 .left (c .before .data-bit .ensures ∙ e)))
 
 pub zero-if-new-spec : {M : Type 1} → statement M

@@ -14,7 +14,9 @@ returns c =
     (n .counter .ensures)
 
 returns-2 : tie.Need-returns-2
-returns-2 c = of-count _ _ _ _ _ (c .compress-gathered .ensures) (c .before .before .before .counter .ensures)
+returns-2 c =
+    let at-counter = c .before .before .before in
+    of-count _ _ _ _ _ (c .compress-gathered .ensures) (at-counter .counter .ensures)
 
 pub compress-inner-spec : {M : Type 1} → statement M
 compress-inner-spec =

@@ -6,7 +6,9 @@ use Rattle.blake2b.proofs.compress_key.Statement.{statement}
 use Rattle.blake2b.proofs.compress_key.Tie as tie
 
 returns : tie.Need-returns
-returns c = of-count _ _ _ _ _ (c .compress-gathered .ensures) (c .before .before .before .counter .ensures)
+returns c =
+    let at-counter = c .before .before .before in
+    of-count _ _ _ _ _ (c .compress-gathered .ensures) (at-counter .counter .ensures)
 
 pub compress-key-spec : {M : Type 1} → statement M
 compress-key-spec =

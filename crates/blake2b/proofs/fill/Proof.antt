@@ -20,7 +20,9 @@ loop-again : tie.Need-loop-again Inv-loop μ-loop
 loop-again c = (search needs, going-more _ _ _ _ _ _ (omega arith) (c .before .before .loop .inv .1))
 
 returns : tie.Need-returns Inv-loop μ-loop
-returns c = going-done _ _ _ _ _ _ (omega arith) (c .before .before .before .before .pre .2) (c .before .loop .inv .1)
+returns c =
+    let entered = c .before .before .before .before in
+    going-done _ _ _ _ _ _ (omega arith) (entered .pre .2) (c .before .loop .inv .1)
 
 pub fill-spec : {M : Type 1} → statement M
 fill-spec =

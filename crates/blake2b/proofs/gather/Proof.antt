@@ -8,8 +8,10 @@ use Rattle.blake2b.proofs.gather.Tie as tie
 
 fill-requires-2 : tie.Need-fill-requires-2
 fill-requires-2 c κs =
-    let a = c .before .before .before .before .before .before .before .args in
-    (omega arith, omega arith, blank-after (a .prefix .now) (a .body .now) (a .p) _ _ _ (c .before .before .before .before .if1 .taken) (c .before .before .fill .ensures) (c .before .smaller .ensures))
+    let branch1 = c .before .before .before .before in
+    let start = branch1 .before .before .before in
+    let a = start .args in
+    (omega arith, omega arith, blank-after (a .prefix .now) (a .body .now) (a .p) _ _ _ (branch1 .if1 .taken) (c .before .before .fill .ensures) (c .before .smaller .ensures))
 
 returns : tie.Need-returns
 returns c =
@@ -19,7 +21,8 @@ returns c =
 
 returns-2 : tie.Need-returns-2
 returns-2 c =
-    let a = c .before .before .before .before .before .args in
+    let start = c .before .before .before .before .before in
+    let a = start .args in
     piece-body (a .prefix .now) (a .body .now) (a .p) _ _ (c .before .before .if1 .left) (c .fill3 .ensures)
 
 pub gather-spec : {M : Type 1} → statement M

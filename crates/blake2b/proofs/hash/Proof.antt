@@ -9,23 +9,27 @@ use Rattle.blake2b.proofs.hash.Tie as tie
 
 returns : tie.Need-returns
 returns c =
-    let a = c .before .before .before .before .args in
+    let start = c .before .before .before .before in
+    let a = start .args in
     as-refused (a .nn) (a .key .now) (a .message .now) 1 (c .refused .result) (too-short (a .nn) (length (a .key .now)) (omega arith)) (c .refused .ensures)
 
 returns-2 : tie.Need-returns-2
 returns-2 c =
-    let a = c .before .before .before .before .before .args in
+    let start = c .before .before .before .before .before in
+    let a = start .args in
     as-refused (a .nn) (a .key .now) (a .message .now) 1 (c .refused2 .result) (too-long (a .nn) (length (a .key .now)) (omega arith)) (c .refused2 .ensures)
 
 returns-3 : tie.Need-returns-3
 returns-3 c =
-    let a = c .before .before .before .before .before .before .args in
+    let start = c .before .before .before .before .before .before in
+    let a = start .args in
     as-refused (a .nn) (a .key .now) (a .message .now) 17 (c .refused3 .result)
     (key-too-long (a .nn) (length (a .key .now)) (omega arith) (omega arith) (omega arith)) (c .refused3 .ensures)
 
 returns-4 : tie.Need-returns-4
 returns-4 c =
-    let a = c .before .before .before .before .before .before .before .before .before .before .args in
+    let start = c .before .before .before .before .before .before .before .before .before .before in
+    let a = start .args in
     as-done (a .nn) (a .key .now) (a .message .now) _ _ _ (all-right (a .nn) (length (a .key .now)) (omega arith) (omega arith) (omega arith))
     (c .before .before .final-state .ensures) (c .before .state-bytes .ensures) (c .cut .ensures)
 

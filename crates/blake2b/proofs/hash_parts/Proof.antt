@@ -8,7 +8,8 @@ use Rattle.blake2b.proofs.hash_parts.Tie as tie
 
 returns : tie.Need-returns
 returns c =
-    let a = c .before .before .before .before .before .before .before .args in
+    let start = c .before .before .before .before .before .before .before in
+    let a = start .args in
     half-from (a .key .now) (a .prefix .now ++ a .body .now) _ _ _ (c .before .before .final-state .ensures) (c .before .state-bytes .ensures) (c .first-half .ensures)
 
 pub hash-parts-spec : {M : Type 1} → statement M

@@ -19,7 +19,8 @@ bytes-of key root v e = ap (λ (w : Verdict). unlessRefused w (labelOf key root)
 returns : tie.Need-returns
 unfolding labelVerdict
 returns c =
-    let a = c .before .before .before .args in
+    let start = c .before .before .before in
+    let a = start .args in
     let e = key-too-long 32 (length (a .key .now)) (omega arith) (omega arith) (omega (arith, c .before .if1 .taken)) in
     record { answers = c .refuse .ensures ∙ sym e; bytes = bytes-of (a .key .now) (a .root .now) _ e }
 

@@ -18,7 +18,14 @@ add-result : tie.Need-add-result
 add-result c =
     let start = c .before .before .before in
     let bytes : Bytes (start .args .s .now) = λ i. c .before .before .shared-slice-known .given i .fits in
-    omega (arith, four-lt (start .args .s .now) (start .args .at) bytes (omega arith), four-lt (start .args .s .now) (start .args .at + 4) bytes (omega arith), c .before .read-be32 .ensures, c .read-be322 .ensures)
+    omega (
+      arith,
+      four-lt (start .args .s .now) (start .args .at) bytes (omega arith),
+      four-lt (start .args .s .now) (start .args .at + 4) bytes
+          (omega arith),
+      c .before .read-be32 .ensures,
+      c .read-be322 .ensures,
+    )
 
 returns : tie.Need-returns
 returns c =

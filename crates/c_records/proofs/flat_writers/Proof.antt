@@ -10,18 +10,27 @@ use Rattle.c_records.proofs.flat_writers.Tie as tie
 returns : tie.Need-returns
 unfolding flatWriters
 returns c =
-    let list = c .before .before .before .before .before .before .before .before .before .before .before .before .before .before .before .before .args .t1 in
+    let at-flat-writer6 = c .before .before .before .before in
+    let at-flat-writer5 = at-flat-writer6 .before .before in
+    let at-flat-writer4 = at-flat-writer5 .before .before in
+    let at-flat-writer3 = at-flat-writer4 .before .before in
+    let at-flat-writer2 = at-flat-writer3 .before .before in
+    let at-flat-writer = at-flat-writer2 .before .before in
+    let start = at-flat-writer .before .before in
+    let list = start .args .t1 in
     eight (λ j. flatWriter (getD list j noWriter))
-    (c .before .before .before .before .before .before .before .before .before .before .before .before .before .before .flat-writer .ensures)
-    (c .before .before .before .before .before .before .before .before .before .before .before .before .flat-writer2 .ensures)
-    (c .before .before .before .before .before .before .before .before .before .before .flat-writer3 .ensures)
-    (c .before .before .before .before .before .before .before .before .flat-writer4 .ensures)
-    (c .before .before .before .before .before .before .flat-writer5 .ensures)
-    (c .before .before .before .before .flat-writer6 .ensures)
+    (at-flat-writer .flat-writer .ensures)
+    (at-flat-writer2 .flat-writer2 .ensures)
+    (at-flat-writer3 .flat-writer3 .ensures)
+    (at-flat-writer4 .flat-writer4 .ensures)
+    (at-flat-writer5 .flat-writer5 .ensures)
+    (at-flat-writer6 .flat-writer6 .ensures)
     (c .before .before .flat-writer7 .ensures)
     (c .flat-writer8 .ensures)
 
 pub flat-writers-spec : {M : Type 1} → statement M
 flat-writers-spec =
     tie.close
-    (tie.spec (λ c. search needs) (λ c κs. search needs) (λ c. search needs) (λ c κs. search needs) (λ c. search needs) (λ c κs. search needs) (λ c. search needs) (λ c κs. search needs) (λ c. search needs) (λ c κs. search needs) (λ c. search needs) (λ c κs. search needs) (λ c. search needs) (λ c κs. search needs) (λ c. search needs) (λ c κs. search needs) returns)
+    (tie.spec (λ c. search needs) (λ c κs. search needs) (λ c. search needs) (λ c κs. search needs) (λ c. search needs) (λ c κs. search needs) (λ c. search needs)
+    (λ c κs. search needs) (λ c. search needs) (λ c κs. search needs) (λ c. search needs) (λ c κs. search needs) (λ c. search needs) (λ c κs. search needs) (λ c. search needs)
+    (λ c κs. search needs) returns)

@@ -1,6 +1,5 @@
 -- By the test.
 use borrow.Author.Tests.{eq-eqb, ne-eqb}
-use borrow.Author.Needs.{needs}
 use Rattle.c_records.proofs.number_in.Statement.{statement}
 use Rattle.c_records.proofs.number_in.Tie as tie
 

@@ -9,18 +9,27 @@ use Rattle.c_records.proofs.writers_in.Tie as tie
 returns : tie.Need-returns
 unfolding writersIn
 returns c =
-    let list = c .before .before .before .before .before .before .before .before .before .before .before .before .before .before .before .before .args .t1 in
+    let at-writer-in6 = c .before .before .before .before in
+    let at-writer-in5 = at-writer-in6 .before .before in
+    let at-writer-in4 = at-writer-in5 .before .before in
+    let at-writer-in3 = at-writer-in4 .before .before in
+    let at-writer-in2 = at-writer-in3 .before .before in
+    let at-writer-in = at-writer-in2 .before .before in
+    let start = at-writer-in .before .before in
+    let list = start .args .t1 in
     eight (λ j. writerIn (getD list j noFlat))
-    (c .before .before .before .before .before .before .before .before .before .before .before .before .before .before .writer-in .ensures)
-    (c .before .before .before .before .before .before .before .before .before .before .before .before .writer-in2 .ensures)
-    (c .before .before .before .before .before .before .before .before .before .before .writer-in3 .ensures)
-    (c .before .before .before .before .before .before .before .before .writer-in4 .ensures)
-    (c .before .before .before .before .before .before .writer-in5 .ensures)
-    (c .before .before .before .before .writer-in6 .ensures)
+    (at-writer-in .writer-in .ensures)
+    (at-writer-in2 .writer-in2 .ensures)
+    (at-writer-in3 .writer-in3 .ensures)
+    (at-writer-in4 .writer-in4 .ensures)
+    (at-writer-in5 .writer-in5 .ensures)
+    (at-writer-in6 .writer-in6 .ensures)
     (c .before .before .writer-in7 .ensures)
     (c .writer-in8 .ensures)
 
 pub writers-in-spec : {M : Type 1} → statement M
 writers-in-spec =
     tie.close
-    (tie.spec (λ c. search needs) (λ c κs. search needs) (λ c. search needs) (λ c κs. search needs) (λ c. search needs) (λ c κs. search needs) (λ c. search needs) (λ c κs. search needs) (λ c. search needs) (λ c κs. search needs) (λ c. search needs) (λ c κs. search needs) (λ c. search needs) (λ c κs. search needs) (λ c. search needs) (λ c κs. search needs) returns)
+    (tie.spec (λ c. search needs) (λ c κs. search needs) (λ c. search needs) (λ c κs. search needs) (λ c. search needs) (λ c κs. search needs) (λ c. search needs)
+    (λ c κs. search needs) (λ c. search needs) (λ c κs. search needs) (λ c. search needs) (λ c κs. search needs) (λ c. search needs) (λ c κs. search needs) (λ c. search needs)
+    (λ c κs. search needs) returns)

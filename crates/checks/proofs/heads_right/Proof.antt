@@ -10,32 +10,46 @@ use Rattle.checks.proofs.heads_right.Tie as tie
 returns : tie.Need-returns
 unfolding headsRight
 returns c =
+    let at-tree-header = c .before .before .before in
+    let start = at-tree-header .before .before .before .before in
     and-stop _ _
-    (head-is (c .before .before .before .before .before .before .before .args .tree .now) (c .before .before .before .tree-header .ensures)
+    (head-is (start .args .tree .now) (at-tree-header .tree-header .ensures)
     (c .before .has-header .ensures) (not-true _ (c .if1 .taken)))
 
 returns-2 : tie.Need-returns-2
 unfolding headsRight
 returns-2 c =
-    let a = c .before .before .before .before .before .before .before .before .before .before .before .args in
+    let at-signatures-header = c .before .before .before in
+    let branch1 = at-signatures-header .before in
+    let at-has-header = branch1 .before in
+    let at-tree-header = at-has-header .before .before in
+    let start = at-tree-header .before .before .before .before in
+    let a = start .args in
     and-pass _ _ _
-    (head-is (a .tree .now) (c .before .before .before .before .before .before .before .tree-header .ensures)
-    (c .before .before .before .before .before .has-header .ensures) (not-false _ (c .before .before .before .before .if1 .left)))
+    (head-is (a .tree .now) (at-tree-header .tree-header .ensures)
+    (at-has-header .has-header .ensures) (not-false _ (branch1 .if1 .left)))
     (and-stop _ _
-    (head-is (a .signatures .now) (c .before .before .before .signatures-header .ensures) (c .before .has-header2 .ensures)
+    (head-is (a .signatures .now) (at-signatures-header .signatures-header .ensures) (c .before .has-header2 .ensures)
     (not-true _ (c .if2 .taken))))
 
 returns-3 : tie.Need-returns-3
 unfolding headsRight
 returns-3 c =
-    let a = c .before .before .before .before .before .before .before .before .before .before .before .before .before .before .args in
+    let branch2 = c .before .before .before in
+    let at-has-header2 = branch2 .before in
+    let at-signatures-header = at-has-header2 .before .before in
+    let branch1 = at-signatures-header .before in
+    let at-has-header = branch1 .before in
+    let at-tree-header = at-has-header .before .before in
+    let start = at-tree-header .before .before .before .before in
+    let a = start .args in
     and-pass _ _ _
-    (head-is (a .tree .now) (c .before .before .before .before .before .before .before .before .before .before .tree-header .ensures)
-    (c .before .before .before .before .before .before .before .before .has-header .ensures)
-    (not-false _ (c .before .before .before .before .before .before .before .if1 .left)))
+    (head-is (a .tree .now) (at-tree-header .tree-header .ensures)
+    (at-has-header .has-header .ensures)
+    (not-false _ (branch1 .if1 .left)))
     (and-pass _ _ _
-    (head-is (a .signatures .now) (c .before .before .before .before .before .before .signatures-header .ensures)
-    (c .before .before .before .before .has-header2 .ensures) (not-false _ (c .before .before .before .if2 .left)))
+    (head-is (a .signatures .now) (at-signatures-header .signatures-header .ensures)
+    (at-has-header2 .has-header2 .ensures) (not-false _ (branch2 .if2 .left)))
     (sym (head-is (a .bitfield .now) (c .before .before .bitfield-header .ensures) (c .has-header3 .ensures) (refl))))
 
 pub heads-right-spec : {M : Type 1} → statement M

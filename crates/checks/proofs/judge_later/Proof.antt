@@ -34,50 +34,67 @@ heads c = sym (c .before .heads-right .ensures) ∙ not-false _ (c .if3 .left)
 
 returns : tie.Need-returns
 returns c =
-    answered (given (c .before .before .before .before .before .before .before)) (said (c .refuse .result)) false _ _ _
+    let start = c .before .before .before .before .before .before .before in
+    answered (given start) (said (c .refuse .result)) false _ _ _
     (sym (c .before .before .signed-right .ensures) ∙ not-true _ (c .before .if1 .taken)) refl refl refl (c .refuse .ensures)
 
 long-right-requires : tie.Need-long-right-requires
 long-right-requires c κs =
-    let a = c .before .before .before .before .before .before .args in (
-      c .before .before .before .before .before .before .pre,
-      omega (arith, c .before .before .before .before .before .before .pre, signed-le (a .n) (a .s) (signed c)),
+    let start = c .before .before .before .before .before .before in
+    let a = start .args in (
+      start .pre,
+      omega (arith, start .pre, signed-le (a .n) (a .s) (signed c)),
     )
 
 returns-2 : tie.Need-returns-2
 returns-2 c =
-    answered (given (c .before .before .before .before .before .before .before .before .before)) (said (c .refuse2 .result)) true false _ _
-    (signed (c .before .before .before)) (sym (c .before .before .long-right .ensures) ∙ not-true _ (c .before .if2 .taken)) refl refl
+    let earlier = c .before .before .before in
+    let start = earlier .before .before .before .before .before .before in
+    answered (given start) (said (c .refuse2 .result)) true false _ _
+    (signed earlier) (sym (c .before .before .long-right .ensures) ∙ not-true _ (c .before .if2 .taken)) refl refl
     (c .refuse2 .ensures)
 
 heads-right-requires : tie.Need-heads-right-requires
-heads-right-requires c κs = rooms (given (c .before .before .before .before .before .before .before .before)) (long c) .heads
+heads-right-requires c κs =
+    let start = c .before .before .before .before .before .before .before .before in
+    rooms (given start) (long c) .heads
 
 returns-3 : tie.Need-returns-3
 returns-3 c =
-    answered (given (c .before .before .before .before .before .before .before .before .before .before .before)) (said (c .refuse3 .result))
-    true true false _ (signed (c .before .before .before .before .before)) (long (c .before .before .before))
+    let earlier = c .before .before .before in
+    let earlier-2 = earlier .before .before in
+    let start = earlier-2 .before .before .before .before .before .before in
+    answered (given start) (said (c .refuse3 .result))
+    true true false _ (signed earlier-2) (long earlier)
     (sym (c .before .before .heads-right .ensures) ∙ not-true _ (c .before .if3 .taken)) refl (c .refuse3 .ensures)
 
 adds-up-requires : tie.Need-adds-up-requires
 adds-up-requires c κs =
+    let entered = c .before .before .before .before .before .before .before .before .before .before in
     record {
-      count = c .before .before .before .before .before .before .before .before .before .before .pre;
-      inside = rooms (given (c .before .before .before .before .before .before .before .before .before .before)) (long (c .before .before))
+      count = entered .pre;
+      inside = rooms (given entered) (long (c .before .before))
           .tree;
     }
 
 returns-4 : tie.Need-returns-4
 returns-4 c =
-    answered (given (c .before .before .before .before .before .before .before .before .before .before .before .before .before))
-    (said (c .refuse4 .result)) true true true false (signed (c .before .before .before .before .before .before .before))
-    (long (c .before .before .before .before .before)) (heads (c .before .before .before))
+    let earlier = c .before .before .before in
+    let earlier-2 = earlier .before .before in
+    let earlier-3 = earlier-2 .before .before in
+    let start = earlier-3 .before .before .before .before .before .before in
+    answered (given start)
+    (said (c .refuse4 .result)) true true true false (signed earlier-3)
+    (long earlier-2) (heads earlier)
     (sym (c .before .before .adds-up .ensures) ∙ not-true _ (c .before .if4 .taken)) (c .refuse4 .ensures)
 
 returns-5 : tie.Need-returns-5
 returns-5 c =
-    answered (given (c .before .before .before .before .before .before .before .before .before .before .before .before)) done true true true
-    true (signed (c .before .before .before .before .before .before)) (long (c .before .before .before .before)) (heads (c .before .before))
+    let earlier = c .before .before .before .before in
+    let earlier-2 = earlier .before .before in
+    let start = earlier-2 .before .before .before .before .before .before in
+    answered (given start) done true true true
+    true (signed earlier-2) (long earlier) (heads (c .before .before))
     (sym (c .before .adds-up .ensures) ∙ not-false _ (c .if4 .left)) refl
 
 pub judge-later-spec : {M : Type 1} → statement M

@@ -1,34 +1,40 @@
 -- `compare::judge_whole` meets its contract. Assumes nothing.
-use Rattle.bitfield.specs.Missing.{foundAt}
 use Rattle.blake2b.specs.Hash.{nodeHash}
 use Rattle.checks.specs.Lent.{registerOf}
 use Rattle.refusals.specs.Meaning.{said}
-use Rattle.compare.proofs.Whole.{whole-checks, whole-files, whole-bits, missing-below, missing-refuses, images-say}
+use Rattle.file_format.specs.Belongs.{Register}
+use Rattle.compare.proofs.Whole.{whole-refuses, whole-files, images-say}
 use borrow.Author.Needs.{needs}
 use mathlib.Core.Path.{ap}
 use Rattle.compare.proofs.judge_whole.Statement.{statement}
 use Rattle.compare.proofs.judge_whole.Tie as tie
 
+abbrev given : tie.Start → Register
+given c =
+    registerOf (c .args .tree .now) (c .args .signatures .now) (c .args .bitfield .now) (c .args .content .now) (c .args .n) (c .args .s) (c .args .size)
+
 returns : tie.Need-returns
-returns c = let a = c .before .before .before .before .before .before .before .args in whole-checks nodeHash (registerOf (a .tree .now) (a .signatures .now) (a .bitfield .now) (a .content .now) (a .n) (a .s) (a .size)) (c .before .before .judge .result) (c .before .before .judge .ensures) _ (c .enum-told2 .given .1)
-
-first-missing-requires : tie.Need-first-missing-requires
-first-missing-requires c κs = let a = c .before .before .before .before .before .before .before .args in whole-bits nodeHash (registerOf (a .tree .now) (a .signatures .now) (a .bitfield .now) (a .content .now) (a .n) (a .s) (a .size)) (c .before .before .judge .result) (c .before .before .judge .ensures) (ap said (c .enum-told .given .1))
-
-leaf-index-requires : tie.Need-leaf-index-requires
-leaf-index-requires c κs = let a = c .before .before .before .before .before .before .before .before .before .before .before .args in missing-below nodeHash (registerOf (a .tree .now) (a .signatures .now) (a .bitfield .now) (a .content .now) (a .n) (a .s) (a .size)) (c .before .before .before .before .before .before .judge .result) (c .before .before .before .before .before .before .judge .ensures) (ap said (c .before .before .before .before .enum-told .given .1)) (foundAt (c .before .before .before .first-missing .result)) (c .before .before .before .first-missing .ensures) _ (ap foundAt (c .before .missing .given .1))
-
-returns-2 : tie.Need-returns-2
-returns-2 c = let a = c .before .before .before .before .before .before .before .before .before .before .before .before .before .args in missing-refuses nodeHash (registerOf (a .tree .now) (a .signatures .now) (a .bitfield .now) (a .content .now) (a .n) (a .s) (a .size)) (c .before .before .before .before .before .before .before .before .judge .result) (c .before .before .before .before .before .before .before .before .judge .ensures) (ap said (c .before .before .before .before .before .before .enum-told .given .1)) (foundAt (c .before .before .before .before .before .first-missing .result)) (c .before .before .before .before .before .first-missing .ensures) _ (c .before .leaf-index .result .0) (said (c .refuse-entry .result)) (ap foundAt (c .before .before .before .missing .given .1)) (c .before .leaf-index .ensures) (c .refuse-entry .ensures)
+returns c =
+    let s = c .before .before .before .before .before .before .before in
+    let judge-held = c .before .before .judge-held in
+    let enum-told2 = c .enum-told2 in
+    whole-refuses nodeHash (given s) (judge-held .result) (judge-held .ensures) _ (enum-told2 .given .1)
 
 images-requires : tie.Need-images-requires
-images-requires c κs = let a = c .before .before .before .before .before .before .before .before .before .before .args in whole-files nodeHash (registerOf (a .tree .now) (a .signatures .now) (a .bitfield .now) (a .content .now) (a .n) (a .s) (a .size)) (c .before .before .before .before .before .judge .result) (c .before .before .before .before .before .judge .ensures) (ap said (c .before .before .before .enum-told .given .1))
+images-requires c κs =
+    let s = c .before .before .before .before .before .before .before in
+    let judge-held = c .before .before .judge-held in
+    let enum-told = c .enum-told in
+    whole-files nodeHash (given s) (judge-held .result) (judge-held .ensures) (ap said (enum-told .given .1))
 
-returns-3 : tie.Need-returns-3
-returns-3 c = let a = c .before .before .before .before .before .before .before .before .before .before .before .args in images-say nodeHash (registerOf (a .tree .now) (a .signatures .now) (a .bitfield .now) (a .content .now) (a .n) (a .s) (a .size)) (c .before .before .before .before .before .before .judge .result) (c .before .before .before .before .before .before .judge .ensures) (ap said (c .before .before .before .before .enum-told .given .1)) (foundAt (c .before .before .before .first-missing .result)) (c .before .before .before .first-missing .ensures) (said (c .images .result)) (ap foundAt (c .before .enum-told3 .given .1)) (c .images .ensures)
+returns-2 : tie.Need-returns-2
+returns-2 c =
+    let at-judge-held = c .before .before .before in
+    let s = at-judge-held .before .before .before .before .before in
+    let judge-held = at-judge-held .judge-held in
+    let enum-told = c .before .enum-told in
+    let images = c .images in
+    images-say nodeHash (given s) (judge-held .result) (judge-held .ensures) (ap said (enum-told .given .1)) (said (images .result)) (images .ensures)
 
 pub judge-whole-spec : {M : Type 1} → statement M
-judge-whole-spec =
-    tie.close
-    (tie.spec (λ c κs. search needs) (λ c. search needs) (λ c. search needs) returns first-missing-requires (λ c. search needs) leaf-index-requires
-    (λ c κs. search needs) returns-2 (λ c. search needs) images-requires returns-3)
+judge-whole-spec = tie.close (tie.spec (λ c κs. search needs) (λ c. search needs) (λ c. search needs) returns images-requires returns-2)

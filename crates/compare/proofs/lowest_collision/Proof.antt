@@ -1,60 +1,124 @@
 -- `compare::lowest_collision` meets its contract. The invariant: what is left from i decides, and the next leaves start at `start` and `start2`. Assumes nothing.
 use Prim.Native.Nat.{_-_}
+use native.Mathlib.Omega.{arith}
 use Rattle.compare.proofs.Same.{read-started}
-use Rattle.compare.proofs.Walked.{Meeting, meeting-start, meeting-first, meeting-second, meeting-next, meeting-found, meeting-done}
+use Rattle.compare.proofs.Walked.{Meeting, meeting-none, meeting-start, meeting-first, meeting-second, meeting-next, meeting-found, meeting-done}
 use borrow.Author.Needs.{needs}
 use Rattle.compare.proofs.lowest_collision.Statement.{statement}
 use Rattle.compare.proofs.lowest_collision.Tie as tie
 
 abbrev Inv-loop : tie.InvT-loop
-Inv-loop tree content tree2 content2 n count i₀ start₀ start2₀ i start start2 = Meeting tree content tree2 content2 n count (i .0) (start .0) (start2 .0)
+Inv-loop tree content tree2 content2 n end i₀ start₀ start2₀ i start start2 =
+    Meeting tree content tree2 content2 n (i₀ .0) (end .0) (i .0) (start .0) (start2 .0)
 
 abbrev μ-loop : tie.MeasureT-loop
-μ-loop tree content tree2 content2 n count i₀ start₀ start2₀ i start start2 = count - i .0
-
-entry-count-requires : tie.Need-entry-count-requires Inv-loop μ-loop
-entry-count-requires c κs = c .before .before .before .before .pre .0 .room .count
-
-loop-holds : tie.Need-loop-holds Inv-loop μ-loop
-loop-holds c =
-    let a = c .before .before .before .before .before .args in
-    meeting-start (a .tree .now) (a .content .now) (a .tree2 .now) (a .content2 .now) (a .n) (c .entry-count .result) (c .entry-count .ensures)
-
-collides-at-requires : tie.Need-collides-at-requires Inv-loop μ-loop
-collides-at-requires c κs =
-    let a = c .before .before .before .before .before .before .before .before .args in
-    let at = c .before .before .loop in
-    (meeting-first (a .tree .now) (a .content .now) (a .tree2 .now) (a .content2 .now) (a .n) (c .before .before .before .entry-count .result) (at .i .0) (at .start .0) (at .start2 .0) (at .inv) (c .if1 .taken) (c .before .before .before .before .before .before .before .before .pre .0), meeting-second (a .tree .now) (a .content .now) (a .tree2 .now) (a .content2 .now) (a .n) (c .before .before .before .entry-count .result) (at .i .0) (at .start .0) (at .start2 .0) (at .inv) (c .if1 .taken) (c .before .before .before .before .before .before .before .before .pre .1))
+μ-loop tree content tree2 content2 n end i₀ start₀ start2₀ i start start2 = end .0 - i .0
 
 returns : tie.Need-returns Inv-loop μ-loop
 returns c =
-    let a = c .before .before .before .before .before .before .before .before .before .before .args in
-    let at = c .before .before .before .before .loop in
-    meeting-found (a .tree .now) (a .content .now) (a .tree2 .now) (a .content2 .now) (a .n) (c .before .before .before .before .before .entry-count .result) (at .i .0) (at .start .0) (at .start2 .0) (at .inv) (c .before .before .if1 .taken) (c .before .collides-at .result) (c .before .collides-at .ensures) (c .if2 .taken)
+    let s = c .before .before .before .before .before .before .before in
+    let if1 = c .if1 in
+    let a = s .args in
+    meeting-none (a .tree .now) (a .content .now) (a .tree2 .now) (a .content2 .now) (a .n) (a .from .0) (a .end .0) (if1 .taken)
 
-start-behind-requires : tie.Need-start-behind-requires Inv-loop μ-loop
-start-behind-requires c κs =
-    let a = c .before .before .before .before .before .before .before .before .before .before .args in
-    let at = c .before .before .before .before .loop in
-    read-started (a .tree .now) (a .content .now) (a .n) (at .i .0) (at .start .0) (meeting-first (a .tree .now) (a .content .now) (a .tree2 .now) (a .content2 .now) (a .n) (c .before .before .before .before .before .entry-count .result) (at .i .0) (at .start .0) (at .start2 .0) (at .inv) (c .before .before .if1 .taken) (c .before .before .before .before .before .before .before .before .before .before .pre .0)) (c .before .before .before .before .before .before .before .before .before .before .good .1 .0 .0)
+start-at-requires : tie.Need-start-at-requires Inv-loop μ-loop
+start-at-requires c κs =
+    let s = c .before .before .before .before .before .before .before in
+    let if1 = c .if1 in
+    (s .pre .0, omega (arith, if1 .left, s .pre .2))
 
-start-behind-requires-2 : tie.Need-start-behind-requires-2 Inv-loop μ-loop
-start-behind-requires-2 c κs =
-    let a = c .before .before .before .before .before .before .before .before .before .before .before .args in
-    let at = c .before .before .before .before .before .loop in
-    read-started (a .tree2 .now) (a .content2 .now) (a .n) (at .i .0) (at .start2 .0) (meeting-second (a .tree .now) (a .content .now) (a .tree2 .now) (a .content2 .now) (a .n) (c .before .before .before .before .before .before .entry-count .result) (at .i .0) (at .start .0) (at .start2 .0) (at .inv) (c .before .before .before .if1 .taken) (c .before .before .before .before .before .before .before .before .before .before .before .pre .1)) (c .before .before .before .before .before .before .before .before .before .before .before .good .1 .1 .1 .0 .0)
+start-at-requires-2 : tie.Need-start-at-requires-2 Inv-loop μ-loop
+start-at-requires-2 c κs =
+    let s = c .before .before .before .before .before .before .before .before in
+    let if1 = c .before .if1 in
+    (s .pre .1, omega (arith, if1 .left, s .pre .2))
 
-loop-again : tie.Need-loop-again Inv-loop μ-loop
-loop-again c =
-    let a = c .before .before .before .before .before .before .before .before .before .before .before .before .before .args in
-    let at = c .before .before .before .before .before .before .before .loop in
-    meeting-next (a .tree .now) (a .content .now) (a .tree2 .now) (a .content2 .now) (a .n) (c .before .before .before .before .before .before .before .before .entry-count .result) (at .i .0) (at .start .0) (at .start2 .0) (at .inv) (c .before .before .before .before .before .if1 .taken) (c .before .before .start-behind .result .0) (c .before .start-behind2 .result .0) (c .before .before .before .before .collides-at .result) (c .before .before .before .before .collides-at .ensures) (c .before .before .before .if2 .left) (c .before .before .start-behind .ensures) (c .before .start-behind2 .ensures)
+loop-holds : tie.Need-loop-holds Inv-loop μ-loop
+loop-holds c =
+    let s = c .before .before .before .before .before .before .before .before .before in
+    let start-at = c .before .start-at in
+    let start-at2 = c .start-at2 in
+    let a = s .args in
+    meeting-start (a .tree .now) (a .content .now) (a .tree2 .now) (a .content2 .now) (a .n) (a .from .0) (a .end .0) (start-at .result .0) (start-at2 .result .0) (start-at .ensures)
+    (start-at2 .ensures)
+
+collides-at-requires : tie.Need-collides-at-requires Inv-loop μ-loop
+collides-at-requires c κs =
+    let looped = c .before .before .before in
+    let s = looped .before .before .before .before .before .before .before .before .before .before in
+    let loop = looped .loop in
+    let if2 = c .if2 in
+    let a = s .args in (
+      meeting-first (a .tree .now) (a .content .now) (a .tree2 .now) (a .content2 .now) (a .n) (a .from .0) (a .end .0) (loop .i .0) (loop .start .0) (loop .start2 .0) (loop .inv)
+          (if2 .taken) (s .pre .0) (s .pre .2),
+      meeting-second (a .tree .now) (a .content .now) (a .tree2 .now) (a .content2 .now) (a .n) (a .from .0) (a .end .0) (loop .i .0) (loop .start .0) (loop .start2 .0) (loop .inv)
+          (if2 .taken) (s .pre .1) (s .pre .2),
+    )
 
 returns-2 : tie.Need-returns-2 Inv-loop μ-loop
 returns-2 c =
-    let a = c .before .before .before .before .before .before .before .before .args in
-    let at = c .before .before .loop in
-    meeting-done (a .tree .now) (a .content .now) (a .tree2 .now) (a .content2 .now) (a .n) (c .before .before .before .entry-count .result) (at .i .0) (at .start .0) (at .start2 .0) (at .inv) (c .if1 .left)
+    let looped = c .before .before .before .before .before in
+    let s = looped .before .before .before .before .before .before .before .before .before .before in
+    let loop = looped .loop in
+    let if2 = c .before .before .if2 in
+    let collides-at = c .before .collides-at in
+    let if3 = c .if3 in
+    let a = s .args in
+    meeting-found (a .tree .now) (a .content .now) (a .tree2 .now) (a .content2 .now) (a .n) (a .from .0) (a .end .0) (loop .i .0) (loop .start .0) (loop .start2 .0) (loop .inv)
+    (if2 .taken) (collides-at .result) (collides-at .ensures) (if3 .taken)
+
+start-behind-requires : tie.Need-start-behind-requires Inv-loop μ-loop
+start-behind-requires c κs =
+    let looped = c .before .before .before .before .before in
+    let s = looped .before .before .before .before .before .before .before .before .before .before in
+    let loop = looped .loop in
+    let if2 = c .before .before .if2 in
+    let a = s .args in
+    read-started (a .tree .now) (a .n) (loop .i .0) (loop .start .0)
+    (meeting-first (a .tree .now) (a .content .now) (a .tree2 .now) (a .content2 .now) (a .n) (a .from .0) (a .end .0) (loop .i .0) (loop .start .0) (loop .start2 .0) (loop .inv)
+    (if2 .taken) (s .pre .0) (s .pre .2))
+
+start-behind-requires-2 : tie.Need-start-behind-requires-2 Inv-loop μ-loop
+start-behind-requires-2 c κs =
+    let branch2 = c .before .before .before in
+    let looped = branch2 .before .before .before in
+    let s = looped .before .before .before .before .before .before .before .before .before .before in
+    let loop = looped .loop in
+    let if2 = branch2 .if2 in
+    let a = s .args in
+    read-started (a .tree2 .now) (a .n) (loop .i .0) (loop .start2 .0)
+    (meeting-second (a .tree .now) (a .content .now) (a .tree2 .now) (a .content2 .now) (a .n) (a .from .0) (a .end .0) (loop .i .0) (loop .start .0) (loop .start2 .0) (loop .inv)
+    (if2 .taken) (s .pre .1) (s .pre .2))
+
+loop-again : tie.Need-loop-again Inv-loop μ-loop
+loop-again c =
+    let branch3 = c .before .before .before in
+    let at-collides-at = branch3 .before in
+    let branch2 = at-collides-at .before in
+    let looped = branch2 .before .before .before in
+    let s = looped .before .before .before .before .before .before .before .before .before .before in
+    let loop = looped .loop in
+    let if2 = branch2 .if2 in
+    let start-behind = c .before .before .start-behind in
+    let start-behind2 = c .before .start-behind2 in
+    let collides-at = at-collides-at .collides-at in
+    let if3 = branch3 .if3 in
+    let a = s .args in
+    meeting-next (a .tree .now) (a .content .now) (a .tree2 .now) (a .content2 .now) (a .n) (a .from .0) (a .end .0) (loop .i .0) (loop .start .0) (loop .start2 .0) (loop .inv)
+    (if2 .taken) (start-behind .result .0) (start-behind2 .result .0) (collides-at .result) (collides-at .ensures) (if3 .left) (start-behind .ensures) (start-behind2 .ensures)
+
+returns-3 : tie.Need-returns-3 Inv-loop μ-loop
+returns-3 c =
+    let looped = c .before .before .before in
+    let s = looped .before .before .before .before .before .before .before .before .before .before in
+    let loop = looped .loop in
+    let if2 = c .if2 in
+    let a = s .args in
+    meeting-done (a .tree .now) (a .content .now) (a .tree2 .now) (a .content2 .now) (a .n) (a .from .0) (a .end .0) (loop .i .0) (loop .start .0) (loop .start2 .0) (loop .inv)
+    (if2 .left)
 
 pub lowest-collision-spec : {M : Type 1} → statement M
-lowest-collision-spec = tie.close (tie.spec Inv-loop μ-loop entry-count-requires loop-holds collides-at-requires returns start-behind-requires start-behind-requires-2 (λ c. search needs) (λ c. search needs) loop-again returns-2)
+lowest-collision-spec =
+    tie.close
+    (tie.spec Inv-loop μ-loop returns start-at-requires start-at-requires-2 loop-holds collides-at-requires returns-2 start-behind-requires
+    start-behind-requires-2 (λ c. search needs) (λ c. search needs) loop-again returns-3)

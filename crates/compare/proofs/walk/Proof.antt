@@ -1,23 +1,60 @@
--- `compare::walk` meets its contract.  Assumes nothing.
+-- `compare::walk` meets its contract. Assumes nothing.
+use mathlib.Core.Path.{refl, sym, ap, _∙_}
+use native.Mathlib.Omega.{arith}
 use Rattle.blake2b.specs.Hash.{nodeHash}
-use Rattle.compare.proofs.Walked.{walk-differ, walk-roots, walk-found, walk-count}
-use Rattle.compare.specs.Meaning.{compared}
+use Rattle.compare.specs.Walk.{rootsDiffer, atRoots}
+use Rattle.compare.specs.Meaning.{compared, rootsTold}
+use Rattle.compare.proofs.Walked.{walk-told, walk-found, walk-count}
 use borrow.Author.Needs.{needs}
-use borrow.Author.Tests.{not-true, not-false}
 use Rattle.compare.proofs.walk.Statement.{statement}
 use Rattle.compare.proofs.walk.Tie as tie
 
+lowest-collision-requires : tie.Need-lowest-collision-requires
+lowest-collision-requires c κs =
+    let at-compare-roots = c .before .before .before in
+    let s = at-compare-roots .before .before .before .before .before in
+    let enum-told3 = c .before .enum-told3 in
+    let compare-roots = at-compare-roots .compare-roots in
+    let entry-count = c .entry-count in
+    let a = s .args in (
+      s .pre .0,
+      walk-count nodeHash (a .tree .now) (a .content .now) (a .tree2 .now) (a .content2 .now) (a .n) (a .n2) (s .pre .0) (s .pre .1)
+          (sym (ap rootsTold (enum-told3 .given .1)) ∙ compare-roots .ensures),
+      omega (arith, entry-count .ensures),
+    )
+
 returns : tie.Need-returns
-returns c = let a = c .before .before .before .before .before .before .before .before .before .before .args in walk-differ nodeHash (a .tree .now) (a .content .now) (a .tree2 .now) (a .content2 .now) (a .n) (a .n2) (c .before .before .before .before .before .stored-root-hash .result) (c .before .before .before .before .stored-root-hash2 .result) (c .before .same .result) (c .before .before .before .before .before .stored-root-hash .ensures) (c .before .before .before .before .stored-root-hash2 .ensures) (c .before .same .ensures) (not-true _ (c .if1 .taken))
+returns c =
+    let s = c .before .before .before .before .before .before .before in
+    let enum-told = c .enum-told in
+    let compare-roots = c .before .before .compare-roots in
+    let a = s .args in
+    walk-told nodeHash (a .tree .now) (a .content .now) (a .tree2 .now) (a .content2 .now) (a .n) (a .n2) rootsDiffer
+    (sym (ap rootsTold (enum-told .given .1)) ∙ compare-roots .ensures) (λ next. refl)
 
 returns-2 : tie.Need-returns-2
-returns-2 c = let a = c .before .before .before .before .before .before .before .before .before .before .before .before .args in walk-roots nodeHash (a .tree .now) (a .content .now) (a .tree2 .now) (a .content2 .now) (a .n) (a .n2) (c .before .before .before .before .before .before .before .stored-root-hash .result) (c .before .before .before .before .before .before .stored-root-hash2 .result) (c .before .before .before .same .result) (c .before .before .before .before .before .before .before .stored-root-hash .ensures) (c .before .before .before .before .before .before .stored-root-hash2 .ensures) (c .before .before .before .same .ensures) (c .before .same-roots .result) (c .before .same-roots .ensures) (not-false _ (c .before .before .if1 .left)) (not-true _ (c .if2 .taken))
-
-lowest-collision-requires : tie.Need-lowest-collision-requires
-lowest-collision-requires c κs = let a = c .before .before .before .before .before .before .before .before .before .before .before .before .args in (c .before .before .before .before .before .before .before .before .before .before .before .before .pre .0, walk-count nodeHash (a .tree .now) (a .content .now) (a .tree2 .now) (a .content2 .now) (a .n) (a .n2) (c .before .before .before .before .before .before .before .before .before .before .before .before .pre .0) (c .before .before .before .before .before .before .before .before .before .before .before .before .pre .1) (c .before .same-roots .result) (c .before .same-roots .ensures) (not-false _ (c .if2 .left)))
+returns-2 c =
+    let s = c .before .before .before .before .before .before .before in
+    let enum-told2 = c .enum-told2 in
+    let compare-roots = c .before .before .compare-roots in
+    let a = s .args in
+    walk-told nodeHash (a .tree .now) (a .content .now) (a .tree2 .now) (a .content2 .now) (a .n) (a .n2) atRoots
+    (sym (ap rootsTold (enum-told2 .given .1)) ∙ compare-roots .ensures) (λ next. refl)
 
 returns-3 : tie.Need-returns-3
-returns-3 c = let a = c .before .before .before .before .before .before .before .before .before .before .before .before .before .args in walk-found nodeHash (a .tree .now) (a .content .now) (a .tree2 .now) (a .content2 .now) (a .n) (a .n2) (c .before .before .before .before .before .before .before .before .stored-root-hash .result) (c .before .before .before .before .before .before .before .stored-root-hash2 .result) (c .before .before .before .before .same .result) (c .before .before .before .before .before .before .before .before .stored-root-hash .ensures) (c .before .before .before .before .before .before .before .stored-root-hash2 .ensures) (c .before .before .before .before .same .ensures) (c .before .before .same-roots .result) (c .before .before .same-roots .ensures) (not-false _ (c .before .before .before .if1 .left)) (not-false _ (c .before .if2 .left)) (compared (c .lowest-collision .result)) (c .lowest-collision .ensures)
+returns-3 c =
+    let at-compare-roots = c .before .before .before .before in
+    let s = at-compare-roots .before .before .before .before .before in
+    let enum-told3 = c .before .before .enum-told3 in
+    let compare-roots = at-compare-roots .compare-roots in
+    let lowest-collision = c .lowest-collision in
+    let entry-count = c .before .entry-count in
+    let a = s .args in
+    walk-found nodeHash (a .tree .now) (a .content .now) (a .tree2 .now) (a .content2 .now) (a .n) (a .n2)
+    (sym (ap rootsTold (enum-told3 .given .1)) ∙ compare-roots .ensures) (compared (lowest-collision .result)) (entry-count .result) (entry-count .ensures) (lowest-collision .ensures)
 
 pub walk-spec : {M : Type 1} → statement M
-walk-spec = tie.close (tie.spec (λ c κs. search needs) (λ c κs. search needs) (λ c. search needs) (λ c. search needs) (λ c κs. search needs) returns (λ c κs. search needs) returns-2 lowest-collision-requires returns-3)
+walk-spec =
+    tie.close
+    (tie.spec (λ c κs. search needs) (λ c. search needs) (λ c. search needs) (λ c. search needs) (λ c κs. search needs) lowest-collision-requires returns
+    returns-2 returns-3)

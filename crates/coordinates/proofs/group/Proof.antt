@@ -17,7 +17,8 @@ copy-to-requires c κs =
     let written = c .before .before .before .before in
     let judged = written .before .before .before .before in
     let start = judged .before .before .before in
-    rest-room (start .args .bytes .now) (start .args .out .now) (judged .judge .result) (written .before .before .enum-told .given .1) (judged .judge .ensures) (written .write-planes .last .1 .1 .0) (written .write-planes .kept .1 .1 .0)
+    rest-room (start .args .bytes .now) (start .args .out .now) (judged .judge .result) (written .before .before .enum-told .given .1) (judged .judge .ensures)
+    (written .write-planes .last .1 .1 .0) (written .write-planes .kept .1 .1 .0)
 
 returns : tie.Need-returns
 returns c =

@@ -26,25 +26,40 @@ unfolding prior
 loop-holds c = (search needs, refl, filled-none _ _ _ (c .before .before .pre .1))
 
 read-be32-requires : tie.Need-read-be32-requires Inv-loop μ-loop
-read-be32-requires c κs = omega (arith, c .before .before .before .before .pre .0 .inside)
+read-be32-requires c κs =
+    let entered = c .before .before .before .before in
+    omega (arith, entered .pre .0 .inside)
 
 cast-word : tie.Need-cast-word Inv-loop μ-loop
 cast-word c =
     let at-loop = c .before .before in
     let start = at-loop .before .before .before in
-    omega (arith, c .read-be32 .ensures, four-lt (start .args .bytes .now) (4 * at-loop .loop .i) (λ j. at-loop .before .before .shared-slice-known .given j .fits) (omega (arith, start .pre .0 .inside)))
+    omega (
+      arith,
+      c .read-be32 .ensures,
+      four-lt (start .args .bytes .now) (4 * at-loop .loop .i) (λ j. at-loop .before .before .shared-slice-known .given j .fits)
+          (omega (arith, start .pre .0 .inside)),
+    )
 
 slice-write-out : tie.Need-slice-write-out Inv-loop μ-loop
-slice-write-out c = omega (arith, c .before .before .before .before .loop .inv .2 .long)
+slice-write-out c =
+    let looped = c .before .before .before .before in
+    omega (arith, looped .loop .inv .2 .long)
 
 slice-write-out-2 : tie.Need-slice-write-out-2 Inv-loop μ-loop
-slice-write-out-2 c = simp length-set (omega (arith, c .before .before .before .before .loop .inv .2 .long))
+slice-write-out-2 c =
+    let looped = c .before .before .before .before in
+    simp length-set (omega (arith, looped .loop .inv .2 .long))
 
 slice-write-out-3 : tie.Need-slice-write-out-3 Inv-loop μ-loop
-slice-write-out-3 c = simp length-set (omega (arith, c .before .before .before .before .loop .inv .2 .long))
+slice-write-out-3 c =
+    let looped = c .before .before .before .before in
+    simp length-set (omega (arith, looped .loop .inv .2 .long))
 
 slice-write-out-4 : tie.Need-slice-write-out-4 Inv-loop μ-loop
-slice-write-out-4 c = simp length-set (omega (arith, c .before .before .before .before .loop .inv .2 .long))
+slice-write-out-4 c =
+    let looped = c .before .before .before .before in
+    simp length-set (omega (arith, looped .loop .inv .2 .long))
 
 loop-again : tie.Need-loop-again Inv-loop μ-loop
 loop-again c =

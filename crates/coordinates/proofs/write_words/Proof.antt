@@ -25,13 +25,17 @@ unfolding prior
 loop-holds c = (search needs, refl, sym (words-none (c .before .before .args .out .now) (restored (c .before .before .args .bytes .now))), refl)
 
 gather-requires : tie.Need-gather-requires Inv-loop μ-loop
-gather-requires c κs = (c .before .before .before .before .pre .0, c .loop-test .taken)
+gather-requires c κs =
+    let entered = c .before .before .before .before in
+    (entered .pre .0, c .loop-test .taken)
 
 mul-copy-to : tie.Need-mul-copy-to Inv-loop μ-loop
 mul-copy-to c = omega arith
 
 copy-to-requires : tie.Need-copy-to-requires Inv-loop μ-loop
-copy-to-requires c κs = omega (arith, ap length (c .before .before .be32 .ensures), length-be 4 (c .before .before .before .wrapping-add-u32 .result))
+copy-to-requires c κs =
+    let at-wrapping-add-u32 = c .before .before .before in
+    omega (arith, ap length (c .before .before .be32 .ensures), length-be 4 (at-wrapping-add-u32 .wrapping-add-u32 .result))
 
 add-i : tie.Need-add-i Inv-loop μ-loop
 add-i c = omega arith
@@ -63,7 +67,9 @@ same-length : tie.Need-same-length Inv-loop μ-loop
 same-length c = c .before .loop .inv .3
 
 returns : tie.Need-returns Inv-loop μ-loop
-returns c = c .before .loop .inv .2 ∙ ap (λ (k : ℕ). put (c .before .before .before .before .args .out .now) 0 (words (restored (c .before .before .before .before .args .bytes .now)) k)) (omega arith)
+returns c =
+    let start = c .before .before .before .before in
+    c .before .loop .inv .2 ∙ ap (λ (k : ℕ). put (start .args .out .now) 0 (words (restored (start .args .bytes .now)) k)) (omega arith)
 
 pub write-words-spec : {M : Type 1} → statement M
 write-words-spec =

@@ -1,7 +1,7 @@
 -- `copy_checks::judge_lent` meets its contract: each number is refused where those before it are passed. Assumes nothing.
 use borrow.Author.Tests.{not-true, not-false, le-leb, lt-leb}
 use mathlib.Core.Bool.{true, false}
-use mathlib.Core.Path.{_≡_, refl, sym, _∙_}
+use mathlib.Core.Path.{refl, sym, _∙_}
 use borrow.Author.Needs.{needs}
 use Rattle.refusals.specs.Verdict.{done}
 use Rattle.refusals.specs.Meaning.{said}
@@ -14,24 +14,37 @@ abbrev given : (c : tie.Start) → Copy
 given c = copyOf (c .args .tree .now) (c .args .bitfield .now) (c .args .content .now) (c .args .n) (c .args .size)
 
 returns : tie.Need-returns
-returns c = answered (given (c .before .before .before .before .before)) (said (c .refuse .result)) false _ _ (lt-leb _ _ (c .before .if1 .taken)) refl refl (c .refuse .ensures)
+returns c =
+    let start = c .before .before .before .before .before in
+    answered (given start) (said (c .refuse .result)) false _ _ (lt-leb _ _ (c .before .if1 .taken)) refl refl (c .refuse .ensures)
 
 returns-2 : tie.Need-returns-2
 returns-2 c =
-    answered (given (c .before .before .before .before .before .before .before)) (said (c .refuse2 .result)) true false _ (le-leb _ _ (c .before .before .before .if1 .left))
+    let branch1 = c .before .before .before in
+    let start = branch1 .before .before .before .before in
+    answered (given start) (said (c .refuse2 .result)) true false _ (le-leb _ _ (branch1 .if1 .left))
     (sym (c .before .before .long-right .ensures) ∙ not-true _ (c .before .if2 .taken)) refl (c .refuse2 .ensures)
 
 heads-right-requires : tie.Need-heads-right-requires
-heads-right-requires c κs = heads-room (given (c .before .before .before .before .before .before)) (sym (c .before .long-right .ensures) ∙ not-false _ (c .if2 .left))
+heads-right-requires c κs =
+    let start = c .before .before .before .before .before .before in
+    heads-room (given start) (sym (c .before .long-right .ensures) ∙ not-false _ (c .if2 .left))
 
 returns-3 : tie.Need-returns-3
 returns-3 c =
-    answered (given (c .before .before .before .before .before .before .before .before .before)) (said (c .refuse3 .result)) true true false (le-leb _ _ (c .before .before .before .before .before .if1 .left))
-    (sym (c .before .before .before .before .long-right .ensures) ∙ not-false _ (c .before .before .before .if2 .left)) (sym (c .before .before .heads-right .ensures) ∙ not-true _ (c .before .if3 .taken)) (c .refuse3 .ensures)
+    let branch2 = c .before .before .before in
+    let at-long-right = branch2 .before in
+    let branch1 = at-long-right .before in
+    let start = branch1 .before .before .before .before in
+    answered (given start) (said (c .refuse3 .result)) true true false (le-leb _ _ (branch1 .if1 .left))
+    (sym (at-long-right .long-right .ensures) ∙ not-false _ (branch2 .if2 .left)) (sym (c .before .before .heads-right .ensures) ∙ not-true _ (c .before .if3 .taken)) (c .refuse3 .ensures)
 
 returns-4 : tie.Need-returns-4
 returns-4 c =
-    answered (given (c .before .before .before .before .before .before .before .before)) done true true true (le-leb _ _ (c .before .before .before .before .if1 .left)) (sym (c .before .before .before .long-right .ensures) ∙ not-false _ (c .before .before .if2 .left))
+    let at-long-right = c .before .before .before in
+    let branch1 = at-long-right .before in
+    let start = branch1 .before .before .before .before in
+    answered (given start) done true true true (le-leb _ _ (branch1 .if1 .left)) (sym (at-long-right .long-right .ensures) ∙ not-false _ (c .before .before .if2 .left))
     (sym (c .before .heads-right .ensures) ∙ not-false _ (c .if3 .left)) refl
 
 pub judge-lent-spec : {M : Type 1} → statement M

@@ -13,28 +13,43 @@ abbrev given : (c : tie.Start) → Copy
 given c = copyOf (c .args .tree .now) (c .args .bitfield .now) (c .args .content .now) (c .args .n) (c .args .size)
 
 unknown-root-requires : tie.Need-unknown-root-requires
-unknown-root-requires c κs = let e = sym (ap said (c .enum-told .given .1)) ∙ c .before .before .judge-lent .ensures in bits-in (given (c .before .before .before .before .before .before)) (lent-passed (given (c .before .before .before .before .before .before)) _ (sym e) .0)
+unknown-root-requires c κs =
+    let start = c .before .before .before .before .before .before in
+    let e = sym (ap said (c .enum-told .given .1)) ∙ c .before .before .judge-lent .ensures in bits-in (given start) (lent-passed (given start) _ (sym e) .0)
 
 judge-size-requires : tie.Need-judge-size-requires
-judge-size-requires c κs = let e = sym (ap said (c .before .before .before .enum-told .given .1)) ∙ c .before .before .before .before .before .judge-lent .ensures in roots-in (given (c .before .before .before .before .before .before .before .before .before)) (lent-passed (given (c .before .before .before .before .before .before .before .before .before)) _ (sym e) .0)
+judge-size-requires c κs =
+    let at-enum-told = c .before .before .before in
+    let at-judge-lent = at-enum-told .before .before in
+    let start = at-judge-lent .before .before .before .before in
+    let e = sym (ap said (at-enum-told .enum-told .given .1)) ∙ at-judge-lent .judge-lent .ensures in roots-in (given start) (lent-passed (given start) _ (sym e) .0)
 
 returns : tie.Need-returns
 returns c =
+    let at-judge-lent = c .before .before .before in
+    let start = at-judge-lent .before .before .before .before in
     let q = c .before .refusal .given in
-    partly-refused (given (c .before .before .before .before .before .before .before)) (q .0 .0 .number) (spotOf (q .0 .0 .place)) (sym (ap said (q .1)) ∙ c .before .before .before .judge-lent .ensures)
+    partly-refused (given start) (q .0 .0 .number) (spotOf (q .0 .0 .place)) (sym (ap said (q .1)) ∙ at-judge-lent .judge-lent .ensures)
 
 returns-2 : tie.Need-returns-2
 unfolding unknownRoot
 returns-2 c =
+    let at-enum-told = c .before .before .before in
+    let at-judge-lent = at-enum-told .before .before in
+    let start = at-judge-lent .before .before .before .before in
     let q = c .enum-told2 .given in
-    let e = sym (ap said (c .before .before .before .enum-told .given .1)) ∙ c .before .before .before .before .before .judge-lent .ensures in
-    partly-unknown (given (c .before .before .before .before .before .before .before .before .before)) e (q .0 .0 .0) (sym (ap unknownOf (q .1)) ∙ c .before .before .unknown-root .ensures)
+    let e = sym (ap said (at-enum-told .enum-told .given .1)) ∙ at-judge-lent .judge-lent .ensures in
+    partly-unknown (given start) e (q .0 .0 .0) (sym (ap unknownOf (q .1)) ∙ c .before .before .unknown-root .ensures)
 
 returns-3 : tie.Need-returns-3
 unfolding unknownRoot
 returns-3 c =
-    let e = sym (ap said (c .before .before .before .before .enum-told .given .1)) ∙ c .before .before .before .before .before .before .judge-lent .ensures in
-    partly-known (given (c .before .before .before .before .before .before .before .before .before .before)) e (said (c .judge-size .result)) (sym (ap unknownOf (c .before .enum-told3 .given .1)) ∙ c .before .before .before .unknown-root .ensures) (c .judge-size .ensures)
+    let at-unknown-root = c .before .before .before in
+    let at-enum-told = at-unknown-root .before in
+    let at-judge-lent = at-enum-told .before .before in
+    let start = at-judge-lent .before .before .before .before in
+    let e = sym (ap said (at-enum-told .enum-told .given .1)) ∙ at-judge-lent .judge-lent .ensures in
+    partly-known (given start) e (said (c .judge-size .result)) (sym (ap unknownOf (c .before .enum-told3 .given .1)) ∙ at-unknown-root .unknown-root .ensures) (c .judge-size .ensures)
 
 pub judge-partly-spec : {M : Type 1} → statement M
 judge-partly-spec =

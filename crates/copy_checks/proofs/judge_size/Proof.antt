@@ -1,6 +1,6 @@
 -- `copy_checks::judge_size` meets its contract. Assumes nothing.
 use mathlib.Core.Bool.{Bool, cond}
-use mathlib.Core.Path.{_≡_, sym, ap, _∙_}
+use mathlib.Core.Path.{sym, ap, _∙_}
 use Rattle.refusals.specs.Verdict.{none, done, refused}
 use Rattle.checks.specs.Checks.{judged, addsUp}
 use borrow.Author.Needs.{needs}

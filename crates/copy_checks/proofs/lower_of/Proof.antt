@@ -1,5 +1,5 @@
 -- `copy_checks::lower_of` meets its contract: case by case. Assumes nothing.
-use mathlib.Core.Path.{_≡_, refl, sym, ap, ap₂, _∙_}
+use mathlib.Core.Path.{sym, ap, ap₂, _∙_}
 use mathlib.Core.Bool.{Bool, cond}
 use borrow.Author.Tests.{lt-ltb, le-ltb}
 use Rattle.byte_strings.specs.Lowest.{Lowest, nowhere, first}
@@ -15,21 +15,27 @@ unfolding lowerOf
 returns c = sym (ap (λ (x : Lowest). lowerOf x (foundOf (c .before .before .args .b))) (ap foundOf (c .enum-told .given .1)))
 
 returns-2 : tie.Need-returns-2
-returns-2 c = sym (ap₂ lowerOf (ap foundOf (c .before .before .before .a .given .1)) (ap foundOf (c .enum-told2 .given .1)) ∙ lower-nowhere _)
+returns-2 c =
+    let at-a = c .before .before .before in
+    sym (ap₂ lowerOf (ap foundOf (at-a .a .given .1)) (ap foundOf (c .enum-told2 .given .1)) ∙ lower-nowhere _)
 
 returns-3 : tie.Need-returns-3
 unfolding lowerOf
 returns-3 c =
-    let i = c .before .before .before .before .before .before .before .a .given .0 .0 .0 in
-    let j = c .before .before .before .before .b .given .0 .0 .0 in
-    sym (ap₂ lowerOf (ap foundOf (c .before .before .before .before .before .before .before .a .given .1)) (ap foundOf (c .before .before .before .before .b .given .1)) ∙ ap (λ (x : Bool). cond x (first i) (first j)) (lt-ltb i j (c .if1 .taken)))
+    let at-b = c .before .before .before .before in
+    let at-a = at-b .before .before .before in
+    let i = at-a .a .given .0 .0 .0 in
+    let j = at-b .b .given .0 .0 .0 in
+    sym (ap₂ lowerOf (ap foundOf (at-a .a .given .1)) (ap foundOf (at-b .b .given .1)) ∙ ap (λ (x : Bool). cond x (first i) (first j)) (lt-ltb i j (c .if1 .taken)))
 
 returns-4 : tie.Need-returns-4
 unfolding lowerOf
 returns-4 c =
-    let i = c .before .before .before .before .before .before .before .a .given .0 .0 .0 in
-    let j = c .before .before .before .before .b .given .0 .0 .0 in
-    sym (ap₂ lowerOf (ap foundOf (c .before .before .before .before .before .before .before .a .given .1)) (ap foundOf (c .before .before .before .before .b .given .1)) ∙ ap (λ (x : Bool). cond x (first i) (first j)) (le-ltb i j (c .if1 .left)))
+    let at-b = c .before .before .before .before in
+    let at-a = at-b .before .before .before in
+    let i = at-a .a .given .0 .0 .0 in
+    let j = at-b .b .given .0 .0 .0 in
+    sym (ap₂ lowerOf (ap foundOf (at-a .a .given .1)) (ap foundOf (at-b .b .given .1)) ∙ ap (λ (x : Bool). cond x (first i) (first j)) (le-ltb i j (c .if1 .left)))
 
 pub lower-of-spec : {M : Type 1} → statement M
 lower-of-spec =

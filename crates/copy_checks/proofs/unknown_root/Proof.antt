@@ -25,34 +25,56 @@ loop-holds : tie.Need-loop-holds Inv-loop μ-loop
 loop-holds c = refl
 
 mul-i : tie.Need-mul-i Inv-loop μ-loop
-mul-i c = omega (arith, c .before .before .before .root-count .ensures, length-roots-le (c .before .before .before .before .before .args .n) (c .before .before .before .before .before .pre .count))
+mul-i c =
+    let at-root-count = c .before .before .before in
+    let start = at-root-count .before .before in
+    omega (arith, at-root-count .root-count .ensures, length-roots-le (start .args .n) (start .pre .count))
 
 array-copy-out-i : tie.Need-array-copy-out-i Inv-loop μ-loop
-array-copy-out-i c = omega (arith, c .before .before .before .root-count .ensures, length-roots-le (c .before .before .before .before .before .args .n) (c .before .before .before .before .before .pre .count))
+array-copy-out-i c =
+    let at-root-count = c .before .before .before in
+    let start = at-root-count .before .before in
+    omega (arith, at-root-count .root-count .ensures, length-roots-le (start .args .n) (start .pre .count))
 
 is-known-requires : tie.Need-is-known-requires Inv-loop μ-loop
 is-known-requires c κs =
-    root-bit (c .before .before .before .before .before .before .args .bitfield .now) (c .before .before .before .root-indexes .result) (c .before .before .before .before .before .before .args .n) (c .before .before .loop .j) (c .before .before .before .before .before .before .pre) (c .before .before .before .root-indexes .ensures)
-    (subst (λ (x : ℕ). c .before .before .loop .j < x) (c .before .before .before .before .root-count .ensures) (c .before .loop-test .taken))
+    let at-root-indexes = c .before .before .before in
+    let at-root-count = at-root-indexes .before in
+    let start = at-root-count .before .before in
+    root-bit (start .args .bitfield .now) (at-root-indexes .root-indexes .result) (start .args .n) (c .before .before .loop .j) (start .pre) (at-root-indexes .root-indexes .ensures)
+    (subst (λ (x : ℕ). c .before .before .loop .j < x) (at-root-count .root-count .ensures) (c .before .loop-test .taken))
 
 returns : tie.Need-returns Inv-loop μ-loop
 returns c =
-    let k = storedKnown (c .before .before .before .before .before .before .before .before .args .bitfield .now) in
-    let h : c .before .before .before .before .loop .j < length (roots (c .before .before .before .before .before .before .before .before .args .n)) = subst (λ (x : ℕ). c .before .before .before .before .loop .j < x) (c .before .before .before .before .before .before .root-count .ensures) (c .before .before .before .loop-test .taken) in
-    let e = root-is (c .before .before .before .before .before .root-indexes .result) (c .before .before .before .before .before .before .before .before .args .n) (c .before .before .before .before .loop .j) (c .before .before .before .before .before .root-indexes .ensures) h in
+    let tested = c .before .before .before in
+    let looped = tested .before in
+    let at-root-indexes = looped .before in
+    let at-root-count = at-root-indexes .before in
+    let start = at-root-count .before .before in
+    let k = storedKnown (start .args .bitfield .now) in
+    let h : looped .loop .j < length (roots (start .args .n)) = subst (λ (x : ℕ). looped .loop .j < x) (at-root-count .root-count .ensures) (tested .loop-test .taken) in
+    let e = root-is (at-root-indexes .root-indexes .result) (start .args .n) (looped .loop .j) (at-root-indexes .root-indexes .ensures) h in
     ap first e
-    ∙ sym (unknown-off k (roots (c .before .before .before .before .before .before .before .before .args .n)) (c .before .before .before .before .loop .j) h (ap k (sym e) ∙ sym (c .before .is-known .ensures) ∙ not-true _ (c .if1 .taken))) ∙ c .before .before .before .before .loop .inv
+    ∙ sym (unknown-off k (roots (start .args .n)) (looped .loop .j) h (ap k (sym e) ∙ sym (c .before .is-known .ensures) ∙ not-true _ (c .if1 .taken))) ∙ looped .loop .inv
 
 loop-again : tie.Need-loop-again Inv-loop μ-loop
 loop-again c =
-    let k = storedKnown (c .before .before .before .before .before .before .before .before .args .bitfield .now) in
-    let h : c .before .before .before .before .loop .j < length (roots (c .before .before .before .before .before .before .before .before .args .n)) = subst (λ (x : ℕ). c .before .before .before .before .loop .j < x) (c .before .before .before .before .before .before .root-count .ensures) (c .before .before .before .loop-test .taken) in
-    let e = root-is (c .before .before .before .before .before .root-indexes .result) (c .before .before .before .before .before .before .before .before .args .n) (c .before .before .before .before .loop .j) (c .before .before .before .before .before .root-indexes .ensures) h in
-    sym (unknown-on k (roots (c .before .before .before .before .before .before .before .before .args .n)) (c .before .before .before .before .loop .j) h (ap k (sym e) ∙ sym (c .before .is-known .ensures) ∙ not-false _ (c .if1 .left))) ∙ c .before .before .before .before .loop .inv
+    let tested = c .before .before .before in
+    let looped = tested .before in
+    let at-root-indexes = looped .before in
+    let at-root-count = at-root-indexes .before in
+    let start = at-root-count .before .before in
+    let k = storedKnown (start .args .bitfield .now) in
+    let h : looped .loop .j < length (roots (start .args .n)) = subst (λ (x : ℕ). looped .loop .j < x) (at-root-count .root-count .ensures) (tested .loop-test .taken) in
+    let e = root-is (at-root-indexes .root-indexes .result) (start .args .n) (looped .loop .j) (at-root-indexes .root-indexes .ensures) h in
+    sym (unknown-on k (roots (start .args .n)) (looped .loop .j) h (ap k (sym e) ∙ sym (c .before .is-known .ensures) ∙ not-false _ (c .if1 .left))) ∙ looped .loop .inv
 
 returns-2 : tie.Need-returns-2 Inv-loop μ-loop
 returns-2 c =
-    sym (unknown-end (storedKnown (c .before .before .before .before .before .args .bitfield .now)) (roots (c .before .before .before .before .before .args .n)) (c .before .loop .j) (subst (λ (x : ℕ). x ≤ c .before .loop .j) (c .before .before .before .root-count .ensures) (c .loop-test .left)))
+    let at-root-count = c .before .before .before in
+    let start = at-root-count .before .before in
+    sym (unknown-end (storedKnown (start .args .bitfield .now)) (roots (start .args .n)) (c .before .loop .j)
+    (subst (λ (x : ℕ). x ≤ c .before .loop .j) (at-root-count .root-count .ensures) (c .loop-test .left)))
     ∙ c .before .loop .inv
 
 pub unknown-root-spec : {M : Type 1} → statement M

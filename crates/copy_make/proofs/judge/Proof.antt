@@ -1,7 +1,7 @@
 -- `copy_make::judge` meets its contract. Assumes nothing.
 use borrow.Author.Tests.{not-true, not-false, le-leb, lt-leb}
 use mathlib.Core.Bool.{true, false}
-use mathlib.Core.Path.{_≡_, refl, sym, _∙_}
+use mathlib.Core.Path.{refl, sym, _∙_}
 use borrow.Author.Needs.{needs}
 use Rattle.refusals.specs.Verdict.{done}
 use Rattle.refusals.specs.Meaning.{said}
@@ -14,14 +14,21 @@ abbrev given : (c : tie.Start) → Copy
 given c = copyOf (c .args .tree .now) (c .args .bitfield .now) (c .args .content .now) (c .args .n) (c .args .size)
 
 returns : tie.Need-returns
-returns c = answered (given (c .before .before .before .before .before)) (said (c .refuse .result)) false _ (lt-leb _ _ (c .before .if1 .taken)) refl (c .refuse .ensures)
+returns c =
+    let start = c .before .before .before .before .before in
+    answered (given start) (said (c .refuse .result)) false _ (lt-leb _ _ (c .before .if1 .taken)) refl (c .refuse .ensures)
 
 returns-2 : tie.Need-returns-2
 returns-2 c =
-    answered (given (c .before .before .before .before .before .before .before)) (said (c .refuse2 .result)) true false (le-leb _ _ (c .before .before .before .if1 .left)) (sym (c .before .before .long-right .ensures) ∙ not-true _ (c .before .if2 .taken)) (c .refuse2 .ensures)
+    let branch1 = c .before .before .before in
+    let start = branch1 .before .before .before .before in
+    answered (given start) (said (c .refuse2 .result)) true false (le-leb _ _ (branch1 .if1 .left))
+    (sym (c .before .before .long-right .ensures) ∙ not-true _ (c .before .if2 .taken)) (c .refuse2 .ensures)
 
 returns-3 : tie.Need-returns-3
-returns-3 c = answered (given (c .before .before .before .before .before .before)) done true true (le-leb _ _ (c .before .before .if1 .left)) (sym (c .before .long-right .ensures) ∙ not-false _ (c .if2 .left)) refl
+returns-3 c =
+    let start = c .before .before .before .before .before .before in
+    answered (given start) done true true (le-leb _ _ (c .before .before .if1 .left)) (sym (c .before .long-right .ensures) ∙ not-false _ (c .if2 .left)) refl
 
 pub judge-spec : {M : Type 1} → statement M
 judge-spec = tie.close (tie.spec (λ c κs. search needs) returns (λ c κs. search needs) (λ c κs. search needs) returns-2 returns-3)

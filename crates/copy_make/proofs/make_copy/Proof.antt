@@ -11,15 +11,26 @@ abbrev given : (c : tie.Start) → Copy
 given c = copyOf (c .args .tree .now) (c .args .bitfield .now) (c .args .content .now) (c .args .n) (c .args .size)
 
 write-files-requires : tie.Need-write-files-requires
-write-files-requires c κs = roomy (given (c .before .before .before .before .before .before .before .before .before .before .before .before)) (sym (ap said (c .before .before .before .enum-told .given .1)) ∙ c .before .before .before .before .before .judge .ensures)
+write-files-requires c κs =
+    let at-enum-told = c .before .before .before in
+    let at-judge = at-enum-told .before .before in
+    let start = at-judge .before .before .before .before .before .before .before in
+    roomy (given start) (sym (ap said (at-enum-told .enum-told .given .1)) ∙ at-judge .judge .ensures)
 
 returns : tie.Need-returns
 returns c =
+    let at-judge = c .before .before .before in
+    let start = at-judge .before .before .before .before .before .before .before in
     let q = c .before .answer .given in
-    made-not (given (c .before .before .before .before .before .before .before .before .before .before)) (q .0 .0 .number) (spotOf (q .0 .0 .place)) (sym (ap said (q .1)) ∙ c .before .before .before .judge .ensures)
+    made-not (given start) (q .0 .0 .number) (spotOf (q .0 .0 .place)) (sym (ap said (q .1)) ∙ at-judge .judge .ensures)
 
 returns-2 : tie.Need-returns-2
-returns-2 c = made (given (c .before .before .before .before .before .before .before .before .before .before .before .before .before .before .before .before .before .before .before)) _ (sym (ap said (c .before .before .before .before .before .before .before .before .before .before .enum-told .given .1)) ∙ c .before .before .before .before .before .before .before .before .before .before .before .before .judge .ensures) (c .before .before .before .before .before .before .write-files .ensures)
+returns-2 c =
+    let at-write-files = c .before .before .before .before .before .before in
+    let at-enum-told = at-write-files .before .before .before .before in
+    let at-judge = at-enum-told .before .before in
+    let start = at-judge .before .before .before .before .before .before .before in
+    made (given start) _ (sym (ap said (at-enum-told .enum-told .given .1)) ∙ at-judge .judge .ensures) (at-write-files .write-files .ensures)
 
 pub make-copy-spec : {M : Type 1} → statement M
 make-copy-spec =

@@ -10,23 +10,37 @@ abbrev given : (c : tie.Start) → Copy
 given c = copyOf (c .args .tree .now) (c .args .bitfield .now) (c .args .content .now) (c .args .n) (c .args .size)
 
 sub-write-blank : tie.Need-sub-write-blank
-sub-write-blank c = omega (arith, tree-room (given (c .before .before .before .before .before .before .before)) (c .used-tree .result) (c .before .before .before .before .before .before .before .pre) (c .used-tree .ensures) .0)
+sub-write-blank c =
+    let entered = c .before .before .before .before .before .before .before in
+    omega (arith, tree-room (given entered) (c .used-tree .result) (entered .pre) (c .used-tree .ensures) .0)
 
 write-blank-requires : tie.Need-write-blank-requires
 write-blank-requires c κs =
-    let r = tree-room (given (c .before .before .before .before .before .before .before)) (c .used-tree .result) (c .before .before .before .before .before .before .before .pre) (c .used-tree .ensures) in omega (arith, r .0, r .1)
+    let entered = c .before .before .before .before .before .before .before in
+    let r = tree-room (given entered) (c .used-tree .result) (entered .pre) (c .used-tree .ensures) in omega (arith, r .0, r .1)
 
 sub-write-blank-2 : tie.Need-sub-write-blank-2
-sub-write-blank-2 c = omega (arith, bits-room (given (c .before .before .before .before .before .before .before .before .before .before .before .before .before .before)) (c .used-bitfield .result) (c .before .before .before .before .before .before .before .before .before .before .before .before .before .before .pre) (c .used-bitfield .ensures) .0)
+sub-write-blank-2 c =
+    let entered = c .before .before .before .before .before .before .before .before .before .before .before .before .before .before in
+    omega (arith, bits-room (given entered) (c .used-bitfield .result) (entered .pre) (c .used-bitfield .ensures) .0)
 
 write-blank-requires-2 : tie.Need-write-blank-requires-2
 write-blank-requires-2 c κs =
-    let r = bits-room (given (c .before .before .before .before .before .before .before .before .before .before .before .before .before .before)) (c .used-bitfield .result) (c .before .before .before .before .before .before .before .before .before .before .before .before .before .before .pre) (c .used-bitfield .ensures) in omega (arith, r .0, r .1)
+    let entered = c .before .before .before .before .before .before .before .before .before .before .before .before .before .before in
+    let r = bits-room (given entered) (c .used-bitfield .result) (entered .pre) (c .used-bitfield .ensures) in omega (arith, r .0, r .1)
 
 returns : tie.Need-returns
 returns c =
-    all-written (given (c .before .before .before .before .before .before .before .before .before .before .before .before .before .before .before .before .before .before .before .before .before)) _ _ _ _ _ _ _ (c .before .before .before .before .before .before .before .before .before .before .before .before .before .before .used-tree .ensures) (c .before .before .before .before .before .before .before .used-bitfield .ensures) (c .before .before .before .before .before .before .before .before .before .before .before .before .before .before .before .before .before .tree-header .ensures) (c .before .before .before .before .before .before .before .before .before .before .bitfield-header .ensures)
-    (c .before .before .before .before .before .before .before .before .before .before .before .before .before .write-blank .ensures) (c .before .before .before .before .before .before .write-blank2 .ensures) (c .before .before .clear .ensures)
+    let at-write-blank2 = c .before .before .before .before .before .before in
+    let at-used-bitfield = at-write-blank2 .before in
+    let at-bitfield-header = at-used-bitfield .before .before .before in
+    let at-write-blank = at-bitfield-header .before .before .before in
+    let at-used-tree = at-write-blank .before in
+    let at-tree-header = at-used-tree .before .before .before in
+    let start = at-tree-header .before .before .before .before in
+    all-written (given start) _ _ _ _ _ _ _ (at-used-tree .used-tree .ensures) (at-used-bitfield .used-bitfield .ensures) (at-tree-header .tree-header .ensures)
+    (at-bitfield-header .bitfield-header .ensures)
+    (at-write-blank .write-blank .ensures) (at-write-blank2 .write-blank2 .ensures) (c .before .before .clear .ensures)
 
 pub write-files-spec : {M : Type 1} → statement M
 write-files-spec =

@@ -16,40 +16,48 @@ given c = copyOf (c .args .tree .now) (c .args .bitfield .now) (c .args .content
 
 sub-make-read : tie.Need-sub-make-read
 sub-make-read c =
-    let s = c .before .before .before .before .before .before .before .before in
+    let at-verify = c .before .before .before in
+    let s = at-verify .before .before .before .before .before in
     let k = c .before .start .given in
-    copy-lying nodeHash (given s) (s .args .chunk .0) (k .0 .0 .0) (k .0 .1 .0 .0) (sym (ap verifiedOf (k .1)) ∙ c .before .before .before .verify .ensures) .ordered
+    copy-lying nodeHash (given s) (s .args .chunk .0) (k .0 .0 .0) (k .0 .1 .0 .0) (sym (ap verifiedOf (k .1)) ∙ at-verify .verify .ensures) .ordered
 
 part-make-read-start : tie.Need-part-make-read-start
 part-make-read-start c =
-    let s = c .before .before .before .before .before .before .before .before in
+    let at-verify = c .before .before .before in
+    let s = at-verify .before .before .before .before .before in
     let k = c .before .start .given in
-    copy-lying nodeHash (given s) (s .args .chunk .0) (k .0 .0 .0) (k .0 .1 .0 .0) (sym (ap verifiedOf (k .1)) ∙ c .before .before .before .verify .ensures) .ordered
+    copy-lying nodeHash (given s) (s .args .chunk .0) (k .0 .0 .0) (k .0 .1 .0 .0) (sym (ap verifiedOf (k .1)) ∙ at-verify .verify .ensures) .ordered
 
 part-make-read-end : tie.Need-part-make-read-end
 part-make-read-end c =
-    let s = c .before .before .before .before .before .before .before .before in
+    let at-verify = c .before .before .before in
+    let s = at-verify .before .before .before .before .before in
     let k = c .before .start .given in
-    copy-lying nodeHash (given s) (s .args .chunk .0) (k .0 .0 .0) (k .0 .1 .0 .0) (sym (ap verifiedOf (k .1)) ∙ c .before .before .before .verify .ensures) .inside
+    copy-lying nodeHash (given s) (s .args .chunk .0) (k .0 .0 .0) (k .0 .1 .0 .0) (sym (ap verifiedOf (k .1)) ∙ at-verify .verify .ensures) .inside
 
 make-read-requires : tie.Need-make-read-requires
 make-read-requires c κs =
-    let s = c .before .before .before .before .before .before .before .before .before .before in
-    let k = c .before .before .before .start .given in
-    readable nodeHash (given s) (s .args .chunk .0) (k .0 .0 .0) (k .0 .1 .0 .0) (sym (ap verifiedOf (k .1)) ∙ c .before .before .before .before .before .verify .ensures) _ refl
+    let at-start = c .before .before .before in
+    let at-verify = at-start .before .before in
+    let s = at-verify .before .before .before .before .before in
+    let k = at-start .start .given in
+    readable nodeHash (given s) (s .args .chunk .0) (k .0 .0 .0) (k .0 .1 .0 .0) (sym (ap verifiedOf (k .1)) ∙ at-verify .verify .ensures) _ refl
 
 returns : tie.Need-returns
 returns c =
-    let s = c .before .before .before .before .before .before .before .before in
+    let at-verify = c .before .before .before in
+    let s = at-verify .before .before .before .before .before in
     let k = c .before .refusal .given in
     made-none nodeHash (given s) (s .args .chunk .0) (s .args .out .now) (k .0 .0)
-    (copy-nothing nodeHash (given s) (s .args .chunk .0) (k .0 .0 .number) (spotOf (k .0 .0 .place)) (sym (ap verifiedOf (k .1)) ∙ c .before .before .before .verify .ensures) .0)
+    (copy-nothing nodeHash (given s) (s .args .chunk .0) (k .0 .0 .number) (spotOf (k .0 .0 .place)) (sym (ap verifiedOf (k .1)) ∙ at-verify .verify .ensures) .0)
 
 returns-2 : tie.Need-returns-2
 returns-2 c =
-    let s = c .before .before .before .before .before .before .before .before .before .before .before .before .before in
-    let k = c .before .before .before .before .before .before .start .given in
-    let e = sym (ap verifiedOf (k .1)) ∙ c .before .before .before .before .before .before .before .before .verify .ensures in
+    let at-start = c .before .before .before .before .before .before in
+    let at-verify = at-start .before .before in
+    let s = at-verify .before .before .before .before .before in
+    let k = at-start .start .given in
+    let e = sym (ap verifiedOf (k .1)) ∙ at-verify .verify .ensures in
     made-from nodeHash (given s) (s .args .chunk .0) (s .args .out .now) (read-found-done nodeHash (given s) (s .args .chunk .0) (k .0 .0 .0) (k .0 .1 .0 .0) e) _
     (bytes-are nodeHash (given s) (s .args .chunk .0) (k .0 .0 .0) (k .0 .1 .0 .0) e _ refl) (c .before .before .make-read .result) (c .before .before .make-read .last .1 .1 .1 .1 .0)
     (c .before .before .make-read .ensures)

@@ -12,28 +12,37 @@ given c = copyOf (c .args .tree .now) (c .args .bitfield .now) (c .args .content
 
 roots-known-requires : tie.Need-roots-known-requires
 roots-known-requires c κs =
-    let s = c .before .before .before .before .before .before .before .before .before in
-    old-bits (given s) (s .args .m) (sym (ap said (c .before .before .before .enum-told .given .1)) ∙ c .before .before .before .before .before .judge .ensures)
+    let at-enum-told = c .before .before .before in
+    let at-judge = at-enum-told .before .before in
+    let s = at-judge .before .before .before .before in
+    old-bits (given s) (s .args .m) (sym (ap said (at-enum-told .enum-told .given .1)) ∙ at-judge .judge .ensures)
     (sym (ap said (c .enum-told2 .given .1)) ∙ c .before .before .up-to .ensures)
 
 returns : tie.Need-returns
 returns c =
-    let s = c .before .before .before .before .before .before .before in
+    let at-judge = c .before .before .before in
+    let s = at-judge .before .before .before .before in
     let q = c .before .refusal .given in
-    old-refused (given s) (s .args .m) (q .0 .0 .number) (spotOf (q .0 .0 .place)) (sym (ap said (q .1)) ∙ c .before .before .before .judge .ensures)
+    old-refused (given s) (s .args .m) (q .0 .0 .number) (spotOf (q .0 .0 .place)) (sym (ap said (q .1)) ∙ at-judge .judge .ensures)
 
 returns-2 : tie.Need-returns-2
 returns-2 c =
-    let s = c .before .before .before .before .before .before .before .before .before .before in
+    let at-up-to = c .before .before .before in
+    let at-enum-told = at-up-to .before in
+    let at-judge = at-enum-told .before .before in
+    let s = at-judge .before .before .before .before in
     let q = c .before .refusal2 .given in
-    old-above (given s) (s .args .m) (sym (ap said (c .before .before .before .before .enum-told .given .1)) ∙ c .before .before .before .before .before .before .judge .ensures) (q .0 .0 .number) (spotOf (q .0 .0 .place))
-    (sym (ap said (q .1)) ∙ c .before .before .before .up-to .ensures)
+    old-above (given s) (s .args .m) (sym (ap said (at-enum-told .enum-told .given .1)) ∙ at-judge .judge .ensures) (q .0 .0 .number) (spotOf (q .0 .0 .place))
+    (sym (ap said (q .1)) ∙ at-up-to .up-to .ensures)
 
 returns-3 : tie.Need-returns-3
 returns-3 c =
-    let s = c .before .before .before .before .before .before .before .before .before .before in
-    old-judged (given s) (s .args .m) (sym (ap said (c .before .before .before .before .enum-told .given .1)) ∙ c .before .before .before .before .before .before .judge .ensures)
-    (sym (ap said (c .before .enum-told2 .given .1)) ∙ c .before .before .before .up-to .ensures) (said (c .roots-known .result)) (c .roots-known .ensures)
+    let at-up-to = c .before .before .before in
+    let at-enum-told = at-up-to .before in
+    let at-judge = at-enum-told .before .before in
+    let s = at-judge .before .before .before .before in
+    old-judged (given s) (s .args .m) (sym (ap said (at-enum-told .enum-told .given .1)) ∙ at-judge .judge .ensures)
+    (sym (ap said (c .before .enum-told2 .given .1)) ∙ at-up-to .up-to .ensures) (said (c .roots-known .result)) (c .roots-known .ensures)
 
 pub judge-old-spec : {M : Type 1} → statement M
 judge-old-spec =

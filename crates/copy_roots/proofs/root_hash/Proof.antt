@@ -11,10 +11,14 @@ abbrev given : (c : tie.Start) → Copy
 given c = copyOf (c .args .tree .now) (c .args .bitfield .now) (c .args .content .now) (c .args .n) (c .args .size)
 
 rooted-requires : tie.Need-rooted-requires
-rooted-requires c κs = λ e. root-fits (given (c .before .before .before .before)) (sym (c .judge .ensures) ∙ e)
+rooted-requires c κs =
+    let start = c .before .before .before .before in
+    λ e. root-fits (given start) (sym (c .judge .ensures) ∙ e)
 
 returns : tie.Need-returns
-returns c = root-post (given (c .before .before .before .before .before)) (said (c .before .judge .result)) _ _ (c .before .judge .ensures) (c .rooted .ensures)
+returns c =
+    let start = c .before .before .before .before .before in
+    root-post (given start) (said (c .before .judge .result)) _ _ (c .before .judge .ensures) (c .rooted .ensures)
 
 pub root-hash-spec : {M : Type 1} → statement M
 root-hash-spec = tie.close (tie.spec (λ c κs. search needs) rooted-requires returns)

@@ -1,5 +1,5 @@
 -- `copy_roots::rooted` meets its contract. Assumes nothing.
-use mathlib.Core.Path.{refl, sym, ap, _∙_}
+use mathlib.Core.Path.{sym, ap, _∙_}
 use Rattle.refusals.specs.Verdict.{Verdict}
 use Rattle.refusals.specs.Meaning.{said}
 use Rattle.blake2b.specs.Hash.{nodeHash}
@@ -9,7 +9,9 @@ use Rattle.copy_roots.proofs.rooted.Statement.{statement}
 use Rattle.copy_roots.proofs.rooted.Tie as tie
 
 stored-root-hash-requires : tie.Need-stored-root-hash-requires
-stored-root-hash-requires c κs = c .before .before .before .pre (ap said (c .enum-told .given .1))
+stored-root-hash-requires c κs =
+    let entered = c .before .before .before in
+    entered .pre (ap said (c .enum-told .given .1))
 
 returns : tie.Need-returns
 returns c =

@@ -11,8 +11,9 @@ use Rattle.copy_roots.proofs.roots_known.Tie as tie
 returns : tie.Need-returns
 unfolding refusedAt
 returns c =
+    let at-unknown-root = c .before .before .before .before in
     let q = c .before .before .i .given in
-    c .refuse-entry .ensures ∙ ap (λ (l : Lowest). refusedAt 20 tree l done) (sym (ap unknownOf (q .1)) ∙ c .before .before .before .before .unknown-root .ensures)
+    c .refuse-entry .ensures ∙ ap (λ (l : Lowest). refusedAt 20 tree l done) (sym (ap unknownOf (q .1)) ∙ at-unknown-root .unknown-root .ensures)
 
 returns-2 : tie.Need-returns-2
 unfolding refusedAt

@@ -29,7 +29,8 @@ unfolding firstMissing
 returns-2 c =
     let s = c .before .before .before .before .before .before .before .before .before .before in
     let q = c .before .chunk .given in
-    search-passed (given s) (s .args .from .0) (sym (ap said (c .before .before .before .before .enum-told .given .1)) ∙ c .before .before .before .before .before .before .judge .ensures) (first (q .0 .0 .0))
+    search-passed (given s) (s .args .from .0)
+    (sym (ap said (c .before .before .before .before .enum-told .given .1)) ∙ c .before .before .before .before .before .before .judge .ensures) (first (q .0 .0 .0))
     (sym (ap foundAt (q .1)) ∙ c .before .before .before .by-runs .ensures)
 
 returns-3 : tie.Need-returns-3

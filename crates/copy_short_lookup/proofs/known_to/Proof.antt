@@ -18,32 +18,54 @@ loop-holds : tie.Need-loop-holds Inv-loop μ-loop
 loop-holds c = let a = c .before .args in through-none (a .bitfield .now) (a .chunk .0 + 1)
 
 leaf-index-requires : tie.Need-leaf-index-requires Inv-loop μ-loop
-leaf-index-requires c κs = omega (arith, c .if1 .taken, c .before .before .before .before .before .pre .0 .count, c .before .before .before .before .before .pre .1)
+leaf-index-requires c κs =
+    let entered = c .before .before .before .before .before in
+    omega (arith, c .if1 .taken, entered .pre .0 .count, entered .pre .1)
 
 is-known-requires : tie.Need-is-known-requires Inv-loop μ-loop
 is-known-requires c κs =
-    let a = c .before .before .before .before .before .before .args in
-    leaf-bit (a .bitfield .now) (a .n) (c .before .before .before .before .loop .k .0) (c .leaf-index .result .0) (c .before .before .before .before .before .before .pre .0) (omega (arith, c .before .if1 .taken, c .before .before .before .before .before .before .pre .1)) (c .leaf-index .ensures)
+    let looped = c .before .before .before .before in
+    let start = looped .before .before in
+    let a = start .args in
+    leaf-bit (a .bitfield .now) (a .n) (looped .loop .k .0) (c .leaf-index .result .0) (start .pre .0) (omega (arith, c .before .if1 .taken, start .pre .1)) (c .leaf-index .ensures)
 
 returns : tie.Need-returns Inv-loop μ-loop
 returns c =
-    let a = c .before .before .before .before .before .before .before .before .before .args in
+    let at-leaf-index = c .before .before .before in
+    let branch1 = at-leaf-index .before in
+    let looped = branch1 .before .before .before in
+    let start = looped .before .before in
+    let a = start .args in
     c .refuse-entry .ensures
-    ∙ through-off (a .bitfield .now) (a .chunk .0 + 1) (c .before .before .before .before .before .before .before .loop .k .0) (c .before .before .before .before .before .before .before .loop .inv) (c .before .before .before .leaf-index .result .0) (omega (arith, c .before .before .before .before .if1 .taken)) (c .before .before .before .leaf-index .ensures) (sym (c .before .before .is-known .ensures) ∙ not-true _ (c .before .if2 .taken))
+    ∙ through-off (a .bitfield .now) (a .chunk .0 + 1) (looped .loop .k .0) (looped .loop .inv) (at-leaf-index .leaf-index .result .0) (omega (arith, branch1 .if1 .taken))
+    (at-leaf-index .leaf-index .ensures) (sym (c .before .before .is-known .ensures) ∙ not-true _ (c .before .if2 .taken))
 
 add-t8 : tie.Need-add-t8 Inv-loop μ-loop
-add-t8 c = omega (arith, c .before .before .before .before .if1 .taken, c .before .before .before .before .before .before .before .before .before .pre .0 .count, c .before .before .before .before .before .before .before .before .before .pre .1)
+add-t8 c =
+    let branch1 = c .before .before .before .before in
+    let entered = branch1 .before .before .before .before .before in
+    omega (arith, branch1 .if1 .taken, entered .pre .0 .count, entered .pre .1)
 
 loop-less : tie.Need-loop-less Inv-loop μ-loop
-loop-less c = omega (arith, c .before .before .before .before .if1 .taken)
+loop-less c =
+    let branch1 = c .before .before .before .before in
+    omega (arith, branch1 .if1 .taken)
 
 loop-again : tie.Need-loop-again Inv-loop μ-loop
 loop-again c =
-    let a = c .before .before .before .before .before .before .before .before .before .args in
-    through-on (a .bitfield .now) (a .chunk .0 + 1) (c .before .before .before .before .before .before .before .loop .k .0) (c .before .before .before .before .before .before .before .loop .inv) (c .before .before .before .leaf-index .result .0) (omega (arith, c .before .before .before .before .if1 .taken)) (c .before .before .before .leaf-index .ensures) (sym (c .before .before .is-known .ensures) ∙ not-false _ (c .before .if2 .left))
+    let at-leaf-index = c .before .before .before in
+    let branch1 = at-leaf-index .before in
+    let looped = branch1 .before .before .before in
+    let start = looped .before .before in
+    let a = start .args in
+    through-on (a .bitfield .now) (a .chunk .0 + 1) (looped .loop .k .0) (looped .loop .inv) (at-leaf-index .leaf-index .result .0) (omega (arith, branch1 .if1 .taken))
+    (at-leaf-index .leaf-index .ensures) (sym (c .before .before .is-known .ensures) ∙ not-false _ (c .before .if2 .left))
 
 returns-2 : tie.Need-returns-2 Inv-loop μ-loop
-returns-2 c = let a = c .before .before .before .before .before .args in through-end (a .bitfield .now) (a .chunk .0 + 1) (c .before .before .before .loop .k .0) (c .before .before .before .loop .inv) (omega (arith, c .if1 .left))
+returns-2 c =
+    let looped = c .before .before .before in
+    let start = looped .before .before in
+    let a = start .args in through-end (a .bitfield .now) (a .chunk .0 + 1) (looped .loop .k .0) (looped .loop .inv) (omega (arith, c .if1 .left))
 
 pub known-to-spec : {M : Type 1} → statement M
 known-to-spec =

@@ -11,18 +11,22 @@ abbrev given : (c : tie.Start) → Copy
 given c = copyOf (c .args .tree .now) (c .args .bitfield .now) (c .args .content .now) (c .args .n) (c .args .size)
 
 locate-in-requires : tie.Need-locate-in-requires
-locate-in-requires c κs = short-in (given (c .before .before .before .before .before .before)) (sym (ap said (c .enum-told .given .1)) ∙ c .before .before .judge .ensures)
+locate-in-requires c κs =
+    let start = c .before .before .before .before .before .before in
+    short-in (given start) (sym (ap said (c .enum-told .given .1)) ∙ c .before .before .judge .ensures)
 
 returns : tie.Need-returns
 returns c =
-    let s = c .before .before .before .before .before .before .before in
+    let at-judge = c .before .before .before in
+    let s = at-judge .before .before .before .before in
     let q = c .before .refusal .given in
-    byte-refused (given s) (s .args .offset .0) (q .0 .0 .number) (spotOf (q .0 .0 .place)) (sym (ap said (q .1)) ∙ c .before .before .before .judge .ensures)
+    byte-refused (given s) (s .args .offset .0) (q .0 .0 .number) (spotOf (q .0 .0 .place)) (sym (ap said (q .1)) ∙ at-judge .judge .ensures)
 
 returns-2 : tie.Need-returns-2
 returns-2 c =
-    let s = c .before .before .before .before .before .before .before in
-    c .locate-in .ensures ∙ byte-passed (given s) (sym (ap said (c .before .enum-told .given .1)) ∙ c .before .before .before .judge .ensures) (s .args .offset .0)
+    let at-judge = c .before .before .before in
+    let s = at-judge .before .before .before .before in
+    c .locate-in .ensures ∙ byte-passed (given s) (sym (ap said (c .before .enum-told .given .1)) ∙ at-judge .judge .ensures) (s .args .offset .0)
 
 pub locate-spec : {M : Type 1} → statement M
 locate-spec = tie.close (tie.spec (λ c κs. search needs) (λ c. search needs) (λ c. search needs) locate-in-requires returns returns-2)

@@ -1,6 +1,6 @@
 -- `copy_short_lookup::locate_in` meets its contract: the register's answer says which leaves were read. Assumes nothing.
 use mathlib.Core.Path.{sym, ap, _∙_}
-use Rattle.refusals.specs.Meaning.{said, refusalOf, spotOf}
+use Rattle.refusals.specs.Meaning.{said, spotOf}
 use Rattle.lookup.specs.Lookup.{found}
 use Rattle.lookup.specs.Meaning.{locatedOf}
 use Rattle.short_lookup.specs.ShortLookup.{shortByteIn}
@@ -11,55 +11,86 @@ use Rattle.copy_short_lookup.proofs.locate_in.Tie as tie
 
 returns : tie.Need-returns
 returns c =
-    let a = c .before .before .before .before .before .args in
+    let start = c .before .before .before .before .before in
+    let a = start .args in
     ap (λ k. found k 0) (c .chunk-behind .ensures) ∙ byte-at-end (a .tree .now) (a .bitfield .now) (a .n) (a .size) (a .offset .0) (c .before .if1 .taken)
 
 locate-in-requires : tie.Need-locate-in-requires
-locate-in-requires c κs = c .before .before .before .before .pre .roots
+locate-in-requires c κs =
+    let entered = c .before .before .before .before in
+    entered .pre .roots
 
 refused-behind-requires : tie.Need-refused-behind-requires
 refused-behind-requires c κs =
-    let a = c .before .before .before .before .before .before .before .before .args in
+    let at-locate-in = c .before .before .before in
+    let branch1 = at-locate-in .before in
+    let start = branch1 .before .before .before .before in
+    let a = start .args in
     let q = c .before .refusal .given in (
-      c .before .before .before .before .before .before .before .before .pre .bits,
-      told-leaf (a .bitfield .now) (a .n) (chunkIn (shortByteIn (a .tree .now) (a .n) (a .size) (a .offset .0))) (byteRead (a .tree .now) (a .n) (a .size) (a .offset .0) (c .before .before .before .before .before .before .before .before .pre .adds) (c .before .before .before .before .if1 .left)) (shortByteIn (a .tree .now) (a .n) (a .size) (a .offset .0)) (byte-reads (a .tree .now) (a .n) (a .size) (a .offset .0) (c .before .before .before .before .before .before .before .before .pre .adds) (c .before .before .before .before .if1 .left))
-          (q .0 .0 .number) (spotOf (q .0 .0 .place)) (sym (ap locatedOf (q .1)) ∙ c .before .before .before .locate-in .ensures),
+      start .pre .bits,
+      told-leaf (a .bitfield .now) (a .n) (chunkIn (shortByteIn (a .tree .now) (a .n) (a .size) (a .offset .0)))
+          (byteRead (a .tree .now) (a .n) (a .size) (a .offset .0) (start .pre .adds) (branch1 .if1 .left)) (shortByteIn (a .tree .now) (a .n) (a .size) (a .offset .0))
+          (byte-reads (a .tree .now) (a .n) (a .size) (a .offset .0) (start .pre .adds) (branch1 .if1 .left))
+          (q .0 .0 .number) (spotOf (q .0 .0 .place)) (sym (ap locatedOf (q .1)) ∙ at-locate-in .locate-in .ensures),
     )
 
 known-to-requires : tie.Need-known-to-requires
 known-to-requires c κs =
-    let a = c .before .before .before .before .before .before .before .before .args in
+    let at-locate-in = c .before .before .before in
+    let branch1 = at-locate-in .before in
+    let start = branch1 .before .before .before .before in
+    let a = start .args in
     let q = c .before .chunk .given in (
-      c .before .before .before .before .before .before .before .before .pre .bits,
-      came-below (a .bitfield .now) (a .n) (q .0 .0 .0) (byteRead (a .tree .now) (a .n) (a .size) (a .offset .0) (c .before .before .before .before .before .before .before .before .pre .adds) (c .before .before .before .before .if1 .left)) (shortByteIn (a .tree .now) (a .n) (a .size) (a .offset .0)) (byte-came (a .tree .now) (a .n) (a .size) (a .offset .0) (c .before .before .before .before .before .before .before .before .pre .adds) (c .before .before .before .before .if1 .left) (q .0 .0 .0) (q .0 .1 .0) (sym (ap locatedOf (q .1)) ∙ c .before .before .before .locate-in .ensures))
-          (q .0 .0 .0) (q .0 .1 .0) (sym (ap locatedOf (q .1)) ∙ c .before .before .before .locate-in .ensures),
+      start .pre .bits,
+      came-below (a .bitfield .now) (a .n) (q .0 .0 .0) (byteRead (a .tree .now) (a .n) (a .size) (a .offset .0) (start .pre .adds) (branch1 .if1 .left))
+          (shortByteIn (a .tree .now) (a .n) (a .size) (a .offset .0))
+          (byte-came (a .tree .now) (a .n) (a .size) (a .offset .0) (start .pre .adds) (branch1 .if1 .left) (q .0 .0 .0) (q .0 .1 .0) (sym (ap locatedOf (q .1)) ∙ at-locate-in .locate-in .ensures))
+          (q .0 .0 .0) (q .0 .1 .0) (sym (ap locatedOf (q .1)) ∙ at-locate-in .locate-in .ensures),
     )
 
 returns-2 : tie.Need-returns-2
 returns-2 c =
-    let a = c .before .before .before .before .before .before .before .before .before .args in
+    let at-locate-in = c .before .before .before .before in
+    let branch1 = at-locate-in .before in
+    let start = branch1 .before .before .before .before in
+    let a = start .args in
     let q = c .before .before .refusal .given in
     let r = c .refused-behind in
-    told-refused (a .bitfield .now) (a .n) (chunkIn (shortByteIn (a .tree .now) (a .n) (a .size) (a .offset .0))) (byteRead (a .tree .now) (a .n) (a .size) (a .offset .0) (c .before .before .before .before .before .before .before .before .before .pre .adds) (c .before .before .before .before .before .if1 .left)) (shortByteIn (a .tree .now) (a .n) (a .size) (a .offset .0)) (byte-reads (a .tree .now) (a .n) (a .size) (a .offset .0) (c .before .before .before .before .before .before .before .before .before .pre .adds) (c .before .before .before .before .before .if1 .left))
-    (q .0 .0 .number) (spotOf (q .0 .0 .place)) (sym (ap locatedOf (q .1)) ∙ c .before .before .before .before .locate-in .ensures) (r .result .number) (spotOf (r .result .place)) (r .ensures)
-    ∙ byte-behind (a .tree .now) (a .n) (a .size) (a .offset .0) (c .before .before .before .before .before .before .before .before .before .pre .adds) (c .before .before .before .before .before .if1 .left) (a .bitfield .now)
+    told-refused (a .bitfield .now) (a .n) (chunkIn (shortByteIn (a .tree .now) (a .n) (a .size) (a .offset .0)))
+    (byteRead (a .tree .now) (a .n) (a .size) (a .offset .0) (start .pre .adds) (branch1 .if1 .left)) (shortByteIn (a .tree .now) (a .n) (a .size) (a .offset .0))
+    (byte-reads (a .tree .now) (a .n) (a .size) (a .offset .0) (start .pre .adds) (branch1 .if1 .left))
+    (q .0 .0 .number) (spotOf (q .0 .0 .place)) (sym (ap locatedOf (q .1)) ∙ at-locate-in .locate-in .ensures) (r .result .number) (spotOf (r .result .place)) (r .ensures)
+    ∙ byte-behind (a .tree .now) (a .n) (a .size) (a .offset .0) (start .pre .adds) (branch1 .if1 .left) (a .bitfield .now)
 
 returns-3 : tie.Need-returns-3
 returns-3 c =
-    let a = c .before .before .before .before .before .before .before .before .before .before .before .before .args in
-    let q = c .before .before .before .before .before .chunk .given in
+    let at-known-to = c .before .before .before in
+    let at-chunk = at-known-to .before .before in
+    let at-locate-in = at-chunk .before .before in
+    let branch1 = at-locate-in .before in
+    let start = branch1 .before .before .before .before in
+    let a = start .args in
+    let q = at-chunk .chunk .given in
     let u = c .before .unknown .given in
-    came-unknown (a .bitfield .now) (a .n) (q .0 .0 .0) (byteRead (a .tree .now) (a .n) (a .size) (a .offset .0) (c .before .before .before .before .before .before .before .before .before .before .before .before .pre .adds) (c .before .before .before .before .before .before .before .before .if1 .left)) (shortByteIn (a .tree .now) (a .n) (a .size) (a .offset .0)) (byte-came (a .tree .now) (a .n) (a .size) (a .offset .0) (c .before .before .before .before .before .before .before .before .before .before .before .before .pre .adds) (c .before .before .before .before .before .before .before .before .if1 .left) (q .0 .0 .0) (q .0 .1 .0) (sym (ap locatedOf (q .1)) ∙ c .before .before .before .before .before .before .before .locate-in .ensures))
-    (q .0 .0 .0) (q .0 .1 .0) (sym (ap locatedOf (q .1)) ∙ c .before .before .before .before .before .before .before .locate-in .ensures) (u .0 .0 .number) (spotOf (u .0 .0 .place)) (sym (ap said (u .1)) ∙ c .before .before .before .known-to .ensures)
-    ∙ byte-behind (a .tree .now) (a .n) (a .size) (a .offset .0) (c .before .before .before .before .before .before .before .before .before .before .before .before .pre .adds) (c .before .before .before .before .before .before .before .before .if1 .left) (a .bitfield .now)
+    came-unknown (a .bitfield .now) (a .n) (q .0 .0 .0) (byteRead (a .tree .now) (a .n) (a .size) (a .offset .0) (start .pre .adds) (branch1 .if1 .left))
+    (shortByteIn (a .tree .now) (a .n) (a .size) (a .offset .0))
+    (byte-came (a .tree .now) (a .n) (a .size) (a .offset .0) (start .pre .adds) (branch1 .if1 .left) (q .0 .0 .0) (q .0 .1 .0) (sym (ap locatedOf (q .1)) ∙ at-locate-in .locate-in .ensures))
+    (q .0 .0 .0) (q .0 .1 .0) (sym (ap locatedOf (q .1)) ∙ at-locate-in .locate-in .ensures) (u .0 .0 .number) (spotOf (u .0 .0 .place)) (sym (ap said (u .1)) ∙ at-known-to .known-to .ensures)
+    ∙ byte-behind (a .tree .now) (a .n) (a .size) (a .offset .0) (start .pre .adds) (branch1 .if1 .left) (a .bitfield .now)
 
 returns-4 : tie.Need-returns-4
 returns-4 c =
-    let a = c .before .before .before .before .before .before .before .before .before .before .before .args in
-    let q = c .before .before .before .before .chunk .given in
-    came-found (a .bitfield .now) (a .n) (q .0 .0 .0) (byteRead (a .tree .now) (a .n) (a .size) (a .offset .0) (c .before .before .before .before .before .before .before .before .before .before .before .pre .adds) (c .before .before .before .before .before .before .before .if1 .left)) (shortByteIn (a .tree .now) (a .n) (a .size) (a .offset .0)) (byte-came (a .tree .now) (a .n) (a .size) (a .offset .0) (c .before .before .before .before .before .before .before .before .before .before .before .pre .adds) (c .before .before .before .before .before .before .before .if1 .left) (q .0 .0 .0) (q .0 .1 .0) (sym (ap locatedOf (q .1)) ∙ c .before .before .before .before .before .before .locate-in .ensures))
-    (q .0 .0 .0) (q .0 .1 .0) (sym (ap locatedOf (q .1)) ∙ c .before .before .before .before .before .before .locate-in .ensures) (sym (ap said (c .enum-told .given .1)) ∙ c .before .before .known-to .ensures)
-    ∙ byte-behind (a .tree .now) (a .n) (a .size) (a .offset .0) (c .before .before .before .before .before .before .before .before .before .before .before .pre .adds) (c .before .before .before .before .before .before .before .if1 .left) (a .bitfield .now)
+    let at-chunk = c .before .before .before .before in
+    let at-locate-in = at-chunk .before .before in
+    let branch1 = at-locate-in .before in
+    let start = branch1 .before .before .before .before in
+    let a = start .args in
+    let q = at-chunk .chunk .given in
+    came-found (a .bitfield .now) (a .n) (q .0 .0 .0) (byteRead (a .tree .now) (a .n) (a .size) (a .offset .0) (start .pre .adds) (branch1 .if1 .left))
+    (shortByteIn (a .tree .now) (a .n) (a .size) (a .offset .0))
+    (byte-came (a .tree .now) (a .n) (a .size) (a .offset .0) (start .pre .adds) (branch1 .if1 .left) (q .0 .0 .0) (q .0 .1 .0) (sym (ap locatedOf (q .1)) ∙ at-locate-in .locate-in .ensures))
+    (q .0 .0 .0) (q .0 .1 .0) (sym (ap locatedOf (q .1)) ∙ at-locate-in .locate-in .ensures) (sym (ap said (c .enum-told .given .1)) ∙ c .before .before .known-to .ensures)
+    ∙ byte-behind (a .tree .now) (a .n) (a .size) (a .offset .0) (start .pre .adds) (branch1 .if1 .left) (a .bitfield .now)
 
 pub locate-in-spec : {M : Type 1} → statement M
 locate-in-spec =

@@ -8,42 +8,53 @@ use Rattle.copy_short_lookup.proofs.refused_behind.Tie as tie
 
 chunk-of-leaf-requires : tie.Need-chunk-of-leaf-requires
 chunk-of-leaf-requires c κs =
-    let a = c .before .before .before .before .args in
+    let start = c .before .before .before .before in
+    let a = start .args in
     let q = c .before .place2 .given in
-    leaf-even (a .bitfield .now) (a .n) (a .refusal .number) (a .refusal .place) (q .0 .0) (q .1) (c .before .before .before .before .pre .1)
+    leaf-even (a .bitfield .now) (a .n) (a .refusal .number) (a .refusal .place) (q .0 .0) (q .1) (start .pre .1)
 
 known-to-requires : tie.Need-known-to-requires
 known-to-requires c κs =
-    let a = c .before .before .before .before .before .args in
+    let start = c .before .before .before .before .before in
+    let a = start .args in
     let q = c .before .before .place2 .given in (
-      c .before .before .before .before .before .pre .0,
-      leaf-below (a .bitfield .now) (a .n) (a .refusal .number) (a .refusal .place) (q .0 .0) (q .1) (c .chunk-of-leaf .result .0) (c .before .before .before .before .before .pre .1) (c .chunk-of-leaf .ensures),
+      start .pre .0,
+      leaf-below (a .bitfield .now) (a .n) (a .refusal .number) (a .refusal .place) (q .0 .0) (q .1) (c .chunk-of-leaf .result .0) (start .pre .1) (c .chunk-of-leaf .ensures),
     )
 
 returns : tie.Need-returns
 returns c =
-    let a = c .before .before .before .args in
+    let start = c .before .before .before in
+    let a = start .args in
     behind-nowhere (a .bitfield .now) (a .n) (a .refusal .number) (a .refusal .place) (c .enum-told .given .1)
 
 returns-2 : tie.Need-returns-2
 returns-2 c =
-    let a = c .before .before .before .before .args in
+    let start = c .before .before .before .before in
+    let a = start .args in
     let q = c .before .place .given in
     behind-bits (a .bitfield .now) (a .n) (a .refusal .number) (a .refusal .place) (q .0 .0) (q .1)
 
 returns-3 : tie.Need-returns-3
 returns-3 c =
-    let a = c .before .before .before .before .before .before .before .before .before .args in
-    let q = c .before .before .before .before .before .before .place2 .given in
+    let at-known-to = c .before .before .before in
+    let at-chunk-of-leaf = at-known-to .before in
+    let at-place2 = at-chunk-of-leaf .before .before in
+    let start = at-place2 .before .before .before in
+    let a = start .args in
+    let q = at-place2 .place2 .given in
     let u = c .before .unknown .given in
-    behind-unknown (a .bitfield .now) (a .n) (a .refusal .number) (a .refusal .place) (q .0 .0) (q .1) (c .before .before .before .before .chunk-of-leaf .result .0) (c .before .before .before .before .chunk-of-leaf .ensures)
-    (u .0 .0 .number) (spotOf (u .0 .0 .place)) (sym (ap said (u .1)) ∙ c .before .before .before .known-to .ensures)
+    behind-unknown (a .bitfield .now) (a .n) (a .refusal .number) (a .refusal .place) (q .0 .0) (q .1) (at-chunk-of-leaf .chunk-of-leaf .result .0) (at-chunk-of-leaf .chunk-of-leaf .ensures)
+    (u .0 .0 .number) (spotOf (u .0 .0 .place)) (sym (ap said (u .1)) ∙ at-known-to .known-to .ensures)
 
 returns-4 : tie.Need-returns-4
 returns-4 c =
-    let a = c .before .before .before .before .before .before .before .before .args in
-    let q = c .before .before .before .before .before .place2 .given in
-    behind-known (a .bitfield .now) (a .n) (a .refusal .number) (a .refusal .place) (q .0 .0) (q .1) (c .before .before .before .chunk-of-leaf .result .0) (c .before .before .before .chunk-of-leaf .ensures)
+    let at-chunk-of-leaf = c .before .before .before in
+    let at-place2 = at-chunk-of-leaf .before .before in
+    let start = at-place2 .before .before .before in
+    let a = start .args in
+    let q = at-place2 .place2 .given in
+    behind-known (a .bitfield .now) (a .n) (a .refusal .number) (a .refusal .place) (q .0 .0) (q .1) (at-chunk-of-leaf .chunk-of-leaf .result .0) (at-chunk-of-leaf .chunk-of-leaf .ensures)
     (sym (ap said (c .enum-told2 .given .1)) ∙ c .before .before .known-to .ensures)
 
 pub refused-behind-spec : {M : Type 1} → statement M

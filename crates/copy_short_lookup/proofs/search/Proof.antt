@@ -13,7 +13,9 @@ abbrev given : (c : tie.Start) → Copy
 given c = copyOf (c .args .tree .now) (c .args .bitfield .now) (c .args .content .now) (c .args .n) (c .args .size)
 
 first-missing-requires : tie.Need-first-missing-requires
-first-missing-requires c κs = bits-room (given (c .before .before .before .before .before .before)) (sym (ap said (c .enum-told .given .1)) ∙ c .before .before .judge .ensures)
+first-missing-requires c κs =
+    let start = c .before .before .before .before .before .before in
+    bits-room (given start) (sym (ap said (c .enum-told .given .1)) ∙ c .before .before .judge .ensures)
 
 returns : tie.Need-returns
 returns c =
@@ -25,7 +27,8 @@ returns-2 : tie.Need-returns-2
 returns-2 c =
     let s = c .before .before .before .before .before .before .before .before .before .before in
     let q = c .before .chunk .given in
-    search-passed (given s) (sym (ap said (c .before .before .before .before .enum-told .given .1)) ∙ c .before .before .before .before .before .before .judge .ensures) (s .args .from .0) (first (q .0 .0 .0))
+    search-passed (given s) (sym (ap said (c .before .before .before .before .enum-told .given .1)) ∙ c .before .before .before .before .before .before .judge .ensures)
+    (s .args .from .0) (first (q .0 .0 .0))
     (sym (ap foundAt (q .1)) ∙ c .before .before .before .first-missing .ensures)
 
 returns-3 : tie.Need-returns-3

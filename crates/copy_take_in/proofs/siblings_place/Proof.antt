@@ -1,5 +1,5 @@
 -- `copy_take_in::siblings_place` meets its contract. Assumes nothing.
-use mathlib.Core.Path.{_≡_, ap}
+use mathlib.Core.Path.{ap}
 use Prim.Native.Nat.{ℕ, _+_}
 use native.Mathlib.Omega.{arith}
 use Rattle.byte_strings.proofs.Numbers.{four-lt}

@@ -1,5 +1,5 @@
 -- `copy_take_in::take_in` meets its contract. Assumes nothing.
-use mathlib.Core.Path.{_≡_, sym, ap, _∙_}
+use mathlib.Core.Path.{sym, ap, _∙_}
 use Rattle.refusals.specs.Meaning.{said, spotOf}
 use Rattle.blake2b.specs.Hash.{nodeHash}
 use Rattle.copy_checks.specs.Copy.{Copy, copyOf}
@@ -13,17 +13,36 @@ given c = copyOf (c .args .tree .now) (c .args .bitfield .now) (c .args .content
 
 take-checked-requires : tie.Need-take-checked-requires
 take-checked-requires c κs =
-    room nodeHash (given (c .before .before .before .before .before .before .before .before .before .before .before .before .before)) (c .before .before .before .before .before .before .before .before .before .before .before .before .before .args .packet .now) (c .before .before .before .before .before .before .before .before .before .before .before .before .before .args .chunk .0) (c .before .before .before .before .before .before .before .before .before .before .before .before .before .args .root .now) (sym (ap said (c .before .before .before .enum-told .given .1)) ∙ c .before .before .before .before .before .judge .ensures)
+    let at-enum-told = c .before .before .before .before in
+    let at-judge = at-enum-told .before .before .before .before in
+    let done-is = at-enum-told .enum-told .given .1 in
+    let start = at-judge .before .before .before .before .before .before .before .before in (
+      room nodeHash (given start) (start .args .packet .now) (start .args .chunk .0) (start .args .root .now) (sym (ap said done-is) ∙ at-judge .judge .ensures .0),
+      at-judge .judge .ensures .1 (ap said done-is),
+    )
 
 returns : tie.Need-returns
 returns c =
+    let at-judge = c .before .before .before .before .before in
     let q = c .before .answer .given in
-    take-not nodeHash (given (c .before .before .before .before .before .before .before .before .before .before .before)) (c .before .before .before .before .before .before .before .before .before .before .before .args .packet .now) (c .before .before .before .before .before .before .before .before .before .before .before .args .chunk .0) (c .before .before .before .before .before .before .before .before .before .before .before .args .root .now) (q .0 .0 .number) (spotOf (q .0 .0 .place)) (sym (ap said (q .1)) ∙ c .before .before .before .judge .ensures)
+    let start = at-judge .before .before .before .before .before .before .before .before in
+    take-not nodeHash (given start) (start .args .packet .now) (start .args .chunk .0) (start .args .root .now) (q .0 .0 .number) (spotOf (q .0 .0 .place))
+    (sym (ap said (q .1)) ∙ at-judge .judge .ensures .0)
 
 returns-2 : tie.Need-returns-2
 returns-2 c =
-    take-done nodeHash (given (c .before .before .before .before .before .before .before .before .before .before .before .before .before .before .before .before .before .before .before .before)) (c .before .before .before .before .before .before .before .before .before .before .before .before .before .before .before .before .before .before .before .before .args .packet .now) (c .before .before .before .before .before .before .before .before .before .before .before .before .before .before .before .before .before .before .before .before .args .chunk .0) (c .before .before .before .before .before .before .before .before .before .before .before .before .before .before .before .before .before .before .before .before .args .root .now) (said (c .before .before .before .before .before .before .take-checked .result)) _ (sym (ap said (c .before .before .before .before .before .before .before .before .before .before .enum-told .given .1)) ∙ c .before .before .before .before .before .before .before .before .before .before .before .before .judge .ensures)
-    (sizeless nodeHash (c .before .before .before .before .before .before .before .before .before .before .before .before .before .before .before .before .before .before .before .before .args .tree .now) (c .before .before .before .before .before .before .before .before .before .before .before .before .before .before .before .before .before .before .before .before .args .bitfield .now) (c .before .before .before .before .before .before .before .before .before .before .before .before .before .before .before .before .before .before .before .before .args .content .now) (c .before .before .before .before .before .before .before .before .before .before .before .before .before .before .before .before .before .before .before .before .args .packet .now) (c .before .before .before .before .before .before .before .before .before .before .before .before .before .before .before .before .before .before .before .before .args .n) (c .before .before .before .before .before .before .before .before .before .before .before .before .before .before .before .before .before .before .before .before .args .size) (c .before .before .before .before .before .before .before .before .before .before .before .before .before .before .before .before .before .before .before .before .args .chunk .0) _ _ (c .before .before .before .before .before .before .take-checked .ensures))
+    let at-take-checked = c .before .before .before .before .before .before in
+    let at-enum-told = at-take-checked .before .before .before .before .before in
+    let at-judge = at-enum-told .before .before .before .before in
+    let taken = at-take-checked .take-checked in
+    let done-is = at-enum-told .enum-told .given .1 in
+    let start = at-judge .before .before .before .before .before .before .before .before in
+    let a = start .args in
+    take-done nodeHash (given start) (a .packet .now) (a .chunk .0) (a .root .now) (said (taken .result)) _ (sym (ap said done-is) ∙ at-judge .judge .ensures .0)
+    (sizeless nodeHash (a .tree .now) (a .bitfield .now) (a .content .now) (a .packet .now) (a .n) (a .size) (a .chunk .0) _ _ (taken .ensures))
 
 pub take-in-spec : {M : Type 1} → statement M
-take-in-spec = tie.close (tie.spec (λ c κs. search needs) (λ c. search needs) (λ c. search needs) take-checked-requires (λ c. search needs) (λ c. search needs) (λ c. search needs) returns (λ c. search needs) (λ c. search needs) (λ c. search needs) returns-2)
+take-in-spec =
+    tie.close
+    (tie.spec (λ c κs. search needs) (λ c. search needs) (λ c. search needs) (λ c. search needs) take-checked-requires (λ c. search needs) (λ c. search needs) (λ c. search needs)
+    returns (λ c. search needs) (λ c. search needs) (λ c. search needs) returns-2)

@@ -1,10 +1,9 @@
 -- `copy_take_in::total_right` meets its contract. Assumes nothing.
-use Prim.Native.Nat.{ℕ, _+_, _*_}
-use mathlib.Core.Path.{_≡_, refl, sym, ap, _∙_}
+use Prim.Native.Nat.{ℕ, _+_}
+use mathlib.Core.Path.{_≡_, ap}
 use native.Mathlib.Omega.{arith}
 use lib.Dec.{eqb}
 use lib.ListN.{length}
-use Rattle.packet.specs.Packet.{siblings, otherRoots}
 use Rattle.packet.specs.Check.{chunkLength, siblingsPlace}
 use Rattle.copy_take_in.proofs.Calls.{placed, front, second-is, beside-in, roots-in, total-summed}
 use borrow.Author.Needs.{needs}
@@ -21,44 +20,66 @@ unfolding chunkLength
 length-is c = c .read-be32 .ensures
 
 read-be32-requires : tie.Need-read-be32-requires
-read-be32-requires c κs = front (c .before .before .before .args .packet .now) (c .before .before .before .args .n) (c .before .before .before .args .chunk .0) (c .before .before .before .pre .shaped)
+read-be32-requires c κs =
+    let start = c .before .before .before in
+    front (start .args .packet .now) (start .args .n) (start .args .chunk .0) (start .pre .shaped)
 
 add-first : tie.Need-add-first
-add-first c = let z = placed (c .before .before .before .before .args .packet .now) (c .before .before .before .before .args .n) (c .before .before .before .before .args .chunk .0) (c .before .before .before .before .pre .shaped) in omega (arith, length-is (c))
+add-first c =
+    let start = c .before .before .before .before in
+    let z = placed (start .args .packet .now) (start .args .n) (start .args .chunk .0) (start .pre .shaped) in omega (arith, length-is (c))
 
 add-first-2 : tie.Need-add-first-2
-add-first-2 c = let z = placed (c .before .before .before .before .args .packet .now) (c .before .before .before .before .args .n) (c .before .before .before .before .args .chunk .0) (c .before .before .before .before .pre .shaped) in omega (arith, length-is (c))
+add-first-2 c =
+    let start = c .before .before .before .before in
+    let z = placed (start .args .packet .now) (start .args .n) (start .args .chunk .0) (start .pre .shaped) in omega (arith, length-is (c))
 
 mul-second : tie.Need-mul-second
 mul-second c = omega (arith, c .before .before .sibling-count .ensures .1)
 
 add-second : tie.Need-add-second
-add-second c = let z = placed (c .before .before .before .before .args .packet .now) (c .before .before .before .before .args .n) (c .before .before .before .before .args .chunk .0) (c .before .before .before .before .pre .shaped) in omega (arith, length-is (c), c .before .before .sibling-count .ensures .1)
+add-second c =
+    let start = c .before .before .before .before in
+    let z = placed (start .args .packet .now) (start .args .n) (start .args .chunk .0) (start .pre .shaped) in omega (arith, length-is (c), c .before .before .sibling-count .ensures .1)
 
 add-second-2 : tie.Need-add-second-2
-add-second-2 c = let z = placed (c .before .before .before .before .args .packet .now) (c .before .before .before .before .args .n) (c .before .before .before .before .args .chunk .0) (c .before .before .before .before .pre .shaped) in omega (arith, length-is (c), c .before .before .sibling-count .ensures .1)
+add-second-2 c =
+    let start = c .before .before .before .before in
+    let z = placed (start .args .packet .now) (start .args .n) (start .args .chunk .0) (start .pre .shaped) in omega (arith, length-is (c), c .before .before .sibling-count .ensures .1)
 
 add-lengths-requires : tie.Need-add-lengths-requires
 add-lengths-requires c κs =
-    let z = placed (c .before .before .before .before .args .packet .now) (c .before .before .before .before .args .n) (c .before .before .before .before .args .chunk .0) (c .before .before .before .before .pre .shaped) in (
-      beside-in (c .before .before .before .before .args .packet .now) (c .before .before .before .before .args .n) (c .before .before .before .before .args .chunk .0) (c .before .before .before .before .pre .shaped) _ (first-is (c)) (c .before .before .sibling-count .result) (c .before .before .sibling-count .ensures .0),
+    let start = c .before .before .before .before in
+    let z = placed (start .args .packet .now) (start .args .n) (start .args .chunk .0) (start .pre .shaped) in (
+      beside-in (start .args .packet .now) (start .args .n) (start .args .chunk .0) (start .pre .shaped) _ (first-is (c)) (c .before .before .sibling-count .result)
+          (c .before .before .sibling-count .ensures .0),
       omega (arith, length-is (c)),
     )
 
 add-lengths-requires-2 : tie.Need-add-lengths-requires-2
-add-lengths-requires-2 c κs = (
-  roots-in (c .before .before .before .before .before .args .packet .now) (c .before .before .before .before .before .args .n) (c .before .before .before .before .before .args .chunk .0) (c .before .before .before .before .before .pre .shaped) _ (first-is (c .before)) (c .before .before .before .sibling-count .result) (c .before .before .other-count .result) (c .before .before .before .sibling-count .ensures .0)
-      (c .before .before .other-count .ensures .0),
-  c .add-lengths .ensures .small,
-)
+add-lengths-requires-2 c κs =
+    let at-sibling-count = c .before .before .before in
+    let start = at-sibling-count .before .before in (
+      roots-in (start .args .packet .now) (start .args .n) (start .args .chunk .0) (start .pre .shaped) _ (first-is (c .before)) (at-sibling-count .sibling-count .result)
+          (c .before .before .other-count .result) (at-sibling-count .sibling-count .ensures .0)
+          (c .before .before .other-count .ensures .0),
+      c .add-lengths .ensures .small,
+    )
 
 returns : tie.Need-returns
 returns c =
-    ap (λ (x : ℕ). eqb x (c .before .before .before .before .before .before .args .size))
-    (total-summed (c .before .before .before .before .before .before .args .packet .now) (c .before .before .before .before .before .before .args .n) (c .before .before .before .before .before .before .args .chunk .0) (c .before .before .read-be32 .result) _ _ (c .before .before .before .before .sibling-count .result) (c .before .before .before .other-count .result) (c .before .add-lengths .result) (c .add-lengths2 .result)
+    let at-other-count = c .before .before .before in
+    let at-sibling-count = at-other-count .before in
+    let start = at-sibling-count .before .before in
+    ap (λ (x : ℕ). eqb x (start .args .size))
+    (total-summed (start .args .packet .now) (start .args .n) (start .args .chunk .0) (c .before .before .read-be32 .result) _ _ (at-sibling-count .sibling-count .result)
+    (at-other-count .other-count .result) (c .before .add-lengths .result) (c .add-lengths2 .result)
     (length-is (c .before .before)) (first-is (c .before .before))
-    (second-is (c .before .before .before .before .before .before .args .packet .now) (c .before .before .before .before .before .before .args .n) (c .before .before .before .before .before .before .args .chunk .0) (c .before .before .before .before .before .before .pre .shaped) _ (first-is (c .before .before)) (c .before .before .before .before .sibling-count .result) (c .before .before .before .before .sibling-count .ensures .0)) (c .before .before .before .before .sibling-count .ensures .0)
-    (c .before .before .before .other-count .ensures .0) (c .before .before .before .before .before .before .pre .small) (c .before .add-lengths .ensures) (c .add-lengths2 .ensures))
+    (second-is (start .args .packet .now) (start .args .n) (start .args .chunk .0) (start .pre .shaped) _ (first-is (c .before .before)) (at-sibling-count .sibling-count .result)
+    (at-sibling-count .sibling-count .ensures .0)) (at-sibling-count .sibling-count .ensures .0)
+    (at-other-count .other-count .ensures .0) (start .pre .small) (c .before .add-lengths .ensures) (c .add-lengths2 .ensures))
 
 pub total-right-spec : {M : Type 1} → statement M
-total-right-spec = tie.close (tie.spec (λ c κs. search needs) (λ c. search needs) (λ c κs. search needs) read-be32-requires add-first add-first-2 mul-second add-second add-second-2 add-lengths-requires add-lengths-requires-2 returns)
+total-right-spec =
+    tie.close (tie.spec (λ c κs. search needs) (λ c. search needs) (λ c κs. search needs)
+    read-be32-requires add-first add-first-2 mul-second add-second add-second-2 add-lengths-requires add-lengths-requires-2 returns)

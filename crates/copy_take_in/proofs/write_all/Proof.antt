@@ -1,8 +1,6 @@
 -- `copy_take_in::write_all` meets its contract. Assumes nothing.
-use Prim.Native.Nat.{ℕ, _+_, _≤_}
-use mathlib.Core.Path.{_≡_, refl, sym, ap, _∙_, subst}
+use mathlib.Core.Path.{refl}
 use native.Mathlib.Omega.{arith}
-use lib.ListN.{length}
 use Rattle.blake2b.specs.Hash.{nodeHash}
 use Rattle.copy_take_in.proofs.Calls.{front, chunk-in, chunk-part, held-in, all-written}
 use borrow.Author.Needs.{needs}
@@ -10,38 +8,69 @@ use Rattle.copy_take_in.proofs.write_all.Statement.{statement}
 use Rattle.copy_take_in.proofs.write_all.Tie as tie
 
 siblings-place-requires : tie.Need-siblings-place-requires
-siblings-place-requires c κs = front (c .before .before .before .before .before .before .args .packet .now) (c .before .before .before .before .before .before .args .n) (c .before .before .before .before .before .before .args .chunk .0) (c .before .before .before .before .before .before .pre .room .packet .shaped)
+siblings-place-requires c κs =
+    let start = c .before .before .before .before .before .before in
+    front (start .args .packet .now) (start .args .n) (start .args .chunk .0) (start .pre .room .packet .shaped)
 
 sub-end : tie.Need-sub-end
-sub-end c = chunk-in (c .before .before .before .before .before .before .before .args .packet .now) (c .before .before .before .before .before .before .before .args .n) (c .before .before .before .before .before .before .before .args .chunk .0) (c .before .before .before .before .before .before .before .pre .room .packet .shaped) (c .siblings-place .result) (c .siblings-place .ensures) .2
+sub-end c =
+    let start = c .before .before .before .before .before .before .before in
+    chunk-in (start .args .packet .now) (start .args .n) (start .args .chunk .0) (start .pre .room .packet .shaped) (c .siblings-place .result) (c .siblings-place .ensures) .2
 
 hold-bits-requires : tie.Need-hold-bits-requires
 hold-bits-requires c κs =
+    let at-write-entries = c .before .before .before .before .before in
+    let start = at-write-entries .before .before .before .before .before .before .before .before .before .before .before in
     omega (
       arith,
-      c .before .before .before .before .before .write-entries .kept .1 .0,
-      held-in (c .before .before .before .before .before .before .before .before .before .before .before .before .before .before .before .before .args .tree .now) (c .before .before .before .before .before .before .before .before .before .before .before .before .before .before .before .before .args .bitfield .now) (c .before .before .before .before .before .before .before .before .before .before .before .before .before .before .before .before .args .content .now) (c .before .before .before .before .before .before .before .before .before .before .before .before .before .before .before .before .args .packet .now) (c .before .before .before .before .before .before .before .before .before .before .before .before .before .before .before .before .args .n) (c .before .before .before .before .before .before .before .before .before .before .before .before .before .before .before .before .args .chunk .0) (c .before .before .before .before .before .before .before .before .before .before .before .before .before .before .before .before .args .start) _ (c .before .before .before .before .before .before .before .before .before .before .before .before .before .before .before .before .pre .room) (c .before .before .before .before .before .before .before .before .before .before .before .before .before .before .before .before .pre .begins) refl .bit,
+      at-write-entries .write-entries .kept .1 .0,
+      held-in (start .args .tree .now) (start .args .bitfield .now) (start .args .content .now) (start .args .packet .now) (start .args .n) (start .args .chunk .0)
+          (start .args .start) _ (start .pre .room) (start .pre .begins) refl .bit,
     )
 
 sub-copy-to : tie.Need-sub-copy-to
-sub-copy-to c = chunk-in (c .before .before .before .before .before .before .before .before .before .before .before .before .before .before .before .before .before .before .before .before .args .packet .now) (c .before .before .before .before .before .before .before .before .before .before .before .before .before .before .before .before .before .before .before .before .args .n) (c .before .before .before .before .before .before .before .before .before .before .before .before .before .before .before .before .before .before .before .before .args .chunk .0) (c .before .before .before .before .before .before .before .before .before .before .before .before .before .before .before .before .before .before .before .before .pre .room .packet .shaped) (c .before .before .before .before .before .before .before .before .before .before .before .before .before .siblings-place .result) (c .before .before .before .before .before .before .before .before .before .before .before .before .before .siblings-place .ensures) .0
+sub-copy-to c =
+    let at-siblings-place = c .before .before .before .before .before .before .before .before .before .before .before .before .before in
+    let start = at-siblings-place .before .before .before .before .before .before .before in
+    chunk-in (start .args .packet .now) (start .args .n) (start .args .chunk .0) (start .pre .room .packet .shaped) (at-siblings-place .siblings-place .result)
+    (at-siblings-place .siblings-place .ensures) .0
 
 part-copy-to-start : tie.Need-part-copy-to-start
-part-copy-to-start c = chunk-in (c .before .before .before .before .before .before .before .before .before .before .before .before .before .before .before .before .before .before .before .before .args .packet .now) (c .before .before .before .before .before .before .before .before .before .before .before .before .before .before .before .before .before .before .before .before .args .n) (c .before .before .before .before .before .before .before .before .before .before .before .before .before .before .before .before .before .before .before .before .args .chunk .0) (c .before .before .before .before .before .before .before .before .before .before .before .before .before .before .before .before .before .before .before .before .pre .room .packet .shaped) (c .before .before .before .before .before .before .before .before .before .before .before .before .before .siblings-place .result) (c .before .before .before .before .before .before .before .before .before .before .before .before .before .siblings-place .ensures) .0
+part-copy-to-start c =
+    let at-siblings-place = c .before .before .before .before .before .before .before .before .before .before .before .before .before in
+    let start = at-siblings-place .before .before .before .before .before .before .before in
+    chunk-in (start .args .packet .now) (start .args .n) (start .args .chunk .0) (start .pre .room .packet .shaped) (at-siblings-place .siblings-place .result)
+    (at-siblings-place .siblings-place .ensures) .0
 
 part-copy-to-end : tie.Need-part-copy-to-end
-part-copy-to-end c = chunk-in (c .before .before .before .before .before .before .before .before .before .before .before .before .before .before .before .before .before .before .before .before .args .packet .now) (c .before .before .before .before .before .before .before .before .before .before .before .before .before .before .before .before .before .before .before .before .args .n) (c .before .before .before .before .before .before .before .before .before .before .before .before .before .before .before .before .before .before .before .before .args .chunk .0) (c .before .before .before .before .before .before .before .before .before .before .before .before .before .before .before .before .before .before .before .before .pre .room .packet .shaped) (c .before .before .before .before .before .before .before .before .before .before .before .before .before .siblings-place .result) (c .before .before .before .before .before .before .before .before .before .before .before .before .before .siblings-place .ensures) .1
+part-copy-to-end c =
+    let at-siblings-place = c .before .before .before .before .before .before .before .before .before .before .before .before .before in
+    let start = at-siblings-place .before .before .before .before .before .before .before in
+    chunk-in (start .args .packet .now) (start .args .n) (start .args .chunk .0) (start .pre .room .packet .shaped) (at-siblings-place .siblings-place .result)
+    (at-siblings-place .siblings-place .ensures) .1
 
 copy-to-requires : tie.Need-copy-to-requires
 copy-to-requires c κs =
-    held-in (c .before .before .before .before .before .before .before .before .before .before .before .before .before .before .before .before .before .before .before .before .before .args .tree .now) (c .before .before .before .before .before .before .before .before .before .before .before .before .before .before .before .before .before .before .before .before .before .args .bitfield .now) (c .before .before .before .before .before .before .before .before .before .before .before .before .before .before .before .before .before .before .before .before .before .args .content .now) (c .before .before .before .before .before .before .before .before .before .before .before .before .before .before .before .before .before .before .before .before .before .args .packet .now) (c .before .before .before .before .before .before .before .before .before .before .before .before .before .before .before .before .before .before .before .before .before .args .n) (c .before .before .before .before .before .before .before .before .before .before .before .before .before .before .before .before .before .before .before .before .before .args .chunk .0) (c .before .before .before .before .before .before .before .before .before .before .before .before .before .before .before .before .before .before .before .before .before .args .start) _ (c .before .before .before .before .before .before .before .before .before .before .before .before .before .before .before .before .before .before .before .before .before .pre .room) (c .before .before .before .before .before .before .before .before .before .before .before .before .before .before .before .before .before .before .before .before .before .pre .begins)
-    (chunk-part (c .before .before .before .before .before .before .before .before .before .before .before .before .before .before .before .before .before .before .before .before .before .args .packet .now) (c .before .before .before .before .before .before .before .before .before .before .before .before .before .before .before .before .before .before .before .before .before .args .n) (c .before .before .before .before .before .before .before .before .before .before .before .before .before .before .before .before .before .before .before .before .before .args .chunk .0) (c .before .before .before .before .before .before .before .before .before .before .before .before .before .before .before .before .before .before .before .before .before .pre .room .packet .shaped) (c .before .before .before .before .before .before .before .before .before .before .before .before .before .before .siblings-place .result) (c .before .before .before .before .before .before .before .before .before .before .before .before .before .before .siblings-place .ensures)) .inside
+    let at-siblings-place = c .before .before .before .before .before .before .before .before .before .before .before .before .before .before in
+    let start = at-siblings-place .before .before .before .before .before .before .before in
+    held-in (start .args .tree .now) (start .args .bitfield .now) (start .args .content .now) (start .args .packet .now) (start .args .n) (start .args .chunk .0)
+    (start .args .start) _ (start .pre .room) (start .pre .begins)
+    (chunk-part (start .args .packet .now) (start .args .n) (start .args .chunk .0) (start .pre .room .packet .shaped) (at-siblings-place .siblings-place .result)
+    (at-siblings-place .siblings-place .ensures)) .inside
 
 returns : tie.Need-returns
 returns c =
-    all-written nodeHash (c .before .before .before .before .before .before .before .before .before .before .before .before .before .before .before .before .before .before .before .before .before .before .before .before .args .tree .now) (c .before .before .before .before .before .before .before .before .before .before .before .before .before .before .before .before .before .before .before .before .before .before .before .before .args .bitfield .now) (c .before .before .before .before .before .before .before .before .before .before .before .before .before .before .before .before .before .before .before .before .before .before .before .before .args .content .now) (c .before .before .before .before .before .before .before .before .before .before .before .before .before .before .before .before .before .before .before .before .before .before .before .before .args .packet .now) (c .before .before .before .before .before .before .before .before .before .before .before .before .before .before .before .before .before .before .before .before .before .before .before .before .args .n) (c .before .before .before .before .before .before .before .before .before .before .before .before .before .before .before .before .before .before .before .before .before .before .before .before .args .chunk .0) (c .before .before .before .before .before .before .before .before .before .before .before .before .before .before .before .before .before .before .before .before .before .before .before .before .args .start) _ _ _ _ _ (c .before .before .before .before .before .before .before .before .before .before .before .before .before .write-entries .ensures)
-    (c .before .before .before .before .before .before .before .hold-bits .ensures) (c .before .before .before .before .before .before .before .before .before .before .before .before .before .before .before .before .before .before .before .before .before .before .before .before .pre .begins)
-    (chunk-part (c .before .before .before .before .before .before .before .before .before .before .before .before .before .before .before .before .before .before .before .before .before .before .before .before .args .packet .now) (c .before .before .before .before .before .before .before .before .before .before .before .before .before .before .before .before .before .before .before .before .before .before .before .before .args .n) (c .before .before .before .before .before .before .before .before .before .before .before .before .before .before .before .before .before .before .before .before .before .before .before .before .args .chunk .0) (c .before .before .before .before .before .before .before .before .before .before .before .before .before .before .before .before .before .before .before .before .before .before .before .before .pre .room .packet .shaped) (c .before .before .before .before .before .before .before .before .before .before .before .before .before .before .before .before .before .siblings-place .result) (c .before .before .before .before .before .before .before .before .before .before .before .before .before .before .before .before .before .siblings-place .ensures)) (c .before .before .copy-to .ensures)
+    let at-hold-bits = c .before .before .before .before .before .before .before in
+    let at-write-entries = at-hold-bits .before .before .before .before .before .before in
+    let at-siblings-place = at-write-entries .before .before .before .before in
+    let start = at-siblings-place .before .before .before .before .before .before .before in
+    all-written nodeHash (start .args .tree .now) (start .args .bitfield .now) (start .args .content .now) (start .args .packet .now) (start .args .n) (start .args .chunk .0)
+    (start .args .start) _ _ _ _ _ (at-write-entries .write-entries .ensures)
+    (at-hold-bits .hold-bits .ensures) (start .pre .begins)
+    (chunk-part (start .args .packet .now) (start .args .n) (start .args .chunk .0) (start .pre .room .packet .shaped) (at-siblings-place .siblings-place .result)
+    (at-siblings-place .siblings-place .ensures)) (c .before .before .copy-to .ensures)
 
 pub write-all-spec : {M : Type 1} → statement M
-write-all-spec = tie.close (tie.spec siblings-place-requires sub-end (λ c κs. search needs) hold-bits-requires sub-copy-to part-copy-to-start part-copy-to-end copy-to-requires (λ c. search needs) (λ c. search needs) (λ c. search needs) returns)
+write-all-spec =
+    tie.close (tie.spec siblings-place-requires sub-end (λ c κs. search needs) hold-bits-requires sub-copy-to part-copy-to-start part-copy-to-end copy-to-requires
+    (λ c. search needs) (λ c. search needs) (λ c. search needs) returns)

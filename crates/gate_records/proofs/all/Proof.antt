@@ -7,7 +7,8 @@ use Rattle.gate_records.proofs.all.Statement.{statement}
 use Rattle.gate_records.proofs.all.Tie as tie
 
 abbrev Inv-loop : tie.InvT-loop
-Inv-loop tree₀ signatures₀ bitfield₀ data₀ step₀ told₀ k₀ tree signatures bitfield «data» step told k = (k ≤ 10000) × ((length tree ≡ length tree₀) × ((length signatures ≡ length signatures₀) × ((length bitfield ≡ length bitfield₀) × ((length «data» ≡ length data₀) × (length step ≡ length step₀)))))
+Inv-loop tree₀ signatures₀ bitfield₀ data₀ step₀ told₀ k₀ tree signatures bitfield «data» step told k =
+    (k ≤ 10000) × ((length tree ≡ length tree₀) × ((length signatures ≡ length signatures₀) × ((length bitfield ≡ length bitfield₀) × ((length «data» ≡ length data₀) × (length step ≡ length step₀)))))
 
 abbrev μ-loop : tie.MeasureT-loop
 μ-loop tree₀ signatures₀ bitfield₀ data₀ step₀ told₀ k₀ tree signatures bitfield «data» step told k = 10000 - k
@@ -15,4 +16,5 @@ abbrev μ-loop : tie.MeasureT-loop
 pub all-spec : {M : Type 1} → statement M
 all-spec =
     tie.close
-    (tie.spec Inv-loop μ-loop (λ c κs. search needs) (λ c. search needs) (λ c κs. search needs) (λ c κs. search needs) (λ c. search needs) (λ c. search needs) (λ c. search needs) (λ c. search needs) (λ c. search needs) (λ c. search needs) (λ c. search needs) (λ c. search needs) (λ c. search needs))
+    (tie.spec Inv-loop μ-loop (λ c κs. search needs) (λ c. search needs) (λ c κs. search needs) (λ c κs. search needs) (λ c. search needs) (λ c. search needs) (λ c. search needs)
+    (λ c. search needs) (λ c. search needs) (λ c. search needs) (λ c. search needs) (λ c. search needs) (λ c. search needs))

@@ -7,8 +7,9 @@ use Rattle.listing.proofs.list_on.Tie as tie
 
 part-write-all-end : tie.Need-part-write-all-end
 part-write-all-end c =
+    let at-list = c .before .before .before .before .before .before in
     let k = c .before .before .len .given in
-    omega (arith, listed-length (k .0 .0) (c .before .before .before .before .before .before .list .ensures) (k .1))
+    omega (arith, listed-length (k .0 .0) (at-list .list .ensures) (k .1))
 
 pub list-on-spec : {M : Type 1} → statement M
 list-on-spec =

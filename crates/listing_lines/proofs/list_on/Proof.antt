@@ -5,11 +5,17 @@ use Rattle.listing_lines.proofs.list_on.Statement.{statement}
 use Rattle.listing_lines.proofs.list_on.Tie as tie
 
 returns : tie.Need-returns
-returns c = list-short (c .before .before .before .before .before .before .before .before .before .before .before .before .before .before .before .before .before .before .before .before .before .before .before .before .args .input .now) (c .before .before .before .before .before .before .before .before .before .before .before .before .before .before .before .before .before .before .before .before .before .before .before .before .args .out .now) (c .before .before .before .before .before .before .before .before .before .before .before .put-listing .ensures) (c .if1 .taken)
+returns c =
+    let at-put-listing = c .before .before .before .before .before .before .before .before .before .before .before in
+    let start = at-put-listing .before .before .before .before .before .before .before .before .before .before .before .before .before in
+    list-short (start .args .input .now) (start .args .out .now) (at-put-listing .put-listing .ensures) (c .if1 .taken)
 
 returns-2 : tie.Need-returns-2
 returns-2 c =
-    list-copied (c .before .before .before .before .before .before .before .before .before .before .before .before .before .before .before .before .before .before .before .before .before .before .before .before .before .before .before .before .before .before .args .input .now) (c .before .before .before .before .before .before .before .before .before .before .before .before .before .before .before .before .before .before .before .before .before .before .before .before .before .before .before .before .before .before .args .out .now) (c .before .before .before .before .before .before .before .before .before .before .before .before .before .before .before .before .before .put-listing .ensures) (c .before .before .before .before .before .before .if1 .left) (c .before .before .copy-to .ensures)
+    let branch1 = c .before .before .before .before .before .before in
+    let at-put-listing = branch1 .before .before .before .before .before .before .before .before .before .before .before in
+    let start = at-put-listing .before .before .before .before .before .before .before .before .before .before .before .before .before in
+    list-copied (start .args .input .now) (start .args .out .now) (at-put-listing .put-listing .ensures) (branch1 .if1 .left) (c .before .before .copy-to .ensures)
 
 pub list-on-spec : {M : Type 1} → statement M
 list-on-spec =

@@ -10,20 +10,28 @@ use Rattle.listing_lines.proofs.put_listing.Tie as tie
 returns : tie.Need-returns
 unfolding refusedLine
 returns c =
-    let g = c .before .before .before .before .before .before .before .before .before .before .before .before .before .before .before .read in
-    refused-put (c .before .before .before .before .before .before .before .before .before .before .before .before .before .before .before .before .before .before .before .before .before .before .before .before .before .before .args .input .now) (g .result .read) _ (g .ensures) (not-true (g .result .read) (c .before .before .before .before .before .if1 .taken)) (c .before .before .put-text .ensures)
+    let branch1 = c .before .before .before .before .before in
+    let at-read = branch1 .before .before .before .before .before .before .before .before .before .before in
+    let start = at-read .before .before .before .before .before .before .before .before .before .before .before in
+    let g = at-read .read in
+    refused-put (start .args .input .now) (g .result .read) _ (g .ensures) (not-true (g .result .read) (branch1 .if1 .taken)) (c .before .before .put-text .ensures)
 
 put-lines-requires : tie.Need-put-lines-requires
 put-lines-requires c κs =
-    let g = c .before .before .before .before .before .before .before .before .before .before .before .before .read in (
-      omega (arith, c .before .before .before .before .before .before .before .before .before .before .before .before .before .before .before .before .before .before .before .before .before .before .before .pre .0),
-      read-printable (c .before .before .before .before .before .before .before .before .before .before .before .before .before .before .before .before .before .before .before .before .before .before .before .args .input .now) (g .result .read) _ (g .ensures) (not-false (g .result .read) (c .before .before .if1 .left)),
+    let at-read = c .before .before .before .before .before .before .before .before .before .before .before .before in
+    let start = at-read .before .before .before .before .before .before .before .before .before .before .before in
+    let g = at-read .read in (
+      omega (arith, start .pre .0),
+      read-printable (start .args .input .now) (g .result .read) _ (g .ensures) (not-false (g .result .read) (c .before .before .if1 .left)),
     )
 
 returns-2 : tie.Need-returns-2
 returns-2 c =
-    let g = c .before .before .before .before .before .before .before .before .before .before .before .before .before .before .before .read in
-    lines-put (c .before .before .before .before .before .before .before .before .before .before .before .before .before .before .before .before .before .before .before .before .before .before .before .before .before .before .args .input .now) (g .result .read) _ (g .ensures) (not-false (g .result .read) (c .before .before .before .before .before .if1 .left)) (c .before .before .put-lines .ensures)
+    let branch1 = c .before .before .before .before .before in
+    let at-read = branch1 .before .before .before .before .before .before .before .before .before .before in
+    let start = at-read .before .before .before .before .before .before .before .before .before .before .before in
+    let g = at-read .read in
+    lines-put (start .args .input .now) (g .result .read) _ (g .ensures) (not-false (g .result .read) (branch1 .if1 .left)) (c .before .before .put-lines .ensures)
 
 pub put-listing-spec : {M : Type 1} → statement M
 put-listing-spec =

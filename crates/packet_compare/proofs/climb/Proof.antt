@@ -1,5 +1,5 @@
 -- `packet_compare::climb` meets its contract. Assumes nothing.
-use Prim.Native.Nat.{ℕ, _+_, _-_, _/_, _≤_, _<_}
+use Prim.Native.Nat.{ℕ, _-_}
 use mathlib.Core.Path.{_≡_, sym, ap, _∙_, subst}
 use native.Mathlib.Nat.{div-one}
 use native.Mathlib.Omega.{arith}
@@ -20,7 +20,9 @@ abbrev μ-loop : tie.MeasureT-loop
 
 -- the chunk is its own block of one
 own-block : (c : tie.After-block-over Inv-loop μ-loop) → c .block-over .result ≡ c .before .before .before .args .chunk .0
-own-block c = c .block-over .ensures ∙ div-one (c .before .before .before .args .chunk .0)
+own-block c =
+    let start = c .before .before .before in
+    c .block-over .ensures ∙ div-one (start .args .chunk .0)
 
 abbrev Given : tie.Start Inv-loop μ-loop → ℕ → Type 0
 Given s x =
@@ -32,18 +34,25 @@ result s x =
     upAlong (s .args .first .now) (s .args .at) (entryOf (s .args .leaf)) (s .args .second .now) (s .args .at2) (entryOf (s .args .leaf2)) (s .args .count) x
 
 given : (c : tie.After-block-over Inv-loop μ-loop) → Given (c .before .before .before) (c .block-over .result)
-given c = subst (Given (c .before .before .before)) (sym (own-block c)) (c .before .before .before .pre)
+given c =
+    let entered = c .before .before .before in
+    subst (Given entered) (sym (own-block c)) (entered .pre)
 
 loop-holds : tie.Need-loop-holds Inv-loop μ-loop
 loop-holds c =
-    let a = c .before .before .before .args in
+    let start = c .before .before .before in
+    let a = start .args in
     walking-none (a .first .now) (a .at) (entryOf (a .leaf)) (a .second .now) (a .at2) (entryOf (a .leaf2)) (a .count) (c .block-over .result) (given c)
 
 mul-above : tie.Need-mul-above Inv-loop μ-loop
-mul-above c = omega (arith, c .before .before .before .before .before .pre .first .row .few)
+mul-above c =
+    let entered = c .before .before .before .before .before in
+    omega (arith, entered .pre .first .row .few)
 
 add-above : tie.Need-add-above Inv-loop μ-loop
-add-above c = omega (arith, c .before .before .before .before .before .pre .first .row .inside)
+add-above c =
+    let entered = c .before .before .before .before .before in
+    omega (arith, entered .pre .first .row .inside)
 
 above-requires : tie.Need-above-requires Inv-loop μ-loop
 above-requires c κs =
@@ -54,10 +63,14 @@ above-requires c κs =
     (entryOf (l .node)) (entryOf (l .node2)) (l .k) (l .j) (l .inv) (c .loop-test .taken)
 
 mul-above-2 : tie.Need-mul-above-2 Inv-loop μ-loop
-mul-above-2 c = omega (arith, c .before .before .before .before .before .before .pre .first .row .few)
+mul-above-2 c =
+    let entered = c .before .before .before .before .before .before in
+    omega (arith, entered .pre .first .row .few)
 
 add-above-2 : tie.Need-add-above-2 Inv-loop μ-loop
-add-above-2 c = omega (arith, c .before .before .before .before .before .before .pre .second .row .inside)
+add-above-2 c =
+    let entered = c .before .before .before .before .before .before in
+    omega (arith, entered .pre .second .row .inside)
 
 above-requires-2 : tie.Need-above-requires-2 Inv-loop μ-loop
 above-requires-2 c κs =
@@ -69,37 +82,46 @@ above-requires-2 c κs =
 
 cast-node-index : tie.Need-cast-node-index Inv-loop μ-loop
 cast-node-index c =
-    omega (arith, c .before .before .before .before .before .before .before .before .before .before .before .before .before .pre .first .row .few, c .before .before .before .before .before .before .before .before .loop-test .taken)
+    let tested = c .before .before .before .before .before .before .before .before in
+    let entered = tested .before .before .before .before .before in
+    omega (arith, entered .pre .first .row .few, tested .loop-test .taken)
 
 node-index-requires : tie.Need-node-index-requires Inv-loop μ-loop
 node-index-requires c κs =
-    let few = c .before .before .before .before .before .before .before .before .before .before .before .before .before .pre .first .row .few in
-    let l = c .before .before .before .before .before .before .before .before .before .loop in
-    (omega (arith, few, c .before .before .before .before .before .before .before .before .loop-test .taken), omega (arith, l .inv .small))
+    let tested = c .before .before .before .before .before .before .before .before in
+    let looped = tested .before in
+    let entered = looped .before .before .before .before in
+    let few = entered .pre .first .row .few in
+    let l = looped .loop in
+    (omega (arith, few, tested .loop-test .taken), omega (arith, l .inv .small))
 
 returns : tie.Need-returns Inv-loop μ-loop
 returns c =
-    let t = c .before .before .before .before .before .before .before .before .before in
+    let at-above2 = c .before .before .before .before .before .before .before in
+    let at-above = at-above2 .before in
+    let t = at-above .before in
     let b = t .before .before in
     let a = b .before .before .before .args in
     let l = t .before .loop in
     walking-found (a .first .now) (a .at) (entryOf (a .leaf)) (a .second .now) (a .at2) (entryOf (a .leaf2)) (a .count) (b .block-over .result) (given b)
     (entryOf (l .node)) (entryOf (l .node2)) (l .k) (l .j) (l .inv) (t .loop-test .taken)
-    (entryOf (c .before .before .before .before .before .before .before .before .above .result)) (entryOf (c .before .before .before .before .before .before .before .above2 .result))
-    (c .before .before .before .before .before .before .before .before .above .ensures) (c .before .before .before .before .before .before .before .above2 .ensures)
+    (entryOf (at-above .above .result)) (entryOf (at-above2 .above2 .result))
+    (at-above .above .ensures) (at-above2 .above2 .ensures)
     (c .before .before .same .result) (c .before .before .same .ensures) (c .before .if1 .taken) (c .node-index .result .0) (c .node-index .ensures)
     ∙ ap (result (b .before .before .before)) (own-block b)
 
 loop-again : tie.Need-loop-again Inv-loop μ-loop
 loop-again c =
-    let t = c .before .before .before .before .before .before .before .before in
+    let at-above2 = c .before .before .before .before .before .before in
+    let at-above = at-above2 .before in
+    let t = at-above .before in
     let b = t .before .before in
     let a = b .before .before .before .args in
     let l = t .before .loop in
     walking-next (a .first .now) (a .at) (entryOf (a .leaf)) (a .second .now) (a .at2) (entryOf (a .leaf2)) (a .count) (b .block-over .result) (given b)
     (entryOf (l .node)) (entryOf (l .node2)) (l .k) (l .j) (l .inv) (t .loop-test .taken)
-    (entryOf (c .before .before .before .before .before .before .before .above .result)) (entryOf (c .before .before .before .before .before .before .above2 .result))
-    (c .before .before .before .before .before .before .before .above .ensures) (c .before .before .before .before .before .before .above2 .ensures)
+    (entryOf (at-above .above .result)) (entryOf (at-above2 .above2 .result))
+    (at-above .above .ensures) (at-above2 .above2 .ensures)
     (c .before .same .result) (c .before .same .ensures) (c .if1 .left)
 
 returns-2 : tie.Need-returns-2 Inv-loop μ-loop

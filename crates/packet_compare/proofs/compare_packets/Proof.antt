@@ -24,23 +24,27 @@ second-passes c = sym (c .before .before .check-answer2 .ensures) ∙ ap said (c
 
 walk-requires : tie.Need-walk-requires
 walk-requires c κs =
-    let s = c .before .before .before .before .before .before .before .before in
-    record { root = s .args .root .now; first = first-passes (c .before .before .before); second = second-passes c }
+    let earlier = c .before .before .before in
+    let s = earlier .before .before .before .before .before in
+    record { root = s .args .root .now; first = first-passes earlier; second = second-passes c }
 
 returns : tie.Need-returns
 returns c =
-    let a = c .before .before .before .before .before .before .args in
+    let at-check-answer = c .before .before .before in
+    let start = at-check-answer .before .before .before in
+    let a = start .args in
     let q = c .before .refusal .given in
     sym (first-refused nodeHash (a .first .now) (a .second .now) (a .n) (a .chunk .0) (a .root .now) (q .0 .0 .number) (spotOf (q .0 .0 .place))
-    (sym (c .before .before .before .check-answer .ensures) ∙ ap said (q .1)))
+    (sym (at-check-answer .check-answer .ensures) ∙ ap said (q .1)))
 
 returns-2 : tie.Need-returns-2
 returns-2 c =
-    let e = c .before .before .before .before in
+    let at-check-answer2 = c .before .before .before in
+    let e = at-check-answer2 .before in
     let a = e .before .before .before .before .before .args in
     let q = c .before .refusal2 .given in
     sym (second-refused nodeHash (a .first .now) (a .second .now) (a .n) (a .chunk .0) (a .root .now) (q .0 .0 .number) (spotOf (q .0 .0 .place))
-    (first-passes e) (sym (c .before .before .before .check-answer2 .ensures) ∙ ap said (q .1)))
+    (first-passes e) (sym (at-check-answer2 .check-answer2 .ensures) ∙ ap said (q .1)))
 
 returns-3 : tie.Need-returns-3
 returns-3 c =

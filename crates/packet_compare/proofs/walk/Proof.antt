@@ -1,6 +1,6 @@
 -- `packet_compare::walk` meets its contract. Assumes nothing.
-use Prim.Native.Nat.{ℕ, _+_, _≤_, _<_}
-use mathlib.Core.Path.{_≡_, sym, ap, ap₂, _∙_}
+use Prim.Native.Nat.{ℕ, _+_}
+use mathlib.Core.Path.{_≡_, ap, ap₂, _∙_}
 use mathlib.Core.List.{List}
 use native.Mathlib.Omega.{arith}
 use lib.ListN.{length}
@@ -55,7 +55,8 @@ chunk-part-requires c κs =
 
 chunk-part-requires-2 : tie.Need-chunk-part-requires-2
 chunk-part-requires-2 c κs =
-    let s = c .before .before .before in framed (s .args .second .now) (s .args .n) (s .args .chunk .0) (s .pre .root) (second s)
+    let start = c .before .before .before in
+    let s = start in framed (s .args .second .now) (s .args .n) (s .args .chunk .0) (s .pre .root) (second s)
 
 returns : tie.Need-returns
 returns c =
@@ -82,7 +83,9 @@ returns-2 c =
     (c .before .before .same2 .result) (c .before .before .same2 .ensures) (c .before .if2 .taken) (c .leaf-index .result .0) (c .leaf-index .ensures)
 
 sibling-count-requires : tie.Need-sibling-count-requires
-sibling-count-requires c κs = first (c .before .before .before .before .before .before .before .before .before .before .before .before .before .before) .chunk
+sibling-count-requires c κs =
+    let start = c .before .before .before .before .before .before .before .before .before .before .before .before .before .before in
+    first start .chunk
 
 climb-requires : tie.Need-climb-requires
 climb-requires c κs =
@@ -100,7 +103,8 @@ climb-requires c κs =
 
 returns-3 : tie.Need-returns-3
 returns-3 c =
-    let l = c .before .before .before .before .before .before .before .before in
+    let at-same2 = c .before .before .before in
+    let l = at-same2 .before .before .before .before .before in
     let m = l .before .before .before in
     let k = m .before .before .before in
     let s = k .before .before in
@@ -108,7 +112,7 @@ returns-3 c =
     (m .same .result) (told m) (l .before .before .if1 .left)
     (entryOf (l .before .leaf-node .result)) (entryOf (l .leaf-node2 .result))
     (l .before .leaf-node .ensures ∙ ap (leaf nodeHash) (m .before .before .chunk-part .ensures)) (l .leaf-node2 .ensures ∙ ap (leaf nodeHash) (m .before .chunk-part2 .ensures))
-    (c .before .before .before .same2 .result) (c .before .before .before .same2 .ensures)
+    (at-same2 .same2 .result) (at-same2 .same2 .ensures)
     (c .before .sibling-count .result) (4 + length (m .before .before .chunk-part .result .now) + 1) (4 + length (m .before .chunk-part2 .result .now) + 1)
     (c .before .sibling-count .ensures .0) (place (m .before)) (place2 (m .before)) (c .before .before .if2 .left)
     (walkOf (c .climb .result)) (c .climb .ensures)

@@ -14,14 +14,16 @@ given c =
 
 returns : tie.Need-returns
 returns c =
-    let s = c .before .before .before .before .before .before .before .before in
+    let at-judge = c .before .before .before in
+    let s = at-judge .before .before .before .before .before in
     let q = c .before .refusal .given in
-    before-refused (given s) (s .args .m) (c .before .before .before .judge .result) (c .before .before .before .judge .ensures) (q .0 .0) (q .1)
+    before-refused (given s) (s .args .m) (at-judge .judge .result) (at-judge .judge .ensures) (q .0 .0) (q .1)
 
 returns-2 : tie.Need-returns-2
 returns-2 c =
-    let s = c .before .before .before .before .before .before .before .before in
-    behind-checks (given s) (s .args .m) (c .before .before .before .judge .result) (c .before .before .before .judge .ensures) (c .before .enum-told .given .1)
+    let at-judge = c .before .before .before in
+    let s = at-judge .before .before .before .before .before in
+    behind-checks (given s) (s .args .m) (at-judge .judge .result) (at-judge .judge .ensures) (c .before .enum-told .given .1)
     (said (c .up-to .result)) (c .up-to .ensures)
 
 pub judge-spec : {M : Type 1} → statement M

@@ -18,13 +18,15 @@ stored-root-hash-requires c κs =
 
 returns : tie.Need-returns
 returns c =
-    let s = c .before .before .before .before .before .before .before .before in
-    old-not (given s) (s .args .m) (c .before .before .before .judge .result) (c .before .before .before .judge .ensures) (c .before .found .given .0 .0) (c .before .found .given .1)
+    let at-judge = c .before .before .before in
+    let s = at-judge .before .before .before .before .before in
+    old-not (given s) (s .args .m) (at-judge .judge .result) (at-judge .judge .ensures) (c .before .found .given .0 .0) (c .before .found .given .1)
 
 returns-2 : tie.Need-returns-2
 returns-2 c =
-    let s = c .before .before .before .before .before .before .before .before in
-    old-done (given s) (s .args .m) (c .before .before .before .judge .result) (c .before .before .before .judge .ensures) (c .stored-root-hash .result) (c .before .enum-told .given .1) (c .stored-root-hash .ensures)
+    let at-judge = c .before .before .before in
+    let s = at-judge .before .before .before .before .before in
+    old-done (given s) (s .args .m) (at-judge .judge .result) (at-judge .judge .ensures) (c .stored-root-hash .result) (c .before .enum-told .given .1) (c .stored-root-hash .ensures)
 
 pub prefix-root-spec : {M : Type 1} → statement M
 prefix-root-spec =

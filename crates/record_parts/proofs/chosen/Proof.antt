@@ -5,10 +5,14 @@ use Rattle.record_parts.proofs.chosen.Statement.{statement}
 use Rattle.record_parts.proofs.chosen.Tie as tie
 
 returns : tie.Need-returns
-returns c = let a = c .before .before .before .before .args in chosen-as (a .node) _ _ (c .enum-told .given .1)
+returns c =
+    let start = c .before .before .before .before in
+    let a = start .args in chosen-as (a .node) _ _ (c .enum-told .given .1)
 
 returns-2 : tie.Need-returns-2
-returns-2 c = let a = c .before .before .before .before .args in chosen-as (a .node) _ _ (c .enum-told2 .given .1)
+returns-2 c =
+    let start = c .before .before .before .before in
+    let a = start .args in chosen-as (a .node) _ _ (c .enum-told2 .given .1)
 
 returns-3 : tie.Need-returns-3
 returns-3 c =

@@ -6,7 +6,9 @@ use Rattle.record_parts.proofs.node_part_of.Statement.{statement}
 use Rattle.record_parts.proofs.node_part_of.Tie as tie
 
 returns : tie.Need-returns
-returns c = c .node-part .ensures ∙ ap (nodeHanded (c .before .before .before .before .before .before .args .field)) (c .before .read-one .ensures)
+returns c =
+    let start = c .before .before .before .before .before .before in
+    c .node-part .ensures ∙ ap (nodeHanded (start .args .field)) (c .before .read-one .ensures)
 
 pub node-part-of-spec : {M : Type 1} → statement M
 node-part-of-spec = tie.close (tie.spec (λ c κs. search needs) (λ c κs. search needs) returns)

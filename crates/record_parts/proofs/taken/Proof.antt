@@ -1,5 +1,4 @@
 -- A part that lies in the bytes lent is one of them.
-use Prim.Native.Nat.{_+_}
 use Rattle.record_parts.proofs.Handed.{part-inside, part-absent, part-given}
 use native.Mathlib.Omega.{arith}
 use borrow.Author.Needs.{needs}
@@ -20,7 +19,9 @@ returns : tie.Need-returns
 returns c = part-absent _ _ (c .before .enum-told .given .1)
 
 returns-2 : tie.Need-returns-2
-returns-2 c = part-given _ _ (c .before .before .before .part .given .0 .0) (c .before .before .before .part .given .1)
+returns-2 c =
+    let at-part = c .before .before .before in
+    part-given _ _ (at-part .part .given .0 .0) (at-part .part .given .1)
 
 pub taken-spec : {M : Type 1} → statement M
 taken-spec =

@@ -16,19 +16,28 @@ given c =
 
 clear-chunk-requires : tie.Need-clear-chunk-requires
 clear-chunk-requires c κs =
-    let k = c .before .before .before .found2 .given in
-    release-fits (given (c .before .before .before .before .before .before .before .before .before .before .before .before)) (c .before .before .before .before .before .before .before .before .before .before .before .before .args .chunk .0) (k .0 .0 .0) (k .0 .1 .0) (sym (ap placedOf (k .1)) ∙ c .before .before .before .before .before .held-place .ensures)
+    let at-found2 = c .before .before .before in
+    let at-held-place = at-found2 .before .before in
+    let start = at-held-place .before .before .before .before .before .before .before in
+    let k = at-found2 .found2 .given in
+    release-fits (given start) (start .args .chunk .0) (k .0 .0 .0) (k .0 .1 .0) (sym (ap placedOf (k .1)) ∙ at-held-place .held-place .ensures)
 
 returns : tie.Need-returns
 returns c =
+    let at-held-place = c .before .before .before in
+    let start = at-held-place .before .before .before .before .before .before .before in
     let k = c .before .found .given in
-    release-not (given (c .before .before .before .before .before .before .before .before .before .before)) (c .before .before .before .before .before .before .before .before .before .before .args .chunk .0) (k .0 .0 .number) (spotOf (k .0 .0 .place)) (sym (ap placedOf (k .1)) ∙ c .before .before .before .held-place .ensures)
+    release-not (given start) (start .args .chunk .0) (k .0 .0 .number) (spotOf (k .0 .0 .place)) (sym (ap placedOf (k .1)) ∙ at-held-place .held-place .ensures)
 
 returns-2 : tie.Need-returns-2
 returns-2 c =
-    let k = c .before .before .before .before .before .before .before .before .found2 .given in
-    release-done (given (c .before .before .before .before .before .before .before .before .before .before .before .before .before .before .before .before .before)) (c .before .before .before .before .before .before .before .before .before .before .before .before .before .before .before .before .before .args .chunk .0) (k .0 .0 .0) (k .0 .1 .0) _ _ (sym (ap placedOf (k .1)) ∙ c .before .before .before .before .before .before .before .before .before .before .held-place .ensures)
-    (c .before .before .before .before .clear-chunk .ensures)
+    let at-clear-chunk = c .before .before .before .before in
+    let at-found2 = at-clear-chunk .before .before .before .before in
+    let at-held-place = at-found2 .before .before in
+    let start = at-held-place .before .before .before .before .before .before .before in
+    let k = at-found2 .found2 .given in
+    release-done (given start) (start .args .chunk .0) (k .0 .0 .0) (k .0 .1 .0) _ _ (sym (ap placedOf (k .1)) ∙ at-held-place .held-place .ensures)
+    (at-clear-chunk .clear-chunk .ensures)
 
 pub release-spec : {M : Type 1} → statement M
 release-spec =

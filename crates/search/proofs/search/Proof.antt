@@ -18,24 +18,30 @@ given c =
 
 by-runs-requires : tie.Need-by-runs-requires
 by-runs-requires c κs =
-    search-room (given (c .before .before .before .before .before .before .before)) (c .before .before .before .before .before .before .before .args .from .0) (sym (ap said (c .enum-told .given .1)) ∙ c .before .before .judge .ensures)
+    search-room (given (c .before .before .before .before .before .before .before)) (c .before .before .before .before .before .before .before .args .from .0)
+    (sym (ap said (c .enum-told .given .1)) ∙ c .before .before .judge .ensures)
 
 returns : tie.Need-returns
 returns c =
     let q = c .before .refusal .given in
-    search-refused (given (c .before .before .before .before .before .before .before .before)) (c .before .before .before .before .before .before .before .before .args .from .0) (q .0 .0 .number) (spotOf (q .0 .0 .place)) (sym (ap said (q .1)) ∙ c .before .before .before .judge .ensures)
+    search-refused (given (c .before .before .before .before .before .before .before .before)) (c .before .before .before .before .before .before .before .before .args .from .0)
+    (q .0 .0 .number) (spotOf (q .0 .0 .place)) (sym (ap said (q .1)) ∙ c .before .before .before .judge .ensures)
 
 returns-2 : tie.Need-returns-2
 unfolding firstMissing
 returns-2 c =
     let q = c .before .chunk .given in
-    search-passed (given (c .before .before .before .before .before .before .before .before .before .before .before)) (c .before .before .before .before .before .before .before .before .before .before .before .args .from .0) (sym (ap said (c .before .before .before .before .enum-told .given .1)) ∙ c .before .before .before .before .before .before .judge .ensures) (first (q .0 .0 .0))
+    search-passed (given (c .before .before .before .before .before .before .before .before .before .before .before))
+    (c .before .before .before .before .before .before .before .before .before .before .before .args .from .0)
+    (sym (ap said (c .before .before .before .before .enum-told .given .1)) ∙ c .before .before .before .before .before .before .judge .ensures) (first (q .0 .0 .0))
     (sym (ap foundAt (q .1)) ∙ c .before .before .before .by-runs .ensures)
 
 returns-3 : tie.Need-returns-3
 unfolding firstMissing
 returns-3 c =
-    search-passed (given (c .before .before .before .before .before .before .before .before .before .before)) (c .before .before .before .before .before .before .before .before .before .before .args .from .0) (sym (ap said (c .before .before .before .enum-told .given .1)) ∙ c .before .before .before .before .before .judge .ensures) nowhere
+    search-passed (given (c .before .before .before .before .before .before .before .before .before .before))
+    (c .before .before .before .before .before .before .before .before .before .before .args .from .0)
+    (sym (ap said (c .before .before .before .enum-told .given .1)) ∙ c .before .before .before .before .before .judge .ensures) nowhere
     (sym (ap foundAt (c .enum-told2 .given .1)) ∙ c .before .before .by-runs .ensures)
 
 pub search-spec : {M : Type 1} → statement M

@@ -15,18 +15,21 @@ given c =
 
 place-in-requires : tie.Need-place-in-requires
 place-in-requires c κs =
-    tree-room (given (c .before .before .before .before .before .before .before)) (sym (ap said (c .enum-told .given .1)) ∙ c .before .before .judge .ensures)
+    let start = c .before .before .before .before .before .before .before in
+    tree-room (given start) (sym (ap said (c .enum-told .given .1)) ∙ c .before .before .judge .ensures)
 
 returns : tie.Need-returns
 returns c =
-    let s = c .before .before .before .before .before .before .before .before in
+    let at-judge = c .before .before .before in
+    let s = at-judge .before .before .before .before .before in
     let q = c .before .refusal .given in
-    place-refused (given s) (s .args .chunk .0) (q .0 .0 .number) (spotOf (q .0 .0 .place)) (sym (ap said (q .1)) ∙ c .before .before .before .judge .ensures)
+    place-refused (given s) (s .args .chunk .0) (q .0 .0 .number) (spotOf (q .0 .0 .place)) (sym (ap said (q .1)) ∙ at-judge .judge .ensures)
 
 returns-2 : tie.Need-returns-2
 returns-2 c =
-    let s = c .before .before .before .before .before .before .before .before in
-    c .place-in .ensures ∙ place-passed (given s) (sym (ap said (c .before .enum-told .given .1)) ∙ c .before .before .before .judge .ensures) (s .args .chunk .0)
+    let at-judge = c .before .before .before in
+    let s = at-judge .before .before .before .before .before in
+    c .place-in .ensures ∙ place-passed (given s) (sym (ap said (c .before .enum-told .given .1)) ∙ at-judge .judge .ensures) (s .args .chunk .0)
 
 pub place-spec : {M : Type 1} → statement M
 place-spec = tie.close (tie.spec (λ c κs. search needs) (λ c. search needs) (λ c. search needs) place-in-requires returns returns-2)

@@ -8,7 +8,8 @@ use Rattle.station_serving.proofs.enter.Tie as tie
 
 returns : tie.Need-returns
 returns c =
-    let a = c .before .before .before .args in
+    let start = c .before .before .before in
+    let a = start .args in
     subst (λ (g : ℕ). Entered (a .station) (record { register = g; chunk = a .chunk .0 }) (a .table .now) (c .enter .result) (c .enter .last .0))
     (c .before .number-of .ensures) (c .enter .ensures)
 

@@ -1,5 +1,4 @@
 -- `station_serving::named_by` meets its contract. Assumes nothing.
-use borrow.Author.Needs.{needs}
 use Rattle.station_serving.proofs.Serving.{first-named, second-named}
 use Rattle.station_serving.proofs.named_by.Statement.{statement}
 use Rattle.station_serving.proofs.named_by.Tie as tie

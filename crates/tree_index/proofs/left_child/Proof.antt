@@ -18,7 +18,8 @@ node-index-requires c κs =
 
 returns : tie.Need-returns
 returns c =
-    left-word (c .before .before .before .args .i .0) (c .before .before .depth .result) (c .before .block .result)
+    let start = c .before .before .before in
+    left-word (start .args .i .0) (c .before .before .depth .result) (c .before .block .result)
     (c .node-index .result .0) (c .before .before .depth .ensures) (c .before .block .ensures) (c .node-index .ensures)
 
 pub left-child-spec : {M : Type 1} → statement M

@@ -26,12 +26,16 @@ sub-node-index : tie.Need-sub-node-index Inv-loop μ-loop
 sub-node-index c = omega arith
 
 node-index-requires : tie.Need-node-index-requires Inv-loop μ-loop
-node-index-requires c κs = omega (arith, shr-le (c .before .before .before .args .n) (c .before .before .loop .d - 1))
+node-index-requires c κs =
+    let start = c .before .before .before in
+    omega (arith, shr-le (start .args .n) (c .before .before .loop .d - 1))
 
 room : (c : tie.After-node-index Inv-loop μ-loop) → c .before .before .before .loop .count < 20
 room c =
-    gathered-room (c .before .before .before .before .args .n) (c .before .before .before .loop .d) (c .before .before .before .loop .count)
-    (numbers (c .before .before .before .loop .found)) (c .before .before .before .loop .inv) (c .before .before .before .before .pre)
+    let looped = c .before .before .before in
+    let start = looped .before in
+    gathered-room (start .args .n) (looped .loop .d) (looped .loop .count)
+    (numbers (looped .loop .found)) (looped .loop .inv) (start .pre)
     (c .before .before .loop-test .taken) (c .before .if1 .taken)
 
 mul-found : tie.Need-mul-found Inv-loop μ-loop
@@ -45,16 +49,19 @@ add-count c = omega (arith, room c)
 
 loop-again : tie.Need-loop-again Inv-loop μ-loop
 loop-again c =
+    let looped = c .before .before .before in
+    let start = looped .before in
     subst
-    (λ (l : List ℕ). Gathered (c .before .before .before .before .args .n) (c .before .before .before .loop .d - 1) (c .before .before .before .loop .count + 1) l)
-    (sym (numbers-set (c .before .before .before .loop .found) (c .before .before .before .loop .count) (c .node-index .result)))
-    (gathered-root (c .before .before .before .before .args .n) (c .before .before .before .loop .d) (c .before .before .before .loop .count)
-    (c .node-index .result .0) (numbers (c .before .before .before .loop .found)) (c .before .before .before .loop .inv) (c .before .before .before .before .pre)
+    (λ (l : List ℕ). Gathered (start .args .n) (looped .loop .d - 1) (looped .loop .count + 1) l)
+    (sym (numbers-set (looped .loop .found) (looped .loop .count) (c .node-index .result)))
+    (gathered-root (start .args .n) (looped .loop .d) (looped .loop .count)
+    (c .node-index .result .0) (numbers (looped .loop .found)) (looped .loop .inv) (start .pre)
     (c .before .before .loop-test .taken) (c .before .if1 .taken) (c .node-index .ensures))
 
 loop-again-2 : tie.Need-loop-again-2 Inv-loop μ-loop
 loop-again-2 c =
-    gathered-skip (c .before .before .before .args .n) (c .before .before .loop .d) (c .before .before .loop .count)
+    let start = c .before .before .before in
+    gathered-skip (start .args .n) (c .before .before .loop .d) (c .before .before .loop .count)
     (numbers (c .before .before .loop .found)) (c .before .before .loop .inv) (c .before .loop-test .taken) (omega arith)
 
 returns : tie.Need-returns Inv-loop μ-loop

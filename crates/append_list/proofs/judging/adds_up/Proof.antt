@@ -1,5 +1,5 @@
 -- `append_list::judging::adds_up` meets its contract: the first j lengths and what is left make up the whole. Assumes nothing.
-use Prim.Native.Nat.{ℕ, _+_, _-_, _≤_, _<_}
+use Prim.Native.Nat.{ℕ, _+_, _-_, _≤_}
 use mathlib.Core.Path.{_≡_, sym, ap, _∙_}
 use mathlib.Core.List.{List}
 use native.Mathlib.Omega.{arith}
@@ -24,8 +24,10 @@ loop-holds c = omega arith
 
 returns : tie.Need-returns Inv-loop μ-loop
 returns c =
-    let a = c .before .before .before .before .args in
-    let l = c .before .before .before .loop in
+    let looped = c .before .before .before in
+    let start = looped .before in
+    let a = start .args in
+    let l = looped .loop in
     too-much (a .lengths .now) (l .j) (length (a .lengths .now)) (l .left) (a .whole) (c .before .before .loop-test .taken) (c .before .before .loop-test .taken) (l .inv .1) (c .if1 .taken)
     ∙ ap (λ (xs : List ℕ). eqb (total xs) (a .whole)) (take-length (a .lengths .now))
 

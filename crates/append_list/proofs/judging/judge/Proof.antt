@@ -18,19 +18,46 @@ given c =
     (c .args .size)
 
 returns : tie.Need-returns
-returns c = let s = c .before .before .before .before .before .before .before .before in list-over (given s) (s .args .lengths .now) (s .args .bytes .now) (said (c .refuse .result)) (c .before .if1 .taken) (c .refuse .ensures)
+returns c =
+    let start = c .before .before .before .before .before .before .before .before in
+    let s = start in list-over (given s) (s .args .lengths .now) (s .args .bytes .now) (said (c .refuse .result)) (c .before .if1 .taken) (c .refuse .ensures)
 
 returns-2 : tie.Need-returns-2
-returns-2 c = let s = c .before .before .before .before .before .before .before .before .before in list-past (given s) (s .args .lengths .now) (s .args .bytes .now) (said (c .refuse2 .result)) (c .before .before .if1 .left) (omega (arith, c .before .before .if1 .left, c .before .if2 .taken)) (c .refuse2 .ensures)
+returns-2 c =
+    let start = c .before .before .before .before .before .before .before .before .before in
+    let s = start in list-past (given s) (s .args .lengths .now) (s .args .bytes .now) (said (c .refuse2 .result)) (c .before .before .if1 .left)
+    (omega (arith, c .before .before .if1 .left, c .before .if2 .taken)) (c .refuse2 .ensures)
 
 judge-own-requires : tie.Need-judge-own-requires
-judge-own-requires c κs = let s = c .before .before .before .before .before .before .before .before .before .before .before in (omega (arith, c .before .before .before .before .if1 .left, c .before .before .before .if2 .left), data-inside (given s) (c .before .before .judge-later .result) (c .enum-told .given .1) (c .before .before .judge-later .ensures))
+judge-own-requires c κs =
+    let branch2 = c .before .before .before in
+    let branch1 = branch2 .before in
+    let start = branch1 .before .before .before .before .before .before .before in
+    let s = start in (
+      omega (arith, branch1 .if1 .left, branch2 .if2 .left),
+      data-inside (given s) (c .before .before .judge-later .result) (c .enum-told .given .1)
+          (c .before .before .judge-later .ensures),
+    )
 
 returns-3 : tie.Need-returns-3
-returns-3 c = let s = c .before .before .before .before .before .before .before .before .before .before .before .before in list-within (given s) (s .args .lengths .now) (s .args .bytes .now) _ (c .before .before .before .before .before .if1 .left) (omega (arith, c .before .before .before .before .before .if1 .left, c .before .before .before .before .if2 .left)) (refused-before (laterChecks (given s)) (ownVerdict (given s) (s .args .lengths .now) (s .args .bytes .now)) (c .before .before .before .judge-later .result) (c .before .found .given .0 .0) (c .before .found .given .1) (c .before .before .before .judge-later .ensures))
+returns-3 c =
+    let at-judge-later = c .before .before .before in
+    let branch2 = at-judge-later .before in
+    let branch1 = branch2 .before in
+    let start = branch1 .before .before .before .before .before .before .before in
+    let s = start in list-within (given s) (s .args .lengths .now) (s .args .bytes .now) _ (branch1 .if1 .left) (omega (arith, branch1 .if1 .left, branch2 .if2 .left))
+    (refused-before (laterChecks (given s)) (ownVerdict (given s) (s .args .lengths .now) (s .args .bytes .now)) (at-judge-later .judge-later .result)
+    (c .before .found .given .0 .0) (c .before .found .given .1) (at-judge-later .judge-later .ensures))
 
 returns-4 : tie.Need-returns-4
-returns-4 c = let s = c .before .before .before .before .before .before .before .before .before .before .before .before in list-within (given s) (s .args .lengths .now) (s .args .bytes .now) _ (c .before .before .before .before .before .if1 .left) (omega (arith, c .before .before .before .before .before .if1 .left, c .before .before .before .before .if2 .left)) (passed-before (laterChecks (given s)) (said (c .judge-own .result)) (ownVerdict (given s) (s .args .lengths .now) (s .args .bytes .now)) (c .before .before .before .judge-later .result) (c .before .enum-told .given .1) (c .before .before .before .judge-later .ensures) (c .judge-own .ensures))
+returns-4 c =
+    let at-judge-later = c .before .before .before in
+    let branch2 = at-judge-later .before in
+    let branch1 = branch2 .before in
+    let start = branch1 .before .before .before .before .before .before .before in
+    let s = start in list-within (given s) (s .args .lengths .now) (s .args .bytes .now) _ (branch1 .if1 .left) (omega (arith, branch1 .if1 .left, branch2 .if2 .left))
+    (passed-before (laterChecks (given s)) (said (c .judge-own .result)) (ownVerdict (given s) (s .args .lengths .now) (s .args .bytes .now))
+    (at-judge-later .judge-later .result) (c .before .enum-told .given .1) (at-judge-later .judge-later .ensures) (c .judge-own .ensures))
 
 pub judge-spec : {M : Type 1} → statement M
 judge-spec =

@@ -12,19 +12,46 @@ use Rattle.append_list.proofs.judging.judge_list.Statement.{statement}
 use Rattle.append_list.proofs.judging.judge_list.Tie as tie
 
 returns : tie.Need-returns
-returns c = let s = c .before .before .before .before in list-answered (s .args .lengths .now) (s .args .bytes .now) (said (c .refuse .result)) false _ _ _ (le-ltb 0 (length (s .args .lengths .now)) (omega (arith, c .before .if1 .taken))) refl refl refl (c .refuse .ensures)
+returns c =
+    let start = c .before .before .before .before in
+    let s = start in list-answered (s .args .lengths .now) (s .args .bytes .now) (said (c .refuse .result)) false _ _ _
+    (le-ltb 0 (length (s .args .lengths .now)) (omega (arith, c .before .if1 .taken))) refl refl refl (c .refuse .ensures)
 
 returns-2 : tie.Need-returns-2
-returns-2 c = let s = c .before .before .before .before .before in list-answered (s .args .lengths .now) (s .args .bytes .now) (said (c .refuse2 .result)) true false _ _ (lt-ltb 0 (length (s .args .lengths .now)) (omega (arith, c .before .before .if1 .left))) (lt-leb (length (s .args .lengths .now)) 256 (c .before .if2 .taken)) refl refl (c .refuse2 .ensures)
+returns-2 c =
+    let start = c .before .before .before .before .before in
+    let s = start in list-answered (s .args .lengths .now) (s .args .bytes .now) (said (c .refuse2 .result)) true false _ _
+    (lt-ltb 0 (length (s .args .lengths .now)) (omega (arith, c .before .before .if1 .left))) (lt-leb (length (s .args .lengths .now)) 256 (c .before .if2 .taken)) refl refl (c .refuse2 .ensures)
 
 returns-3 : tie.Need-returns-3
-returns-3 c = let s = c .before .before .before .before .before .before .before in list-answered (s .args .lengths .now) (s .args .bytes .now) (said (c .refuse3 .result)) true true false _ (lt-ltb 0 (length (s .args .lengths .now)) (omega (arith, c .before .before .before .before .if1 .left))) (le-leb (length (s .args .lengths .now)) 256 (c .before .before .before .if2 .left)) (sym (c .before .before .adds-up .ensures) ∙ not-true _ (c .before .if3 .taken)) refl (c .refuse3 .ensures)
+returns-3 c =
+    let branch2 = c .before .before .before in
+    let branch1 = branch2 .before in
+    let start = branch1 .before .before .before in
+    let s = start in list-answered (s .args .lengths .now) (s .args .bytes .now) (said (c .refuse3 .result)) true true false _
+    (lt-ltb 0 (length (s .args .lengths .now)) (omega (arith, branch1 .if1 .left))) (le-leb (length (s .args .lengths .now)) 256 (branch2 .if2 .left))
+    (sym (c .before .before .adds-up .ensures) ∙ not-true _ (c .before .if3 .taken)) refl (c .refuse3 .ensures)
 
 returns-4 : tie.Need-returns-4
-returns-4 c = let s = c .before .before .before .before .before .before .before .before .before in list-answered (s .args .lengths .now) (s .args .bytes .now) (said (c .refuse4 .result)) true true true false (lt-ltb 0 (length (s .args .lengths .now)) (omega (arith, c .before .before .before .before .before .before .if1 .left))) (le-leb (length (s .args .lengths .now)) 256 (c .before .before .before .before .before .if2 .left)) (sym (c .before .before .before .before .adds-up .ensures) ∙ not-false _ (c .before .before .before .if3 .left)) (sym (c .before .before .all-short .ensures) ∙ not-true _ (c .before .if4 .taken)) (c .refuse4 .ensures)
+returns-4 c =
+    let branch3 = c .before .before .before in
+    let at-adds-up = branch3 .before in
+    let branch2 = at-adds-up .before in
+    let branch1 = branch2 .before in
+    let start = branch1 .before .before .before in
+    let s = start in list-answered (s .args .lengths .now) (s .args .bytes .now) (said (c .refuse4 .result)) true true true false
+    (lt-ltb 0 (length (s .args .lengths .now)) (omega (arith, branch1 .if1 .left))) (le-leb (length (s .args .lengths .now)) 256 (branch2 .if2 .left))
+    (sym (at-adds-up .adds-up .ensures) ∙ not-false _ (branch3 .if3 .left)) (sym (c .before .before .all-short .ensures) ∙ not-true _ (c .before .if4 .taken)) (c .refuse4 .ensures)
 
 returns-5 : tie.Need-returns-5
-returns-5 c = let s = c .before .before .before .before .before .before .before .before in list-answered (s .args .lengths .now) (s .args .bytes .now) done true true true true (lt-ltb 0 (length (s .args .lengths .now)) (omega (arith, c .before .before .before .before .before .if1 .left))) (le-leb (length (s .args .lengths .now)) 256 (c .before .before .before .before .if2 .left)) (sym (c .before .before .before .adds-up .ensures) ∙ not-false _ (c .before .before .if3 .left)) (sym (c .before .all-short .ensures) ∙ not-false _ (c .if4 .left)) refl
+returns-5 c =
+    let at-adds-up = c .before .before .before in
+    let branch2 = at-adds-up .before in
+    let branch1 = branch2 .before in
+    let start = branch1 .before .before .before in
+    let s = start in list-answered (s .args .lengths .now) (s .args .bytes .now) done true true true true
+    (lt-ltb 0 (length (s .args .lengths .now)) (omega (arith, branch1 .if1 .left))) (le-leb (length (s .args .lengths .now)) 256 (branch2 .if2 .left))
+    (sym (at-adds-up .adds-up .ensures) ∙ not-false _ (c .before .before .if3 .left)) (sym (c .before .all-short .ensures) ∙ not-false _ (c .if4 .left)) refl
 
 pub judge-list-spec : {M : Type 1} → statement M
 judge-list-spec =

@@ -13,13 +13,28 @@ given c =
     (c .args .size)
 
 judge-room-requires : tie.Need-judge-room-requires
-judge-room-requires c κs = let s = c .before .before .before .before .before .before .before .before .before in (some-listed (s .args .lengths .now) (s .args .bytes .now) (c .before .before .judge-list .result) (c .enum-told .given .1) (c .before .before .judge-list .ensures), s .pre .0, s .pre .1)
+judge-room-requires c κs =
+    let start = c .before .before .before .before .before .before .before .before .before in
+    let s = start in (
+      some-listed (s .args .lengths .now) (s .args .bytes .now) (c .before .before .judge-list .result) (c .enum-told .given .1)
+          (c .before .before .judge-list .ensures),
+      s .pre .0,
+      s .pre .1,
+    )
 
 returns : tie.Need-returns
-returns c = let s = c .before .before .before .before .before .before .before .before .before .before in own-refused (given s) (s .args .lengths .now) (s .args .bytes .now) (c .before .before .before .judge-list .result) (c .before .found .given .0 .0) (c .before .found .given .1) (c .before .before .before .judge-list .ensures)
+returns c =
+    let at-judge-list = c .before .before .before in
+    let start = at-judge-list .before .before .before .before .before .before .before in
+    let s = start in own-refused (given s) (s .args .lengths .now) (s .args .bytes .now) (at-judge-list .judge-list .result) (c .before .found .given .0 .0)
+    (c .before .found .given .1) (at-judge-list .judge-list .ensures)
 
 returns-2 : tie.Need-returns-2
-returns-2 c = let s = c .before .before .before .before .before .before .before .before .before .before in own-passed (given s) (s .args .lengths .now) (s .args .bytes .now) (said (c .judge-room .result)) (c .before .before .before .judge-list .result) (c .before .enum-told .given .1) (c .before .before .before .judge-list .ensures) (c .judge-room .ensures)
+returns-2 c =
+    let at-judge-list = c .before .before .before in
+    let start = at-judge-list .before .before .before .before .before .before .before in
+    let s = start in own-passed (given s) (s .args .lengths .now) (s .args .bytes .now) (said (c .judge-room .result)) (at-judge-list .judge-list .result)
+    (c .before .enum-told .given .1) (at-judge-list .judge-list .ensures) (c .judge-room .ensures)
 
 pub judge-own-spec : {M : Type 1} → statement M
 judge-own-spec =

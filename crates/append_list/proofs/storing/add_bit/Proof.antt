@@ -1,5 +1,4 @@
 -- `append_list::storing::add_bit` meets its contract: the cases of the definition. Assumes nothing.
-use native.Mathlib.Omega.{arith}
 use borrow.Author.Needs.{needs}
 use Rattle.bitfield.specs.Append.{bitsPlace}
 use Rattle.append_list.proofs.Once.{last-listed, last-held, not-last}
@@ -15,19 +14,36 @@ unfolding bitsPlace
 make-index-requires c κs = search needs
 
 returns : tie.Need-returns
-returns c = let a = c .before .before .before .before .before .before .before .before .before .before .before .args in last-listed (a .bitfield .now) _ (a .n) _ (a .last) (c .before .before .before .before .before .before .before .before .before .chunk-behind .ensures) (c .before .before .before .before .before .before .before .set-bits .ensures) _ (c .before .before .make-index .ensures) (c .before .before .before .before .if1 .taken)
+returns c =
+    let branch1 = c .before .before .before .before in
+    let at-set-bits = branch1 .before .before .before in
+    let at-chunk-behind = at-set-bits .before .before in
+    let start = at-chunk-behind .before .before in
+    let a = start .args in last-listed (a .bitfield .now) _ (a .n) _ (a .last) (at-chunk-behind .chunk-behind .ensures) (at-set-bits .set-bits .ensures) _
+    (c .before .before .make-index .ensures) (branch1 .if1 .taken)
 
 make-index-requires-2 : tie.Need-make-index-requires-2
 unfolding bitsPlace
 make-index-requires-2 c κs = search needs
 
 returns-2 : tie.Need-returns-2
-returns-2 c = let a = c .before .before .before .before .before .before .before .before .before .before .before .before .args in last-held (a .bitfield .now) _ (a .n) _ (a .last) (c .before .before .before .before .before .before .before .before .before .before .chunk-behind .ensures) (c .before .before .before .before .before .before .before .before .set-bits .ensures) _ (c .before .before .make-index2 .ensures) (c .before .before .before .before .if2 .taken)
+returns-2 c =
+    let branch2 = c .before .before .before .before in
+    let at-set-bits = branch2 .before .before .before .before in
+    let at-chunk-behind = at-set-bits .before .before in
+    let start = at-chunk-behind .before .before in
+    let a = start .args in last-held (a .bitfield .now) _ (a .n) _ (a .last) (at-chunk-behind .chunk-behind .ensures) (at-set-bits .set-bits .ensures) _
+    (c .before .before .make-index2 .ensures) (branch2 .if2 .taken)
 
 returns-3 : tie.Need-returns-3
-returns-3 c = let a = c .before .before .before .before .before .before .before .before .args in not-last (a .bitfield .now) _ (a .n) _ (a .last) (c .before .before .before .before .before .before .chunk-behind .ensures) (c .before .before .before .before .set-bits .ensures) (c .before .if1 .left) (c .if2 .left)
+returns-3 c =
+    let at-set-bits = c .before .before .before .before in
+    let at-chunk-behind = at-set-bits .before .before in
+    let start = at-chunk-behind .before .before in
+    let a = start .args in not-last (a .bitfield .now) _ (a .n) _ (a .last) (at-chunk-behind .chunk-behind .ensures) (at-set-bits .set-bits .ensures) (c .before .if1 .left) (c .if2 .left)
 
 pub add-bit-spec : {M : Type 1} → statement M
 add-bit-spec =
     tie.close
-    (tie.spec (λ c κs. search needs) set-bits-requires make-index-requires (λ c. search needs) returns (λ c. search needs) make-index-requires-2 (λ c. search needs) returns-2 (λ c. search needs) returns-3)
+    (tie.spec (λ c κs. search needs) set-bits-requires make-index-requires (λ c. search needs) returns (λ c. search needs) make-index-requires-2 (λ c. search needs) returns-2
+    (λ c. search needs) returns-3)

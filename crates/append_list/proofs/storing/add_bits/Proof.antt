@@ -1,5 +1,5 @@
 -- `append_list::storing::add_bits` meets its contract: what the chunks from i on still do gives what all of them do. Assumes nothing.
-use Prim.Native.Nat.{ℕ, _+_, _-_, _≤_}
+use Prim.Native.Nat.{_+_, _-_, _≤_}
 use mathlib.Core.Path.{_≡_, refl}
 use native.Mathlib.Omega.{arith}
 use borrow.Author.Needs.{needs}
@@ -24,7 +24,8 @@ loop-holds c = let a = c .before .args in (omega arith, refl, once-first (a .bit
 add-bit-requires : tie.Need-add-bit-requires Inv-loop μ-loop
 add-bit-requires c κs =
     let s = c .before .before .before .before in
-    bit-room (s .args .bitfield .now) (s .args .n) (s .args .k) (c .before .before .loop .bitfield) (c .before .before .loop .i) (s .pre) (c .before .loop-test .taken) (c .before .before .loop .inv .1)
+    bit-room (s .args .bitfield .now) (s .args .n) (s .args .k) (c .before .before .loop .bitfield) (c .before .before .loop .i) (s .pre) (c .before .loop-test .taken)
+    (c .before .before .loop .inv .1)
 
 loop-again : tie.Need-loop-again Inv-loop μ-loop
 loop-again c =

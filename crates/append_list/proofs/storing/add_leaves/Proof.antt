@@ -1,5 +1,5 @@
 -- `append_list::storing::add_leaves` meets its contract: the chunks below j are in the tree. Assumes nothing.
-use Prim.Native.Nat.{ℕ, _+_, _-_, _^_, _≤_, _<_}
+use Prim.Native.Nat.{_-_, _^_, _≤_, _<_}
 use mathlib.Core.Path.{_≡_, refl}
 use native.Mathlib.Omega.{arith}
 use borrow.Author.Needs.{needs}
@@ -15,30 +15,47 @@ abbrev μ-loop : tie.MeasureT-loop
 μ-loop tree₀ content n start lengths at₀ j₀ tree at j = length lengths - j
 
 loop-holds : tie.Need-loop-holds Inv-loop μ-loop
-loop-holds c = let s = c .before .before .before in (omega arith, refl, going-none (s .args .tree .now) (s .args .content .now) (s .args .n) (s .args .start) (s .args .lengths .now) (s .pre))
+loop-holds c =
+    let start = c .before .before .before in
+    let s = start in (omega arith, refl, going-none (s .args .tree .now) (s .args .content .now) (s .args .n) (s .args .start) (s .args .lengths .now) (s .pre))
 
 add-end : tie.Need-add-end Inv-loop μ-loop
 add-end c =
     let s = c .before .before .before .before .before .before in
     let l = c .before .before .loop in
     let small : length (s .args .content .now) < 2 ^ 64 = s .good .1 .0 .0 in
-    record { fits = omega (arith, going-end (s .args .tree .now) (s .args .content .now) (s .args .n) (s .args .start) (s .args .lengths .now) (l .tree) (l .at) (l .j) (l .inv .2) (c .before .loop-test .taken) small) }
+    record {
+      fits =
+          omega (
+            arith,
+            going-end (s .args .tree .now) (s .args .content .now) (s .args .n) (s .args .start) (s .args .lengths .now) (l .tree) (l .at) (l .j) (l .inv .2)
+                (c .before .loop-test .taken) small,
+          );
+    }
 
 add-add-chunk : tie.Need-add-add-chunk Inv-loop μ-loop
-add-add-chunk c = record { fits = omega (arith, c .before .before .before .loop .inv .2 .left .few) }
+add-add-chunk c =
+    let looped = c .before .before .before in
+    record { fits = omega (arith, looped .loop .inv .2 .left .few) }
 
 add-chunk-requires : tie.Need-add-chunk-requires Inv-loop μ-loop
 add-chunk-requires c κs =
-    let s = c .before .before .before .before .before .before .before in
-    let l = c .before .before .before .loop in
-    going-fits (s .args .tree .now) (s .args .content .now) (s .args .n) (s .args .start) (s .args .lengths .now) (l .tree) (l .at) (l .j) (l .inv .2) (c .before .before .loop-test .taken) (s .good .1 .0 .0)
+    let looped = c .before .before .before in
+    let s = looped .before .before .before .before in
+    let l = looped .loop in
+    going-fits (s .args .tree .now) (s .args .content .now) (s .args .n) (s .args .start) (s .args .lengths .now) (l .tree) (l .at) (l .j) (l .inv .2)
+    (c .before .before .loop-test .taken) (s .good .1 .0 .0)
 
 loop-again : tie.Need-loop-again Inv-loop μ-loop
 loop-again c =
     let s = c .before .before .before .before .before .before .before .before .before .before in
     let l = c .before .before .before .before .before .before .loop in
-    let t = c .before .before .before .before .before .loop-test .taken in
-    (omega (arith, t), search needs, going-next (s .args .tree .now) (s .args .content .now) (s .args .n) (s .args .start) (s .args .lengths .now) (l .tree) (l .at) (l .j) (l .inv .2) t (s .good .1 .0 .0) _ (c .before .before .add-chunk .ensures))
+    let t = c .before .before .before .before .before .loop-test .taken in (
+      omega (arith, t),
+      search needs,
+      going-next (s .args .tree .now) (s .args .content .now) (s .args .n) (s .args .start) (s .args .lengths .now) (l .tree) (l .at) (l .j)
+          (l .inv .2) t (s .good .1 .0 .0) _ (c .before .before .add-chunk .ensures),
+    )
 
 returns : tie.Need-returns Inv-loop μ-loop
 returns c =
@@ -49,4 +66,5 @@ returns c =
 pub add-leaves-spec : {M : Type 1} → statement M
 add-leaves-spec =
     tie.close
-    (tie.spec Inv-loop μ-loop loop-holds (λ c. search needs) (λ c. search needs) add-end add-add-chunk add-chunk-requires (λ c. search needs) (λ c. search needs) loop-again (λ c. search needs) returns)
+    (tie.spec Inv-loop μ-loop loop-holds (λ c. search needs) (λ c. search needs) add-end add-add-chunk add-chunk-requires (λ c. search needs) (λ c. search needs) loop-again
+    (λ c. search needs) returns)

@@ -8,25 +8,70 @@ use Rattle.audit.proofs.tree.parent_right.Statement.{statement}
 use Rattle.audit.proofs.tree.parent_right.Tie as tie
 
 stored-size-requires-2 : tie.Need-stored-size-requires-2
-stored-size-requires-2 c κs = let a = c .before .before .before .before .args in entry-as (a .tree .now) (c .before .before .left-child .ensures) (c .before .before .before .before .pre .left)
+stored-size-requires-2 c κs =
+    let start = c .before .before .before .before in
+    let a = start .args in entry-as (a .tree .now) (c .before .before .left-child .ensures) (start .pre .left)
 
 returns : tie.Need-returns
-returns c = let a = c .before .before .before .before .before .before .args in parent-less nodeHash (a .tree .now) (a .i .0) (c .before .before .stored-size .result) (c .before .stored-size2 .result) (c .before .before .stored-size .ensures) (c .before .stored-size2 .ensures ∙ ap (storedSize (a .tree .now)) (c .before .before .before .before .left-child .ensures)) (c .if1 .taken)
+returns c =
+    let at-left-child = c .before .before .before .before in
+    let start = at-left-child .before .before in
+    let a = start .args in parent-less nodeHash (a .tree .now) (a .i .0) (c .before .before .stored-size .result) (c .before .stored-size2 .result)
+    (c .before .before .stored-size .ensures) (c .before .stored-size2 .ensures ∙ ap (storedSize (a .tree .now)) (at-left-child .left-child .ensures)) (c .if1 .taken)
 
 stored-size-requires-3 : tie.Need-stored-size-requires-3
-stored-size-requires-3 c κs = let a = c .before .before .before .before .before .before .args in entry-as (a .tree .now) (c .before .before .before .right-child .ensures) (c .before .before .before .before .before .before .pre .right)
+stored-size-requires-3 c κs =
+    let at-right-child = c .before .before .before in
+    let start = at-right-child .before .before .before in
+    let a = start .args in entry-as (a .tree .now) (at-right-child .right-child .ensures) (start .pre .right)
 
 returns-2 : tie.Need-returns-2
-returns-2 c = let a = c .before .before .before .before .before .before .before .before .args in parent-off nodeHash (a .tree .now) (a .i .0) (c .before .before .before .before .stored-size .result) (c .before .before .before .stored-size2 .result) (c .before .before .before .before .stored-size .ensures) (c .before .before .before .stored-size2 .ensures ∙ ap (storedSize (a .tree .now)) (c .before .before .before .before .before .before .left-child .ensures)) (c .before .stored-size3 .result) (c .before .stored-size3 .ensures ∙ ap (storedSize (a .tree .now)) (c .before .before .before .before .before .right-child .ensures)) (c .before .before .if1 .left) (c .if2 .taken)
+returns-2 c =
+    let at-stored-size2 = c .before .before .before in
+    let at-stored-size = at-stored-size2 .before in
+    let at-right-child = at-stored-size .before in
+    let at-left-child = at-right-child .before in
+    let start = at-left-child .before .before in
+    let a = start .args in parent-off nodeHash (a .tree .now) (a .i .0) (at-stored-size .stored-size .result) (at-stored-size2 .stored-size2 .result)
+    (at-stored-size .stored-size .ensures) (at-stored-size2 .stored-size2 .ensures ∙ ap (storedSize (a .tree .now)) (at-left-child .left-child .ensures))
+    (c .before .stored-size3 .result) (c .before .stored-size3 .ensures ∙ ap (storedSize (a .tree .now)) (at-right-child .right-child .ensures)) (c .before .before .if1 .left) (c .if2 .taken)
 
 stored-hash-requires : tie.Need-stored-hash-requires
-stored-hash-requires c κs = let a = c .before .before .before .before .before .before .before .before .args in entry-as (a .tree .now) (c .before .before .before .before .before .before .left-child .ensures) (c .before .before .before .before .before .before .before .before .pre .left)
+stored-hash-requires c κs =
+    let at-left-child = c .before .before .before .before .before .before in
+    let start = at-left-child .before .before in
+    let a = start .args in entry-as (a .tree .now) (at-left-child .left-child .ensures) (start .pre .left)
 
 stored-hash-requires-2 : tie.Need-stored-hash-requires-2
-stored-hash-requires-2 c κs = let a = c .before .before .before .before .before .before .before .before .before .args in entry-as (a .tree .now) (c .before .before .before .before .before .before .right-child .ensures) (c .before .before .before .before .before .before .before .before .before .pre .right)
+stored-hash-requires-2 c κs =
+    let at-right-child = c .before .before .before .before .before .before in
+    let start = at-right-child .before .before .before in
+    let a = start .args in entry-as (a .tree .now) (at-right-child .right-child .ensures) (start .pre .right)
 
 returns-3 : tie.Need-returns-3
-returns-3 c = let a = c .before .before .before .before .before .before .before .before .before .before .before .before .before .before .before .before .before .args in let l = c .before .before .before .before .before .before .before .before .before .before .before .before .before .before .before .left-child .ensures in let r = c .before .before .before .before .before .before .before .before .before .before .before .before .before .before .right-child .ensures in parent-same nodeHash (a .tree .now) (a .i .0) (c .before .before .before .before .before .before .before .before .before .before .before .before .before .stored-size .result) (c .before .before .before .before .before .before .before .before .before .before .before .before .stored-size2 .result) (c .before .before .before .before .before .before .before .before .before .before .before .before .before .stored-size .ensures) (c .before .before .before .before .before .before .before .before .before .before .before .before .stored-size2 .ensures ∙ ap (storedSize (a .tree .now)) l) (c .before .before .before .before .before .before .before .before .before .before .stored-size3 .result) (c .before .before .before .before .before .before .before .before .stored-hash .result) (c .before .before .before .before .before .before .before .stored-hash2 .result) (c .before .before .before .stored-hash3 .result) (c .before .before .before .before .parent-hash .result) (c .same .result) (c .before .before .before .before .before .before .before .before .before .before .stored-size3 .ensures ∙ ap (storedSize (a .tree .now)) r) (c .before .before .before .before .before .before .before .before .before .before .before .if1 .left) (c .before .before .before .before .before .before .before .before .before .if2 .left) (c .before .before .before .before .before .before .before .before .stored-hash .ensures ∙ ap (storedHash (a .tree .now)) l) (c .before .before .before .before .before .before .before .stored-hash2 .ensures ∙ ap (storedHash (a .tree .now)) r) (c .before .before .before .before .parent-hash .ensures) (c .before .before .before .stored-hash3 .ensures) (c .same .ensures)
+returns-3 c =
+    let at-stored-hash3 = c .before .before .before in
+    let at-parent-hash = at-stored-hash3 .before in
+    let at-stored-hash2 = at-parent-hash .before .before .before in
+    let at-stored-hash = at-stored-hash2 .before in
+    let branch2 = at-stored-hash .before in
+    let at-stored-size3 = branch2 .before in
+    let branch1 = at-stored-size3 .before in
+    let at-stored-size2 = branch1 .before in
+    let at-stored-size = at-stored-size2 .before in
+    let at-right-child = at-stored-size .before in
+    let at-left-child = at-right-child .before in
+    let start = at-left-child .before .before in
+    let a = start .args in let l = at-left-child .left-child .ensures in let r = at-right-child .right-child .ensures in parent-same nodeHash (a .tree .now) (a .i .0)
+    (at-stored-size .stored-size .result) (at-stored-size2 .stored-size2 .result) (at-stored-size .stored-size .ensures)
+    (at-stored-size2 .stored-size2 .ensures ∙ ap (storedSize (a .tree .now)) l) (at-stored-size3 .stored-size3 .result) (at-stored-hash .stored-hash .result)
+    (at-stored-hash2 .stored-hash2 .result) (at-stored-hash3 .stored-hash3 .result) (at-parent-hash .parent-hash .result) (c .same .result)
+    (at-stored-size3 .stored-size3 .ensures ∙ ap (storedSize (a .tree .now)) r) (branch1 .if1 .left) (branch2 .if2 .left)
+    (at-stored-hash .stored-hash .ensures ∙ ap (storedHash (a .tree .now)) l) (at-stored-hash2 .stored-hash2 .ensures ∙ ap (storedHash (a .tree .now)) r)
+    (at-parent-hash .parent-hash .ensures) (at-stored-hash3 .stored-hash3 .ensures) (c .same .ensures)
 
 pub parent-right-spec : {M : Type 1} → statement M
-parent-right-spec = tie.close (tie.spec (λ c κs. search needs) (λ c κs. search needs) (λ c κs. search needs) stored-size-requires-2 returns stored-size-requires-3 returns-2 stored-hash-requires stored-hash-requires-2 (λ c κs. search needs) (λ c κs. search needs) (λ c. search needs) (λ c. search needs) (λ c κs. search needs) returns-3)
+parent-right-spec =
+    tie.close (tie.spec (λ c κs. search needs) (λ c κs. search needs) (λ c κs. search needs)
+    stored-size-requires-2 returns stored-size-requires-3 returns-2 stored-hash-requires stored-hash-requires-2 (λ c κs. search needs) (λ c κs. search needs)
+    (λ c. search needs) (λ c. search needs) (λ c κs. search needs) returns-3)

@@ -1,18 +1,23 @@
 -- `audit::tree::start_behind` meets its contract. A leaf moves the start by its length. Assumes nothing.
 use Rattle.audit.proofs.Entries.{behind-leaf, behind-parent}
 use borrow.Author.Needs.{needs}
-use native.Mathlib.Omega.{arith}
 use Rattle.audit.proofs.tree.start_behind.Statement.{statement}
 use Rattle.audit.proofs.tree.start_behind.Tie as tie
 
-add-t7 : tie.Need-add-t7
-add-t7 c = omega (arith, c .before .before .before .before .before .pre .fits (c .before .before .if1 .taken), c .before .stored-size .ensures)
-
 returns : tie.Need-returns
-returns c = let a = c .before .before .before .before .before .args in behind-leaf (a .tree .now) (a .i .0) (a .start .0) (c .before .stored-size .result) (c .before .before .if1 .taken) (c .before .before .before .before .before .pre .here) (c .before .stored-size .ensures)
+returns c =
+    let s = c .before .before .before .before .before in
+    let stored-size = c .before .stored-size in
+    let add-capped = c .add-capped in
+    let if1 = c .before .before .if1 in
+    behind-leaf (s .args .tree .now) (s .args .i .0) (s .args .start .0) (s .pre .here) (stored-size .result) (add-capped .result .0) (if1 .taken) (stored-size .ensures)
+    (add-capped .ensures)
 
 returns-2 : tie.Need-returns-2
-returns-2 c = let a = c .before .before .before .args in behind-parent (a .tree .now) (a .i .0) (a .start .0) (c .if1 .left) (c .before .before .before .pre .here)
+returns-2 c =
+    let s = c .before .before .before in
+    let if1 = c .if1 in
+    behind-parent (s .args .tree .now) (s .args .i .0) (s .args .start .0) (s .pre .here) (if1 .left)
 
 pub start-behind-spec : {M : Type 1} → statement M
-start-behind-spec = tie.close (tie.spec (λ c κs. search needs) add-t7 returns returns-2)
+start-behind-spec = tie.close (tie.spec (λ c κs. search needs) (λ c κs. search needs) returns returns-2)

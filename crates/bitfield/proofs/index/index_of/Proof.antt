@@ -11,14 +11,23 @@ use Rattle.bitfield.proofs.Levels.{levels, length-leaves, length-level}
 use Rattle.bitfield.proofs.index.index_of.Statement.{statement}
 use Rattle.bitfield.proofs.index.index_of.Tie as tie
 
-chain : (d a b c e f g h i : List ℕ) → a ≡ leaves d 128 → b ≡ level a 1 64 → c ≡ level b 2 32 → e ≡ level c 4 16 → f ≡ level e 8 8 → g ≡ level f 16 4 → h ≡ level g 32 2 → i ≡ level h 64 1 → i ≡ indexBytes d
+chain : (d a b c e f g h i : List ℕ) → a ≡ leaves d 128 → b ≡ level a 1 64 → c ≡ level b 2 32 → e ≡ level c 4 16 → f ≡ level e 8 8 → g ≡ level f 16 4 → h ≡ level g 32 2 → i ≡ level
+    h 64 1 → i ≡ indexBytes d
 chain d a b c e f g h i p q r s t u v w =
     w ∙ ap (λ (l : List ℕ). level l 64 1) (v ∙ ap (λ (l : List ℕ). level l 32 2) (u ∙ ap (λ (l : List ℕ). level l 16 4)
     (t ∙ ap (λ (l : List ℕ). level l 8 8) (s ∙ ap (λ (l : List ℕ). level l 4 16) (r ∙ ap (λ (l : List ℕ). level l 2 32)
     (q ∙ ap (λ (l : List ℕ). level l 1 64) p)))))) ∙ levels d
 
 returns : tie.Need-returns
-returns c = chain _ _ _ _ _ _ _ _ _ (c .before .before .before .before .before .before .before .before .before .before .before .before .before .before .leaves-of .ensures) (c .before .before .before .before .before .before .before .before .before .before .before .before .make-level .ensures) (c .before .before .before .before .before .before .before .before .before .before .make-level2 .ensures) (c .before .before .before .before .before .before .before .before .make-level3 .ensures) (c .before .before .before .before .before .before .make-level4 .ensures) (c .before .before .before .before .make-level5 .ensures) (c .before .before .make-level6 .ensures) (c .make-level7 .ensures)
+returns c =
+    let at-make-level5 = c .before .before .before .before in
+    let at-make-level4 = at-make-level5 .before .before in
+    let at-make-level3 = at-make-level4 .before .before in
+    let at-make-level2 = at-make-level3 .before .before in
+    let at-make-level = at-make-level2 .before .before in
+    let at-leaves-of = at-make-level .before .before in
+    chain _ _ _ _ _ _ _ _ _ (at-leaves-of .leaves-of .ensures) (at-make-level .make-level .ensures) (at-make-level2 .make-level2 .ensures) (at-make-level3 .make-level3 .ensures)
+    (at-make-level4 .make-level4 .ensures) (at-make-level5 .make-level5 .ensures) (c .before .before .make-level6 .ensures) (c .make-level7 .ensures)
 
 -- what the level before left is 256 bytes long
 long : (xs l : List ℕ) (half k : ℕ) → l ≡ level xs half k → length l ≡ 256

@@ -28,25 +28,59 @@ loop-holds : tie.Need-loop-holds Inv-loop μ-loop
 loop-holds c = (search needs, omega arith, level-zero (c .args .out .now) (c .args .half) (c .pre .2))
 
 sub-combined-of : tie.Need-sub-combined-of Inv-loop μ-loop
-sub-combined-of c = omega (arith, within (c .before .before .args .half) (c .before .before .args .count) (c .before .loop .k) (c .before .loop .p) (c .before .before .pre .0) (c .before .before .pre .1) (c .loop-test .taken) (c .before .loop .inv .1))
+sub-combined-of c =
+    omega (
+      arith,
+      within (c .before .before .args .half) (c .before .before .args .count) (c .before .loop .k) (c .before .loop .p) (c .before .before .pre .0)
+          (c .before .before .pre .1) (c .loop-test .taken) (c .before .loop .inv .1),
+    )
 
 element-copy-out-combined-of : tie.Need-element-copy-out-combined-of Inv-loop μ-loop
-element-copy-out-combined-of c = omega (arith, within (c .before .before .args .half) (c .before .before .args .count) (c .before .loop .k) (c .before .loop .p) (c .before .before .pre .0) (c .before .before .pre .1) (c .loop-test .taken) (c .before .loop .inv .1))
+element-copy-out-combined-of c =
+    omega (
+      arith,
+      within (c .before .before .args .half) (c .before .before .args .count) (c .before .loop .k) (c .before .loop .p) (c .before .before .pre .0)
+          (c .before .before .pre .1) (c .loop-test .taken) (c .before .loop .inv .1),
+    )
 
 add-combined-of : tie.Need-add-combined-of Inv-loop μ-loop
-add-combined-of c = omega (arith, within (c .before .before .before .args .half) (c .before .before .before .args .count) (c .before .before .loop .k) (c .before .before .loop .p) (c .before .before .before .pre .0) (c .before .before .before .pre .1) (c .before .loop-test .taken) (c .before .before .loop .inv .1))
+add-combined-of c =
+    let start = c .before .before .before in
+    omega (
+      arith,
+      within (start .args .half) (start .args .count) (c .before .before .loop .k) (c .before .before .loop .p) (start .pre .0) (start .pre .1)
+          (c .before .loop-test .taken) (c .before .before .loop .inv .1),
+    )
 
 element-copy-out-combined-of-2 : tie.Need-element-copy-out-combined-of-2 Inv-loop μ-loop
-element-copy-out-combined-of-2 c = omega (arith, within (c .before .before .before .args .half) (c .before .before .before .args .count) (c .before .before .loop .k) (c .before .before .loop .p) (c .before .before .before .pre .0) (c .before .before .before .pre .1) (c .before .loop-test .taken) (c .before .before .loop .inv .1))
+element-copy-out-combined-of-2 c =
+    let start = c .before .before .before in
+    omega (
+      arith,
+      within (start .args .half) (start .args .count) (c .before .before .loop .k) (c .before .before .loop .p) (start .pre .0) (start .pre .1)
+          (c .before .loop-test .taken) (c .before .before .loop .inv .1),
+    )
 
 element-write-out : tie.Need-element-write-out Inv-loop μ-loop
-element-write-out c = omega (arith, within (c .before .before .before .before .before .args .half) (c .before .before .before .before .before .args .count) (c .before .before .before .before .loop .k) (c .before .before .before .before .loop .p) (c .before .before .before .before .before .pre .0) (c .before .before .before .before .before .pre .1) (c .before .before .before .loop-test .taken) (c .before .before .before .before .loop .inv .1))
+element-write-out c =
+    let tested = c .before .before .before in
+    let looped = tested .before in
+    let start = looped .before in
+    omega (arith, within (start .args .half) (start .args .count) (looped .loop .k) (looped .loop .p) (start .pre .0) (start .pre .1) (tested .loop-test .taken) (looped .loop .inv .1))
 
 mul-p-2 : tie.Need-mul-p-2 Inv-loop μ-loop
-mul-p-2 c = omega (arith, within (c .before .before .before .before .before .args .half) (c .before .before .before .before .before .args .count) (c .before .before .before .before .loop .k) (c .before .before .before .before .loop .p) (c .before .before .before .before .before .pre .0) (c .before .before .before .before .before .pre .1) (c .before .before .before .loop-test .taken) (c .before .before .before .before .loop .inv .1))
+mul-p-2 c =
+    let tested = c .before .before .before in
+    let looped = tested .before in
+    let start = looped .before in
+    omega (arith, within (start .args .half) (start .args .count) (looped .loop .k) (looped .loop .p) (start .pre .0) (start .pre .1) (tested .loop-test .taken) (looped .loop .inv .1))
 
 add-p : tie.Need-add-p Inv-loop μ-loop
-add-p c = omega (arith, within (c .before .before .before .before .before .args .half) (c .before .before .before .before .before .args .count) (c .before .before .before .before .loop .k) (c .before .before .before .before .loop .p) (c .before .before .before .before .before .pre .0) (c .before .before .before .before .before .pre .1) (c .before .before .before .loop-test .taken) (c .before .before .before .before .loop .inv .1))
+add-p c =
+    let tested = c .before .before .before in
+    let looped = tested .before in
+    let start = looped .before in
+    omega (arith, within (start .args .half) (start .args .count) (looped .loop .k) (looped .loop .p) (start .pre .0) (start .pre .1) (tested .loop-test .taken) (looped .loop .inv .1))
 
 loop-again : tie.Need-loop-again Inv-loop μ-loop
 loop-again c =

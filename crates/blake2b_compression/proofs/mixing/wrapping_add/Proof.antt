@@ -6,7 +6,8 @@ use Rattle.blake2b_compression.proofs.mixing.wrapping_add.Tie as tie
 
 returns : tie.Need-returns
 returns c =
-    rowed (c .before .before .before .sum2 .ensures) (c .before .before .sum22 .ensures) (c .before .sum23 .ensures) (c .sum24 .ensures)
+    let at-sum2 = c .before .before .before in
+    rowed (at-sum2 .sum2 .ensures) (c .before .before .sum22 .ensures) (c .before .sum23 .ensures) (c .sum24 .ensures)
 
 pub wrapping-add-spec : {M : Type 1} → statement M
 wrapping-add-spec =

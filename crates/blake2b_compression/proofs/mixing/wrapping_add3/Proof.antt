@@ -6,7 +6,8 @@ use Rattle.blake2b_compression.proofs.mixing.wrapping_add3.Tie as tie
 
 returns : tie.Need-returns
 returns c =
-    rowed (c .before .before .before .sum3 .ensures) (c .before .before .sum32 .ensures) (c .before .sum33 .ensures) (c .sum34 .ensures)
+    let at-sum3 = c .before .before .before in
+    rowed (at-sum3 .sum3 .ensures) (c .before .before .sum32 .ensures) (c .before .sum33 .ensures) (c .sum34 .ensures)
 
 pub wrapping-add3-spec : {M : Type 1} → statement M
 wrapping-add3-spec =

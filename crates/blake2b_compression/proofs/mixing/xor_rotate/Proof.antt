@@ -6,7 +6,8 @@ use Rattle.blake2b_compression.proofs.mixing.xor_rotate.Tie as tie
 
 returns : tie.Need-returns
 returns c₄ =
-    let c₃ : _ = c₄ .before .before .before in
+    let start = c₄ .before .before .before in
+    let c₃ : _ = start in
     let c₂ : _ = c₃ .before .before .before in
     let c₁ : _ = c₂ .before .before .before in
     rowed (c₁ .rotate .ensures) (c₂ .rotate2 .ensures) (c₃ .rotate3 .ensures) (c₄ .rotate4 .ensures)

@@ -8,7 +8,8 @@ use Rattle.c_api.proofs.hashing.sleep_flat_hash.Tie as tie
 
 returns : tie.Need-returns
 returns c =
-    let h = c .before .before .before .hash .ensures in
+    let at-hash = c .before .before .before in
+    let h = at-hash .hash .ensures in
     let told = c .give-digest .ensures in
     (told .0 ∙ ap numberOf (h .answers), given-hash _ _ _ _ _ _ (told .1) (h .answers) (h .hashes))
 

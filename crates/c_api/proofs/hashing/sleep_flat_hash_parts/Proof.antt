@@ -10,7 +10,8 @@ use Rattle.c_api.proofs.hashing.sleep_flat_hash_parts.Tie as tie
 
 returns : tie.Need-returns
 returns c =
-    let a = c .before .before .before .before .args in
+    let start = c .before .before .before .before in
+    let a = start .args in
     let e = key-too-long 32 (length (a .key .now)) (omega arith) (omega arith) (omega (arith, c .if1 .taken)) in
     refused-by _ 17 none _ _ e
 

@@ -6,7 +6,8 @@ use Rattle.c_api.proofs.hashing.sleep_flat_label.Tie as tie
 
 returns : tie.Need-returns
 returns c =
-    let l = c .before .before .before .label .ensures in
+    let at-label = c .before .before .before in
+    let l = at-label .label .ensures in
     let told = c .give-hash .ensures in
     (numbered _ _ _ (told .0) (l .answers), given-hash _ _ _ _ _ _ (told .1) (l .answers) (l .bytes))
 

@@ -6,12 +6,14 @@ use Rattle.c_api.proofs.jobs.sleep_flat_needs.Tie as tie
 
 returns : tie.Need-returns
 returns c =
+    let at-needs = c .before .before .before .before in
     let k = c .before .before .said .given in
-    needs-refused _ _ _ _ _ _ (c .before .before .before .before .needs .ensures) (k .0 .0) (k .1) (c .refused .ensures)
+    needs-refused _ _ _ _ _ _ (at-needs .needs .ensures) (k .0 .0) (k .1) (c .refused .ensures)
 
 returns-2 : tie.Need-returns-2
 returns-2 c =
-    needs-done _ _ _ _ _ _ (c .before .before .before .before .needs .ensures) (c .before .before .enum-told .given .1) (c .encode .ensures)
+    let at-needs = c .before .before .before .before in
+    needs-done _ _ _ _ _ _ (at-needs .needs .ensures) (c .before .before .enum-told .given .1) (c .encode .ensures)
 
 pub sleep-flat-needs-spec : {M : Type 1} → statement M
 sleep-flat-needs-spec =

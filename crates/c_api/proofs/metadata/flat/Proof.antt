@@ -6,7 +6,8 @@ use Rattle.c_api.proofs.metadata.flat.Tie as tie
 
 returns : tie.Need-returns
 returns c =
-    let read = c .before .before .before .before .args .read in
+    let start = c .before .before .before .before in
+    let read = start .args .read in
     node-told _ _ (read .answer) _ (read .node) (c .answered .ensures) (c .before .before .encode .ensures) (c .before .flat-node .ensures)
 
 pub flat-spec : {M : Type 1} → statement M

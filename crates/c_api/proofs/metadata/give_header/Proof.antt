@@ -8,7 +8,9 @@ returns : tie.Need-returns
 returns c = let k = c .before .before .read .given in header-none _ (k .0 .0) _ _ (k .1) (c .refused .ensures)
 
 returns-2 : tie.Need-returns-2
-returns-2 c = let k = c .before .before .before .read2 .given in header-given _ (k .0 .0) _ _ (k .1) (c .encode .ensures)
+returns-2 c =
+    let at-read2 = c .before .before .before in
+    let k = at-read2 .read2 .given in header-given _ (k .0 .0) _ _ (k .1) (c .encode .ensures)
 
 pub give-header-spec : {M : Type 1} → statement M
 give-header-spec =

@@ -1,5 +1,5 @@
 -- `c_api::metadata::give_length` meets its contract, by the case of what was written.
-use Rattle.c_api.proofs.Told.{told-refused, told-length}
+use Rattle.c_api.proofs.Told.{told-refused}
 use borrow.Author.Needs.{needs}
 use Rattle.c_api.proofs.metadata.give_length.Statement.{statement}
 use Rattle.c_api.proofs.metadata.give_length.Tie as tie

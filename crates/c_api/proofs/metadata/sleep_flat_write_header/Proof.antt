@@ -5,7 +5,9 @@ use Rattle.c_api.proofs.metadata.sleep_flat_write_header.Statement.{sta
 use Rattle.c_api.proofs.metadata.sleep_flat_write_header.Tie as tie
 
 returns : tie.Need-returns
-returns c = writes _ _ _ _ _ (c .before .before .before .before .write-header .ensures) _ _ _ (c .give-length .ensures)
+returns c =
+    let at-write-header = c .before .before .before .before in
+    writes _ _ _ _ _ (at-write-header .write-header .ensures) _ _ _ (c .give-length .ensures)
 
 pub sleep-flat-write-header-spec : {M : Type 1} → statement M
 sleep-flat-write-header-spec =

@@ -12,25 +12,31 @@ use Rattle.c_api.proofs.packets.sleep_flat_check_packet.Tie as tie
 
 read-be32-requires : tie.Need-read-be32-requires
 read-be32-requires c κs =
-    let a = c .before .before .before .before .args in
+    let start = c .before .before .before .before in
+    let a = start .args in
     passed-shape nodeHash (a .packet .now) (a .n) (a .chunk) (a .root .now)
     (sym (ap said (c .enum-told .given .1)) ∙ c .before .before .check-answer .ensures) .front
 
 returns : tie.Need-returns
 returns c =
+    let at-check-answer = c .before .before .before .before in
+    let start = at-check-answer .before .before in
     let k = c .before .before .said .given in
-    let a = c .before .before .before .before .before .before .args in
+    let a = start .args in
     gives-refused _ (k .0 .0) _ _ (c .refused .ensures)
     (packet-refused (a .packet .now) (a .n) (a .chunk) (a .root .now) (k .0 .0)
-    (sym (ap said (k .1)) ∙ c .before .before .before .before .check-answer .ensures))
+    (sym (ap said (k .1)) ∙ at-check-answer .check-answer .ensures))
 
 returns-2 : tie.Need-returns-2
 unfolding chunkLength
 returns-2 c =
-    let a = c .before .before .before .before .before .before .before .args in
+    let at-enum-told = c .before .before .before in
+    let at-check-answer = at-enum-told .before .before in
+    let start = at-check-answer .before .before in
+    let a = start .args in
     gives-found _ _ _ _ _ (c .encode .ensures)
     (packet-found (a .packet .now) (a .n) (a .chunk) (a .root .now) _ (c .before .before .read-be32 .ensures)
-    (sym (ap said (c .before .before .before .enum-told .given .1)) ∙ c .before .before .before .before .before .check-answer .ensures))
+    (sym (ap said (at-enum-told .enum-told .given .1)) ∙ at-check-answer .check-answer .ensures))
 
 pub sleep-flat-check-packet-spec : {M : Type 1} → statement M
 sleep-flat-check-packet-spec =

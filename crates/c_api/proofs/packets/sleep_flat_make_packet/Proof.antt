@@ -6,8 +6,9 @@ use Rattle.c_api.proofs.packets.sleep_flat_make_packet.Tie as tie
 
 returns : tie.Need-returns
 returns c =
+    let at-make = c .before .before .before .before in
     let told = c .give-length .ensures in
-    makes _ _ _ _ _ _ _ _ (c .before .before .before .before .make .ensures) (told .0) (told .1)
+    makes _ _ _ _ _ _ _ _ (at-make .make .ensures) (told .0) (told .1)
 
 pub sleep-flat-make-packet-spec : {M : Type 1} → statement M
 sleep-flat-make-packet-spec =

@@ -6,7 +6,8 @@ use Rattle.c_api.proofs.partial.sleep_flat_copy_old_root.Tie as tie
 
 returns : tie.Need-returns
 returns c =
-    let p = c .before .before .before .prefix-root-hash .ensures in
+    let at-prefix-root-hash = c .before .before .before in
+    let p = at-prefix-root-hash .prefix-root-hash .ensures in
     (coded _ _ _ (c .give-hash .ensures .0) (p .answer), given-hash _ _ _ _ _ _ (c .give-hash .ensures .1) (p .answer) (p .root))
 
 pub sleep-flat-copy-old-root-spec : {M : Type 1} → statement M

@@ -6,7 +6,8 @@ use Rattle.c_api.proofs.partial.sleep_flat_copy_root_hash.Tie as tie
 
 returns : tie.Need-returns
 returns c =
-    let p = c .before .before .before .root-hash .ensures in
+    let at-root-hash = c .before .before .before in
+    let p = at-root-hash .root-hash .ensures in
     (coded _ _ _ (c .give-hash .ensures .0) (p .answer), given-hash _ _ _ _ _ _ (c .give-hash .ensures .1) (p .answer) (p .root))
 
 pub sleep-flat-copy-root-hash-spec : {M : Type 1} → statement M

@@ -6,7 +6,8 @@ use Rattle.c_api.proofs.partial.sleep_flat_make_copy.Tie as tie
 
 returns : tie.Need-returns
 returns c =
-    let made = c .before .before .before .before .before .before .before .make-copy .ensures in
+    let at-make-copy = c .before .before .before .before .before .before .before in
+    let made = at-make-copy .make-copy .ensures in
     (coded _ _ _ (c .encode .ensures) (made .answer), made .files)
 
 pub sleep-flat-make-copy-spec : {M : Type 1} → statement M

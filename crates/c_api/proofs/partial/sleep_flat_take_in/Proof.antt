@@ -6,7 +6,8 @@ use Rattle.c_api.proofs.partial.sleep_flat_take_in.Tie as tie
 
 returns : tie.Need-returns
 returns c =
-    let taken = c .before .before .before .before .before .before .before .take-in .ensures in
+    let at-take-in = c .before .before .before .before .before .before .before in
+    let taken = at-take-in .take-in .ensures in
     (coded _ _ _ (c .encode .ensures) (taken .answer), taken .files)
 
 pub sleep-flat-take-in-spec : {M : Type 1} → statement M

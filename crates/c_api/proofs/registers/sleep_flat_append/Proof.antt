@@ -6,7 +6,8 @@ use Rattle.c_api.proofs.registers.sleep_flat_append.Tie as tie
 
 returns : tie.Need-returns
 returns c =
-    let p = c .before .before .before .before .before .before .before .before .before .append .ensures in (
+    let at-append = c .before .before .before .before .before .before .before .before .before in
+    let p = at-append .append .ensures in (
       coded _ _ _ (c .give-hash .ensures .0) (p .answer),
       (given-hash _ _ _ _ _ _ (c .give-hash .ensures .1) (p .answer) (p .root), p .buffers),
     )

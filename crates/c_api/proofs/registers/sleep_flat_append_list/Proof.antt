@@ -6,7 +6,8 @@ use Rattle.c_api.proofs.registers.sleep_flat_append_list.Tie as tie
 
 returns : tie.Need-returns
 returns c =
-    let p = c .before .before .before .before .before .before .before .before .before .before .before .append-list .ensures in (
+    let at-append-list = c .before .before .before .before .before .before .before .before .before .before .before in
+    let p = at-append-list .append-list .ensures in (
       coded _ _ _ (c .give-hash .ensures .0) (p .answer),
       (given-hash _ _ _ _ _ _ (c .give-hash .ensures .1) (p .answer) (p .root), p .buffers),
     )

@@ -6,7 +6,8 @@ use Rattle.c_api.proofs.registers.sleep_flat_old_root.Tie as tie
 
 returns : tie.Need-returns
 returns c =
-    let p = c .before .before .before .prefix-root .ensures in (
+    let at-prefix-root = c .before .before .before in
+    let p = at-prefix-root .prefix-root .ensures in (
       coded _ _ _ (c .give-hash .ensures .0) (p .answer),
       given-hash _ _ _ _ _ _ (c .give-hash .ensures .1) (p .answer) (p .root),
     )

@@ -6,7 +6,8 @@ use Rattle.c_api.proofs.registers.sleep_flat_preview.Tie as tie
 
 returns : tie.Need-returns
 returns c =
-    let p = c .before .before .before .preview .ensures in (
+    let at-preview = c .before .before .before in
+    let p = at-preview .preview .ensures in (
       coded _ _ _ (c .give-hash .ensures .0) (p .answer),
       given-hash _ _ _ _ _ _ (c .give-hash .ensures .1) (p .answer) (p .root),
     )

@@ -6,7 +6,8 @@ use Rattle.c_api.proofs.registers.sleep_flat_release.Tie as tie
 
 returns : tie.Need-returns
 returns c =
-    let made = c .before .before .before .before .before .release .ensures in
+    let at-release = c .before .before .before .before .before in
+    let made = at-release .release .ensures in
     (coded _ _ _ (c .encode .ensures) (made .answer), made .buffers)
 
 pub sleep-flat-release-spec : {M : Type 1} → statement M

@@ -5,7 +5,9 @@ use Rattle.c_api.proofs.registers.sleep_flat_start.Statement.{statement
 use Rattle.c_api.proofs.registers.sleep_flat_start.Tie as tie
 
 returns : tie.Need-returns
-returns c = (coded _ _ _ (c .encode .ensures) (c .before .before .before .before .before .before .before .start .ensures .answer), c .before .before .before .before .before .before .before .start .ensures .buffers)
+returns c =
+    let at-start = c .before .before .before .before .before .before .before in
+    (coded _ _ _ (c .encode .ensures) (at-start .start .ensures .answer), at-start .start .ensures .buffers)
 
 pub sleep-flat-start-spec : {M : Type 1} → statement M
 sleep-flat-start-spec =

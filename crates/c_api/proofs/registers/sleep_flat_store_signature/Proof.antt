@@ -5,7 +5,9 @@ use Rattle.c_api.proofs.registers.sleep_flat_store_signature.Statement.
 use Rattle.c_api.proofs.registers.sleep_flat_store_signature.Tie as tie
 
 returns : tie.Need-returns
-returns c = (coded _ _ _ (c .encode .ensures) (c .before .before .before .store-signature .ensures .answer), c .before .before .before .store-signature .ensures .buffers)
+returns c =
+    let at-store-signature = c .before .before .before in
+    (coded _ _ _ (c .encode .ensures) (at-store-signature .store-signature .ensures .answer), at-store-signature .store-signature .ensures .buffers)
 
 pub sleep-flat-store-signature-spec : {M : Type 1} → statement M
 sleep-flat-store-signature-spec =

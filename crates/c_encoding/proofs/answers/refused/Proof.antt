@@ -8,10 +8,14 @@ returns : tie.Need-returns
 returns c = placed (c .before .before .args .refusal .number) _ _ (c .enum-told .given .1)
 
 returns-2 : tie.Need-returns-2
-returns-2 c = placed (c .before .before .before .args .refusal .number) _ _ (c .before .place .given .1)
+returns-2 c =
+    let start = c .before .before .before in
+    placed (start .args .refusal .number) _ _ (c .before .place .given .1)
 
 returns-3 : tie.Need-returns-3
-returns-3 c = placed (c .before .before .before .args .refusal .number) _ _ (c .before .place2 .given .1)
+returns-3 c =
+    let start = c .before .before .before in
+    placed (start .args .refusal .number) _ _ (c .before .place2 .given .1)
 
 pub refused-spec : {M : Type 1} → statement M
 refused-spec =

@@ -13,7 +13,8 @@ returns c =
 
 returns-2 : tie.Need-returns-2
 returns-2 c =
-    let k = c .before .before .before .found2 .given in
+    let at-found2 = c .before .before .before in
+    let k = at-found2 .found2 .given in
     gives-found _ (k .0 .0 .0) (k .0 .1 .0) _ _ (c .encode .ensures) (sym (ap locatedOf (k .1)))
 
 pub give-byte-spec : {M : Type 1} → statement M

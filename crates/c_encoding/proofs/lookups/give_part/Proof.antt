@@ -19,7 +19,8 @@ returns c =
 
 returns-2 : tie.Need-returns-2
 returns-2 c =
-    let k = c .before .before .before .before .before .found2 .given in
+    let at-found2 = c .before .before .before .before .before in
+    let k = at-found2 .found2 .given in
     gives-found _ _ _ _ _ (c .encode .ensures) (ap asPart (sym (ap verifiedOf (k .1))))
 
 pub give-part-spec : {M : Type 1} → statement M

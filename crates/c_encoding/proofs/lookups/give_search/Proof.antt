@@ -14,7 +14,8 @@ returns c =
 
 returns-2 : tie.Need-returns-2
 returns-2 c =
-    let k = c .before .before .before .found2 .given in
+    let at-found2 = c .before .before .before in
+    let k = at-found2 .found2 .given in
     gives-found _ 1 (k .0 .0 .0) _ _ (c .encode .ensures) (ap asFound (sym (ap searchedOf (k .1))))
 
 returns-3 : tie.Need-returns-3

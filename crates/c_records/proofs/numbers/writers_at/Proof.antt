@@ -9,10 +9,13 @@ use Rattle.c_records.proofs.numbers.writers_at.Tie as tie
 returns : tie.Need-returns
 unfolding writersAt
 returns c =
-    let b = c .before .before .before .before in
+    let at-writer-at5 = c .before .before .before in
+    let b = at-writer-at5 .before in
     eight (λ j. writerAt (b .before .before .before .before .args .d .now) (25 + 5 * j))
     (b .before .before .before .writer-at .ensures) (b .before .before .writer-at2 .ensures) (b .before .writer-at3 .ensures) (b .writer-at4 .ensures)
-    (c .before .before .before .writer-at5 .ensures) (c .before .before .writer-at6 .ensures) (c .before .writer-at7 .ensures) (c .writer-at8 .ensures)
+    (at-writer-at5 .writer-at5 .ensures) (c .before .before .writer-at6 .ensures) (c .before .writer-at7 .ensures) (c .writer-at8 .ensures)
 
 pub writers-at-spec : {M : Type 1} → statement M
-writers-at-spec = tie.close (tie.spec (λ c κs. search needs) (λ c κs. search needs) (λ c κs. search needs) (λ c κs. search needs) (λ c κs. search needs) (λ c κs. search needs) (λ c κs. search needs) (λ c κs. search needs) returns)
+writers-at-spec =
+    tie.close (tie.spec (λ c κs. search needs) (λ c κs. search needs) (λ c κs. search needs) (λ c κs. search needs) (λ c κs. search needs) (λ c κs. search needs)
+    (λ c κs. search needs) (λ c κs. search needs) returns)

@@ -1,13 +1,24 @@
--- `compare::messages::same_chunk` meets its contract.  Assumes nothing.
-use Prim.Native.Nat.{_+_, _-_}
-use Rattle.compare.proofs.Same.{chunk-parts}
+-- `compare::messages::same_chunk` meets its contract. Assumes nothing.
+use mathlib.Core.Path.{ap, ap₂, _∙_}
 use borrow.Author.Needs.{needs}
-use native.Mathlib.Omega.{arith}
+use Rattle.byte_strings.specs.Lists.{sameList, part}
 use Rattle.compare.proofs.messages.same_chunk.Statement.{statement}
 use Rattle.compare.proofs.messages.same_chunk.Tie as tie
 
 returns : tie.Need-returns
-returns c = let a = c .before .before .before .before .before .before .before .before .before .args in let x = c .before .before .before .before .stored-size .result in let y = c .before .before .before .stored-size2 .result in chunk-parts (a .tree .now) (a .content .now) (a .tree2 .now) (a .content2 .now) (a .i .0) (a .start .0) (a .start2 .0) x y (a .start .0 + x - a .start .0) (a .start2 .0 + y - a .start2 .0) (c .same .result) (c .before .before .before .before .stored-size .ensures) (c .before .before .before .stored-size2 .ensures) (omega arith) (omega arith) (c .same .ensures)
+returns c =
+    let at-stored-size2 = c .before .before .before in
+    let at-stored-size = at-stored-size2 .before in
+    let s = at-stored-size .before .before .before .before .before in
+    let same = c .same in
+    let bytes-from = c .before .before .bytes-from in
+    let stored-size = at-stored-size .stored-size in
+    let bytes-from2 = c .before .bytes-from2 in
+    let stored-size2 = at-stored-size2 .stored-size2 in
+    let a = s .args in
+    same .ensures
+    ∙ ap₂ sameList (bytes-from .ensures ∙ ap (part (a .content .now) (a .start .0)) (stored-size .ensures))
+    (bytes-from2 .ensures ∙ ap (part (a .content2 .now) (a .start2 .0)) (stored-size2 .ensures))
 
 pub same-chunk-spec : {M : Type 1} → statement M
-same-chunk-spec = tie.close (tie.spec (λ c κs. search needs) (λ c κs. search needs) (λ c. search needs) (λ c. search needs) (λ c. search needs) (λ c. search needs) (λ c. search needs) (λ c. search needs) (λ c. search needs) (λ c. search needs) (λ c κs. search needs) returns)
+same-chunk-spec = tie.close (tie.spec (λ c κs. search needs) (λ c κs. search needs) (λ c κs. search needs) (λ c κs. search needs) (λ c κs. search needs) returns)

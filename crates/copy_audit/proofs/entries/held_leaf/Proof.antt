@@ -6,17 +6,22 @@ use Rattle.copy_audit.proofs.entries.held_leaf.Tie as tie
 
 is-held-requires : tie.Need-is-held-requires
 is-held-requires c κs =
-    let a = c .before .before .before .before .args in
-    let p = c .before .before .before .before .pre in
-    chunk-bit (a .bitfield .now) (a .n) (c .chunk-of-leaf .result .0) (p .field) (leaf-chunk (a .n) (a .i .0) (c .chunk-of-leaf .result .0) (p .entry) (c .before .if1 .taken) (c .chunk-of-leaf .ensures))
+    let start = c .before .before .before .before in
+    let a = start .args in
+    let p = start .pre in
+    chunk-bit (a .bitfield .now) (a .n) (c .chunk-of-leaf .result .0) (p .field)
+    (leaf-chunk (a .n) (a .i .0) (c .chunk-of-leaf .result .0) (p .entry) (c .before .if1 .taken) (c .chunk-of-leaf .ensures))
 
 returns : tie.Need-returns
 returns c =
-    let a = c .before .before .before .before .before .args in
+    let start = c .before .before .before .before .before in
+    let a = start .args in
     held-even (a .bitfield .now) (a .i .0) (c .before .chunk-of-leaf .result .0) (c .is-held .result) (c .before .before .if1 .taken) (c .before .chunk-of-leaf .ensures) (c .is-held .ensures)
 
 returns-2 : tie.Need-returns-2
-returns-2 c = let a = c .before .before .before .args in held-odd (a .bitfield .now) (a .i .0) (c .if1 .left)
+returns-2 c =
+    let start = c .before .before .before in
+    let a = start .args in held-odd (a .bitfield .now) (a .i .0) (c .if1 .left)
 
 pub held-leaf-spec : {M : Type 1} → statement M
 held-leaf-spec = tie.close (tie.spec (λ c κs. search needs) is-held-requires returns returns-2)

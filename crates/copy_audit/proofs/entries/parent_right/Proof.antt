@@ -17,8 +17,9 @@ is-known-requires c κs =
 
 returns : tie.Need-returns
 returns c =
-    let s = c .before .before .before .before .before .before in
-    left-unknown _ _ _ (ap (storedKnown (s .args .bitfield .now)) (sym (c .before .before .before .left-child .ensures)) ∙ sym (c .before .is-known .ensures) ∙ not-true _ (c .if1 .taken))
+    let at-left-child = c .before .before .before in
+    let s = at-left-child .before .before .before in
+    left-unknown _ _ _ (ap (storedKnown (s .args .bitfield .now)) (sym (at-left-child .left-child .ensures)) ∙ sym (c .before .is-known .ensures) ∙ not-true _ (c .if1 .taken))
 
 is-known-requires-2 : tie.Need-is-known-requires-2
 is-known-requires-2 c κs =
@@ -27,15 +28,24 @@ is-known-requires-2 c κs =
 
 returns-2 : tie.Need-returns-2
 returns-2 c =
-    let s = c .before .before .before .before .before .before .before .before in
-    right-unknown _ _ _ (ap (storedKnown (s .args .bitfield .now)) (sym (c .before .before .before .before .before .left-child .ensures)) ∙ sym (c .before .before .before .is-known .ensures) ∙ not-false _ (c .before .before .if1 .left))
-    (ap (storedKnown (s .args .bitfield .now)) (sym (c .before .before .before .before .right-child .ensures)) ∙ sym (c .before .is-known2 .ensures) ∙ not-true _ (c .if2 .taken))
+    let at-is-known = c .before .before .before in
+    let at-right-child = at-is-known .before in
+    let at-left-child = at-right-child .before in
+    let s = at-left-child .before .before .before in
+    right-unknown _ _ _ (ap (storedKnown (s .args .bitfield .now)) (sym (at-left-child .left-child .ensures)) ∙ sym (at-is-known .is-known .ensures) ∙ not-false _ (c .before .before .if1 .left))
+    (ap (storedKnown (s .args .bitfield .now)) (sym (at-right-child .right-child .ensures)) ∙ sym (c .before .is-known2 .ensures) ∙ not-true _ (c .if2 .taken))
 
 returns-3 : tie.Need-returns-3
 returns-3 c =
-    let s = c .before .before .before .before .before .before .before .before .before in
-    both-known _ _ _ (c .parent-right .result) (ap (storedKnown (s .args .bitfield .now)) (sym (c .before .before .before .before .before .before .left-child .ensures)) ∙ sym (c .before .before .before .before .is-known .ensures) ∙ not-false _ (c .before .before .before .if1 .left))
-    (ap (storedKnown (s .args .bitfield .now)) (sym (c .before .before .before .before .before .right-child .ensures)) ∙ sym (c .before .before .is-known2 .ensures) ∙ not-false _ (c .before .if2 .left)) (c .parent-right .ensures)
+    let branch1 = c .before .before .before in
+    let at-is-known = branch1 .before in
+    let at-right-child = at-is-known .before in
+    let at-left-child = at-right-child .before in
+    let s = at-left-child .before .before .before in
+    both-known _ _ _ (c .parent-right .result)
+    (ap (storedKnown (s .args .bitfield .now)) (sym (at-left-child .left-child .ensures)) ∙ sym (at-is-known .is-known .ensures) ∙ not-false _ (branch1 .if1 .left))
+    (ap (storedKnown (s .args .bitfield .now)) (sym (at-right-child .right-child .ensures)) ∙ sym (c .before .before .is-known2 .ensures) ∙ not-false _ (c .before .if2 .left))
+    (c .parent-right .ensures)
 
 pub parent-right-spec : {M : Type 1} → statement M
 parent-right-spec =

@@ -15,15 +15,21 @@ abbrev given : (c : tie.Start) → Copy
 given c = copyOf (c .args .tree .now) (c .args .bitfield .now) (c .args .content .now) (c .args .n) (c .args .size)
 
 is-filled-requires : tie.Need-is-filled-requires
-is-filled-requires c κs = let s = c .before .before .before in entry-in (s .args .tree .now) (s .args .n) (s .args .i .0) (s .pre .0 .nodes) (s .pre .1) .small
+is-filled-requires c κs =
+    let start = c .before .before .before in
+    let s = start in entry-in (s .args .tree .now) (s .args .n) (s .args .i .0) (s .pre .0 .nodes) (s .pre .1) .small
 
 hole-right-requires : tie.Need-hole-right-requires
-hole-right-requires c κs = let s = c .before .before .before .before .before in entry-in (s .args .tree .now) (s .args .n) (s .args .i .0) (s .pre .0 .nodes) (s .pre .1)
+hole-right-requires c κs =
+    let start = c .before .before .before .before .before in
+    let s = start in entry-in (s .args .tree .now) (s .args .n) (s .args .i .0) (s .pre .0 .nodes) (s .pre .1)
 
 returns : tie.Need-returns
 returns c =
-    let s = c .before .before .before .before .before .before .before in
-    by-hole nodeHash (given s) (s .args .i .0) (c .before .hole-right .result) (foundOf (c .wrong-unless .result)) (sym (c .before .before .before .is-filled .ensures) ∙ not-true _ (c .before .before .if1 .taken)) (c .before .hole-right .ensures) (c .wrong-unless .ensures)
+    let at-is-filled = c .before .before .before in
+    let s = at-is-filled .before .before .before .before in
+    by-hole nodeHash (given s) (s .args .i .0) (c .before .hole-right .result) (foundOf (c .wrong-unless .result))
+    (sym (at-is-filled .is-filled .ensures) ∙ not-true _ (c .before .before .if1 .taken)) (c .before .hole-right .ensures) (c .wrong-unless .ensures)
 
 is-known-requires : tie.Need-is-known-requires
 is-known-requires c κs =
@@ -32,14 +38,20 @@ is-known-requires c κs =
 
 unknown-right-requires : tie.Need-unknown-right-requires
 unknown-right-requires c κs =
-    let s = c .before .before .before .before .before .before .before in
-    (entry-in (s .args .tree .now) (s .args .n) (s .args .i .0) (s .pre .0 .nodes) (s .pre .1), node-at (s .args .tree .now) (s .args .bitfield .now) (s .args .content .now) (s .args .n) (s .args .size) (s .pre .0) (s .args .i .0) (s .pre .1))
+    let s = c .before .before .before .before .before .before .before in (
+      entry-in (s .args .tree .now) (s .args .n) (s .args .i .0) (s .pre .0 .nodes) (s .pre .1),
+      node-at (s .args .tree .now) (s .args .bitfield .now) (s .args .content .now)
+          (s .args .n) (s .args .size) (s .pre .0) (s .args .i .0) (s .pre .1),
+    )
 
 returns-2 : tie.Need-returns-2
 returns-2 c =
-    let s = c .before .before .before .before .before .before .before .before .before in
-    by-unknown nodeHash (given s) (s .args .i .0) (c .before .unknown-right .result) (foundOf (c .wrong-unless2 .result)) (sym (c .before .before .before .before .before .is-filled .ensures) ∙ not-false _ (c .before .before .before .before .if1 .left))
-    (sym (c .before .before .before .is-known .ensures) ∙ not-true _ (c .before .before .if2 .taken)) (c .before .unknown-right .ensures) (c .wrong-unless2 .ensures)
+    let at-is-known = c .before .before .before in
+    let branch1 = at-is-known .before in
+    let at-is-filled = branch1 .before in
+    let s = at-is-filled .before .before .before .before in
+    by-unknown nodeHash (given s) (s .args .i .0) (c .before .unknown-right .result) (foundOf (c .wrong-unless2 .result)) (sym (at-is-filled .is-filled .ensures) ∙ not-false _ (branch1 .if1 .left))
+    (sym (at-is-known .is-known .ensures) ∙ not-true _ (c .before .before .if2 .taken)) (c .before .unknown-right .ensures) (c .wrong-unless2 .ensures)
 
 wrong-by-leaf-requires : tie.Need-wrong-by-leaf-requires
 wrong-by-leaf-requires c κs =
@@ -48,19 +60,30 @@ wrong-by-leaf-requires c κs =
 
 returns-3 : tie.Need-returns-3
 returns-3 c =
-    let s = c .before .before .before .before .before .before .before .before .before .before .before in
-    by-leaf nodeHash (given s) (s .args .i .0) (sym (c .before .before .before .before .before .before .before .is-filled .ensures) ∙ not-false _ (c .before .before .before .before .before .before .if1 .left)) (sym (c .before .before .before .before .before .is-known .ensures) ∙ not-false _ (c .before .before .before .before .if2 .left))
+    let branch2 = c .before .before .before .before in
+    let at-is-known = branch2 .before in
+    let branch1 = at-is-known .before in
+    let at-is-filled = branch1 .before in
+    let s = at-is-filled .before .before .before .before in
+    by-leaf nodeHash (given s) (s .args .i .0) (sym (at-is-filled .is-filled .ensures) ∙ not-false _ (branch1 .if1 .left)) (sym (at-is-known .is-known .ensures) ∙ not-false _ (branch2 .if2 .left))
     (c .before .chunk-of-leaf .result .0) (foundOf (c .wrong-by-leaf .result)) (c .before .before .if3 .taken) (c .before .chunk-of-leaf .ensures) (c .wrong-by-leaf .ensures)
 
 parent-right-requires : tie.Need-parent-right-requires
 parent-right-requires c κs =
-    let s = c .before .before .before .before .before .before .before .before .before in
-    family-at (s .args .tree .now) (s .args .bitfield .now) (s .args .content .now) (s .args .n) (s .args .size) (s .pre .0) (s .args .i .0) (c .if3 .left) (sym (c .before .before .before .before .before .is-filled .ensures) ∙ not-false _ (c .before .before .before .before .if1 .left))
+    let branch1 = c .before .before .before .before in
+    let at-is-filled = branch1 .before in
+    let s = at-is-filled .before .before .before .before in
+    family-at (s .args .tree .now) (s .args .bitfield .now) (s .args .content .now) (s .args .n) (s .args .size) (s .pre .0) (s .args .i .0) (c .if3 .left)
+    (sym (at-is-filled .is-filled .ensures) ∙ not-false _ (branch1 .if1 .left))
 
 returns-4 : tie.Need-returns-4
 returns-4 c =
-    let s = c .before .before .before .before .before .before .before .before .before .before .before in
-    by-parent nodeHash (given s) (s .args .i .0) (sym (c .before .before .before .before .before .before .before .is-filled .ensures) ∙ not-false _ (c .before .before .before .before .before .before .if1 .left)) (sym (c .before .before .before .before .before .is-known .ensures) ∙ not-false _ (c .before .before .before .before .if2 .left))
+    let branch2 = c .before .before .before .before in
+    let at-is-known = branch2 .before in
+    let branch1 = at-is-known .before in
+    let at-is-filled = branch1 .before in
+    let s = at-is-filled .before .before .before .before in
+    by-parent nodeHash (given s) (s .args .i .0) (sym (at-is-filled .is-filled .ensures) ∙ not-false _ (branch1 .if1 .left)) (sym (at-is-known .is-known .ensures) ∙ not-false _ (branch2 .if2 .left))
     (c .before .parent-right .result) (foundOf (c .wrong-unless3 .result)) (c .before .before .if3 .left) (c .before .parent-right .ensures) (c .wrong-unless3 .ensures)
 
 pub wrong-by-spec : {M : Type 1} → statement M

@@ -14,42 +14,52 @@ abbrev given : (c : tie.Start) → Copy
 given c = copyOf (c .args .tree .now) (c .args .bitfield .now) (c .args .content .now) (c .args .n) (c .args .size)
 
 leaf-index-requires : tie.Need-leaf-index-requires
-leaf-index-requires c κs = omega (arith, c .before .before .before .pre .chunk, c .before .before .before .pre .files .nodes .count)
+leaf-index-requires c κs =
+    let entered = c .before .before .before in
+    omega (arith, entered .pre .chunk, entered .pre .files .nodes .count)
 
 from-roots-requires : tie.Need-from-roots-requires
 from-roots-requires c κs =
-    let p = c .before .before .before .before .pre .files in
+    let entered = c .before .before .before .before in
+    let p = entered .pre .files in
     record { roots = p .nodes; bitfield = λ _. p .field .inside }
 
 leaf-right-requires : tie.Need-leaf-right-requires
-leaf-right-requires c κs = c .before .before .before .before .before .before .before .before .pre
+leaf-right-requires c κs =
+    let entered = c .before .before .before .before .before .before .before .before in
+    entered .pre
 
 returns : tie.Need-returns
 unfolding copyToChunk
 returns c =
-    let s = c .before .before .before .before .before .before .before .before in
+    let at-from-roots = c .before .before .before in
+    let s = at-from-roots .before .before .before .before .before in
     let q = c .before .i .given in
     leaf-stopped nodeHash (given s) (s .args .c .0) (omega (arith, s .good .1 .1 .0 .1, s .pre .files .bytes)) (q .0 .0 .0)
-    (sym (ap endingOf (q .1)) ∙ c .before .before .before .from-roots .ensures)
+    (sym (ap endingOf (q .1)) ∙ at-from-roots .from-roots .ensures)
 
 returns-2 : tie.Need-returns-2
 unfolding copyToChunk
 returns-2 c =
-    let s = c .before .before .before .before .before .before .before in
+    let at-leaf-index = c .before .before .before in
+    let s = at-leaf-index .before .before .before .before in
     let q = c .enum-told .given in
-    let l = c .before .before .before .leaf-index in
+    let l = at-leaf-index .leaf-index in
     leaf-unknown nodeHash (given s) (s .args .c .0) (omega (arith, s .good .1 .1 .0 .1, s .pre .files .bytes)) (q .0 .0 .0) (l .result .0)
     (sym (ap endingOf (q .1)) ∙ c .before .before .from-roots .ensures) (l .ensures)
 
 returns-3 : tie.Need-returns-3
 unfolding copyToChunk
 returns-3 c =
-    let s = c .before .before .before .before .before .before .before .before .before .before in
-    let q = c .before .before .before .start .given in
-    let l = c .before .before .before .before .before .before .leaf-index in
+    let at-start = c .before .before .before in
+    let at-from-roots = at-start .before .before in
+    let at-leaf-index = at-from-roots .before in
+    let s = at-leaf-index .before .before .before .before in
+    let q = at-start .start .given in
+    let l = at-leaf-index .leaf-index in
     c .wrong-unless .ensures
     ∙ leaf-reached nodeHash (given s) (s .args .c .0) (omega (arith, s .good .1 .1 .0 .1, s .pre .files .bytes)) (q .0 .0 .0) (q .0 .1 .0 .0) (l .result .0)
-    (c .before .leaf-right .result) (sym (ap endingOf (q .1)) ∙ c .before .before .before .before .before .from-roots .ensures) (l .ensures) (c .before .leaf-right .ensures)
+    (c .before .leaf-right .result) (sym (ap endingOf (q .1)) ∙ at-from-roots .from-roots .ensures) (l .ensures) (c .before .leaf-right .ensures)
 
 pub wrong-by-leaf-spec : {M : Type 1} → statement M
 wrong-by-leaf-spec =

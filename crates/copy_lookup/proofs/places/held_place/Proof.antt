@@ -21,14 +21,16 @@ held-place-in-requires c κs =
 
 returns : tie.Need-returns
 returns c =
-    let s = c .before .before .before .before .before .before .before in
+    let at-judge = c .before .before .before in
+    let s = at-judge .before .before .before .before in
     let q = c .before .refusal .given in
-    held-refused (given s) (s .args .chunk .0) (q .0 .0 .number) (spotOf (q .0 .0 .place)) (sym (ap said (q .1)) ∙ c .before .before .before .judge .ensures)
+    held-refused (given s) (s .args .chunk .0) (q .0 .0 .number) (spotOf (q .0 .0 .place)) (sym (ap said (q .1)) ∙ at-judge .judge .ensures)
 
 returns-2 : tie.Need-returns-2
 returns-2 c =
-    let s = c .before .before .before .before .before .before .before in
-    c .held-place-in .ensures ∙ held-passed (given s) (s .args .chunk .0) (sym (ap said (c .before .enum-told .given .1)) ∙ c .before .before .before .judge .ensures)
+    let at-judge = c .before .before .before in
+    let s = at-judge .before .before .before .before in
+    c .held-place-in .ensures ∙ held-passed (given s) (s .args .chunk .0) (sym (ap said (c .before .enum-told .given .1)) ∙ at-judge .judge .ensures)
 
 pub held-place-spec : {M : Type 1} → statement M
 held-place-spec =

@@ -13,18 +13,23 @@ abbrev given : (c : tie.Start) → Copy
 given c = copyOf (c .args .tree .now) (c .args .bitfield .now) (c .args .content .now) (c .args .n) (c .args .size)
 
 -- where the part lies
-lies : (c : tie.After-known-told) → Read nodeHash (given (c .before .before .before .before .before .before .before)) (c .before .before .before .before .before .before .before .args .chunk .0) (c .before .start .given .0 .0 .0) (c .before .start .given .0 .1 .0 .0)
+lies : (c : tie.After-known-told) → Read nodeHash (given (c .before .before .before .before .before .before .before))
+    (c .before .before .before .before .before .before .before .args .chunk .0) (c .before .start .given .0 .0 .0) (c .before .start .given .0 .1 .0 .0)
 lies c =
+    let at-verify = c .before .before .before in
+    let start = at-verify .before .before .before .before in
     let k = c .before .start .given in
-    copy-lying nodeHash (given (c .before .before .before .before .before .before .before)) (c .before .before .before .before .before .before .before .args .chunk .0) (k .0 .0 .0) (k .0 .1 .0 .0) (sym (ap verifiedOf (k .1)) ∙ c .before .before .before .verify .ensures)
+    copy-lying nodeHash (given start) (start .args .chunk .0) (k .0 .0 .0) (k .0 .1 .0 .0) (sym (ap verifiedOf (k .1)) ∙ at-verify .verify .ensures)
 
 returns : tie.Need-returns
 returns c = lies (c .before) .same
 
 returns-2 : tie.Need-returns-2
 returns-2 c =
+    let at-verify = c .before .before .before in
+    let start = at-verify .before .before .before .before in
     let k = c .before .enum-told .given in
-    copy-nothing nodeHash (given (c .before .before .before .before .before .before .before)) (c .before .before .before .before .before .before .before .args .chunk .0) (k .0 .0 .number) (spotOf (k .0 .0 .place)) (sym (ap verifiedOf (k .1)) ∙ c .before .before .before .verify .ensures) .1
+    copy-nothing nodeHash (given start) (start .args .chunk .0) (k .0 .0 .number) (spotOf (k .0 .0 .place)) (sym (ap verifiedOf (k .1)) ∙ at-verify .verify .ensures) .1
 
 pub read-spec : {M : Type 1} → statement M
 read-spec =

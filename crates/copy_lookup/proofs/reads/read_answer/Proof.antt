@@ -14,13 +14,16 @@ given c = copyOf (c .args .tree .now) (c .args .bitfield .now) (c .args .content
 
 returns : tie.Need-returns
 returns c =
+    let start = c .before .before .before .before .before .before in
     let k = c .enum-told .given in
-    copy-lying nodeHash (given (c .before .before .before .before .before .before)) (c .before .before .before .before .before .before .args .chunk .0) (k .0 .0 .0) (k .0 .1 .0 .0) (sym (ap verifiedOf (k .1)) ∙ c .before .before .verify .ensures) .verdict
+    copy-lying nodeHash (given start) (start .args .chunk .0) (k .0 .0 .0) (k .0 .1 .0 .0) (sym (ap verifiedOf (k .1)) ∙ c .before .before .verify .ensures) .verdict
 
 returns-2 : tie.Need-returns-2
 returns-2 c =
+    let at-verify = c .before .before .before in
+    let start = at-verify .before .before .before .before in
     let k = c .before .refusal .given in
-    copy-nothing nodeHash (given (c .before .before .before .before .before .before .before)) (c .before .before .before .before .before .before .before .args .chunk .0) (k .0 .0 .number) (spotOf (k .0 .0 .place)) (sym (ap verifiedOf (k .1)) ∙ c .before .before .before .verify .ensures) .0
+    copy-nothing nodeHash (given start) (start .args .chunk .0) (k .0 .0 .number) (spotOf (k .0 .0 .place)) (sym (ap verifiedOf (k .1)) ∙ at-verify .verify .ensures) .0
 
 pub read-answer-spec : {M : Type 1} → statement M
 read-answer-spec = tie.close (tie.spec (λ c κs. search needs) (λ c. search needs) (λ c. search needs) returns returns-2)

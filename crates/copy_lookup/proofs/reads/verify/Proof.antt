@@ -13,12 +13,14 @@ given c = copyOf (c .args .tree .now) (c .args .bitfield .now) (c .args .content
 
 verify-placed-requires : tie.Need-verify-placed-requires
 verify-placed-requires c κs =
-    copy-placed-in (given (c .before .before .before .before)) (c .before .before .before .before .args .chunk .0) (placedOf (c .held-place .result)) (c .held-place .ensures)
+    let start = c .before .before .before .before in
+    copy-placed-in (given start) (start .args .chunk .0) (placedOf (c .held-place .result)) (c .held-place .ensures)
 
 returns : tie.Need-returns
 returns c =
+    let start = c .before .before .before .before .before in
     c .verify-placed .ensures
-    ∙ copy-verified nodeHash (given (c .before .before .before .before .before)) (c .before .before .before .before .before .args .chunk .0) (placedOf (c .before .held-place .result)) (c .before .held-place .ensures)
+    ∙ copy-verified nodeHash (given start) (start .args .chunk .0) (placedOf (c .before .held-place .result)) (c .before .held-place .ensures)
 
 pub verify-spec : {M : Type 1} → statement M
 verify-spec = tie.close (tie.spec (λ c κs. search needs) verify-placed-requires returns)

@@ -17,43 +17,60 @@ use Rattle.copy_records.proofs.chunks.header_of.Tie as tie
 
 sub-header-at : tie.Need-sub-header-at
 sub-header-at c =
-    let a = c .before .before .before .before .before .before .before .args in
+    let at-verify = c .before .before .before in
+    let start = at-verify .before .before .before .before in
+    let a = start .args in
     let k = c .before .start .given in
-    copy-lying nodeHash (copyOf (a .tree .now) (a .bitfield .now) (a .content .now) (a .n) (a .size)) (a .chunk .0) (k .0 .0 .0) (k .0 .1 .0 .0) (sym (ap verifiedOf (k .1)) ∙ c .before .before .before .verify .ensures) .ordered
+    copy-lying nodeHash (copyOf (a .tree .now) (a .bitfield .now) (a .content .now) (a .n) (a .size)) (a .chunk .0) (k .0 .0 .0) (k .0 .1 .0 .0)
+    (sym (ap verifiedOf (k .1)) ∙ at-verify .verify .ensures) .ordered
 
 part-header-at-start : tie.Need-part-header-at-start
 part-header-at-start c =
-    let a = c .before .before .before .before .before .before .before .args in
+    let at-verify = c .before .before .before in
+    let start = at-verify .before .before .before .before in
+    let a = start .args in
     let k = c .before .start .given in
-    copy-lying nodeHash (copyOf (a .tree .now) (a .bitfield .now) (a .content .now) (a .n) (a .size)) (a .chunk .0) (k .0 .0 .0) (k .0 .1 .0 .0) (sym (ap verifiedOf (k .1)) ∙ c .before .before .before .verify .ensures) .ordered
+    copy-lying nodeHash (copyOf (a .tree .now) (a .bitfield .now) (a .content .now) (a .n) (a .size)) (a .chunk .0) (k .0 .0 .0) (k .0 .1 .0 .0)
+    (sym (ap verifiedOf (k .1)) ∙ at-verify .verify .ensures) .ordered
 
 part-header-at-end : tie.Need-part-header-at-end
 part-header-at-end c =
-    let a = c .before .before .before .before .before .before .before .args in
+    let at-verify = c .before .before .before in
+    let start = at-verify .before .before .before .before in
+    let a = start .args in
     let k = c .before .start .given in
-    copy-lying nodeHash (copyOf (a .tree .now) (a .bitfield .now) (a .content .now) (a .n) (a .size)) (a .chunk .0) (k .0 .0 .0) (k .0 .1 .0 .0) (sym (ap verifiedOf (k .1)) ∙ c .before .before .before .verify .ensures) .inside
+    copy-lying nodeHash (copyOf (a .tree .now) (a .bitfield .now) (a .content .now) (a .n) (a .size)) (a .chunk .0) (k .0 .0 .0) (k .0 .1 .0 .0)
+    (sym (ap verifiedOf (k .1)) ∙ at-verify .verify .ensures) .inside
 
 header-at-requires : tie.Need-header-at-requires
 header-at-requires c κs =
-    let a = c .before .before .before .before .before .before .before .before .args in
+    let at-verify = c .before .before .before .before in
+    let start = at-verify .before .before .before .before in
+    let a = start .args in
     let k = c .before .before .start .given in
-    copy-small nodeHash (copyOf (a .tree .now) (a .bitfield .now) (a .content .now) (a .n) (a .size)) (a .chunk .0) (k .0 .0 .0) (k .0 .1 .0 .0) (sym (ap verifiedOf (k .1)) ∙ c .before .before .before .before .verify .ensures)
+    copy-small nodeHash (copyOf (a .tree .now) (a .bitfield .now) (a .content .now) (a .n) (a .size)) (a .chunk .0) (k .0 .0 .0) (k .0 .1 .0 .0)
+    (sym (ap verifiedOf (k .1)) ∙ at-verify .verify .ensures)
 
 returns : tie.Need-returns
 returns c =
-    let a = c .before .before .before .before .before .before .before .args in
+    let at-verify = c .before .before .before in
+    let start = at-verify .before .before .before .before in
+    let a = start .args in
     let d = copyOf (a .tree .now) (a .bitfield .now) (a .content .now) (a .n) (a .size) in
     let k = c .before .refusal .given in
-    let e = sym (ap verifiedOf (k .1)) ∙ c .before .before .before .verify .ensures in
+    let e = sym (ap verifiedOf (k .1)) ∙ at-verify .verify .ensures in
     read-refused (copyReadVerdict nodeHash d (a .chunk .0)) noPart (readHeader (tree (index 0 (a .chunk .0))) (copyReadPart nodeHash d (a .chunk .0))) (k .0 .0 .number) (spotOf (k .0 .0 .place))
     (copy-nothing nodeHash d (a .chunk .0) (k .0 .0 .number) (spotOf (k .0 .0 .place)) e .0)
 
 returns-2 : tie.Need-returns-2
 returns-2 c =
-    let a = c .before .before .before .before .before .before .before .before .before .args in
+    let at-start = c .before .before .before in
+    let at-verify = at-start .before .before in
+    let start = at-verify .before .before .before .before in
+    let a = start .args in
     let d = copyOf (a .tree .now) (a .bitfield .now) (a .content .now) (a .n) (a .size) in
-    let k = c .before .before .before .start .given in
-    let l = copy-lying nodeHash d (a .chunk .0) (k .0 .0 .0) (k .0 .1 .0 .0) (sym (ap verifiedOf (k .1)) ∙ c .before .before .before .before .before .verify .ensures) in
+    let k = at-start .start .given in
+    let l = copy-lying nodeHash d (a .chunk .0) (k .0 .0 .0) (k .0 .1 .0 .0) (sym (ap verifiedOf (k .1)) ∙ at-verify .verify .ensures) in
     read-done (copyReadVerdict nodeHash d (a .chunk .0)) noPart (headerTold (c .header-at .result)) (readHeader (tree (index 0 (a .chunk .0))) (copyReadPart nodeHash d (a .chunk .0))) (l .verdict)
     (c .header-at .ensures ∙ ap (readHeader (tree (index 0 (a .chunk .0)))) (l .same))
 

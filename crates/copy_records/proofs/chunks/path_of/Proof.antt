@@ -18,44 +18,63 @@ use Rattle.copy_records.proofs.chunks.path_of.Tie as tie
 
 sub-path-at : tie.Need-sub-path-at
 sub-path-at c =
-    let a = c .before .before .before .before .before .before .before .before .args in
+    let at-verify = c .before .before .before in
+    let start = at-verify .before .before .before .before .before in
+    let a = start .args in
     let k = c .before .start .given in
-    copy-lying nodeHash (copyOf (a .tree .now) (a .bitfield .now) (a .content .now) (a .n) (a .size)) (a .chunk .0) (k .0 .0 .0) (k .0 .1 .0 .0) (sym (ap verifiedOf (k .1)) ∙ c .before .before .before .verify .ensures) .ordered
+    copy-lying nodeHash (copyOf (a .tree .now) (a .bitfield .now) (a .content .now) (a .n) (a .size)) (a .chunk .0) (k .0 .0 .0) (k .0 .1 .0 .0)
+    (sym (ap verifiedOf (k .1)) ∙ at-verify .verify .ensures) .ordered
 
 part-path-at-start : tie.Need-part-path-at-start
 part-path-at-start c =
-    let a = c .before .before .before .before .before .before .before .before .args in
+    let at-verify = c .before .before .before in
+    let start = at-verify .before .before .before .before .before in
+    let a = start .args in
     let k = c .before .start .given in
-    copy-lying nodeHash (copyOf (a .tree .now) (a .bitfield .now) (a .content .now) (a .n) (a .size)) (a .chunk .0) (k .0 .0 .0) (k .0 .1 .0 .0) (sym (ap verifiedOf (k .1)) ∙ c .before .before .before .verify .ensures) .ordered
+    copy-lying nodeHash (copyOf (a .tree .now) (a .bitfield .now) (a .content .now) (a .n) (a .size)) (a .chunk .0) (k .0 .0 .0) (k .0 .1 .0 .0)
+    (sym (ap verifiedOf (k .1)) ∙ at-verify .verify .ensures) .ordered
 
 part-path-at-end : tie.Need-part-path-at-end
 part-path-at-end c =
-    let a = c .before .before .before .before .before .before .before .before .args in
+    let at-verify = c .before .before .before in
+    let start = at-verify .before .before .before .before .before in
+    let a = start .args in
     let k = c .before .start .given in
-    copy-lying nodeHash (copyOf (a .tree .now) (a .bitfield .now) (a .content .now) (a .n) (a .size)) (a .chunk .0) (k .0 .0 .0) (k .0 .1 .0 .0) (sym (ap verifiedOf (k .1)) ∙ c .before .before .before .verify .ensures) .inside
+    copy-lying nodeHash (copyOf (a .tree .now) (a .bitfield .now) (a .content .now) (a .n) (a .size)) (a .chunk .0) (k .0 .0 .0) (k .0 .1 .0 .0)
+    (sym (ap verifiedOf (k .1)) ∙ at-verify .verify .ensures) .inside
 
 path-at-requires : tie.Need-path-at-requires
 path-at-requires c κs =
-    let a = c .before .before .before .before .before .before .before .before .before .args in
+    let at-verify = c .before .before .before .before in
+    let start = at-verify .before .before .before .before .before in
+    let a = start .args in
     let k = c .before .before .start .given in
-    copy-small nodeHash (copyOf (a .tree .now) (a .bitfield .now) (a .content .now) (a .n) (a .size)) (a .chunk .0) (k .0 .0 .0) (k .0 .1 .0 .0) (sym (ap verifiedOf (k .1)) ∙ c .before .before .before .before .verify .ensures)
+    copy-small nodeHash (copyOf (a .tree .now) (a .bitfield .now) (a .content .now) (a .n) (a .size)) (a .chunk .0) (k .0 .0 .0) (k .0 .1 .0 .0)
+    (sym (ap verifiedOf (k .1)) ∙ at-verify .verify .ensures)
 
 returns : tie.Need-returns
 returns c =
-    let a = c .before .before .before .before .before .before .before .before .args in
+    let at-verify = c .before .before .before in
+    let start = at-verify .before .before .before .before .before in
+    let a = start .args in
     let d = copyOf (a .tree .now) (a .bitfield .now) (a .content .now) (a .n) (a .size) in
     let k = c .before .refusal .given in
-    let e = sym (ap verifiedOf (k .1)) ∙ c .before .before .before .verify .ensures in
-    read-refused (copyReadVerdict nodeHash d (a .chunk .0)) false (readPath (a .path .now) (tree (index 0 (a .chunk .0))) (copyReadPart nodeHash d (a .chunk .0))) (k .0 .0 .number) (spotOf (k .0 .0 .place))
+    let e = sym (ap verifiedOf (k .1)) ∙ at-verify .verify .ensures in
+    read-refused (copyReadVerdict nodeHash d (a .chunk .0)) false (readPath (a .path .now) (tree (index 0 (a .chunk .0))) (copyReadPart nodeHash d (a .chunk .0))) (k .0 .0 .number)
+    (spotOf (k .0 .0 .place))
     (copy-nothing nodeHash d (a .chunk .0) (k .0 .0 .number) (spotOf (k .0 .0 .place)) e .0)
 
 returns-2 : tie.Need-returns-2
 returns-2 c =
-    let a = c .before .before .before .before .before .before .before .before .before .before .args in
+    let at-start = c .before .before .before in
+    let at-verify = at-start .before .before in
+    let start = at-verify .before .before .before .before .before in
+    let a = start .args in
     let d = copyOf (a .tree .now) (a .bitfield .now) (a .content .now) (a .n) (a .size) in
-    let k = c .before .before .before .start .given in
-    let l = copy-lying nodeHash d (a .chunk .0) (k .0 .0 .0) (k .0 .1 .0 .0) (sym (ap verifiedOf (k .1)) ∙ c .before .before .before .before .before .verify .ensures) in
-    read-done (copyReadVerdict nodeHash d (a .chunk .0)) false (comparedTold (c .path-at .result)) (readPath (a .path .now) (tree (index 0 (a .chunk .0))) (copyReadPart nodeHash d (a .chunk .0))) (l .verdict)
+    let k = at-start .start .given in
+    let l = copy-lying nodeHash d (a .chunk .0) (k .0 .0 .0) (k .0 .1 .0 .0) (sym (ap verifiedOf (k .1)) ∙ at-verify .verify .ensures) in
+    read-done (copyReadVerdict nodeHash d (a .chunk .0)) false (comparedTold (c .path-at .result))
+    (readPath (a .path .now) (tree (index 0 (a .chunk .0))) (copyReadPart nodeHash d (a .chunk .0))) (l .verdict)
     (c .path-at .ensures ∙ ap (readPath (a .path .now) (tree (index 0 (a .chunk .0)))) (l .same))
 
 pub path-of-spec : {M : Type 1} → statement M

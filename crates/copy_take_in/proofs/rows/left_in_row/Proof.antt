@@ -1,9 +1,8 @@
 -- `copy_take_in::rows::left_in_row` meets its contract. Assumes nothing.
-use Prim.Native.Nat.{ℕ, _+_, _-_, _*_, _≤_, _<_}
-use mathlib.Core.Path.{_≡_, sym, ap, _∙_, subst}
+use Prim.Native.Nat.{ℕ, _+_, _-_, _*_, _≤_}
+use mathlib.Core.Path.{_≡_, sym, ap, _∙_}
 use mathlib.Core.List.{map}
 use native.Mathlib.Omega.{arith}
-use lib.ListN.{getD}
 use Rattle.byte_strings.specs.Lists.{total}
 use Rattle.tree_index.specs.Numbers.{numbers}
 use Rattle.file_format.proofs.ByValue.{number-at}
@@ -21,42 +20,72 @@ abbrev μ-loop : tie.MeasureT-loop
 μ-loop row at count leaf from indexes sum₀ j₀ sum j = count - j
 
 -- what a step adds
-step : (c : tie.After-left-size Inv-loop μ-loop) → total (map (leftSize (c .before .before .before .before .before .args .leaf .0)) (rowGiven (c .before .before .before .before .before .args .row .now) (c .before .before .before .before .before .args .at) (numbers (c .before .before .before .before .before .args .t3)) (c .before .before .before .loop .j + 1)))
-    ≡ total (map (leftSize (c .before .before .before .before .before .args .leaf .0)) (rowGiven (c .before .before .before .before .before .args .row .now) (c .before .before .before .before .before .args .at) (numbers (c .before .before .before .before .before .args .t3)) (c .before .before .before .loop .j))) + c .left-size .result
+step : (c : tie.After-left-size Inv-loop μ-loop) → total
+    (map (leftSize (c .before .before .before .before .before .args .leaf .0))
+    (rowGiven (c .before .before .before .before .before .args .row .now) (c .before .before .before .before .before .args .at)
+    (numbers (c .before .before .before .before .before .args .t3)) (c .before .before .before .loop .j + 1)))
+    ≡ total (map (leftSize (c .before .before .before .before .before .args .leaf .0))
+    (rowGiven (c .before .before .before .before .before .args .row .now) (c .before .before .before .before .before .args .at)
+    (numbers (c .before .before .before .before .before .args .t3)) (c .before .before .before .loop .j))) + c .left-size .result
 step c =
-    left-next (c .before .before .before .before .before .args .leaf .0) (c .before .before .before .before .before .args .row .now) (c .before .before .before .before .before .args .at) (numbers (c .before .before .before .before .before .args .t3)) (c .before .before .before .loop .j)
-    ∙ ap (λ (x : ℕ). total (map (leftSize (c .before .before .before .before .before .args .leaf .0)) (rowGiven (c .before .before .before .before .before .args .row .now) (c .before .before .before .before .before .args .at) (numbers (c .before .before .before .before .before .args .t3)) (c .before .before .before .loop .j))) + x)
-    (ap (λ (i : ℕ). leftSize (c .before .before .before .before .before .args .leaf .0) (lies (c .before .before .before .before .before .args .row .now) (c .before .before .before .before .before .args .at + 40 * c .before .before .before .loop .j) i)) (number-at (c .before .before .before .before .before .args .t3) (c .before .before .before .loop .j)) ∙ sym (c .left-size .ensures))
+    let looped = c .before .before .before in
+    let start = looped .before .before in
+    left-next (start .args .leaf .0) (start .args .row .now) (start .args .at) (numbers (start .args .t3)) (looped .loop .j)
+    ∙ ap (λ (x : ℕ). total (map (leftSize (start .args .leaf .0)) (rowGiven (start .args .row .now) (start .args .at) (numbers (start .args .t3)) (looped .loop .j))) + x)
+    (ap (λ (i : ℕ). leftSize (start .args .leaf .0) (lies (start .args .row .now) (start .args .at + 40 * looped .loop .j) i)) (number-at (start .args .t3) (looped .loop .j)) ∙ sym
+    (c .left-size .ensures))
 
 loop-holds : tie.Need-loop-holds Inv-loop μ-loop
 loop-holds c = (omega arith, omega (arith, left-none (c .before .args .leaf .0) (c .before .args .row .now) (c .before .args .at) (numbers (c .before .args .t3))))
 
 mul-left-size : tie.Need-mul-left-size Inv-loop μ-loop
-mul-left-size c = omega (arith, c .before .before .before .pre .inside .few)
+mul-left-size c =
+    let entered = c .before .before .before in
+    omega (arith, entered .pre .inside .few)
 
 add-left-size : tie.Need-add-left-size Inv-loop μ-loop
-add-left-size c = omega (arith, c .before .before .before .pre .inside .few, c .before .before .before .pre .inside .inside)
+add-left-size c =
+    let entered = c .before .before .before in
+    omega (arith, entered .pre .inside .few, entered .pre .inside .inside)
 
 mul-left-size-2 : tie.Need-mul-left-size-2 Inv-loop μ-loop
-mul-left-size-2 c = omega (arith, c .before .before .before .pre .inside .few)
+mul-left-size-2 c =
+    let entered = c .before .before .before in
+    omega (arith, entered .pre .inside .few)
 
 array-copy-out-left-size : tie.Need-array-copy-out-left-size Inv-loop μ-loop
-array-copy-out-left-size c = omega (arith, c .before .before .before .pre .inside .few)
+array-copy-out-left-size c =
+    let entered = c .before .before .before in
+    omega (arith, entered .pre .inside .few)
 
 left-size-requires : tie.Need-left-size-requires Inv-loop μ-loop
-left-size-requires c κs = omega (arith, c .before .before .before .before .pre .inside .inside)
+left-size-requires c κs =
+    let entered = c .before .before .before .before in
+    omega (arith, entered .pre .inside .inside)
 
 add-sum : tie.Need-add-sum Inv-loop μ-loop
 add-sum c =
-    omega (arith, c .before .before .before .loop .inv .1, step c, left-whole (c .before .before .before .before .before .args .leaf .0) (c .before .before .before .before .before .args .row .now) (c .before .before .before .before .before .args .at) (numbers (c .before .before .before .before .before .args .t3)) (c .before .before .before .loop .j + 1) (c .before .before .before .before .before .args .count) (omega arith), c .before .before .before .before .before .pre .sum)
+    let looped = c .before .before .before in
+    let start = looped .before .before in
+    omega (
+      arith,
+      looped .loop .inv .1,
+      step c,
+      left-whole (start .args .leaf .0) (start .args .row .now) (start .args .at) (numbers (start .args .t3)) (looped .loop .j + 1)
+          (start .args .count) (omega arith),
+      start .pre .sum,
+    )
 
 loop-again : tie.Need-loop-again Inv-loop μ-loop
-loop-again c = (omega arith, omega (arith, c .before .before .before .loop .inv .1, step c))
+loop-again c =
+    let looped = c .before .before .before in
+    (omega arith, omega (arith, looped .loop .inv .1, step c))
 
 returns : tie.Need-returns Inv-loop μ-loop
 returns c =
-    let e : c .before .loop .j ≡ c .before .before .before .args .count = omega arith in
-    c .before .loop .inv .1 ∙ ap (λ (j : ℕ). c .before .before .before .args .from + total (map (leftSize (c .before .before .before .args .leaf .0)) (rowGiven (c .before .before .before .args .row .now) (c .before .before .before .args .at) (numbers (c .before .before .before .args .t3)) j))) e
+    let start = c .before .before .before in
+    let e : c .before .loop .j ≡ start .args .count = omega arith in
+    c .before .loop .inv .1 ∙ ap (λ (j : ℕ). start .args .from + total (map (leftSize (start .args .leaf .0)) (rowGiven (start .args .row .now) (start .args .at) (numbers (start .args .t3)) j))) e
 
 pub left-in-row-spec : {M : Type 1} → statement M
 left-in-row-spec =

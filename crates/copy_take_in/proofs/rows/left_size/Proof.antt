@@ -1,6 +1,5 @@
 -- `copy_take_in::rows::left_size` meets its contract. Assumes nothing.
-use mathlib.Core.Path.{_≡_, _∙_}
-use native.Mathlib.Omega.{arith}
+use mathlib.Core.Path.{_∙_}
 use Rattle.packet.specs.Check.{entryIn}
 use Rattle.copy_take_in.proofs.Entries.{left-of, right-of}
 use borrow.Author.Needs.{needs}
@@ -9,10 +8,14 @@ use Rattle.copy_take_in.proofs.rows.left_size.Tie as tie
 
 returns : tie.Need-returns
 unfolding entryIn
-returns c = c .read-be64 .ensures ∙ left-of (c .before .before .before .before .before .args .leaf .0) (c .before .before .before .before .before .args .row .now) (c .before .before .before .before .before .args .at) (c .before .before .before .before .before .args .i .0) (c .before .if1 .taken)
+returns c =
+    let start = c .before .before .before .before .before in
+    c .read-be64 .ensures ∙ left-of (start .args .leaf .0) (start .args .row .now) (start .args .at) (start .args .i .0) (c .before .if1 .taken)
 
 returns-2 : tie.Need-returns-2
-returns-2 c = right-of (c .before .before .before .before .args .leaf .0) (c .before .before .before .before .args .row .now) (c .before .before .before .before .args .at) (c .before .before .before .before .args .i .0) (c .if1 .left)
+returns-2 c =
+    let start = c .before .before .before .before in
+    right-of (start .args .leaf .0) (start .args .row .now) (start .args .at) (start .args .i .0) (c .if1 .left)
 
 pub left-size-spec : {M : Type 1} → statement M
 left-size-spec = tie.close (tie.spec (λ c. search needs) (λ c κs. search needs) returns returns-2)

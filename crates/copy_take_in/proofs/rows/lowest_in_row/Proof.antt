@@ -1,16 +1,15 @@
 -- `copy_take_in::rows::lowest_in_row` meets its contract. Assumes nothing.
 use Prim.Native.Nat.{ℕ, _+_, _-_, _*_, _≤_, _<_}
-use mathlib.Core.Path.{_≡_, sym, ap, ap₂, _∙_, subst}
-use mathlib.Core.List.{List, map}
+use mathlib.Core.Path.{sym, ap, _∙_, subst}
+use mathlib.Core.List.{map}
 use native.Mathlib.Omega.{arith}
-use lib.ListN.{length, getD}
-use Rattle.byte_strings.specs.Lowest.{Lowest, nowhere}
+use lib.ListN.{length}
+use Rattle.byte_strings.specs.Lowest.{nowhere}
 use Rattle.tree_index.specs.Numbers.{numbers}
 use Rattle.file_format.proofs.ByValue.{number-at}
-use Rattle.copy_checks.specs.Least.{lowerOf}
 use Rattle.copy_checks.specs.Meaning.{foundOf}
 use Rattle.copy_checks.proofs.Least.{Lowering, lowering-none, lowering-next, lowering-all}
-use Rattle.copy_take_in.specs.TakeIn.{Given, contradicts}
+use Rattle.copy_take_in.specs.TakeIn.{contradicts}
 use Rattle.copy_take_in.specs.Inner.{lies, rowGiven, KnowableIn}
 use Rattle.copy_take_in.proofs.Entries.{row-length, row-at}
 use borrow.Author.Needs.{needs}
@@ -26,44 +25,60 @@ abbrev μ-loop : tie.MeasureT-loop
 
 loop-holds : tie.Need-loop-holds Inv-loop μ-loop
 loop-holds c =
-    lowering-none (map (contradicts (c .before .before .before .args .tree .now) (c .before .before .before .args .bitfield .now)) (rowGiven (c .before .before .before .args .row .now) (c .before .before .before .args .at) (numbers (c .before .before .before .args .t5)) (c .before .before .before .args .count))) (foundOf (c .before .before .before .args .before))
+    let start = c .before .before .before in
+    lowering-none (map (contradicts (start .args .tree .now) (start .args .bitfield .now))
+    (rowGiven (start .args .row .now) (start .args .at) (numbers (start .args .t5)) (start .args .count))) (foundOf (start .args .before))
 
 mul-contradiction-at : tie.Need-mul-contradiction-at Inv-loop μ-loop
-mul-contradiction-at c = omega (arith, c .before .before .before .before .before .pre .inside .few)
+mul-contradiction-at c =
+    let entered = c .before .before .before .before .before in
+    omega (arith, entered .pre .inside .few)
 
 array-copy-out-contradiction-at : tie.Need-array-copy-out-contradiction-at Inv-loop μ-loop
-array-copy-out-contradiction-at c = omega (arith, c .before .before .before .before .before .pre .inside .few)
+array-copy-out-contradiction-at c =
+    let entered = c .before .before .before .before .before in
+    omega (arith, entered .pre .inside .few)
 
 mul-contradiction-at-2 : tie.Need-mul-contradiction-at-2 Inv-loop μ-loop
-mul-contradiction-at-2 c = omega (arith, c .before .before .before .before .before .before .pre .inside .few)
+mul-contradiction-at-2 c =
+    let entered = c .before .before .before .before .before .before in
+    omega (arith, entered .pre .inside .few)
 
 add-contradiction-at : tie.Need-add-contradiction-at Inv-loop μ-loop
-add-contradiction-at c = omega (arith, c .before .before .before .before .before .before .pre .inside .few, c .before .before .before .before .before .before .pre .inside .inside)
+add-contradiction-at c =
+    let entered = c .before .before .before .before .before .before in
+    omega (arith, entered .pre .inside .few, entered .pre .inside .inside)
 
 contradiction-at-requires : tie.Need-contradiction-at-requires Inv-loop μ-loop
-contradiction-at-requires c κs = (
-  subst (KnowableIn (c .before .before .before .before .before .before .args .tree .now) (c .before .before .before .before .before .before .args .bitfield .now)) (number-at (c .before .before .before .before .before .before .args .t5) (c .before .before .loop .j)) (c .before .before .before .before .before .before .pre .each (c .before .before .loop .j) (c .before .loop-test .taken)),
-  omega (arith, c .before .before .before .before .before .before .pre .inside .inside, c .before .loop-test .taken),
-)
+contradiction-at-requires c κs =
+    let start = c .before .before .before .before .before .before in (
+      subst (KnowableIn (start .args .tree .now) (start .args .bitfield .now)) (number-at (start .args .t5) (c .before .before .loop .j))
+          (start .pre .each (c .before .before .loop .j) (c .before .loop-test .taken)),
+      omega (arith, start .pre .inside .inside, c .before .loop-test .taken),
+    )
 
 loop-again : tie.Need-loop-again Inv-loop μ-loop
 loop-again c =
-    let f = contradicts (c .before .before .before .before .before .before .before .before .args .tree .now) (c .before .before .before .before .before .before .before .before .args .bitfield .now) in
-    let is = numbers (c .before .before .before .before .before .before .before .before .args .t5) in
-    let xs = map f (rowGiven (c .before .before .before .before .before .before .before .before .args .row .now) (c .before .before .before .before .before .before .before .before .args .at) is (c .before .before .before .before .before .before .before .before .args .count)) in
-    let h : c .before .before .before .before .loop .j < length xs = subst (λ (k : ℕ). c .before .before .before .before .loop .j < k) (sym (row-length f (c .before .before .before .before .before .before .before .before .args .row .now) (c .before .before .before .before .before .before .before .before .args .at) is (c .before .before .before .before .before .before .before .before .args .count))) (c .before .before .before .loop-test .taken) in
-    subst (Lowering xs (foundOf (c .before .before .before .before .before .before .before .before .args .before)) (c .before .before .before .before .loop .j + 1)) (sym (c .lower-of .ensures))
-    (lowering-next xs (foundOf (c .before .before .before .before .before .before .before .before .args .before)) (c .before .before .before .before .loop .j) (foundOf (c .before .before .before .before .loop .found)) (foundOf (c .before .contradiction-at .result)) (c .before .before .before .before .loop .inv) h
-    (c .before .contradiction-at .ensures ∙ ap (λ (i : ℕ). f (lies (c .before .before .before .before .before .before .before .before .args .row .now) (c .before .before .before .before .before .before .before .before .args .at + 40 * c .before .before .before .before .loop .j) i)) (sym (number-at (c .before .before .before .before .before .before .before .before .args .t5) (c .before .before .before .before .loop .j)))
-    ∙ row-at f (c .before .before .before .before .before .before .before .before .args .row .now) (c .before .before .before .before .before .before .before .before .args .at) is (c .before .before .before .before .before .before .before .before .args .count) (c .before .before .before .before .loop .j) nowhere (c .before .before .before .loop-test .taken)))
+    let tested = c .before .before .before in
+    let looped = tested .before in
+    let start = looped .before .before .before .before in
+    let f = contradicts (start .args .tree .now) (start .args .bitfield .now) in
+    let is = numbers (start .args .t5) in
+    let xs = map f (rowGiven (start .args .row .now) (start .args .at) is (start .args .count)) in
+    let h : looped .loop .j < length xs = subst (λ (k : ℕ). looped .loop .j < k) (sym (row-length f (start .args .row .now) (start .args .at) is (start .args .count))) (tested .loop-test .taken) in
+    subst (Lowering xs (foundOf (start .args .before)) (looped .loop .j + 1)) (sym (c .lower-of .ensures))
+    (lowering-next xs (foundOf (start .args .before)) (looped .loop .j) (foundOf (looped .loop .found)) (foundOf (c .before .contradiction-at .result)) (looped .loop .inv) h
+    (c .before .contradiction-at .ensures ∙ ap (λ (i : ℕ). f (lies (start .args .row .now) (start .args .at + 40 * looped .loop .j) i)) (sym (number-at (start .args .t5) (looped .loop .j)))
+    ∙ row-at f (start .args .row .now) (start .args .at) is (start .args .count) (looped .loop .j) nowhere (tested .loop-test .taken)))
 
 returns : tie.Need-returns Inv-loop μ-loop
 returns c =
-    let f = contradicts (c .before .before .before .before .before .args .tree .now) (c .before .before .before .before .before .args .bitfield .now) in
-    let is = numbers (c .before .before .before .before .before .args .t5) in
-    let xs = map f (rowGiven (c .before .before .before .before .before .args .row .now) (c .before .before .before .before .before .args .at) is (c .before .before .before .before .before .args .count)) in
-    lowering-all xs (foundOf (c .before .before .before .before .before .args .before)) (c .before .loop .j) (foundOf (c .before .loop .found)) (c .before .loop .inv)
-    (subst (λ (k : ℕ). k ≤ c .before .loop .j) (sym (row-length f (c .before .before .before .before .before .args .row .now) (c .before .before .before .before .before .args .at) is (c .before .before .before .before .before .args .count))) (c .loop-test .left))
+    let start = c .before .before .before .before .before in
+    let f = contradicts (start .args .tree .now) (start .args .bitfield .now) in
+    let is = numbers (start .args .t5) in
+    let xs = map f (rowGiven (start .args .row .now) (start .args .at) is (start .args .count)) in
+    lowering-all xs (foundOf (start .args .before)) (c .before .loop .j) (foundOf (c .before .loop .found)) (c .before .loop .inv)
+    (subst (λ (k : ℕ). k ≤ c .before .loop .j) (sym (row-length f (start .args .row .now) (start .args .at) is (start .args .count))) (c .loop-test .left))
 
 pub lowest-in-row-spec : {M : Type 1} → statement M
 lowest-in-row-spec =

@@ -1,5 +1,5 @@
 -- `copy_take_in::rows::write_one` meets its contract. Assumes nothing.
-use mathlib.Core.Path.{_≡_, refl, sym, ap, _∙_}
+use mathlib.Core.Path.{refl}
 use native.Mathlib.Omega.{arith}
 use Rattle.packet.proofs.Rows.{lent-entry, lent-length}
 use Rattle.copy_take_in.proofs.Entries.{one-written}
@@ -8,18 +8,29 @@ use Rattle.copy_take_in.proofs.rows.write_one.Statement.{statement}
 use Rattle.copy_take_in.proofs.rows.write_one.Tie as tie
 
 entry-place-requires : tie.Need-entry-place-requires
-entry-place-requires c κs = c .before .before .before .pre .0 .entry .small
+entry-place-requires c κs =
+    let entered = c .before .before .before in
+    entered .pre .0 .entry .small
 
 copy-to-requires : tie.Need-copy-to-requires
-copy-to-requires c κs = omega (arith, c .before .before .entry-place .ensures, c .before .before .before .before .before .before .pre .0 .entry .inside, lent-length (c .before .before .before .before .before .before .args .row .now) (c .before .before .before .before .before .before .args .at) (c .before .before .before .before .before .before .pre .1))
+copy-to-requires c κs =
+    let start = c .before .before .before .before .before .before in
+    omega (arith, c .before .before .entry-place .ensures, start .pre .0 .entry .inside, lent-length (start .args .row .now) (start .args .at) (start .pre .1))
 
 make-known-requires : tie.Need-make-known-requires
-make-known-requires c κs = c .before .before .before .before .before .before .before .before .before .before .pre .0 .bit
+make-known-requires c κs =
+    let entered = c .before .before .before .before .before .before .before .before .before .before in
+    entered .pre .0 .bit
 
 returns : tie.Need-returns
 returns c =
-    one-written (c .before .before .before .before .before .before .before .before .before .before .before .before .before .args .tree .now) (c .before .before .before .before .before .before .before .before .before .before .before .before .before .args .bitfield .now) (c .before .before .before .before .before .before .before .before .before .before .before .before .before .args .row .now) (c .before .before .before .before .before .before .before .before .before .before .before .before .before .args .at) (c .before .before .before .before .before .before .before .before .before .before .before .before .before .args .i .0) (c .before .before .before .before .before .before .before .before .before .entry-place .result) _ _ _ (λ j. c .before .before .before .before .before .before .before .before .before .before .shared-slice-known .given j .fits) (c .before .before .before .before .before .before .before .before .before .before .before .before .before .pre .1)
-    (c .before .before .before .before .before .before .before .before .before .entry-place .ensures) (lent-entry (c .before .before .before .before .before .before .before .before .before .before .before .before .before .args .row .now) (c .before .before .before .before .before .before .before .before .before .before .before .before .before .args .at) _ refl) (c .before .before .before .before .before .before .copy-to .ensures) (c .before .before .make-known .ensures)
+    let at-copy-to = c .before .before .before .before .before .before in
+    let at-entry-place = at-copy-to .before .before .before in
+    let at-shared-slice-known = at-entry-place .before in
+    let start = at-shared-slice-known .before .before .before in
+    one-written (start .args .tree .now) (start .args .bitfield .now) (start .args .row .now) (start .args .at) (start .args .i .0) (at-entry-place .entry-place .result) _ _ _
+    (λ j. at-shared-slice-known .shared-slice-known .given j .fits) (start .pre .1)
+    (at-entry-place .entry-place .ensures) (lent-entry (start .args .row .now) (start .args .at) _ refl) (at-copy-to .copy-to .ensures) (c .before .before .make-known .ensures)
 
 pub write-one-spec : {M : Type 1} → statement M
 write-one-spec =

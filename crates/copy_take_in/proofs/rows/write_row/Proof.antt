@@ -1,8 +1,8 @@
 -- `copy_take_in::rows::write_row` meets its contract. Assumes nothing.
-use Prim.Native.Nat.{ℕ, _+_, _-_, _*_, _≤_, _<_}
-use mathlib.Core.Path.{_≡_, sym, ap, _∙_, subst}
+use Prim.Native.Nat.{_-_}
+use mathlib.Core.Path.{sym, subst}
 use native.Mathlib.Omega.{arith}
-use lib.ListN.{length, getD}
+use lib.ListN.{length}
 use Rattle.tree_index.specs.Numbers.{numbers}
 use Rattle.file_format.proofs.ByValue.{number-at}
 use Rattle.copy_take_in.specs.Inner.{KnowableIn}
@@ -18,31 +18,49 @@ abbrev μ-loop : tie.MeasureT-loop
 μ-loop tree₀ bitfield₀ row at count indexes j₀ tree bitfield j = count - j
 
 loop-holds : tie.Need-loop-holds Inv-loop μ-loop
-loop-holds c = written-none (c .before .before .before .args .tree .now) (c .before .before .before .args .bitfield .now) (c .before .before .before .args .row .now) (c .before .before .before .args .at) (numbers (c .before .before .before .args .t5)) (c .before .before .before .args .count)
+loop-holds c =
+    let start = c .before .before .before in
+    written-none (start .args .tree .now) (start .args .bitfield .now) (start .args .row .now) (start .args .at) (numbers (start .args .t5)) (start .args .count)
 
 mul-write-one : tie.Need-mul-write-one Inv-loop μ-loop
-mul-write-one c = omega (arith, c .before .before .before .before .before .before .before .pre .inside .few)
+mul-write-one c =
+    let entered = c .before .before .before .before .before .before .before in
+    omega (arith, entered .pre .inside .few)
 
 array-copy-out-write-one : tie.Need-array-copy-out-write-one Inv-loop μ-loop
-array-copy-out-write-one c = omega (arith, c .before .before .before .before .before .before .before .pre .inside .few)
+array-copy-out-write-one c =
+    let entered = c .before .before .before .before .before .before .before in
+    omega (arith, entered .pre .inside .few)
 
 mul-write-one-2 : tie.Need-mul-write-one-2 Inv-loop μ-loop
-mul-write-one-2 c = omega (arith, c .before .before .before .before .before .before .before .before .pre .inside .few)
+mul-write-one-2 c =
+    let entered = c .before .before .before .before .before .before .before .before in
+    omega (arith, entered .pre .inside .few)
 
 add-write-one : tie.Need-add-write-one Inv-loop μ-loop
-add-write-one c = omega (arith, c .before .before .before .before .before .before .before .before .pre .inside .few, c .before .before .before .before .before .before .before .before .pre .inside .inside)
+add-write-one c =
+    let entered = c .before .before .before .before .before .before .before .before in
+    omega (arith, entered .pre .inside .few, entered .pre .inside .inside)
 
 write-one-requires : tie.Need-write-one-requires Inv-loop μ-loop
-write-one-requires c κs = (
-  still (c .before .before .before .before .before .before .before .before .args .tree .now) (c .before .before .before .before .before .before .before .before .args .bitfield .now) _ _ _ (c .before .before .before .before .loop .inv .treeLong) (c .before .before .before .before .loop .inv .bitsLong)
-      (subst (KnowableIn (c .before .before .before .before .before .before .before .before .args .tree .now) (c .before .before .before .before .before .before .before .before .args .bitfield .now)) (number-at (c .before .before .before .before .before .before .before .before .args .t5) (c .before .before .before .before .loop .j)) (c .before .before .before .before .before .before .before .before .pre .each (c .before .before .before .before .loop .j) (c .before .before .before .loop-test .taken))),
-  omega (arith, c .before .before .before .before .before .before .before .before .pre .inside .inside, c .before .before .before .loop-test .taken),
-)
+write-one-requires c κs =
+    let tested = c .before .before .before in
+    let looped = tested .before in
+    let start = looped .before .before .before .before in (
+      still (start .args .tree .now) (start .args .bitfield .now) _ _ _ (looped .loop .inv .treeLong) (looped .loop .inv .bitsLong)
+          (subst (KnowableIn (start .args .tree .now) (start .args .bitfield .now)) (number-at (start .args .t5) (looped .loop .j)) (start .pre .each (looped .loop .j) (tested .loop-test .taken))),
+      omega (arith, start .pre .inside .inside, tested .loop-test .taken),
+    )
 
 loop-again : tie.Need-loop-again Inv-loop μ-loop
 loop-again c =
-    written-next (c .before .before .before .before .before .before .before .before .before .before .before .before .before .args .tree .now) (c .before .before .before .before .before .before .before .before .before .before .before .before .before .args .bitfield .now) (c .before .before .before .before .before .before .before .before .before .before .before .before .before .args .row .now) (c .before .before .before .before .before .before .before .before .before .before .before .before .before .args .at) (numbers (c .before .before .before .before .before .before .before .before .before .before .before .before .before .args .t5)) (c .before .before .before .before .before .before .before .before .before .before .before .before .before .args .count) (c .before .before .before .before .before .before .before .before .before .loop .j) _ _ _ _ _ (c .before .before .before .before .before .before .before .before .before .loop .inv)
-    (c .before .before .before .before .before .before .before .before .loop-test .taken) (sym (number-at (c .before .before .before .before .before .before .before .before .before .before .before .before .before .args .t5) (c .before .before .before .before .before .before .before .before .before .loop .j))) (c .before .before .before .before .write-one .ensures) (c .before .before .before .before .write-one .kept .0) (c .before .before .before .before .write-one .kept .1 .0)
+    let at-write-one = c .before .before .before .before in
+    let tested = at-write-one .before .before .before .before in
+    let looped = tested .before in
+    let start = looped .before .before .before .before in
+    written-next (start .args .tree .now) (start .args .bitfield .now) (start .args .row .now) (start .args .at) (numbers (start .args .t5)) (start .args .count) (looped .loop .j)
+    _ _ _ _ _ (looped .loop .inv)
+    (tested .loop-test .taken) (sym (number-at (start .args .t5) (looped .loop .j))) (at-write-one .write-one .ensures) (at-write-one .write-one .kept .0) (at-write-one .write-one .kept .1 .0)
 
 same-length : tie.Need-same-length Inv-loop μ-loop
 same-length c = c .before .loop .inv .treeLong
@@ -52,7 +70,9 @@ same-length-2 c = c .before .loop .inv .bitsLong
 
 returns : tie.Need-returns Inv-loop μ-loop
 returns c =
-    written-all (c .before .before .before .before .before .args .tree .now) (c .before .before .before .before .before .args .bitfield .now) (c .before .before .before .before .before .args .row .now) (c .before .before .before .before .before .args .at) (numbers (c .before .before .before .before .before .args .t5)) (c .before .before .before .before .before .args .count) (c .before .loop .j) _ _ (c .before .loop .inv) (c .loop-test .left)
+    let start = c .before .before .before .before .before in
+    written-all (start .args .tree .now) (start .args .bitfield .now) (start .args .row .now) (start .args .at) (numbers (start .args .t5)) (start .args .count)
+    (c .before .loop .j) _ _ (c .before .loop .inv) (c .loop-test .left)
 
 pub write-row-spec : {M : Type 1} → statement M
 write-row-spec =

@@ -29,20 +29,29 @@ block-over-requires : tie.Need-block-over-requires Inv-loop μ-loop
 block-over-requires c κs = omega (arith, c .before .before .pre .1)
 
 add-node-index : tie.Need-add-node-index Inv-loop μ-loop
-add-node-index c = omega (arith, c .before .before .before .pre .1)
+add-node-index c =
+    let entered = c .before .before .before in
+    omega (arith, entered .pre .1)
 
 mul-found : tie.Need-mul-found Inv-loop μ-loop
-mul-found c = omega (arith, c .before .before .before .before .pre .1)
+mul-found c =
+    let entered = c .before .before .before .before in
+    omega (arith, entered .pre .1)
 
 array-set-from-found : tie.Need-array-set-from-found Inv-loop μ-loop
-array-set-from-found c = omega (arith, c .before .before .before .before .pre .1)
+array-set-from-found c =
+    let entered = c .before .before .before .before in
+    omega (arith, entered .pre .1)
 
 node-index-requires : tie.Need-node-index-requires Inv-loop μ-loop
-node-index-requires c κs = omega (arith, c .before .before .before .pre .1, c .block-over .ensures, shr-le (c .before .before .before .args .chunk .0) (c .before .before .loop .h + 1))
+node-index-requires c κs =
+    let start = c .before .before .before in
+    omega (arith, start .pre .1, c .block-over .ensures, shr-le (start .args .chunk .0) (c .before .before .loop .h + 1))
 
 loop-again : tie.Need-loop-again Inv-loop μ-loop
 loop-again c =
-    let l = c .before .before .before .loop in
+    let looped = c .before .before .before in
+    let l = looped .loop in
     let i = c .node-index in
     filling-next _ _ _ (l .h) (numbers (l .found)) (l .inv) _ (i .result .0) (c .before .before .loop-test .taken)
     (i .ensures ∙ ap (index (l .h + 1)) (c .before .block-over .ensures)) (numbers-set (l .found) (l .h) (i .result))

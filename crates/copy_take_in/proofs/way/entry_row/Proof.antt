@@ -1,5 +1,5 @@
 -- `copy_take_in::way::entry_row` meets its contract. Assumes nothing.
-use mathlib.Core.Path.{_≡_, sym, _∙_}
+use mathlib.Core.Path.{sym, _∙_}
 use Prim.Native.Nat.{ℕ}
 use lib.ListN.{replicate, length-replicate}
 use Rattle.file_format.specs.Entries.{entryBytes}
@@ -12,7 +12,8 @@ use Rattle.copy_take_in.proofs.way.entry_row.Tie as tie
 returns : tie.Need-returns
 unfolding entryBytes
 returns c =
-    c .before .put-entry .ensures .0 ∙ put-whole (replicate 40 0) (entryBytes (entryOf (c .before .before .before .before .before .args .node))) (length-replicate {A = ℕ} 40 0 ∙ sym (c .before .put-entry .ensures .1))
+    let start = c .before .before .before .before .before in
+    c .before .put-entry .ensures .0 ∙ put-whole (replicate 40 0) (entryBytes (entryOf (start .args .node))) (length-replicate {A = ℕ} 40 0 ∙ sym (c .before .put-entry .ensures .1))
 
 pub entry-row-spec : {M : Type 1} → statement M
 entry-row-spec = tie.close (tie.spec (λ c. search needs) (λ c κs. search needs) returns)

@@ -1,6 +1,6 @@
 -- `copy_take_in::way::way_of` meets its contract. Assumes nothing.
 use Prim.Native.Nat.{ℕ, _<_}
-use mathlib.Core.Path.{_≡_, refl, sym, subst}
+use mathlib.Core.Path.{refl, sym, subst}
 use native.Mathlib.Omega.{arith}
 use lib.ListN.{length}
 use Rattle.tree_index.specs.Tree.{roots}
@@ -17,17 +17,25 @@ sibling-indexes-requires : tie.Need-sibling-indexes-requires
 sibling-indexes-requires c κs = (omega (arith, c .before .before .pre .count, c .before .before .pre .below), c .before .sibling-count .ensures .1)
 
 root-place-requires : tie.Need-root-place-requires
-root-place-requires c κs = c .before .before .before .before .pre .count
+root-place-requires c κs =
+    let entered = c .before .before .before .before in
+    entered .pre .count
 
 other-indexes-requires : tie.Need-other-indexes-requires
-other-indexes-requires c κs = (
-  c .before .before .before .before .before .pre .count,
-  subst (λ (x : ℕ). x < length (roots (c .before .before .before .before .before .args .n))) (sym (c .root-place .ensures)) (place-below (c .before .before .before .before .before .args .n) (c .before .before .before .before .before .args .chunk .0) (c .before .before .before .before .before .pre)),
-)
+other-indexes-requires c κs =
+    let start = c .before .before .before .before .before in (
+      start .pre .count,
+      subst (λ (x : ℕ). x < length (roots (start .args .n))) (sym (c .root-place .ensures)) (place-below (start .args .n) (start .args .chunk .0) (start .pre)),
+    )
 
 returns : tie.Need-returns
 returns c =
-    way-is (c .before .before .before .before .before .before .args .n) (c .before .before .before .before .before .before .args .chunk .0) _ (c .before .before .before .before .before .sibling-count .result) (c .before .root-place .result) (c .before .before .before .before .before .before .pre) (c .before .before .before .before .before .sibling-count .ensures .0) refl (c .before .before .before .before .above-indexes .ensures) (c .before .before .before .sibling-indexes .ensures)
+    let at-sibling-indexes = c .before .before .before in
+    let at-above-indexes = at-sibling-indexes .before in
+    let at-sibling-count = at-above-indexes .before in
+    let start = at-sibling-count .before in
+    way-is (start .args .n) (start .args .chunk .0) _ (at-sibling-count .sibling-count .result) (c .before .root-place .result) (start .pre)
+    (at-sibling-count .sibling-count .ensures .0) refl (at-above-indexes .above-indexes .ensures) (at-sibling-indexes .sibling-indexes .ensures)
     (c .before .before .other-count .ensures .0) (c .before .root-place .ensures) (c .other-indexes .ensures)
 
 pub way-of-spec : {M : Type 1} → statement M

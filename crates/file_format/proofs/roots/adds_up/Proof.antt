@@ -15,7 +15,8 @@ sizes-add-up-requires c κs =
 
 returns : tie.Need-returns
 returns c =
-    let a = c .before .before .before .args in
+    let start = c .before .before .before in
+    let a = start .args in
     c .sizes-add-up .ensures ∙ ap (λ (i : ℕ). eqb i (a .size))
     (total-roots (a .tree .now) (a .n) (c .before .stored-roots .result .count) (c .before .stored-roots .ensures .count)
     (c .before .stored-roots .result .sizes) (c .before .stored-roots .ensures .sizes))

@@ -37,7 +37,8 @@ loop-again c =
 
 returns-2 : tie.Need-returns-2 Inv-loop μ-loop
 returns-2 c =
-    let a = c .before .before .before .args in
+    let start = c .before .before .before in
+    let a = start .args in
     let e : c .before .loop .j ≡ a .roots .count = omega arith in
     none-left (total (take (a .roots .count) (a .roots .sizes))) (c .before .loop .left) (a .size)
     (ap (λ (i : ℕ). total (take i (a .roots .sizes)) + c .before .loop .left) (sym e) ∙ c .before .loop .inv .1)

@@ -1,7 +1,6 @@
 -- `file_format::roots::sizes_at` meets its contract. The loop has filled the array up to j. The measure is what is left of the count. Assumes nothing.
 use Prim.Native.Nat.{_-_}
 use mathlib.Core.Path.{subst, sym, ap, refl, _∙_}
-use native.Mathlib.Omega.{arith}
 use lib.ListN.{getD}
 use borrow.Author.Needs.{needs}
 use Rattle.tree_index.specs.Numbers.{numbers}
@@ -29,8 +28,10 @@ stored-size-requires c κs =
 
 loop-again : tie.Need-loop-again Inv-loop μ-loop
 loop-again c =
-    let a = c .before .before .before .before .before .args in
-    let l = c .before .before .before .loop in
+    let looped = c .before .before .before in
+    let start = looped .before .before in
+    let a = start .args in
+    let l = looped .loop in
     filling-next _ _ _ (l .j) (l .sizes) (l .inv) _ (c .stored-size .result) (c .before .before .loop-test .taken)
     (c .stored-size .ensures ∙ ap (storedSize (a .tree .now)) (sym (number-at (a .t2) (l .j)))) refl
 

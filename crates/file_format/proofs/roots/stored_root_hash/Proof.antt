@@ -11,12 +11,14 @@ use Rattle.file_format.proofs.roots.stored_root_hash.Tie as tie
 
 root-hash-requires : tie.Need-root-hash-requires
 root-hash-requires c κs =
+    let start = c .before .before .before in
     subst (λ (i : ℕ). i ≤ 20) (sym (c .before .stored-roots .ensures .count))
-    (length-roots-le (c .before .before .before .args .n) (c .before .before .before .pre .count))
+    (length-roots-le (start .args .n) (start .pre .count))
 
 returns : tie.Need-returns
 returns c =
-    let a = c .before .before .before .before .args in
+    let start = c .before .before .before .before in
+    let a = start .args in
     c .root-hash .ensures ∙ ap nodeHash
     (items-roots (a .tree .now) (numbers (c .before .before .stored-roots .result .indexes)) (a .n)
     (c .before .before .stored-roots .result .count) (c .before .before .stored-roots .ensures .count)

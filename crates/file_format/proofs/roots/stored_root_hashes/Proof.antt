@@ -8,13 +8,15 @@ use Rattle.file_format.proofs.roots.stored_root_hashes.Tie as tie
 
 hashes-at-requires : tie.Need-hashes-at-requires
 hashes-at-requires c κs =
-    let a = c .before .before .before .args in
+    let start = c .before .before .before in
+    let a = start .args in
     roots-in (a .tree .now) (numbers (c .root-indexes .result)) (a .n) (c .before .root-count .result) (c .before .root-count .ensures)
-    (c .root-indexes .ensures) (c .before .before .before .pre)
+    (c .root-indexes .ensures) (start .pre)
 
 returns : tie.Need-returns
 returns c =
-    let a = c .before .before .before .before .args in
+    let start = c .before .before .before .before in
+    let a = start .args in
     c .hashes-at .ensures ∙ hashes-roots (a .tree .now) (numbers (c .before .root-indexes .result)) (a .n)
     (c .before .before .root-count .result) (c .before .before .root-count .ensures) (c .before .root-indexes .ensures)
 

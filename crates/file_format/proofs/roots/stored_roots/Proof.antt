@@ -8,13 +8,15 @@ use Rattle.file_format.proofs.roots.stored_roots.Tie as tie
 
 sizes-at-requires : tie.Need-sizes-at-requires
 sizes-at-requires c κs =
-    let a = c .before .before .before .args in
+    let start = c .before .before .before in
+    let a = start .args in
     roots-in (a .tree .now) (numbers (c .root-indexes .result)) (a .n) (c .before .root-count .result) (c .before .root-count .ensures)
-    (c .root-indexes .ensures) (c .before .before .before .pre)
+    (c .root-indexes .ensures) (start .pre)
 
 returns : tie.Need-returns
 returns c =
-    let a = c .before .before .before .before .args in
+    let start = c .before .before .before .before in
+    let a = start .args in
     record {
       count = c .before .before .root-count .ensures;
       indexes = as-padded (numbers (c .before .root-indexes .result)) (a .n) (c .before .root-indexes .ensures);

@@ -7,27 +7,39 @@ use Rattle.listing_lines.proofs.build.read.Statement.{statement}
 use Rattle.listing_lines.proofs.build.read.Tie as tie
 
 returns : tie.Need-returns
-returns c = read-stopped _ _ (input-short (c .before .before .before .before .before .before .args .input .now) (c .if1 .taken)) (omega arith) (omega arith)
+returns c =
+    let start = c .before .before .before .before .before .before in
+    read-stopped _ _ (input-short (start .args .input .now) (c .if1 .taken)) (omega arith) (omega arith)
 
 returns-2 : tie.Need-returns-2
 returns-2 c =
+    let start = c .before .before .before .before .before .before .before .before in
     read-stopped _ _
-    (input-many (c .before .before .before .before .before .before .before .before .args .input .now) (c .before .read-be32 .result) (c .before .before .if1 .left) (c .before .read-be32 .ensures) (omega (arith, c .if2 .taken)))
+    (input-many (start .args .input .now) (c .before .read-be32 .result) (c .before .before .if1 .left) (c .before .read-be32 .ensures) (omega (arith, c .if2 .taken)))
     (omega arith) (omega arith)
 
 read-chunks-requires : tie.Need-read-chunks-requires
 read-chunks-requires c κs =
-    let s = c .before .before .before .before .before .before .before .before .before .before .before .before .before .before .before .before .before .before .before .before .before .before .before in (
-      c .before .before .before .before .before .before .before .before .before .before .before .before .before .before .before .before .before .if1 .left,
-      omega (arith, c .before .before .before .before .before .before .before .before .before .before .before .before .before .before .before .if2 .left),
+    let at-start = c .before .before .before .before .before .before .before .before .before .before in
+    let branch2 = at-start .before .before .before .before .before in
+    let branch1 = branch2 .before .before in
+    let start = branch1 .before .before .before .before .before .before in
+    let s = start in (
+      branch1 .if1 .left,
+      omega (arith, branch2 .if2 .left),
       left-started (s .args .tree .now) (s .args .signatures .now) (s .args .bitfield .now) (s .args .content .now) (s .pre) _ _ _ _ _
-          (c .before .before .before .before .before .before .before .before .before .before .start .ensures),
+          (at-start .start .ensures),
     )
 
 returns-3 : tie.Need-returns-3
 returns-3 c =
-    read-counted (c .before .before .before .before .before .before .before .before .before .before .before .before .before .before .before .before .before .before .before .before .before .before .before .before .before .before .before .before .before .before .before .before .args .input .now) (c .before .before .before .before .before .before .before .before .before .before .before .before .before .before .before .before .before .before .before .before .before .before .before .before .before .read-be32 .result) (c .before .before .before .before .before .before .before .before .before .before .before .before .before .before .before .before .before .before .before .before .before .before .before .before .before .before .if1 .left) (c .before .before .before .before .before .before .before .before .before .before .before .before .before .before .before .before .before .before .before .before .before .before .before .before .before .read-be32 .ensures) _ _
-    (omega (arith, c .before .before .before .before .before .before .before .before .before .before .before .before .before .before .before .before .before .before .before .before .before .before .before .before .if2 .left)) (c .before .before .before .before .before .before .before .before .read-chunks .ensures)
+    let at-read-chunks = c .before .before .before .before .before .before .before .before in
+    let branch2 = at-read-chunks .before .before .before .before .before .before .before .before .before .before .before .before .before .before .before .before in
+    let at-read-be32 = branch2 .before in
+    let branch1 = at-read-be32 .before in
+    let start = branch1 .before .before .before .before .before .before in
+    read-counted (start .args .input .now) (at-read-be32 .read-be32 .result) (branch1 .if1 .left) (at-read-be32 .read-be32 .ensures) _ _
+    (omega (arith, branch2 .if2 .left)) (at-read-chunks .read-chunks .ensures)
 
 pub read-spec : {M : Type 1} → statement M
 read-spec =

@@ -24,7 +24,8 @@ abbrev μ-loop : tie.MeasureT-loop
 
 loop-holds : tie.Need-loop-holds Inv-loop μ-loop
 loop-holds c =
-    let s = c .before .before .before .before .before in (
+    let start = c .before .before .before .before .before in
+    let s = start in (
       omega arith,
       s .pre .0,
       omega arith,
@@ -35,21 +36,34 @@ stands-requires : tie.Need-stands-requires Inv-loop μ-loop
 stands-requires c κs = (c .before .loop .inv .1, c .before .loop .inv .2)
 
 same-length : tie.Need-same-length Inv-loop μ-loop
-same-length c = omega (arith, c .before .before .before .loop .inv .3 .ready .tree, c .before .before .before .before .before .before .before .before .before .pre .2 .tree)
+same-length c =
+    let looped = c .before .before .before in
+    let entered = looped .before .before .before .before .before .before in
+    omega (arith, looped .loop .inv .3 .ready .tree, entered .pre .2 .tree)
 
 same-length-2 : tie.Need-same-length-2 Inv-loop μ-loop
-same-length-2 c = omega (arith, c .before .before .before .loop .inv .3 .ready .signatures, c .before .before .before .before .before .before .before .before .before .pre .2 .signatures)
+same-length-2 c =
+    let looped = c .before .before .before in
+    let entered = looped .before .before .before .before .before .before in
+    omega (arith, looped .loop .inv .3 .ready .signatures, entered .pre .2 .signatures)
 
 same-length-3 : tie.Need-same-length-3 Inv-loop μ-loop
-same-length-3 c = omega (arith, c .before .before .before .loop .inv .3 .ready .bitfield, c .before .before .before .before .before .before .before .before .before .pre .2 .bitfield)
+same-length-3 c =
+    let looped = c .before .before .before in
+    let entered = looped .before .before .before .before .before .before in
+    omega (arith, looped .loop .inv .3 .ready .bitfield, entered .pre .2 .bitfield)
 
 same-length-4 : tie.Need-same-length-4 Inv-loop μ-loop
-same-length-4 c = omega (arith, c .before .before .before .loop .inv .3 .ready .content, c .before .before .before .before .before .before .before .before .before .pre .2 .content)
+same-length-4 c =
+    let looped = c .before .before .before in
+    let entered = looped .before .before .before .before .before .before in
+    omega (arith, looped .loop .inv .3 .ready .content, entered .pre .2 .content)
 
 returns : tie.Need-returns Inv-loop μ-loop
 returns c =
-    let s = c .before .before .before .before .before .before .before .before .before in
-    let l = c .before .before .before .loop in
+    let looped = c .before .before .before in
+    let s = looped .before .before .before .before .before .before in
+    let l = looped .loop in
     let r = registerOf (l .tree) (l .signatures) (l .bitfield) (l .content) (l .n) (l .n) (l .size) in
     let w = chunksIn (s .args .count) (drop 4 (s .args .input .now)) 4096 in
     read-stopped w r
@@ -59,83 +73,160 @@ returns c =
 
 read-be32-requires : tie.Need-read-be32-requires Inv-loop μ-loop
 read-be32-requires c κs =
-    let l = c .before .before .before .loop in
+    let looped = c .before .before .before in
+    let start = looped .before .before .before .before .before .before in
+    let l = looped .loop in
     omega (
       arith,
-      stands-facts (c .before .before .before .before .before .before .before .before .before .args .input .now) (l .at) (4096 - l .size) (l .inv .1)
+      stands-facts (start .args .input .now) (l .at) (4096 - l .size) (l .inv .1)
           (sym (c .before .stands .ensures) ∙ not-false (c .before .stands .result) (c .if1 .left)) .0,
     )
 
 add-start : tie.Need-add-start Inv-loop μ-loop
 add-start c =
-    let l = c .before .before .before .before .loop in
-    omega (arith, stood-room (c .before .before .before .before .before .before .before .before .before .before .args .input .now) (l .at) (l .size) (c .read-be32 .result) (c .before .before .stands .result) (l .inv .1) (l .inv .2) (c .before .before .stands .ensures) (c .before .if1 .left) (c .read-be32 .ensures) .0)
+    let looped = c .before .before .before .before in
+    let start = looped .before .before .before .before .before .before in
+    let l = looped .loop in
+    omega (
+      arith,
+      stood-room (start .args .input .now) (l .at) (l .size) (c .read-be32 .result) (c .before .before .stands .result) (l .inv .1) (l .inv .2)
+          (c .before .before .stands .ensures) (c .before .if1 .left) (c .read-be32 .ensures) .0,
+    )
 
 add-end : tie.Need-add-end Inv-loop μ-loop
 add-end c =
-    let l = c .before .before .before .before .loop in
-    omega (arith, stood-room (c .before .before .before .before .before .before .before .before .before .before .args .input .now) (l .at) (l .size) (c .read-be32 .result) (c .before .before .stands .result) (l .inv .1) (l .inv .2) (c .before .before .stands .ensures) (c .before .if1 .left) (c .read-be32 .ensures) .0)
+    let looped = c .before .before .before .before in
+    let start = looped .before .before .before .before .before .before in
+    let l = looped .loop in
+    omega (
+      arith,
+      stood-room (start .args .input .now) (l .at) (l .size) (c .read-be32 .result) (c .before .before .stands .result) (l .inv .1) (l .inv .2)
+          (c .before .before .stands .ensures) (c .before .if1 .left) (c .read-be32 .ensures) .0,
+    )
 
 sub-add : tie.Need-sub-add Inv-loop μ-loop
 sub-add c =
-    let l = c .before .before .before .before .before .before .before .before .loop in
-    omega (arith, stood-room (c .before .before .before .before .before .before .before .before .before .before .before .before .before .before .args .input .now) (l .at) (l .size) (c .before .before .before .before .read-be32 .result) (c .before .before .before .before .before .before .stands .result) (l .inv .1) (l .inv .2) (c .before .before .before .before .before .before .stands .ensures) (c .before .before .before .before .before .if1 .left) (c .before .before .before .before .read-be32 .ensures) .0)
+    let at-read-be32 = c .before .before .before .before in
+    let branch1 = at-read-be32 .before in
+    let at-stands = branch1 .before in
+    let looped = at-stands .before .before in
+    let start = looped .before .before .before .before .before .before in
+    let l = looped .loop in
+    omega (
+      arith,
+      stood-room (start .args .input .now) (l .at) (l .size) (at-read-be32 .read-be32 .result) (at-stands .stands .result) (l .inv .1) (l .inv .2)
+          (at-stands .stands .ensures) (branch1 .if1 .left) (at-read-be32 .read-be32 .ensures) .0,
+    )
 
 part-add-start : tie.Need-part-add-start Inv-loop μ-loop
 part-add-start c =
-    let l = c .before .before .before .before .before .before .before .before .loop in
-    omega (arith, stood-room (c .before .before .before .before .before .before .before .before .before .before .before .before .before .before .args .input .now) (l .at) (l .size) (c .before .before .before .before .read-be32 .result) (c .before .before .before .before .before .before .stands .result) (l .inv .1) (l .inv .2) (c .before .before .before .before .before .before .stands .ensures) (c .before .before .before .before .before .if1 .left) (c .before .before .before .before .read-be32 .ensures) .0)
+    let at-read-be32 = c .before .before .before .before in
+    let branch1 = at-read-be32 .before in
+    let at-stands = branch1 .before in
+    let looped = at-stands .before .before in
+    let start = looped .before .before .before .before .before .before in
+    let l = looped .loop in
+    omega (
+      arith,
+      stood-room (start .args .input .now) (l .at) (l .size) (at-read-be32 .read-be32 .result) (at-stands .stands .result) (l .inv .1) (l .inv .2)
+          (at-stands .stands .ensures) (branch1 .if1 .left) (at-read-be32 .read-be32 .ensures) .0,
+    )
 
 part-add-end : tie.Need-part-add-end Inv-loop μ-loop
 part-add-end c =
-    let l = c .before .before .before .before .before .before .before .before .loop in
-    omega (arith, stood-room (c .before .before .before .before .before .before .before .before .before .before .before .before .before .before .args .input .now) (l .at) (l .size) (c .before .before .before .before .read-be32 .result) (c .before .before .before .before .before .before .stands .result) (l .inv .1) (l .inv .2) (c .before .before .before .before .before .before .stands .ensures) (c .before .before .before .before .before .if1 .left) (c .before .before .before .before .read-be32 .ensures) .0)
+    let at-read-be32 = c .before .before .before .before in
+    let branch1 = at-read-be32 .before in
+    let at-stands = branch1 .before in
+    let looped = at-stands .before .before in
+    let start = looped .before .before .before .before .before .before in
+    let l = looped .loop in
+    omega (
+      arith,
+      stood-room (start .args .input .now) (l .at) (l .size) (at-read-be32 .read-be32 .result) (at-stands .stands .result) (l .inv .1) (l .inv .2)
+          (at-stands .stands .ensures) (branch1 .if1 .left) (at-read-be32 .read-be32 .ensures) .0,
+    )
 
 add-requires : tie.Need-add-requires Inv-loop μ-loop
 add-requires c κs =
-    let s = c .before .before .before .before .before .before .before .before .before .before .before .before .before .before .before in
-    let l = c .before .before .before .before .before .before .before .before .before .loop in
-    let g = stood-room (c .before .before .before .before .before .before .before .before .before .before .before .before .before .before .before .args .input .now) (l .at) (l .size) (c .before .before .before .before .before .read-be32 .result) (c .before .before .before .before .before .before .before .stands .result) (l .inv .1) (l .inv .2) (c .before .before .before .before .before .before .before .stands .ensures) (c .before .before .before .before .before .before .if1 .left) (c .before .before .before .before .before .read-be32 .ensures) in (
-      omega (arith, c .before .before .before .before .before .before .before .before .loop-test .taken, s .pre .1),
-      lent-length (s .args .input .now) (l .at + 4) (c .before .before .before .before .before .read-be32 .result) (l .size) (g .0) (g .1),
+    let at-read-be32 = c .before .before .before .before .before in
+    let branch1 = at-read-be32 .before in
+    let at-stands = branch1 .before in
+    let tested = at-stands .before in
+    let looped = tested .before in
+    let s = looped .before .before .before .before .before .before in
+    let l = looped .loop in
+    let g = stood-room (s .args .input .now) (l .at) (l .size) (at-read-be32 .read-be32 .result) (at-stands .stands .result) (l .inv .1) (l .inv .2) (at-stands .stands .ensures)
+    (branch1 .if1 .left) (at-read-be32 .read-be32 .ensures) in (
+      omega (arith, tested .loop-test .taken, s .pre .1),
+      lent-length (s .args .input .now) (l .at + 4) (at-read-be32 .read-be32 .result) (l .size) (g .0) (g .1),
     )
 
 add-size : tie.Need-add-size Inv-loop μ-loop
 add-size c =
-    let l = c .before .before .before .before .before .before .before .before .before .before .before .before .before .before .before .before .before .before .loop in
-    omega (arith, stood-room (c .before .before .before .before .before .before .before .before .before .before .before .before .before .before .before .before .before .before .before .before .before .before .before .before .args .input .now) (l .at) (l .size) (c .before .before .before .before .before .before .before .before .before .before .before .before .before .before .read-be32 .result) (c .before .before .before .before .before .before .before .before .before .before .before .before .before .before .before .before .stands .result) (l .inv .1) (l .inv .2) (c .before .before .before .before .before .before .before .before .before .before .before .before .before .before .before .before .stands .ensures) (c .before .before .before .before .before .before .before .before .before .before .before .before .before .before .before .if1 .left) (c .before .before .before .before .before .before .before .before .before .before .before .before .before .before .read-be32 .ensures) .1)
+    let at-read-be32 = c .before .before .before .before .before .before .before .before .before .before .before .before .before .before in
+    let branch1 = at-read-be32 .before in
+    let at-stands = branch1 .before in
+    let looped = at-stands .before .before in
+    let start = looped .before .before .before .before .before .before in
+    let l = looped .loop in
+    omega (
+      arith,
+      stood-room (start .args .input .now) (l .at) (l .size) (at-read-be32 .read-be32 .result) (at-stands .stands .result) (l .inv .1) (l .inv .2)
+          (at-stands .stands .ensures) (branch1 .if1 .left) (at-read-be32 .read-be32 .ensures) .1,
+    )
 
 add-n : tie.Need-add-n Inv-loop μ-loop
-add-n c = omega (arith, c .before .before .before .before .before .before .before .before .before .before .before .before .before .before .before .before .before .loop-test .taken, c .before .before .before .before .before .before .before .before .before .before .before .before .before .before .before .before .before .before .before .before .before .before .before .before .pre .1)
+add-n c =
+    let tested = c .before .before .before .before .before .before .before .before .before .before .before .before .before .before .before .before .before in
+    let entered = tested .before .before .before .before .before .before .before in
+    omega (arith, tested .loop-test .taken, entered .pre .1)
 
 loop-less : tie.Need-loop-less Inv-loop μ-loop
-loop-less c = omega (arith, c .before .before .before .before .before .before .before .before .before .before .before .before .before .before .before .before .before .loop-test .taken)
+loop-less c =
+    let tested = c .before .before .before .before .before .before .before .before .before .before .before .before .before .before .before .before .before in
+    omega (arith, tested .loop-test .taken)
 
 loop-again : tie.Need-loop-again Inv-loop μ-loop
 loop-again c =
-    let s = c .before .before .before .before .before .before .before .before .before .before .before .before .before .before .before .before .before .before .before .before .before .before .before .before in
-    let l = c .before .before .before .before .before .before .before .before .before .before .before .before .before .before .before .before .before .before .loop in
-    let g = stood-room (c .before .before .before .before .before .before .before .before .before .before .before .before .before .before .before .before .before .before .before .before .before .before .before .before .args .input .now) (l .at) (l .size) (c .before .before .before .before .before .before .before .before .before .before .before .before .before .before .read-be32 .result) (c .before .before .before .before .before .before .before .before .before .before .before .before .before .before .before .before .stands .result) (l .inv .1) (l .inv .2) (c .before .before .before .before .before .before .before .before .before .before .before .before .before .before .before .before .stands .ensures) (c .before .before .before .before .before .before .before .before .before .before .before .before .before .before .before .if1 .left) (c .before .before .before .before .before .before .before .before .before .before .before .before .before .before .read-be32 .ensures) in (
-      omega (arith, c .before .before .before .before .before .before .before .before .before .before .before .before .before .before .before .before .before .loop-test .taken),
+    let at-add = c .before .before .before .before .before .before .before .before in
+    let at-read-be32 = at-add .before .before .before .before .before .before in
+    let branch1 = at-read-be32 .before in
+    let at-stands = branch1 .before in
+    let tested = at-stands .before in
+    let looped = tested .before in
+    let at-shared-slice-known = looped .before .before .before .before .before in
+    let s = at-shared-slice-known .before in
+    let l = looped .loop in
+    let g = stood-room (s .args .input .now) (l .at) (l .size) (at-read-be32 .read-be32 .result) (at-stands .stands .result) (l .inv .1) (l .inv .2) (at-stands .stands .ensures)
+    (branch1 .if1 .left) (at-read-be32 .read-be32 .ensures) in (
+      omega (arith, tested .loop-test .taken),
       g .0,
       g .1,
       next-added (chunksIn (s .args .count) (drop 4 (s .args .input .now)) 4096) (s .args .input .now) (l .tree) (l .signatures) (l .bitfield) (l .content) _ _ _ _
-          (s .args .count) (l .n) (l .at) (l .size) (c .before .before .before .before .before .before .before .before .before .before .before .before .before .before .read-be32 .result) (c .before .before .before .before .before .before .before .before .before .before .before .before .before .before .before .before .before .loop-test .taken)
-          (sym (c .before .before .before .before .before .before .before .before .before .before .before .before .before .before .before .before .stands .ensures) ∙ not-false (c .before .before .before .before .before .before .before .before .before .before .before .before .before .before .before .before .stands .result) (c .before .before .before .before .before .before .before .before .before .before .before .before .before .before .before .if1 .left)) (c .before .before .before .before .before .before .before .before .before .before .before .before .before .before .read-be32 .ensures) (g .0)
-          (λ i. omega (arith, c .before .before .before .before .before .before .before .before .before .before .before .before .before .before .before .before .before .before .before .before .before .before .before .shared-slice-known .given i)) (l .inv .3) (c .before .before .before .before .before .before .before .before .add .ensures),
+          (s .args .count) (l .n) (l .at) (l .size) (at-read-be32 .read-be32 .result) (tested .loop-test .taken)
+          (sym (at-stands .stands .ensures) ∙ not-false (at-stands .stands .result) (branch1 .if1 .left)) (at-read-be32 .read-be32 .ensures) (g .0)
+          (λ i. omega (arith, at-shared-slice-known .shared-slice-known .given i)) (l .inv .3) (at-add .add .ensures),
     )
 
 same-length-5 : tie.Need-same-length-5 Inv-loop μ-loop
-same-length-5 c = omega (arith, c .before .loop .inv .3 .ready .tree, c .before .before .before .before .before .before .before .pre .2 .tree)
+same-length-5 c =
+    let entered = c .before .before .before .before .before .before .before in
+    omega (arith, c .before .loop .inv .3 .ready .tree, entered .pre .2 .tree)
 
 same-length-6 : tie.Need-same-length-6 Inv-loop μ-loop
-same-length-6 c = omega (arith, c .before .loop .inv .3 .ready .signatures, c .before .before .before .before .before .before .before .pre .2 .signatures)
+same-length-6 c =
+    let entered = c .before .before .before .before .before .before .before in
+    omega (arith, c .before .loop .inv .3 .ready .signatures, entered .pre .2 .signatures)
 
 same-length-7 : tie.Need-same-length-7 Inv-loop μ-loop
-same-length-7 c = omega (arith, c .before .loop .inv .3 .ready .bitfield, c .before .before .before .before .before .before .before .pre .2 .bitfield)
+same-length-7 c =
+    let entered = c .before .before .before .before .before .before .before in
+    omega (arith, c .before .loop .inv .3 .ready .bitfield, entered .pre .2 .bitfield)
 
 same-length-8 : tie.Need-same-length-8 Inv-loop μ-loop
-same-length-8 c = omega (arith, c .before .loop .inv .3 .ready .content, c .before .before .before .before .before .before .before .pre .2 .content)
+same-length-8 c =
+    let entered = c .before .before .before .before .before .before .before in
+    omega (arith, c .before .loop .inv .3 .ready .content, entered .pre .2 .content)
 
 returns-2 : tie.Need-returns-2 Inv-loop μ-loop
 returns-2 c =

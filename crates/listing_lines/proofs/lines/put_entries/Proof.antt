@@ -20,25 +20,58 @@ loop-holds : tie.Need-loop-holds Inv-loop μ-loop
 loop-holds c = (omega arith, entries-none (storedLine (c .before .before .args .tree .now) (c .before .before .args .n)) (c .before .before .args .out .now) (c .before .before .args .at))
 
 add-if1 : tie.Need-add-if1 Inv-loop μ-loop
-add-if1 c = omega (arith, most (c .before .before .before .before .args .n) (c .before .loop .i .0) (c .before .before .before .before .pre .1 .few) (c .before .loop .inv .0))
+add-if1 c =
+    let start = c .before .before .before .before in
+    omega (arith, most (start .args .n) (c .before .loop .i .0) (start .pre .1 .few) (c .before .loop .inv .0))
 
 mul-if1 : tie.Need-mul-if1 Inv-loop μ-loop
-mul-if1 c = omega (arith, c .before .before .before .before .pre .1 .few)
+mul-if1 c =
+    let entered = c .before .before .before .before in
+    omega (arith, entered .pre .1 .few)
 
 put-entry-requires : tie.Need-put-entry-requires Inv-loop μ-loop
-put-entry-requires c κs = (omega (arith, c .before .before .before .loop .inv .1 .few, c .before .before .before .loop .inv .1 .next, c .before .before .before .loop .inv .1 .same, c .before .before .before .before .before .before .pre .0, entry-small (c .before .before .before .before .before .before .args .n) (c .before .before .before .loop .i .0) (c .before .before .before .before .before .before .pre .1 .few) (entry-next (c .before .before .before .before .before .before .args .n) (c .before .before .before .loop .i .0) (c .before .if1 .taken))), c .before .before .before .before .before .before .pre .1, entry-next (c .before .before .before .before .before .before .args .n) (c .before .before .before .loop .i .0) (c .before .if1 .taken))
+put-entry-requires c κs =
+    let looped = c .before .before .before in
+    let start = looped .before .before .before in (
+      omega (
+        arith,
+        looped .loop .inv .1 .few,
+        looped .loop .inv .1 .next,
+        looped .loop .inv .1 .same,
+        start .pre .0,
+        entry-small (start .args .n) (looped .loop .i .0)
+            (start .pre .1 .few) (entry-next (start .args .n) (looped .loop .i .0) (c .before .if1 .taken)),
+      ),
+      start .pre .1,
+      entry-next (start .args .n) (looped .loop .i .0) (c .before .if1 .taken),
+    )
 
 add-t8 : tie.Need-add-t8 Inv-loop μ-loop
-add-t8 c = omega (arith, c .before .before .before .before .before .if1 .taken, c .before .before .before .before .before .before .before .before .before .before .pre .1 .few)
+add-t8 c =
+    let branch1 = c .before .before .before .before .before in
+    let entered = branch1 .before .before .before .before .before in
+    omega (arith, branch1 .if1 .taken, entered .pre .1 .few)
 
 loop-less : tie.Need-loop-less Inv-loop μ-loop
-loop-less c = omega (arith, c .before .before .before .before .before .if1 .taken)
+loop-less c =
+    let branch1 = c .before .before .before .before .before in
+    omega (arith, branch1 .if1 .taken)
 
 loop-again : tie.Need-loop-again Inv-loop μ-loop
-loop-again c = (omega (arith, entry-next (c .before .before .before .before .before .before .before .before .before .before .args .n) (c .before .before .before .before .before .before .before .loop .i .0) (c .before .before .before .before .before .if1 .taken)), entries-more (storedLine (c .before .before .before .before .before .before .before .before .before .before .args .tree .now) (c .before .before .before .before .before .before .before .before .before .before .args .n)) (c .before .before .before .before .before .before .before .loop .i .0) (c .before .before .before .before .before .before .before .loop .inv .1) (c .before .before .before .put-entry .ensures))
+loop-again c =
+    let at-put-entry = c .before .before .before in
+    let branch1 = at-put-entry .before .before in
+    let looped = branch1 .before .before in
+    let start = looped .before .before .before in (
+      omega (arith, entry-next (start .args .n) (looped .loop .i .0) (branch1 .if1 .taken)),
+      entries-more (storedLine (start .args .tree .now) (start .args .n)) (looped .loop .i .0)
+          (looped .loop .inv .1) (at-put-entry .put-entry .ensures),
+    )
 
 returns : tie.Need-returns Inv-loop μ-loop
-returns c = entries-all (c .before .before .before .before .before .args .tree .now) (c .before .before .before .before .before .args .n) (c .before .before .loop .i .0) (c .before .before .before .before .before .pre .1 .few) (c .before .before .loop .inv .0) (c .if1 .left) (c .before .before .loop .inv .1)
+returns c =
+    let start = c .before .before .before .before .before in
+    entries-all (start .args .tree .now) (start .args .n) (c .before .before .loop .i .0) (start .pre .1 .few) (c .before .before .loop .inv .0) (c .if1 .left) (c .before .before .loop .inv .1)
 
 pub put-entries-spec : {M : Type 1} → statement M
 put-entries-spec = tie.close (tie.spec Inv-loop μ-loop loop-holds add-if1 mul-if1 put-entry-requires add-t8 loop-less loop-again (λ c. search needs) returns)

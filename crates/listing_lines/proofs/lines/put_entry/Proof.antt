@@ -15,27 +15,73 @@ is-filled-requires c κs = omega (arith, entry-small (c .before .before .args .n
 
 returns : tie.Need-returns
 unfolding holeWord
-returns c = same-put (line-hole (c .before .before .before .before .before .before .before .before .before .args .tree .now) (c .before .before .before .before .before .before .before .before .before .args .n) (c .before .before .before .before .before .before .before .before .before .args .i .0) (sym (c .before .before .before .before .before .before .is-filled .ensures) ∙ not-true (c .before .before .before .before .before .before .is-filled .result) (c .before .before .before .before .before .if1 .taken))) (c .before .before .put-line .ensures)
+returns c =
+    let branch1 = c .before .before .before .before .before in
+    let at-is-filled = branch1 .before in
+    let start = at-is-filled .before .before .before in
+    same-put (line-hole (start .args .tree .now) (start .args .n) (start .args .i .0)
+    (sym (at-is-filled .is-filled .ensures) ∙ not-true (at-is-filled .is-filled .result) (branch1 .if1 .taken))) (c .before .before .put-line .ensures)
 
 first-under-requires : tie.Need-first-under-requires
-first-under-requires c κs = entry-small (c .before .before .before .before .args .n) (c .before .before .before .before .args .i .0) (c .before .before .before .before .pre .1 .few) (c .before .before .before .before .pre .2)
+first-under-requires c κs =
+    let start = c .before .before .before .before in
+    entry-small (start .args .n) (start .args .i .0) (start .pre .1 .few) (start .pre .2)
 
 start-of-requires : tie.Need-start-of-requires
-start-of-requires c κs = fewer-printable (c .first-under .result .0) (omega (arith, c .first-under .ensures, first-le (c .before .before .before .before .before .args .n) (c .before .before .before .before .before .args .i .0) (sym (c .before .before .is-filled .ensures) ∙ not-false (c .before .before .is-filled .result) (c .before .if1 .left)))) (c .before .before .before .before .before .pre .1)
+start-of-requires c κs =
+    let start = c .before .before .before .before .before in
+    fewer-printable (c .first-under .result .0)
+    (omega (
+      arith,
+      c .first-under .ensures,
+      first-le (start .args .n) (start .args .i .0)
+          (sym (c .before .before .is-filled .ensures) ∙ not-false (c .before .before .is-filled .result) (c .before .if1 .left)),
+    )) (start .pre .1)
 
 stored-size-requires : tie.Need-stored-size-requires
-stored-size-requires c κs = entry-in (c .before .before .before .before .before .before .args .tree .now) (c .before .before .before .before .before .before .args .i .0) (entry-small (c .before .before .before .before .before .before .args .n) (c .before .before .before .before .before .before .args .i .0) (c .before .before .before .before .before .before .pre .1 .few) (c .before .before .before .before .before .before .pre .2)) (c .before .before .before .before .before .before .pre .1 .room)
+stored-size-requires c κs =
+    let start = c .before .before .before .before .before .before in
+    entry-in (start .args .tree .now) (start .args .i .0) (entry-small (start .args .n) (start .args .i .0) (start .pre .1 .few) (start .pre .2)) (start .pre .1 .room)
 
 depth-requires : tie.Need-depth-requires
-depth-requires c κs = omega (arith, entry-small (c .before .before .before .before .before .before .before .args .n) (c .before .before .before .before .before .before .before .args .i .0) (c .before .before .before .before .before .before .before .pre .1 .few) (c .before .before .before .before .before .before .before .pre .2))
+depth-requires c κs =
+    let start = c .before .before .before .before .before .before .before in
+    omega (arith, entry-small (start .args .n) (start .args .i .0) (start .pre .1 .few) (start .pre .2))
 
 returns-2 : tie.Need-returns-2
 unfolding leafWord
-returns-2 c = same-put (line-leaf (c .before .before .before .before .before .before .before .before .before .before .before .before .before .before .args .tree .now) (c .before .before .before .before .before .before .before .before .before .before .before .before .before .before .args .n) (c .before .before .before .before .before .before .before .before .before .before .before .before .before .before .args .i .0) (c .before .before .before .before .before .before .before .before .start-of .result .0) (c .before .before .before .before .before .before .before .stored-size .result) (sym (c .before .before .before .before .before .before .before .before .before .before .before .is-filled .ensures) ∙ not-false (c .before .before .before .before .before .before .before .before .before .before .before .is-filled .result) (c .before .before .before .before .before .before .before .before .before .before .if1 .left)) (sym (c .before .before .before .before .before .before .depth .ensures) ∙ c .before .before .before .before .before .if2 .taken) (c .before .before .before .before .before .before .before .before .start-of .ensures ∙ ap (storedStart (c .before .before .before .before .before .before .before .before .before .before .before .before .before .before .args .tree .now)) (c .before .before .before .before .before .before .before .before .before .first-under .ensures)) (c .before .before .before .before .before .before .before .stored-size .ensures)) (c .before .before .put-line2 .ensures)
+returns-2 c =
+    let branch2 = c .before .before .before .before .before in
+    let at-depth = branch2 .before in
+    let at-stored-size = at-depth .before in
+    let at-start-of = at-stored-size .before in
+    let at-first-under = at-start-of .before in
+    let branch1 = at-first-under .before in
+    let at-is-filled = branch1 .before in
+    let start = at-is-filled .before .before .before in
+    same-put (line-leaf (start .args .tree .now) (start .args .n) (start .args .i .0) (at-start-of .start-of .result .0) (at-stored-size .stored-size .result)
+    (sym (at-is-filled .is-filled .ensures) ∙ not-false (at-is-filled .is-filled .result) (branch1 .if1 .left)) (sym (at-depth .depth .ensures) ∙ branch2 .if2 .taken)
+    (at-start-of .start-of .ensures ∙ ap (storedStart (start .args .tree .now)) (at-first-under .first-under .ensures)) (at-stored-size .stored-size .ensures))
+    (c .before .before .put-line2 .ensures)
 
 returns-3 : tie.Need-returns-3
 unfolding parentWord
-returns-3 c = same-put (line-parent (c .before .before .before .before .before .before .before .before .before .before .before .before .before .before .args .tree .now) (c .before .before .before .before .before .before .before .before .before .before .before .before .before .before .args .n) (c .before .before .before .before .before .before .before .before .before .before .before .before .before .before .args .i .0) (c .before .before .before .before .before .before .before .before .start-of .result .0) (c .before .before .before .before .before .before .before .stored-size .result) (sym (c .before .before .before .before .before .before .before .before .before .before .before .is-filled .ensures) ∙ not-false (c .before .before .before .before .before .before .before .before .before .before .before .is-filled .result) (c .before .before .before .before .before .before .before .before .before .before .if1 .left)) (λ e. c .before .before .before .before .before .if2 .left (c .before .before .before .before .before .before .depth .ensures ∙ e)) (c .before .before .before .before .before .before .before .before .start-of .ensures ∙ ap (storedStart (c .before .before .before .before .before .before .before .before .before .before .before .before .before .before .args .tree .now)) (c .before .before .before .before .before .before .before .before .before .first-under .ensures)) (c .before .before .before .before .before .before .before .stored-size .ensures)) (c .before .before .put-line3 .ensures)
+returns-3 c =
+    let branch2 = c .before .before .before .before .before in
+    let at-depth = branch2 .before in
+    let at-stored-size = at-depth .before in
+    let at-start-of = at-stored-size .before in
+    let at-first-under = at-start-of .before in
+    let branch1 = at-first-under .before in
+    let at-is-filled = branch1 .before in
+    let start = at-is-filled .before .before .before in
+    same-put (line-parent (start .args .tree .now) (start .args .n) (start .args .i .0) (at-start-of .start-of .result .0) (at-stored-size .stored-size .result)
+    (sym (at-is-filled .is-filled .ensures) ∙ not-false (at-is-filled .is-filled .result) (branch1 .if1 .left)) (λ e. branch2 .if2 .left (at-depth .depth .ensures ∙ e))
+    (at-start-of .start-of .ensures ∙ ap (storedStart (start .args .tree .now)) (at-first-under .first-under .ensures)) (at-stored-size .stored-size .ensures))
+    (c .before .before .put-line3 .ensures)
 
 pub put-entry-spec : {M : Type 1} → statement M
-put-entry-spec = tie.close (tie.spec is-filled-requires (λ c. search needs) (λ c κs. search needs) (λ c. search needs) returns first-under-requires start-of-requires stored-size-requires depth-requires (λ c. search needs) (λ c κs. search needs) (λ c. search needs) returns-2 (λ c. search needs) (λ c κs. search needs) (λ c. search needs) returns-3)
+put-entry-spec =
+    tie.close (tie.spec is-filled-requires (λ c. search needs) (λ c κs. search needs) (λ c. search needs)
+    returns first-under-requires start-of-requires stored-size-requires depth-requires (λ c. search needs) (λ c κs. search needs) (λ c. search needs) returns-2
+    (λ c. search needs) (λ c κs. search needs) (λ c. search needs) returns-3)

@@ -7,8 +7,18 @@ use Rattle.listing_lines.proofs.lines.put_first.Tie as tie
 
 returns : tie.Need-returns
 unfolding chunksWord bytesWord rootsWord
-returns c = first-put (c .before .before .before .before .before .before .before .before .before .before .before .before .before .before .before .before .before .before .before .before .before .before .before .before .before .before .before .before .before .before .before .before .before .args .n) (c .before .before .before .before .before .before .before .before .before .before .before .before .before .before .before .before .before .before .before .before .before .before .before .before .before .before .before .before .before .before .before .before .before .args .size) (c .before .before .before .before .before .before .before .before .before .before .before .before .before .before .before .before .before .before .before .before .before .before .before .before .before .before .before .before .before .put-text .ensures) (c .before .before .before .before .before .before .before .before .before .before .before .before .before .before .before .before .before .before .before .before .before .before .before .before .before .put-digits .ensures) (c .before .before .before .before .before .before .before .before .before .before .before .before .before .before .before .before .before .before .before .before .put-text2 .ensures)
-    (c .before .before .before .before .before .before .before .before .before .before .before .before .before .before .before .before .put-digits2 .ensures) (c .before .before .before .before .before .before .before .before .before .before .before .put-text3 .ensures) (c .before .before .before .before .before .before .before .put-roots .ensures) (c .before .before .put-text4 .ensures)
+returns c =
+    let at-put-roots = c .before .before .before .before .before .before .before in
+    let at-put-text3 = at-put-roots .before .before .before .before in
+    let at-put-digits2 = at-put-text3 .before .before .before .before .before in
+    let at-put-text2 = at-put-digits2 .before .before .before .before in
+    let at-put-digits = at-put-text2 .before .before .before .before .before in
+    let at-put-text = at-put-digits .before .before .before .before in
+    let start = at-put-text .before .before .before .before in
+    first-put (start .args .n) (start .args .size) (at-put-text .put-text .ensures) (at-put-digits .put-digits .ensures) (at-put-text2 .put-text2 .ensures)
+    (at-put-digits2 .put-digits2 .ensures) (at-put-text3 .put-text3 .ensures) (at-put-roots .put-roots .ensures) (c .before .before .put-text4 .ensures)
 
 pub put-first-spec : {M : Type 1} → statement M
-put-first-spec = tie.close (tie.spec (λ c. search needs) (λ c κs. search needs) (λ c κs. search needs) (λ c. search needs) (λ c κs. search needs) (λ c κs. search needs) (λ c. search needs) (λ c κs. search needs) (λ c κs. search needs) (λ c. search needs) (λ c κs. search needs) (λ c. search needs) returns)
+put-first-spec =
+    tie.close (tie.spec (λ c. search needs) (λ c κs. search needs) (λ c κs. search needs) (λ c. search needs) (λ c κs. search needs) (λ c κs. search needs) (λ c. search needs)
+    (λ c κs. search needs) (λ c κs. search needs) (λ c. search needs) (λ c κs. search needs) (λ c. search needs) returns)

@@ -7,7 +7,9 @@ use Rattle.listing_lines.proofs.lines.put_lines.Tie as tie
 
 returns : tie.Need-returns
 unfolding storedLines
-returns c = both-put (c .before .before .before .before .before .before .put-first .ensures) (c .before .before .put-entries .ensures)
+returns c =
+    let at-put-first = c .before .before .before .before .before .before in
+    both-put (at-put-first .put-first .ensures) (c .before .before .put-entries .ensures)
 
 pub put-lines-spec : {M : Type 1} → statement M
 put-lines-spec = tie.close (tie.spec (λ c κs. search needs) (λ c κs. search needs) (λ c. search needs) returns)

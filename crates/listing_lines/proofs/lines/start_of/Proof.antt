@@ -18,16 +18,39 @@ loop-holds : tie.Need-loop-holds Inv-loop μ-loop
 loop-holds c = (omega arith, start-none (c .before .args .tree .now))
 
 stored-size-requires : tie.Need-stored-size-requires Inv-loop μ-loop
-stored-size-requires c κs = entry-in (c .before .before .before .before .before .before .args .tree .now) (c .leaf-index .result .0) (omega (arith, c .leaf-index .ensures ∙ index-leaf (c .before .before .before .before .loop .j .0), c .before .before .before .before .before .before .pre .few, c .before .if1 .taken)) (c .before .before .before .before .before .before .pre .room)
+stored-size-requires c κs =
+    let looped = c .before .before .before .before in
+    let start = looped .before .before in
+    entry-in (start .args .tree .now) (c .leaf-index .result .0) (omega (arith, c .leaf-index .ensures ∙ index-leaf (looped .loop .j .0), start .pre .few, c .before .if1 .taken)) (start .pre .room)
 
 add-t8 : tie.Need-add-t8 Inv-loop μ-loop
-add-t8 c = omega (arith, start-more (c .before .before .before .before .before .before .before .before .args .tree .now) (c .before .before .before .before .before .before .loop .j .0) (c .before .before .before .before .before .before .loop .start .0) (c .before .stored-size .result) (c .before .before .before .before .before .before .loop .inv .1) (c .before .stored-size .ensures ∙ ap (storedSize (c .before .before .before .before .before .before .before .before .args .tree .now)) (c .before .before .leaf-index .ensures ∙ index-leaf (c .before .before .before .before .before .before .loop .j .0))), c .before .before .before .before .before .before .before .before .pre .small (c .before .before .before .before .before .before .loop .j .0 + 1) (omega (arith, c .before .before .before .if1 .taken)))
+add-t8 c =
+    let branch1 = c .before .before .before in
+    let looped = branch1 .before .before .before in
+    let start = looped .before .before in
+    omega (
+      arith,
+      start-more (start .args .tree .now) (looped .loop .j .0) (looped .loop .start .0) (c .before .stored-size .result) (looped .loop .inv .1)
+          (c .before .stored-size .ensures ∙ ap (storedSize (start .args .tree .now)) (c .before .before .leaf-index .ensures ∙ index-leaf (looped .loop .j .0))),
+      start .pre .small
+          (looped .loop .j .0 + 1) (omega (arith, branch1 .if1 .taken)),
+    )
 
 loop-again : tie.Need-loop-again Inv-loop μ-loop
-loop-again c = (omega arith, start-more (c .before .before .before .before .before .before .before .before .before .args .tree .now) (c .before .before .before .before .before .before .before .loop .j .0) (c .before .before .before .before .before .before .before .loop .start .0) (c .before .before .stored-size .result) (c .before .before .before .before .before .before .before .loop .inv .1) (c .before .before .stored-size .ensures ∙ ap (storedSize (c .before .before .before .before .before .before .before .before .before .args .tree .now)) (c .before .before .before .leaf-index .ensures ∙ index-leaf (c .before .before .before .before .before .before .before .loop .j .0))))
+loop-again c =
+    let at-leaf-index = c .before .before .before in
+    let looped = at-leaf-index .before .before .before .before in
+    let start = looped .before .before in (
+      omega arith,
+      start-more (start .args .tree .now) (looped .loop .j .0) (looped .loop .start .0) (c .before .before .stored-size .result) (looped .loop .inv .1)
+          (c .before .before .stored-size .ensures ∙ ap (storedSize (start .args .tree .now)) (at-leaf-index .leaf-index .ensures ∙ index-leaf (looped .loop .j .0))),
+    )
 
 returns : tie.Need-returns Inv-loop μ-loop
-returns c = c .before .before .before .loop .inv .1 ∙ ap (storedStart (c .before .before .before .before .before .args .tree .now)) (omega (arith, c .before .before .before .loop .inv .0, c .if1 .left))
+returns c =
+    let looped = c .before .before .before in
+    let start = looped .before .before in
+    looped .loop .inv .1 ∙ ap (storedStart (start .args .tree .now)) (omega (arith, looped .loop .inv .0, c .if1 .left))
 
 pub start-of-spec : {M : Type 1} → statement M
 start-of-spec = tie.close (tie.spec Inv-loop μ-loop loop-holds (λ c κs. omega arith) stored-size-requires add-t8 (λ c. omega arith) (λ c. omega arith) loop-again returns)

@@ -54,7 +54,10 @@ put-digits-returns-2 : (t : ℕ) → put-digits-lts.Need-returns-2 (
   put-digits.Post,
 ) (put-digits-at t) put-digits.Post
 put-digits-returns-2 t c =
-    one-digit (c .before .before .before .before .before .before .before .args .k) (c .before .before .before .before .before .before .before .args .x) (c .before .before .before .before .before .if1 .left) (c .before .before .before .before .if2 .taken) (c .before .before .put-digit .ensures)
+    let branch2 = c .before .before .before .before in
+    let branch1 = branch2 .before in
+    let start = branch1 .before .before in
+    one-digit (start .args .k) (start .args .x) (branch1 .if1 .left) (branch2 .if2 .taken) (c .before .before .put-digit .ensures)
 
 put-digits-sub-put-digits : (t : ℕ) → put-digits-lts.Need-sub-put-digits (
   put-digit-reads.Asked,
@@ -70,7 +73,9 @@ put-digits-put-digits-requires : (t : ℕ) → put-digits-lts.Need-put-digits-re
   put-digits-below t,
   put-digits.Post,
 ) (put-digits-at t) put-digits.Post
-put-digits-put-digits-requires t c κs = (omega (arith, c .before .before .before .before .pre .0, c .before .before .if1 .left), omega (arith, c .before .before .before .before .pre .1))
+put-digits-put-digits-requires t c κs =
+    let entered = c .before .before .before .before in
+    (omega (arith, entered .pre .0, c .before .before .if1 .left), omega (arith, entered .pre .1))
 
 put-digits-put-digit-requires-2 : (t : ℕ) → put-digits-lts.Need-put-digit-requires-2 (
   put-digit-reads.Asked,
@@ -95,7 +100,11 @@ put-digits-returns-3 : (t : ℕ) → put-digits-lts.Need-returns-3 (
   put-digits.Post,
 ) (put-digits-at t) put-digits.Post
 put-digits-returns-3 t c =
-    more-digits (c .before .before .before .before .before .before .before .before .before .before .before .args .k) (c .before .before .before .before .before .before .before .before .before .before .before .args .x) (c .before .before .before .before .before .before .before .before .before .if1 .left) (c .before .before .before .before .before .before .before .before .if2 .left) (c .before .before .before .before .before .before .put-digits .ensures) (c .before .before .put-digit2 .ensures)
+    let at-put-digits = c .before .before .before .before .before .before in
+    let branch2 = at-put-digits .before .before in
+    let branch1 = branch2 .before in
+    let start = branch1 .before .before in
+    more-digits (start .args .k) (start .args .x) (branch1 .if1 .left) (branch2 .if2 .left) (at-put-digits .put-digits .ensures) (c .before .before .put-digit2 .ensures)
 
 pub +put-digits-spec : {M : Type 1} → statement M
 +put-digits-spec = close μ-put-digits λ t. put-digits-lts.spec (

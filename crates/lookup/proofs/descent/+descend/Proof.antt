@@ -1,6 +1,6 @@
 -- The proof of the cycle of calls {descend}. The measure is the depth of the node. Assumes nothing.
-use mathlib.Core.Path.{_≡_, sym, ap, _∙_, subst}
-use Rattle.tree_index.specs.Tree.{depth, block}
+use mathlib.Core.Path.{sym, ap, _∙_, subst}
+use Rattle.tree_index.specs.Tree.{depth}
 use Rattle.lookup.specs.Unknown.{unknownOf}
 use Rattle.lookup.specs.Inner.{withinOf, knownIf, followed, Lower, Way}
 use Rattle.lookup.proofs.Steps.{standing-in, standing-children, standing-next, at-unknown, at-end, at-down}
@@ -63,7 +63,9 @@ descend-visit-requires : (t : ℕ) → descend-lts.Need-visit-requires (
   descend-below t,
   descend.Post,
 ) (descend-at t) descend.Post
-descend-visit-requires t c κs = standing-in (c .before .before .before .before .before .pre .1)
+descend-visit-requires t c κs =
+    let entered = c .before .before .before .before .before in
+    standing-in (entered .pre .1)
 
 descend-enum-known-ending : (t : ℕ) → descend-lts.Need-enum-known-ending (
   unknown-child-reads.Asked,
@@ -94,10 +96,11 @@ descend-descend-requires : (t : ℕ) → descend-lts.Need-descend-requires (
   descend.Post,
 ) (descend-at t) descend.Post
 descend-descend-requires t c κs =
-    let s = c .before .before .before .before .before .before .before .before .before in
+    let at-visit = c .before .before .before in
+    let s = at-visit .before .before .before .before .before .before in
     let a = s .args in
     let k = c .before .child2 .given in
-    let v = c .before .before .before .visit .ensures in
+    let v = at-visit .visit .ensures in
     let l = subst (Lower (a .tree .now) (a .i .0)) (k .1) (v .lower) in
     let w = subst (Way (withinOf (a .sought)) (a .tree .now) (a .i .0) (a .start .0)) (k .1) (v .way) in
     (subst (λ (x : ℕ). depth (k .0 .0 .0) < x) (s .pre .0) (l .1), standing-next (s .pre .1) (withinOf (a .sought)) (k .0 .0 .0) (k .0 .1 .0 .0) w (l .0))
@@ -111,10 +114,12 @@ descend-returns : (t : ℕ) → descend-lts.Need-returns (
   descend.Post,
 ) (descend-at t) descend.Post
 descend-returns t c =
-    let a = c .before .before .before .before .before .before .args in
+    let at-unknown-child = c .before .before .before in
+    let start = at-unknown-child .before .before .before in
+    let a = start .args in
     let k = c .before .child .given in
     at-unknown (knownIf (a .partly) (a .bitfield .now)) (withinOf (a .sought)) (a .tree .now) (a .start .0) (a .i .0) (k .0 .0 .0)
-    (sym (ap unknownOf (k .1)) ∙ c .before .before .before .unknown-child .ensures)
+    (sym (ap unknownOf (k .1)) ∙ at-unknown-child .unknown-child .ensures)
 
 descend-returns-2 : (t : ℕ) → descend-lts.Need-returns-2 (
   unknown-child-reads.Asked,
@@ -125,13 +130,17 @@ descend-returns-2 : (t : ℕ) → descend-lts.Need-returns-2 (
   descend.Post,
 ) (descend-at t) descend.Post
 descend-returns-2 t c =
-    let a = c .before .before .before .before .before .before .before .before .before .args in
+    let at-visit = c .before .before .before in
+    let at-enum-told = at-visit .before in
+    let at-unknown-child = at-enum-told .before .before in
+    let start = at-unknown-child .before .before .before in
+    let a = start .args in
     let k = c .before .ending .given in
-    let v = c .before .before .before .visit .ensures in
+    let v = at-visit .visit .ensures in
     let w = subst (Way (withinOf (a .sought)) (a .tree .now) (a .i .0) (a .start .0)) (k .1) (v .way) in
     sym (ap (followed (withinOf (a .sought)) (a .tree .now)) (k .1)) ∙ v .same
     ∙ at-end (knownIf (a .partly) (a .bitfield .now)) (withinOf (a .sought)) (a .tree .now) (a .start .0) (a .i .0)
-    (sym (ap unknownOf (c .before .before .before .before .enum-told .given .1)) ∙ c .before .before .before .before .before .before .unknown-child .ensures) w
+    (sym (ap unknownOf (at-enum-told .enum-told .given .1)) ∙ at-unknown-child .unknown-child .ensures) w
 
 descend-returns-3 : (t : ℕ) → descend-lts.Need-returns-3 (
   unknown-child-reads.Asked,
@@ -142,12 +151,16 @@ descend-returns-3 : (t : ℕ) → descend-lts.Need-returns-3 (
   descend.Post,
 ) (descend-at t) descend.Post
 descend-returns-3 t c =
-    let a = c .before .before .before .before .before .before .before .before .before .before .args in
+    let at-visit = c .before .before .before .before in
+    let at-enum-told = at-visit .before in
+    let at-unknown-child = at-enum-told .before .before in
+    let start = at-unknown-child .before .before .before in
+    let a = start .args in
     let k = c .before .before .child2 .given in
-    let w = subst (Way (withinOf (a .sought)) (a .tree .now) (a .i .0) (a .start .0)) (k .1) (c .before .before .before .before .visit .ensures .way) in
+    let w = subst (Way (withinOf (a .sought)) (a .tree .now) (a .i .0) (a .start .0)) (k .1) (at-visit .visit .ensures .way) in
     c .descend .ensures
     ∙ at-down (knownIf (a .partly) (a .bitfield .now)) (withinOf (a .sought)) (a .tree .now) (a .start .0) (a .i .0) (k .0 .0 .0) (k .0 .1 .0 .0)
-    (sym (ap unknownOf (c .before .before .before .before .before .enum-told .given .1)) ∙ c .before .before .before .before .before .before .before .unknown-child .ensures) w
+    (sym (ap unknownOf (at-enum-told .enum-told .given .1)) ∙ at-unknown-child .unknown-child .ensures) w
 
 pub +descend-spec : {M : Type 1} → statement M
 +descend-spec = close μ-descend λ t. descend-lts.spec (

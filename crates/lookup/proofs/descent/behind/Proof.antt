@@ -1,5 +1,5 @@
 -- `lookup::descent::behind` meets its contract. Assumes nothing.
-use Prim.Native.Nat.{ℕ, _+_, _-_}
+use Prim.Native.Nat.{_+_, _-_}
 use mathlib.Core.Path.{refl, sym, ap, _∙_, subst}
 use Rattle.lookup.specs.Inner.{withinOf}
 use Rattle.lookup.specs.declared.descent.Sought.{Sought}
@@ -23,7 +23,8 @@ sub-t6 c =
 
 returns : tie.Need-returns
 returns c d k s z =
-    let a = c .before .before .before .args in
+    let start = c .before .before .before in
+    let a = start .args in
     let g = c .before .sought .given in
     behind-chunk (g .0 .0) (a .size) d k s z ∙ sym (ap (λ (q : Sought). withinOf q d k (a .size + s) z) (g .1))
 

@@ -1,5 +1,5 @@
 -- `lookup::descent::from_roots` meets its contract. The invariant: what is left of the search is the whole of it. The measure: the roots left. Assumes nothing.
-use Prim.Native.Nat.{ℕ, _+_, _-_, _^_, _≤_, _<_}
+use Prim.Native.Nat.{ℕ, _-_, _^_, _≤_, _<_}
 use mathlib.Core.Path.{_≡_, sym, ap, _∙_, subst}
 use native.Mathlib.Omega.{arith}
 use lib.ListN.{length, getD}
@@ -22,27 +22,40 @@ abbrev μ-loop : tie.MeasureT-loop
 
 -- in the loop: there is another root, and it is the one that the array has
 among : (l : tie.In-loop Inv-loop μ-loop) → l .before .loop .j < length (roots (l .before .before .before .before .before .before .args .n))
-among l = subst (λ (x : ℕ). l .before .loop .j < x) (l .before .before .before .root-count .ensures) (l .loop-test .taken)
+among l =
+    let at-root-count = l .before .before .before in
+    subst (λ (x : ℕ). l .before .loop .j < x) (at-root-count .root-count .ensures) (l .loop-test .taken)
 
 root : (l : tie.In-loop Inv-loop μ-loop)
     → getD (l .before .before .root-indexes .result) (l .before .loop .j) (record { 0 = 0 }) .0 ≡ getD (roots (l .before .before .before .before .before .before .args .n)) (l .before .loop .j) 0
 root l =
-    root-of (l .before .before .root-indexes .result) (l .before .before .before .before .before .before .args .n) (l .before .loop .j) (l .before .before .root-indexes .ensures) (among l)
+    let start = l .before .before .before .before .before .before in
+    root-of (l .before .before .root-indexes .result) (start .args .n) (l .before .loop .j) (l .before .before .root-indexes .ensures) (among l)
 
 root-count-requires : tie.Need-root-count-requires Inv-loop μ-loop
 root-count-requires c κs = c .before .before .pre .roots .count
 
 root-indexes-requires : tie.Need-root-indexes-requires Inv-loop μ-loop
-root-indexes-requires c κs = c .before .before .before .pre .roots .count
+root-indexes-requires c κs =
+    let entered = c .before .before .before in
+    entered .pre .roots .count
 
 loop-holds : tie.Need-loop-holds Inv-loop μ-loop
-loop-holds c = let a = c .before .before .before .before .args in whole (a .partly) (a .sought) (a .tree .now) (a .bitfield .now) (a .n)
+loop-holds c =
+    let start = c .before .before .before .before in
+    let a = start .args in whole (a .partly) (a .sought) (a .tree .now) (a .bitfield .now) (a .n)
 
 mul-i : tie.Need-mul-i Inv-loop μ-loop
-mul-i c = let s = c .before .before .before .before .before .before in omega (arith, c .before .before .before .root-count .ensures, length-roots-le (s .args .n) (s .pre .roots .count))
+mul-i c =
+    let at-root-count = c .before .before .before in
+    let start = at-root-count .before .before .before in
+    let s = start in omega (arith, at-root-count .root-count .ensures, length-roots-le (s .args .n) (s .pre .roots .count))
 
 array-copy-out-i : tie.Need-array-copy-out-i Inv-loop μ-loop
-array-copy-out-i c = let s = c .before .before .before .before .before .before in omega (arith, c .before .before .before .root-count .ensures, length-roots-le (s .args .n) (s .pre .roots .count))
+array-copy-out-i c =
+    let at-root-count = c .before .before .before in
+    let start = at-root-count .before .before .before in
+    let s = start in omega (arith, at-root-count .root-count .ensures, length-roots-le (s .args .n) (s .pre .roots .count))
 
 is-known-requires : tie.Need-is-known-requires Inv-loop μ-loop
 is-known-requires c κs =
@@ -87,14 +100,18 @@ moved-requires c κs = search needs
 
 returns-2 : tie.Need-returns-2 Inv-loop μ-loop
 returns-2 c =
-    let l = c .before .before .before .before .before .before .before .before in
+    let at-is-within = c .before .before .before in
+    let at-stored-size = at-is-within .before in
+    let branch1 = at-stored-size .before in
+    let at-is-known = branch1 .before in
+    let l = at-is-known .before .before in
     let s = l .before .before .before .before .before .before in
     let a = s .args in
     c .moved .ensures
     ∙ ap (λ (e : Ending). cappedEnding (movedBy (l .before .loop .start .0) e)) (c .before .descend .ensures)
     ∙ found-here (a .partly) (a .sought) (a .tree .now) (a .bitfield .now) (a .n) (l .before .loop .inv) (s .pre) (among l) (root l)
-    (sym (c .before .before .before .before .before .before .is-known .ensures) ∙ not-false _ (c .before .before .before .before .before .if1 .left))
-    (c .before .before .before .before .stored-size .ensures) (sym (c .before .before .before .is-within .ensures) ∙ c .before .before .if2 .taken)
+    (sym (at-is-known .is-known .ensures) ∙ not-false _ (branch1 .if1 .left))
+    (at-stored-size .stored-size .ensures) (sym (at-is-within .is-within .ensures) ∙ c .before .before .if2 .taken)
 
 behind-requires : tie.Need-behind-requires Inv-loop μ-loop
 behind-requires c κs =
@@ -114,19 +131,25 @@ loop-less c = search needs
 
 loop-again : tie.Need-loop-again Inv-loop μ-loop
 loop-again c =
-    let l = c .before .before .before .before .before .before .before .before in
+    let at-is-within = c .before .before .before in
+    let at-stored-size = at-is-within .before in
+    let branch1 = at-stored-size .before in
+    let at-is-known = branch1 .before in
+    let l = at-is-known .before .before in
     let s = l .before .before .before .before .before .before in
     let a = s .args in
     not-here (a .partly) (a .sought) (a .tree .now) (a .bitfield .now) (a .n) (l .before .loop .inv) (s .pre) (among l) (root l)
-    (sym (c .before .before .before .before .before .before .is-known .ensures) ∙ not-false _ (c .before .before .before .before .before .if1 .left))
-    (c .before .before .before .before .stored-size .ensures) (sym (c .before .before .before .is-within .ensures) ∙ c .before .before .if2 .left)
+    (sym (at-is-known .is-known .ensures) ∙ not-false _ (branch1 .if1 .left))
+    (at-stored-size .stored-size .ensures) (sym (at-is-within .is-within .ensures) ∙ c .before .before .if2 .left)
     (c .add-capped .ensures) (c .before .behind .ensures)
 
 returns-3 : tie.Need-returns-3 Inv-loop μ-loop
 returns-3 c =
-    let a = c .before .before .before .before .before .before .args in
+    let at-root-count = c .before .before .before in
+    let start = at-root-count .before .before .before in
+    let a = start .args in
     none-left (a .partly) (a .sought) (a .tree .now) (a .bitfield .now) (a .n) (c .before .loop .inv)
-    (subst (λ (x : ℕ). x ≤ c .before .loop .j) (c .before .before .before .root-count .ensures) (c .loop-test .left))
+    (subst (λ (x : ℕ). x ≤ c .before .loop .j) (at-root-count .root-count .ensures) (c .loop-test .left))
 
 pub from-roots-spec : {M : Type 1} → statement M
 from-roots-spec =

@@ -1,9 +1,7 @@
 -- `lookup::descent::is_known` meets its contract. Assumes nothing.
-use Prim.Native.Nat.{ℕ}
 use mathlib.Core.Path.{sym, ap, _∙_}
 use mathlib.Core.Bool.{Bool}
 use Rattle.lookup.specs.Inner.{knownIf}
-use borrow.Author.Needs.{needs}
 use Rattle.lookup.proofs.descent.is_known.Statement.{statement}
 use Rattle.lookup.proofs.descent.is_known.Tie as tie
 
@@ -12,7 +10,8 @@ is-known-requires c κs = c .before .before .pre (c .if1 .taken)
 
 returns : tie.Need-returns
 returns c =
-    let a = c .before .before .before .args in
+    let start = c .before .before .before in
+    let a = start .args in
     c .is-known .ensures ∙ sym (ap (λ (p : Bool). knownIf p (a .bitfield .now) (a .i .0)) (c .before .if1 .taken))
 
 returns-2 : tie.Need-returns-2

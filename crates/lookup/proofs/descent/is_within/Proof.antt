@@ -23,7 +23,8 @@ add-result c = search needs
 
 returns : tie.Need-returns
 returns c =
-    let a = c .before .before .before .before .args in
+    let start = c .before .before .before .before in
+    let a = start .args in
     let k = c .before .before .sought .given in
     ap not (c .ends-before .ensures)
     ∙ chunk-within (k .0 .0 .0) (a .i .0) (a .start .0) (a .size)
@@ -32,8 +33,10 @@ returns c =
 returns-2 : tie.Need-returns-2
 unfolding byteWithin
 returns-2 c =
-    let a = c .before .before .before .before .before .args in
-    sym (ap (λ s. withinOf s (depth (a .i .0)) (block (a .i .0)) (a .start .0) (a .size)) (c .before .before .before .sought2 .given .1))
+    let at-sought2 = c .before .before .before in
+    let start = at-sought2 .before .before in
+    let a = start .args in
+    sym (ap (λ s. withinOf s (depth (a .i .0)) (block (a .i .0)) (a .start .0) (a .size)) (at-sought2 .sought2 .given .1))
 
 pub is-within-spec : {M : Type 1} → statement M
 is-within-spec =

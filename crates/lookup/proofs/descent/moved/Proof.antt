@@ -10,19 +10,22 @@ use Rattle.lookup.proofs.descent.moved.Tie as tie
 returns : tie.Need-returns
 unfolding cappedEnding movedBy
 returns c =
-    let a = c .before .before .before .args in
+    let start = c .before .before .before in
+    let a = start .args in
     sym (ap (λ (e : Ending). cappedEnding (movedBy (a .start .0) e)) (ap endingOf (c .before .ending .given .1)))
 
 returns-2 : tie.Need-returns-2
 unfolding cappedEnding movedBy
 returns-2 c =
-    let a = c .before .before .before .args in
+    let start = c .before .before .before in
+    let a = start .args in
     sym (ap (λ (e : Ending). cappedEnding (movedBy (a .start .0) e)) (ap endingOf (c .before .ending2 .given .1)))
 
 returns-3 : tie.Need-returns-3
 unfolding cappedEnding movedBy
 returns-3 c =
-    let a = c .before .before .before .before .args in
+    let start = c .before .before .before .before in
+    let a = start .args in
     let k = c .before .before .ending3 .given in
     ap (reached (k .0 .0 .0)) (c .add-capped .ensures)
     ∙ sym (ap (λ (e : Ending). cappedEnding (movedBy (a .start .0) e)) (ap endingOf (k .1)))

@@ -1,5 +1,5 @@
 -- `lookup::descent::unknown_child` meets its contract: the left child is looked at first. Assumes nothing.
-use Prim.Native.Nat.{ℕ, _<_}
+use Prim.Native.Nat.{_<_}
 use mathlib.Core.Path.{sym, ap, _∙_, subst}
 use mathlib.Core.Bool.{Bool}
 use mathlib.Core.List.{[], _∷_}
@@ -10,7 +10,6 @@ use Rattle.lookup.specs.Unknown.{firstUnknown, childrenRead}
 use Rattle.lookup.specs.Inner.{knownIf, BitIn}
 use Rattle.lookup.proofs.Visits.{deeper}
 use Rattle.lookup.proofs.Unknown.{first-known, first-unknown, all-known, children-leaf, children-parent}
-use borrow.Author.Needs.{needs}
 use Rattle.lookup.proofs.descent.unknown_child.Statement.{statement}
 use Rattle.lookup.proofs.descent.unknown_child.Tie as tie
 
@@ -24,16 +23,21 @@ depth-requires : tie.Need-depth-requires
 depth-requires c κs = c .before .before .pre .small
 
 deep : (c : tie.Else2) → 0 < depth (c .before .before .before .before .args .i .0)
-deep c = deeper (c .before .before .before .before .args .i .0) (c .before .depth .ensures) (c .if2 .left)
+deep c =
+    let start = c .before .before .before .before in
+    deeper (start .args .i .0) (c .before .depth .ensures) (c .if2 .left)
 
 returns-2 : tie.Need-returns-2
 unfolding firstUnknown
 returns-2 c =
-    let a = c .before .before .before .before .args in
+    let start = c .before .before .before .before in
+    let a = start .args in
     sym (ap (firstUnknown (knownIf (a .partly) (a .bitfield .now))) (children-leaf (a .i .0) (sym (c .before .depth .ensures) ∙ c .if2 .taken)))
 
 left-child-requires : tie.Need-left-child-requires
-left-child-requires c κs = (c .before .before .before .before .pre .small, deep c)
+left-child-requires c κs =
+    let entered = c .before .before .before .before in
+    (entered .pre .small, deep c)
 
 is-known-requires : tie.Need-is-known-requires
 is-known-requires c κs =
@@ -42,20 +46,26 @@ is-known-requires c κs =
 
 returns-3 : tie.Need-returns-3
 returns-3 c =
-    let a = c .before .before .before .before .before .before .before .args in
+    let earlier = c .before .before .before in
+    let start = earlier .before .before .before .before in
+    let a = start .args in
     let k = knownIf (a .partly) (a .bitfield .now) in
     let l = c .before .before .left-child .ensures in
     ap first l
     ∙ sym (first-unknown k (leftChild (a .i .0)) (rightChild (a .i .0) ∷ []) (sym (not-true _ (c .if3 .taken)) ∙ c .before .is-known .ensures ∙ ap k l))
-    ∙ sym (ap (firstUnknown k) (children-parent (a .i .0) (deep (c .before .before .before))))
+    ∙ sym (ap (firstUnknown k) (children-parent (a .i .0) (deep earlier)))
 
 right-child-requires : tie.Need-right-child-requires
-right-child-requires c κs = (c .before .before .before .before .before .before .before .pre .small, deep (c .before .before .before))
+right-child-requires c κs =
+    let earlier = c .before .before .before in
+    let entered = earlier .before .before .before .before in
+    (entered .pre .small, deep earlier)
 
 is-known-requires-2 : tie.Need-is-known-requires-2
 is-known-requires-2 c κs =
-    let s = c .before .before .before .before .before .before .before .before in
-    subst (BitIn (s .args .partly) (s .args .bitfield .now)) (sym (c .right-child .ensures)) (s .pre .right (deep (c .before .before .before .before)))
+    let earlier = c .before .before .before .before in
+    let s = earlier .before .before .before .before in
+    subst (BitIn (s .args .partly) (s .args .bitfield .now)) (sym (c .right-child .ensures)) (s .pre .right (deep earlier))
 
 returns-4 : tie.Need-returns-4
 returns-4 c =

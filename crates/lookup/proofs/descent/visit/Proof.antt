@@ -17,57 +17,77 @@ depth-requires c κs = let a = c .before .before .args in stands-entry (a .tree 
 
 returns : tie.Need-returns
 returns c =
-    let a = c .before .before .before .before .before .args in
+    let at-stored-size = c .before .before .before in
+    let start = at-stored-size .before .before in
+    let a = start .args in
     record {
       same =
           sym
           (at-long-leaf (withinOf (a .sought)) (a .tree .now) (a .start .0) (a .i .0) (sym (c .before .before .depth .ensures) ∙ c .before .if1 .taken)
-          (subst (λ (x : ℕ). 65536 < x) (c .before .before .before .stored-size .ensures) (c .if2 .taken)));
+          (subst (λ (x : ℕ). 65536 < x) (at-stored-size .stored-size .ensures) (c .if2 .taken)));
       lower = tt;
       way = λ p e. absurd (omega (arith, sym (c .before .before .depth .ensures) ∙ c .before .if1 .taken));
     }
 
 chunk-of-leaf-requires : tie.Need-chunk-of-leaf-requires
-chunk-of-leaf-requires c κs = leaf-even (c .before .before .before .before .before .args .i .0) (sym (c .before .before .depth .ensures) ∙ c .before .if1 .taken)
+chunk-of-leaf-requires c κs =
+    let start = c .before .before .before .before .before in
+    leaf-even (start .args .i .0) (sym (c .before .before .depth .ensures) ∙ c .before .if1 .taken)
 
 returns-2 : tie.Need-returns-2
 returns-2 c =
-    let a = c .before .before .before .before .before .before .args in
+    let at-depth = c .before .before .before in
+    let at-stored-size = at-depth .before in
+    let start = at-stored-size .before .before in
+    let a = start .args in
     record {
       same =
           ap (λ (k : ℕ). reached k (a .start .0)) (c .chunk-of-leaf .ensures)
           ∙ sym
-          (at-leaf (withinOf (a .sought)) (a .tree .now) (a .start .0) (a .i .0) (sym (c .before .before .before .depth .ensures) ∙ c .before .before .if1 .taken)
-          (subst (λ (x : ℕ). x ≤ 65536) (c .before .before .before .before .stored-size .ensures) (c .before .if2 .left)));
+          (at-leaf (withinOf (a .sought)) (a .tree .now) (a .start .0) (a .i .0) (sym (at-depth .depth .ensures) ∙ c .before .before .if1 .taken)
+          (subst (λ (x : ℕ). x ≤ 65536) (at-stored-size .stored-size .ensures) (c .before .if2 .left)));
       lower = tt;
-      way = λ p e. absurd (omega (arith, sym (c .before .before .before .depth .ensures) ∙ c .before .before .if1 .taken));
+      way = λ p e. absurd (omega (arith, sym (at-depth .depth .ensures) ∙ c .before .before .if1 .taken));
     }
 
 left-child-requires : tie.Need-left-child-requires
 left-child-requires c κs =
-    let a = c .before .before .before .before .args in
-    (stands-entry (a .tree .now) (a .i .0) (a .start .0) (c .before .before .before .before .pre) .small, deeper (c .before .before .before .before .args .i .0) (c .before .depth .ensures) (c .if1 .left))
+    let start = c .before .before .before .before in
+    let a = start .args in
+    (stands-entry (a .tree .now) (a .i .0) (a .start .0) (start .pre) .small, deeper (start .args .i .0) (c .before .depth .ensures) (c .if1 .left))
 
 right-child-requires : tie.Need-right-child-requires
 right-child-requires c κs =
-    let a = c .before .before .before .before .before .args in
-    (stands-entry (a .tree .now) (a .i .0) (a .start .0) (c .before .before .before .before .before .pre) .small, deeper (c .before .before .before .before .before .args .i .0) (c .before .before .depth .ensures) (c .before .if1 .left))
+    let start = c .before .before .before .before .before in
+    let a = start .args in
+    (stands-entry (a .tree .now) (a .i .0) (a .start .0) (start .pre) .small, deeper (start .args .i .0) (c .before .before .depth .ensures) (c .before .if1 .left))
 
 stored-size-requires-2 : tie.Need-stored-size-requires-2
 stored-size-requires-2 c κs =
-    seen-children {r = 0} (c .before .before .before .before .before .before .pre) (deeper (c .before .before .before .before .before .before .args .i .0) (c .before .before .before .depth .ensures) (c .before .before .if1 .left)) .0 (c .before .left-child .ensures)
+    let at-depth = c .before .before .before in
+    let start = at-depth .before .before .before in
+    seen-children {r = 0} (start .pre) (deeper (start .args .i .0) (at-depth .depth .ensures) (c .before .before .if1 .left)) .0 (c .before .left-child .ensures)
 
 stored-size-requires-3 : tie.Need-stored-size-requires-3
 stored-size-requires-3 c κs =
-    seen-children {l = 0} (c .before .before .before .before .before .before .before .pre) (deeper (c .before .before .before .before .before .before .before .args .i .0) (c .before .before .before .before .depth .ensures) (c .before .before .before .if1 .left)) .1 (c .before .right-child .ensures)
+    let branch1 = c .before .before .before in
+    let at-depth = branch1 .before in
+    let start = at-depth .before .before .before in
+    seen-children {l = 0} (start .pre) (deeper (start .args .i .0) (at-depth .depth .ensures) (branch1 .if1 .left)) .1 (c .before .right-child .ensures)
 
 returns-3 : tie.Need-returns-3
 returns-3 c =
-    let v = seen-less (withinOf (c .before .before .before .before .before .before .before .before .before .args .sought)) (c .before .before .before .before .before .before .before .before .before .pre) (record {
-      deep = deeper (c .before .before .before .before .before .before .before .before .before .args .i .0) (c .before .before .before .before .before .before .depth .ensures) (c .before .before .before .before .before .if1 .left);
-      left = c .before .before .before .before .left-child .ensures;
-      right = c .before .before .before .right-child .ensures;
-      here = c .before .before .before .before .before .before .before .stored-size .ensures;
+    let at-right-child = c .before .before .before in
+    let at-left-child = at-right-child .before in
+    let branch1 = at-left-child .before in
+    let at-depth = branch1 .before in
+    let at-stored-size = at-depth .before in
+    let start = at-stored-size .before .before in
+    let v = seen-less (withinOf (start .args .sought)) (start .pre) (record {
+      deep = deeper (start .args .i .0) (at-depth .depth .ensures) (branch1 .if1 .left);
+      left = at-left-child .left-child .ensures;
+      right = at-right-child .right-child .ensures;
+      here = at-stored-size .stored-size .ensures;
       one = c .before .before .stored-size2 .ensures;
       two = c .before .stored-size3 .ensures;
     })
@@ -77,12 +97,19 @@ returns-3 c =
 
 returns-4 : tie.Need-returns-4
 returns-4 c =
-    let v = seen-other (withinOf (c .before .before .before .before .before .before .before .before .before .before .args .sought)) (c .before .before .before .before .before .before .before .before .before .before .pre) (record {
-      deep = deeper (c .before .before .before .before .before .before .before .before .before .before .args .i .0) (c .before .before .before .before .before .before .before .depth .ensures) (c .before .before .before .before .before .before .if1 .left);
-      left = c .before .before .before .before .before .left-child .ensures;
-      right = c .before .before .before .before .right-child .ensures;
-      here = c .before .before .before .before .before .before .before .before .stored-size .ensures;
-      one = c .before .before .before .stored-size2 .ensures;
+    let at-stored-size2 = c .before .before .before in
+    let at-right-child = at-stored-size2 .before in
+    let at-left-child = at-right-child .before in
+    let branch1 = at-left-child .before in
+    let at-depth = branch1 .before in
+    let at-stored-size = at-depth .before in
+    let start = at-stored-size .before .before in
+    let v = seen-other (withinOf (start .args .sought)) (start .pre) (record {
+      deep = deeper (start .args .i .0) (at-depth .depth .ensures) (branch1 .if1 .left);
+      left = at-left-child .left-child .ensures;
+      right = at-right-child .right-child .ensures;
+      here = at-stored-size .stored-size .ensures;
+      one = at-stored-size2 .stored-size2 .ensures;
       two = c .before .before .stored-size3 .ensures;
     })
     (c .if4 .taken)
@@ -91,30 +118,46 @@ returns-4 c =
 
 is-within-requires : tie.Need-is-within-requires
 is-within-requires c κs =
-    let a = c .before .before .before .before .before .before .before .before .before .before .args in
-    let v = seen-children {r = 0} (c .before .before .before .before .before .before .before .before .before .before .pre) (deeper (c .before .before .before .before .before .before .before .before .before .before .args .i .0) (c .before .before .before .before .before .before .before .depth .ensures) (c .before .before .before .before .before .before .if1 .left)) .0 (c .before .before .before .before .before .left-child .ensures) in (
+    let at-stored-size2 = c .before .before .before in
+    let at-right-child = at-stored-size2 .before in
+    let at-left-child = at-right-child .before in
+    let branch1 = at-left-child .before in
+    let at-depth = branch1 .before in
+    let at-stored-size = at-depth .before in
+    let start = at-stored-size .before .before in
+    let a = start .args in
+    let v = seen-children {r = 0} (start .pre) (deeper (start .args .i .0) (at-depth .depth .ensures) (branch1 .if1 .left)) .0 (at-left-child .left-child .ensures) in (
       v .small,
-      seen-fits (withinOf (a .sought)) (c .before .before .before .before .before .before .before .before .before .before .pre) (record {
-        deep = deeper (c .before .before .before .before .before .before .before .before .before .before .args .i .0) (c .before .before .before .before .before .before .before .depth .ensures) (c .before .before .before .before .before .before .if1 .left);
-        left = c .before .before .before .before .before .left-child .ensures;
-        right = c .before .before .before .before .right-child .ensures;
-        here = c .before .before .before .before .before .before .before .before .stored-size .ensures;
-        one = c .before .before .before .stored-size2 .ensures;
+      seen-fits (withinOf (a .sought)) (start .pre) (record {
+        deep = deeper (start .args .i .0) (at-depth .depth .ensures) (branch1 .if1 .left);
+        left = at-left-child .left-child .ensures;
+        right = at-right-child .right-child .ensures;
+        here = at-stored-size .stored-size .ensures;
+        one = at-stored-size2 .stored-size2 .ensures;
         two = c .before .before .stored-size3 .ensures;
       }) (c .before .if3 .left) (c .if4 .left),
     )
 
 returns-5 : tie.Need-returns-5
 returns-5 c =
-    let v = seen-left (withinOf (c .before .before .before .before .before .before .before .before .before .before .before .before .args .sought)) (c .before .before .before .before .before .before .before .before .before .before .before .before .pre) (record {
-      deep = deeper (c .before .before .before .before .before .before .before .before .before .before .before .before .args .i .0) (c .before .before .before .before .before .before .before .before .before .depth .ensures) (c .before .before .before .before .before .before .before .before .if1 .left);
-      left = c .before .before .before .before .before .before .before .left-child .ensures;
-      right = c .before .before .before .before .before .before .right-child .ensures;
-      here = c .before .before .before .before .before .before .before .before .before .before .stored-size .ensures;
-      one = c .before .before .before .before .before .stored-size2 .ensures;
-      two = c .before .before .before .before .stored-size3 .ensures;
+    let branch3 = c .before .before .before in
+    let at-stored-size3 = branch3 .before in
+    let at-stored-size2 = at-stored-size3 .before in
+    let at-right-child = at-stored-size2 .before in
+    let at-left-child = at-right-child .before in
+    let branch1 = at-left-child .before in
+    let at-depth = branch1 .before in
+    let at-stored-size = at-depth .before in
+    let start = at-stored-size .before .before in
+    let v = seen-left (withinOf (start .args .sought)) (start .pre) (record {
+      deep = deeper (start .args .i .0) (at-depth .depth .ensures) (branch1 .if1 .left);
+      left = at-left-child .left-child .ensures;
+      right = at-right-child .right-child .ensures;
+      here = at-stored-size .stored-size .ensures;
+      one = at-stored-size2 .stored-size2 .ensures;
+      two = at-stored-size3 .stored-size3 .ensures;
     })
-    (c .before .before .before .if3 .left) (c .before .before .if4 .left) (sym (c .before .is-within .ensures) ∙ c .if5 .taken)
+    (branch3 .if3 .left) (c .before .before .if4 .left) (sym (c .before .is-within .ensures) ∙ c .if5 .taken)
     in
     record { same = v .0; lower = v .1 .0; way = v .1 .1 }
 
@@ -123,15 +166,25 @@ add-t17 c = search needs
 
 returns-6 : tie.Need-returns-6
 returns-6 c =
-    let v = seen-right (withinOf (c .before .before .before .before .before .before .before .before .before .before .before .before .before .args .sought)) (c .before .before .before .before .before .before .before .before .before .before .before .before .before .pre) (record {
-      deep = deeper (c .before .before .before .before .before .before .before .before .before .before .before .before .before .args .i .0) (c .before .before .before .before .before .before .before .before .before .before .depth .ensures) (c .before .before .before .before .before .before .before .before .before .if1 .left);
-      left = c .before .before .before .before .before .before .before .before .left-child .ensures;
-      right = c .before .before .before .before .before .before .before .right-child .ensures;
-      here = c .before .before .before .before .before .before .before .before .before .before .before .stored-size .ensures;
-      one = c .before .before .before .before .before .before .stored-size2 .ensures;
-      two = c .before .before .before .before .before .stored-size3 .ensures;
+    let branch4 = c .before .before .before in
+    let branch3 = branch4 .before in
+    let at-stored-size3 = branch3 .before in
+    let at-stored-size2 = at-stored-size3 .before in
+    let at-right-child = at-stored-size2 .before in
+    let at-left-child = at-right-child .before in
+    let branch1 = at-left-child .before in
+    let at-depth = branch1 .before in
+    let at-stored-size = at-depth .before in
+    let start = at-stored-size .before .before in
+    let v = seen-right (withinOf (start .args .sought)) (start .pre) (record {
+      deep = deeper (start .args .i .0) (at-depth .depth .ensures) (branch1 .if1 .left);
+      left = at-left-child .left-child .ensures;
+      right = at-right-child .right-child .ensures;
+      here = at-stored-size .stored-size .ensures;
+      one = at-stored-size2 .stored-size2 .ensures;
+      two = at-stored-size3 .stored-size3 .ensures;
     })
-    (c .before .before .before .before .if3 .left) (c .before .before .before .if4 .left) (sym (c .before .before .is-within .ensures) ∙ c .before .if5 .left)
+    (branch3 .if3 .left) (branch4 .if4 .left) (sym (c .before .before .is-within .ensures) ∙ c .before .if5 .left)
     in
     record { same = v .0; lower = v .1 .0; way = v .1 .1 }
 

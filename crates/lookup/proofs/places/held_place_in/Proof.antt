@@ -1,12 +1,10 @@
 -- `lookup::places::held_place_in` meets its contract. Assumes nothing.
 use Prim.Native.Nat.{ℕ}
-use mathlib.Core.Path.{sym, ap, _∙_, subst}
+use mathlib.Core.Path.{sym, ap, _∙_}
 use borrow.Author.Tests.{not-true, not-false}
 use Rattle.refusals.specs.Verdict.{tree}
-use Rattle.file_format.specs.Stored.{storedSize}
-use Rattle.file_format.specs.Inner.{EntryIn}
-use Rattle.lookup.specs.Lookup.{refusal, found}
-use Rattle.lookup.specs.Inner.{knownIf, endingOf}
+use Rattle.lookup.specs.Lookup.{refusal}
+use Rattle.lookup.specs.Inner.{knownIf}
 use Rattle.lookup.proofs.Calls.{bit-in, held-above, held-gone, held-here}
 use borrow.Author.Needs.{needs}
 use Rattle.lookup.proofs.places.held_place_in.Statement.{statement}
@@ -14,7 +12,8 @@ use Rattle.lookup.proofs.places.held_place_in.Tie as tie
 
 returns : tie.Need-returns
 returns c =
-    let a = c .before .before .before .before .args in held-above (knownIf (a .partly) (a .bitfield .now)) (a .tree .now) (a .n) (a .chunk .0) (a .bitfield .now) (c .if1 .taken)
+    let start = c .before .before .before .before in
+    let a = start .args in held-above (knownIf (a .partly) (a .bitfield .now)) (a .tree .now) (a .n) (a .chunk .0) (a .bitfield .now) (c .if1 .taken)
 
 is-held-requires : tie.Need-is-held-requires
 is-held-requires c κs =
@@ -27,9 +26,11 @@ leaf-index-requires c κs = search needs
 
 returns-2 : tie.Need-returns-2
 returns-2 c =
-    let a = c .before .before .before .before .before .before .before .args in
+    let branch1 = c .before .before .before in
+    let start = branch1 .before .before .before .before in
+    let a = start .args in
     ap (λ (i : ℕ). refusal 18 (tree i)) (c .leaf-index .ensures)
-    ∙ held-gone (knownIf (a .partly) (a .bitfield .now)) (a .tree .now) (a .n) (a .chunk .0) (a .bitfield .now) (c .before .before .before .if1 .left)
+    ∙ held-gone (knownIf (a .partly) (a .bitfield .now)) (a .tree .now) (a .n) (a .chunk .0) (a .bitfield .now) (branch1 .if1 .left)
     (sym (not-true _ (c .before .if2 .taken)) ∙ c .before .before .is-held .ensures)
 
 place-in-requires : tie.Need-place-in-requires
@@ -37,9 +38,11 @@ place-in-requires c κs = search needs
 
 returns-3 : tie.Need-returns-3
 returns-3 c =
-    let a = c .before .before .before .before .before .before .before .args in
+    let branch1 = c .before .before .before in
+    let start = branch1 .before .before .before .before in
+    let a = start .args in
     c .place-in .ensures
-    ∙ held-here (knownIf (a .partly) (a .bitfield .now)) (a .tree .now) (a .n) (a .chunk .0) (a .bitfield .now) (c .before .before .before .if1 .left)
+    ∙ held-here (knownIf (a .partly) (a .bitfield .now)) (a .tree .now) (a .n) (a .chunk .0) (a .bitfield .now) (branch1 .if1 .left)
     (sym (not-false _ (c .before .if2 .left)) ∙ c .before .before .is-held .ensures)
 
 pub held-place-in-spec : {M : Type 1} → statement M

@@ -1,13 +1,9 @@
 -- `lookup::places::locate_in` meets its contract. Assumes nothing.
 use Prim.Native.Nat.{ℕ, _^_, _<_}
 use native.Mathlib.Omega.{arith}
-use mathlib.Core.Path.{sym, ap, _∙_, subst}
-use borrow.Author.Tests.{not-true, not-false}
+use mathlib.Core.Path.{sym, ap, _∙_}
 use Rattle.refusals.specs.Verdict.{tree}
-use Rattle.file_format.specs.Stored.{storedSize}
-use Rattle.file_format.specs.Inner.{EntryIn}
-use Rattle.lookup.specs.Lookup.{refusal, found}
-use Rattle.lookup.specs.Descent.{chunkWithin, byteWithin}
+use Rattle.lookup.specs.Lookup.{found}
 use Rattle.lookup.specs.Inner.{knownIf, endingOf}
 use Rattle.lookup.proofs.Calls.{byte-above, byte-end, byte-from, byte-told, byte-stopped, byte-unknown, byte-reached}
 use borrow.Author.Needs.{needs}
@@ -16,14 +12,16 @@ use Rattle.lookup.proofs.places.locate_in.Tie as tie
 
 returns : tie.Need-returns
 returns c =
-    let a = c .before .before .before .before .args in byte-above (knownIf (a .partly) (a .bitfield .now)) (a .tree .now) (a .n) (a .size) (a .offset .0) (c .if1 .taken)
+    let start = c .before .before .before .before in
+    let a = start .args in byte-above (knownIf (a .partly) (a .bitfield .now)) (a .tree .now) (a .n) (a .size) (a .offset .0) (c .if1 .taken)
 
 chunk-behind-requires : tie.Need-chunk-behind-requires
 chunk-behind-requires c κs = search needs
 
 returns-2 : tie.Need-returns-2
 returns-2 c =
-    let a = c .before .before .before .before .before .before .before .args in
+    let start = c .before .before .before .before .before .before .before in
+    let a = start .args in
     ap (λ (k : ℕ). found k 0) (c .chunk-behind .ensures) ∙ byte-end (knownIf (a .partly) (a .bitfield .now)) (a .tree .now) (a .n) (a .size) (a .offset .0) (c .before .if2 .taken)
 
 from-roots-requires : tie.Need-from-roots-requires
@@ -40,54 +38,68 @@ enum-known-chunk c = search needs
 
 sub-t22 : tie.Need-sub-t22
 sub-t22 c =
-    let s = c .before .before .before .before .before .before .before .before .before .before .before .before in
+    let at-chunk = c .before .before .before in
+    let at-from-roots = at-chunk .before .before in
+    let branch2 = at-from-roots .before in
+    let branch1 = branch2 .before .before in
+    let s = branch1 .before .before .before .before in
     let a = s .args in
     let known = knownIf (a .partly) (a .bitfield .now) in
     let z : a .size < 2 ^ 64 = omega arith in
-    let below = c .before .before .before .before .before .before .before .before .if1 .left in
-    let other = c .before .before .before .before .before .before .if2 .left in
-    let k = c .before .before .before .chunk .given in
+    let below = branch1 .if1 .left in
+    let other = branch2 .if2 .left in
+    let k = at-chunk .chunk .given in
     byte-from known (a .tree .now) (a .n) (a .size) (a .offset .0) (s .pre) below other (k .0 .0 .0) (k .0 .1 .0 .0)
-    (sym (ap endingOf (k .1)) ∙ c .before .before .before .before .before .from-roots .ensures
+    (sym (ap endingOf (k .1)) ∙ at-from-roots .from-roots .ensures
     ∙ byte-told known (a .tree .now) (a .n) (a .size) (a .offset .0) (s .pre) below other z)
 
 returns-3 : tie.Need-returns-3
 returns-3 c =
-    let s = c .before .before .before .before .before .before .before .before .before .before in
+    let at-from-roots = c .before .before .before in
+    let branch2 = at-from-roots .before in
+    let branch1 = branch2 .before .before in
+    let s = branch1 .before .before .before .before in
     let a = s .args in
     let known = knownIf (a .partly) (a .bitfield .now) in
     let z : a .size < 2 ^ 64 = omega arith in
-    let below = c .before .before .before .before .before .before .if1 .left in
-    let other = c .before .before .before .before .if2 .left in
+    let below = branch1 .if1 .left in
+    let other = branch2 .if2 .left in
     let k = c .before .i .given in
     byte-stopped known (a .tree .now) (a .n) (a .size) (a .offset .0) below other (k .0 .0 .0)
-    (sym (ap endingOf (k .1)) ∙ c .before .before .before .from-roots .ensures
+    (sym (ap endingOf (k .1)) ∙ at-from-roots .from-roots .ensures
     ∙ byte-told known (a .tree .now) (a .n) (a .size) (a .offset .0) (s .pre) below other z)
 
 returns-4 : tie.Need-returns-4
 returns-4 c =
-    let s = c .before .before .before .before .before .before .before .before .before .before in
+    let at-from-roots = c .before .before .before in
+    let branch2 = at-from-roots .before in
+    let branch1 = branch2 .before .before in
+    let s = branch1 .before .before .before .before in
     let a = s .args in
     let known = knownIf (a .partly) (a .bitfield .now) in
     let z : a .size < 2 ^ 64 = omega arith in
-    let below = c .before .before .before .before .before .before .if1 .left in
-    let other = c .before .before .before .before .if2 .left in
+    let below = branch1 .if1 .left in
+    let other = branch2 .if2 .left in
     let k = c .before .i2 .given in
     byte-unknown known (a .tree .now) (a .n) (a .size) (a .offset .0) below other (k .0 .0 .0)
-    (sym (ap endingOf (k .1)) ∙ c .before .before .before .from-roots .ensures
+    (sym (ap endingOf (k .1)) ∙ at-from-roots .from-roots .ensures
     ∙ byte-told known (a .tree .now) (a .n) (a .size) (a .offset .0) (s .pre) below other z)
 
 returns-5 : tie.Need-returns-5
 returns-5 c =
-    let s = c .before .before .before .before .before .before .before .before .before .before .before .before in
+    let at-chunk = c .before .before .before in
+    let at-from-roots = at-chunk .before .before in
+    let branch2 = at-from-roots .before in
+    let branch1 = branch2 .before .before in
+    let s = branch1 .before .before .before .before in
     let a = s .args in
     let known = knownIf (a .partly) (a .bitfield .now) in
     let z : a .size < 2 ^ 64 = omega arith in
-    let below = c .before .before .before .before .before .before .before .before .if1 .left in
-    let other = c .before .before .before .before .before .before .if2 .left in
-    let k = c .before .before .before .chunk .given in
+    let below = branch1 .if1 .left in
+    let other = branch2 .if2 .left in
+    let k = at-chunk .chunk .given in
     byte-reached known (a .tree .now) (a .n) (a .size) (a .offset .0) below other (k .0 .0 .0) (k .0 .1 .0 .0)
-    (sym (ap endingOf (k .1)) ∙ c .before .before .before .before .before .from-roots .ensures
+    (sym (ap endingOf (k .1)) ∙ at-from-roots .from-roots .ensures
     ∙ byte-told known (a .tree .now) (a .n) (a .size) (a .offset .0) (s .pre) below other z)
 
 pub locate-in-spec : {M : Type 1} → statement M

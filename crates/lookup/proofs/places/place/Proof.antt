@@ -20,23 +20,28 @@ enum-told c = search needs
 
 place-in-requires : tie.Need-place-in-requires
 place-in-requires c κs =
-    let a = c .before .before .before .before .before .before .before .args in
+    let start = c .before .before .before .before .before .before .before in
+    let a = start .args in
     let r = registerOf (a .tree .now) (a .signatures .now) (a .bitfield .now) (a .content .now) (a .n) (a .s) (a .size) in
     let h : a .size < 2 ^ 64 = omega arith in
     searched r (sym (ap said (c .enum-told .given .1)) ∙ c .before .before .judge .ensures) h .searched
 
 returns : tie.Need-returns
 returns c =
-    let a = c .before .before .before .before .before .before .before .before .args in
+    let at-judge = c .before .before .before in
+    let start = at-judge .before .before .before .before .before in
+    let a = start .args in
     let r = registerOf (a .tree .now) (a .signatures .now) (a .bitfield .now) (a .content .now) (a .n) (a .s) (a .size) in
     let q = c .before .refusal .given in
-    place-refused r (a .chunk .0) (q .0 .0 .number) (spotOf (q .0 .0 .place)) (sym (ap said (q .1)) ∙ c .before .before .before .judge .ensures)
+    place-refused r (a .chunk .0) (q .0 .0 .number) (spotOf (q .0 .0 .place)) (sym (ap said (q .1)) ∙ at-judge .judge .ensures)
 
 returns-2 : tie.Need-returns-2
 returns-2 c =
-    let a = c .before .before .before .before .before .before .before .before .args in
+    let at-judge = c .before .before .before in
+    let start = at-judge .before .before .before .before .before in
+    let a = start .args in
     let r = registerOf (a .tree .now) (a .signatures .now) (a .bitfield .now) (a .content .now) (a .n) (a .s) (a .size) in
-    c .place-in .ensures ∙ place-passed r (a .chunk .0) (sym (ap said (c .before .enum-told .given .1)) ∙ c .before .before .before .judge .ensures)
+    c .place-in .ensures ∙ place-passed r (a .chunk .0) (sym (ap said (c .before .enum-told .given .1)) ∙ at-judge .judge .ensures)
 
 pub place-spec : {M : Type 1} → statement M
 place-spec =

@@ -1,12 +1,8 @@
 -- `lookup::places::place_in` meets its contract. Assumes nothing.
-use Prim.Native.Nat.{ℕ}
 use mathlib.Core.Path.{sym, ap, _∙_, subst}
-use borrow.Author.Tests.{not-true, not-false}
 use Rattle.refusals.specs.Verdict.{tree}
 use Rattle.file_format.specs.Stored.{storedSize}
 use Rattle.file_format.specs.Inner.{EntryIn}
-use Rattle.lookup.specs.Lookup.{refusal, found}
-use Rattle.lookup.specs.Descent.{chunkWithin, byteWithin}
 use Rattle.lookup.specs.Inner.{knownIf, endingOf}
 use Rattle.lookup.proofs.Calls.{place-above, leaf-in, chunk-told, place-stopped, place-unknown, place-reached}
 use borrow.Author.Needs.{needs}
@@ -15,7 +11,8 @@ use Rattle.lookup.proofs.places.place_in.Tie as tie
 
 returns : tie.Need-returns
 returns c =
-    let a = c .before .before .before .before .args in place-above (knownIf (a .partly) (a .bitfield .now)) (a .tree .now) (a .n) (a .chunk .0) (c .if1 .taken)
+    let start = c .before .before .before .before in
+    let a = start .args in place-above (knownIf (a .partly) (a .bitfield .now)) (a .tree .now) (a .n) (a .chunk .0) (c .if1 .taken)
 
 from-roots-requires : tie.Need-from-roots-requires
 from-roots-requires c κs = search needs
@@ -34,41 +31,49 @@ leaf-index-requires c κs = search needs
 
 stored-size-requires : tie.Need-stored-size-requires
 stored-size-requires c κs =
-    let s = c .before .before .before .before .before .before .before .before .before in
+    let branch1 = c .before .before .before .before .before in
+    let s = branch1 .before .before .before .before in
     let a = s .args in
-    subst (EntryIn (a .tree .now)) (sym (c .leaf-index .ensures)) (leaf-in (a .chunk .0) (s .pre .files .roots) (c .before .before .before .before .before .if1 .left) .1)
+    subst (EntryIn (a .tree .now)) (sym (c .leaf-index .ensures)) (leaf-in (a .chunk .0) (s .pre .files .roots) (branch1 .if1 .left) .1)
 
 returns-2 : tie.Need-returns-2
 returns-2 c =
-    let s = c .before .before .before .before .before .before .before .before in
+    let at-from-roots = c .before .before .before in
+    let branch1 = at-from-roots .before in
+    let s = branch1 .before .before .before .before in
     let a = s .args in
     let known = knownIf (a .partly) (a .bitfield .now) in
-    let below = c .before .before .before .before .if1 .left in
+    let below = branch1 .if1 .left in
     let k = c .before .i .given in
     place-stopped known (a .tree .now) (a .n) (a .chunk .0) below (k .0 .0 .0)
-    (sym (ap endingOf (k .1)) ∙ c .before .before .before .from-roots .ensures
+    (sym (ap endingOf (k .1)) ∙ at-from-roots .from-roots .ensures
     ∙ chunk-told known (a .tree .now) (a .n) (a .chunk .0) (s .pre) below)
 
 returns-3 : tie.Need-returns-3
 returns-3 c =
-    let s = c .before .before .before .before .before .before .before .before in
+    let at-from-roots = c .before .before .before in
+    let branch1 = at-from-roots .before in
+    let s = branch1 .before .before .before .before in
     let a = s .args in
     let known = knownIf (a .partly) (a .bitfield .now) in
-    let below = c .before .before .before .before .if1 .left in
+    let below = branch1 .if1 .left in
     let k = c .before .i2 .given in
     place-unknown known (a .tree .now) (a .n) (a .chunk .0) below (k .0 .0 .0)
-    (sym (ap endingOf (k .1)) ∙ c .before .before .before .from-roots .ensures
+    (sym (ap endingOf (k .1)) ∙ at-from-roots .from-roots .ensures
     ∙ chunk-told known (a .tree .now) (a .n) (a .chunk .0) (s .pre) below)
 
 returns-4 : tie.Need-returns-4
 returns-4 c =
-    let s = c .before .before .before .before .before .before .before .before .before .before in
+    let at-start = c .before .before .before in
+    let at-from-roots = at-start .before .before in
+    let branch1 = at-from-roots .before in
+    let s = branch1 .before .before .before .before in
     let a = s .args in
     let known = knownIf (a .partly) (a .bitfield .now) in
-    let below = c .before .before .before .before .before .before .if1 .left in
-    let k = c .before .before .before .start .given in
+    let below = branch1 .if1 .left in
+    let k = at-start .start .given in
     place-reached known (a .tree .now) (a .n) (a .chunk .0) below (k .0 .0 .0) (k .0 .1 .0 .0) (c .stored-size .result)
-    (sym (ap endingOf (k .1)) ∙ c .before .before .before .before .before .from-roots .ensures
+    (sym (ap endingOf (k .1)) ∙ at-from-roots .from-roots .ensures
     ∙ chunk-told known (a .tree .now) (a .n) (a .chunk .0) (s .pre) below)
     (c .stored-size .ensures ∙ ap (storedSize (a .tree .now)) (c .before .leaf-index .ensures))
 

@@ -17,24 +17,30 @@ enum-known-start c = search needs
 
 sub-result : tie.Need-sub-result
 sub-result c =
-    let a = c .before .before .before .before .before .before .before .before .args in
+    let at-verify = c .before .before .before in
+    let start = at-verify .before .before .before .before .before in
+    let a = start .args in
     let r = registerOf (a .tree .now) (a .signatures .now) (a .bitfield .now) (a .content .now) (a .n) (a .s) (a .size) in
     let k = c .before .start .given in
-    lying nodeHash r (a .chunk .0) (k .0 .0 .0) (k .0 .1 .0 .0) (sym (ap verifiedOf (k .1)) ∙ c .before .before .before .verify .ensures) .ordered
+    lying nodeHash r (a .chunk .0) (k .0 .0 .0) (k .0 .1 .0 .0) (sym (ap verifiedOf (k .1)) ∙ at-verify .verify .ensures) .ordered
 
 part-result-start : tie.Need-part-result-start
 part-result-start c =
-    let a = c .before .before .before .before .before .before .before .before .args in
+    let at-verify = c .before .before .before in
+    let start = at-verify .before .before .before .before .before in
+    let a = start .args in
     let r = registerOf (a .tree .now) (a .signatures .now) (a .bitfield .now) (a .content .now) (a .n) (a .s) (a .size) in
     let k = c .before .start .given in
-    lying nodeHash r (a .chunk .0) (k .0 .0 .0) (k .0 .1 .0 .0) (sym (ap verifiedOf (k .1)) ∙ c .before .before .before .verify .ensures) .ordered
+    lying nodeHash r (a .chunk .0) (k .0 .0 .0) (k .0 .1 .0 .0) (sym (ap verifiedOf (k .1)) ∙ at-verify .verify .ensures) .ordered
 
 part-result-end : tie.Need-part-result-end
 part-result-end c =
-    let a = c .before .before .before .before .before .before .before .before .args in
+    let at-verify = c .before .before .before in
+    let start = at-verify .before .before .before .before .before in
+    let a = start .args in
     let r = registerOf (a .tree .now) (a .signatures .now) (a .bitfield .now) (a .content .now) (a .n) (a .s) (a .size) in
     let k = c .before .start .given in
-    lying nodeHash r (a .chunk .0) (k .0 .0 .0) (k .0 .1 .0 .0) (sym (ap verifiedOf (k .1)) ∙ c .before .before .before .verify .ensures) .inside
+    lying nodeHash r (a .chunk .0) (k .0 .0 .0) (k .0 .1 .0 .0) (sym (ap verifiedOf (k .1)) ∙ at-verify .verify .ensures) .inside
 
 enum-told : tie.Need-enum-told
 enum-told c = search needs
@@ -50,17 +56,21 @@ part-result-end-2 c = search needs
 
 returns : tie.Need-returns
 returns c =
-    let a = c .before .before .before .before .before .before .before .before .before .args in
+    let at-verify = c .before .before .before .before in
+    let start = at-verify .before .before .before .before .before in
+    let a = start .args in
     let r = registerOf (a .tree .now) (a .signatures .now) (a .bitfield .now) (a .content .now) (a .n) (a .s) (a .size) in
     let k = c .before .before .start .given in
-    lying nodeHash r (a .chunk .0) (k .0 .0 .0) (k .0 .1 .0 .0) (sym (ap verifiedOf (k .1)) ∙ c .before .before .before .before .verify .ensures) .same
+    lying nodeHash r (a .chunk .0) (k .0 .0 .0) (k .0 .1 .0 .0) (sym (ap verifiedOf (k .1)) ∙ at-verify .verify .ensures) .same
 
 returns-2 : tie.Need-returns-2
 returns-2 c =
-    let a = c .before .before .before .before .before .before .before .before .args in
+    let at-verify = c .before .before .before in
+    let start = at-verify .before .before .before .before .before in
+    let a = start .args in
     let r = registerOf (a .tree .now) (a .signatures .now) (a .bitfield .now) (a .content .now) (a .n) (a .s) (a .size) in
     let k = c .before .enum-told .given in
-    nothing nodeHash r (a .chunk .0) (k .0 .0 .number) (spotOf (k .0 .0 .place)) (sym (ap verifiedOf (k .1)) ∙ c .before .before .before .verify .ensures) .1
+    nothing nodeHash r (a .chunk .0) (k .0 .0 .number) (spotOf (k .0 .0 .place)) (sym (ap verifiedOf (k .1)) ∙ at-verify .verify .ensures) .1
 
 pub read-one-spec : {M : Type 1} → statement M
 read-one-spec =

@@ -1,8 +1,8 @@
 -- `lookup::reading::verify_placed` meets its contract: what a place tells of its bytes, and their hash. Assumes nothing.
-use Prim.Native.Nat.{ℕ, _+_, _-_, _≤_}
+use Prim.Native.Nat.{ℕ, _+_, _-_}
 use mathlib.Core.Path.{sym, ap, ap₂, _∙_, subst}
 use native.Mathlib.Omega.{arith}
-use lib.ListN.{length, take, drop}
+use lib.ListN.{take, drop}
 use Rattle.refusals.specs.Verdict.{tree}
 use Rattle.refusals.specs.Meaning.{spotOf}
 use Rattle.byte_strings.specs.Lists.{sameList}
@@ -21,8 +21,9 @@ lies : (c : tie.After-struct-known)
     → LiesAt (c .before .before .before .before .before .before .args .tree .now) (c .before .before .before .before .before .before .args .content .now)
     (c .before .before .before .before .before .before .args .chunk .0) (c .before .before .placed2 .given .0 .0 .0) (c .before .before .placed2 .given .0 .1 .0)
 lies c =
-    let a = c .before .before .before .before .before .before .args in
-    subst (PlacedIn (a .tree .now) (a .content .now) (a .chunk .0)) (ap placedOf (c .before .before .placed2 .given .1)) (c .before .before .before .before .before .before .pre)
+    let start = c .before .before .before .before .before .before in
+    let a = start .args in
+    subst (PlacedIn (a .tree .now) (a .content .now) (a .chunk .0)) (ap placedOf (c .before .before .placed2 .given .1)) (start .pre)
 
 add-t15 : tie.Need-add-t15
 add-t15 c = let h = lies c .inside in record { fits = omega arith }
@@ -32,7 +33,8 @@ leaf-index-requires c κs = lies c .small
 
 stored-hash-requires : tie.Need-stored-hash-requires
 stored-hash-requires c κs =
-    let a = c .before .before .before .before .before .before .before .args in
+    let start = c .before .before .before .before .before .before .before in
+    let a = start .args in
     subst (EntryIn (a .tree .now)) (sym (c .leaf-index .ensures)) (lies (c .before) .entry)
 
 part-leaf-hash-end : tie.Need-part-leaf-hash-end
@@ -40,30 +42,41 @@ part-leaf-hash-end c = lies (c .before .before) .inside
 
 returns : tie.Need-returns
 returns c =
-    let a = c .before .before .before .before .before .args in
+    let start = c .before .before .before .before .before in
+    let a = start .args in
     let q = c .before .placed .given in
     hash-refused nodeHash (a .tree .now) (a .content .now) (a .chunk .0) (q .0 .0 .number) (spotOf (q .0 .0 .place))
     ∙ sym (ap (λ (p : Found). hashJudged nodeHash (a .tree .now) (a .content .now) (a .chunk .0) p) (ap placedOf (q .1)))
 
 returns-2 : tie.Need-returns-2
 returns-2 c =
-    let a = c .before .before .before .before .before .before .before .before .before .before .before .before .before .before .args in
-    let k = c .before .before .before .before .before .before .before .before .before .before .placed2 .given in
+    let at-leaf-hash = c .before .before .before .before in
+    let at-stored-hash = at-leaf-hash .before .before in
+    let at-leaf-index = at-stored-hash .before in
+    let at-placed2 = at-leaf-index .before .before .before in
+    let start = at-placed2 .before .before .before .before in
+    let a = start .args in
+    let k = at-placed2 .placed2 .given in
     hash-right nodeHash (a .tree .now) (a .content .now) (a .chunk .0) (k .0 .0 .0) (k .0 .1 .0)
     (take (k .0 .0 .0 + k .0 .1 .0 - k .0 .0 .0) (drop (k .0 .0 .0) (a .content .now))) (as-part (a .content .now) (k .0 .0 .0) (k .0 .1 .0))
     (sym (c .if1 .taken) ∙ c .before .same .ensures
-    ∙ ap₂ sameList (c .before .before .before .before .before .before .stored-hash .ensures ∙ ap (storedHash (a .tree .now)) (c .before .before .before .before .before .before .before .leaf-index .ensures)) (c .before .before .before .before .leaf-hash .ensures))
+    ∙ ap₂ sameList (at-stored-hash .stored-hash .ensures ∙ ap (storedHash (a .tree .now)) (at-leaf-index .leaf-index .ensures)) (at-leaf-hash .leaf-hash .ensures))
     ∙ sym (ap (λ (p : Found). hashJudged nodeHash (a .tree .now) (a .content .now) (a .chunk .0) p) (ap placedOf (k .1)))
 
 returns-3 : tie.Need-returns-3
 returns-3 c =
-    let a = c .before .before .before .before .before .before .before .before .before .before .before .before .before .before .args in
-    let k = c .before .before .before .before .before .before .before .before .before .before .placed2 .given in
-    ap (λ (i : ℕ). refusal 10 (tree i)) (c .before .before .before .before .before .before .before .leaf-index .ensures)
+    let at-leaf-hash = c .before .before .before .before in
+    let at-stored-hash = at-leaf-hash .before .before in
+    let at-leaf-index = at-stored-hash .before in
+    let at-placed2 = at-leaf-index .before .before .before in
+    let start = at-placed2 .before .before .before .before in
+    let a = start .args in
+    let k = at-placed2 .placed2 .given in
+    ap (λ (i : ℕ). refusal 10 (tree i)) (at-leaf-index .leaf-index .ensures)
     ∙ hash-other nodeHash (a .tree .now) (a .content .now) (a .chunk .0) (k .0 .0 .0) (k .0 .1 .0)
     (take (k .0 .0 .0 + k .0 .1 .0 - k .0 .0 .0) (drop (k .0 .0 .0) (a .content .now))) (as-part (a .content .now) (k .0 .0 .0) (k .0 .1 .0))
     (sym (c .if1 .left) ∙ c .before .same .ensures
-    ∙ ap₂ sameList (c .before .before .before .before .before .before .stored-hash .ensures ∙ ap (storedHash (a .tree .now)) (c .before .before .before .before .before .before .before .leaf-index .ensures)) (c .before .before .before .before .leaf-hash .ensures))
+    ∙ ap₂ sameList (at-stored-hash .stored-hash .ensures ∙ ap (storedHash (a .tree .now)) (at-leaf-index .leaf-index .ensures)) (at-leaf-hash .leaf-hash .ensures))
     ∙ sym (ap (λ (p : Found). hashJudged nodeHash (a .tree .now) (a .content .now) (a .chunk .0) p) (ap placedOf (k .1)))
 
 pub verify-placed-spec : {M : Type 1} → statement M

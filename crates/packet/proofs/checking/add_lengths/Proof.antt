@@ -1,6 +1,6 @@
 -- `packet::checking::add_lengths` meets its contract. Assumes nothing.
 use Prim.Native.Nat.{ℕ, _-_, _≤_, _<_}
-use mathlib.Core.Path.{_≡_, sym, ap, _∙_, subst}
+use mathlib.Core.Path.{sym, _∙_, subst}
 use native.Mathlib.Omega.{arith}
 use Rattle.packet.specs.Inner.{sizesIn}
 use Rattle.packet.proofs.Sums.{Adding, adding-none, adding-next, adding-over, adding-all, length-sizes, size-at}
@@ -18,18 +18,24 @@ loop-holds : tie.Need-loop-holds Inv-loop μ-loop
 loop-holds c = let a = c .before .args in (omega arith, adding-none (sizesIn (a .packet .now) (a .at) (a .count)) (a .from) (c .before .pre .1))
 
 mul-entry-size : tie.Need-mul-entry-size Inv-loop μ-loop
-mul-entry-size c = omega (arith, c .before .before .before .pre .0 .few)
+mul-entry-size c =
+    let entered = c .before .before .before in
+    omega (arith, entered .pre .0 .few)
 
 entry-size-requires : tie.Need-entry-size-requires Inv-loop μ-loop
-entry-size-requires c κs = omega (arith, c .before .before .before .pre .0 .inside)
+entry-size-requires c κs =
+    let entered = c .before .before .before in
+    omega (arith, entered .pre .0 .inside)
 
 sub-if1 : tie.Need-sub-if1 Inv-loop μ-loop
 sub-if1 c = c .before .before .loop .inv .1 .small
 
 returns : tie.Need-returns Inv-loop μ-loop
 returns c =
-    let a = c .before .before .before .before .before .args in
-    let l = c .before .before .before .loop in
+    let looped = c .before .before .before in
+    let start = looped .before .before in
+    let a = start .args in
+    let l = looped .loop in
     let h : l .j < a .count = c .before .before .loop-test .taken in
     adding-over (sizesIn (a .packet .now) (a .at) (a .count)) (a .from) (l .j) (l .sum) (c .before .entry-size .result) (l .inv .1)
     (subst (λ (x : ℕ). l .j < x) (sym (length-sizes (a .packet .now) (a .at) (a .count))) h)
@@ -40,8 +46,10 @@ add-sum c = omega arith
 
 loop-again : tie.Need-loop-again Inv-loop μ-loop
 loop-again c =
-    let a = c .before .before .before .before .before .args in
-    let l = c .before .before .before .loop in
+    let looped = c .before .before .before in
+    let start = looped .before .before in
+    let a = start .args in
+    let l = looped .loop in
     let h : l .j < a .count = c .before .before .loop-test .taken in (
       omega arith,
       adding-next (sizesIn (a .packet .now) (a .at) (a .count)) (a .from) (l .j) (l .sum) (c .before .entry-size .result) (l .inv .1)
@@ -51,7 +59,8 @@ loop-again c =
 
 returns-2 : tie.Need-returns-2 Inv-loop μ-loop
 returns-2 c =
-    let a = c .before .before .before .args in
+    let start = c .before .before .before in
+    let a = start .args in
     let l = c .before .loop in
     adding-all (sizesIn (a .packet .now) (a .at) (a .count)) (a .from) (l .j) (l .sum) (l .inv .1)
     (subst (λ (x : ℕ). x ≤ l .j) (sym (length-sizes (a .packet .now) (a .at) (a .count))) (c .loop-test .left))

@@ -12,7 +12,8 @@ use Rattle.packet.proofs.checking.check.Tie as tie
 
 read-be32-requires : tie.Need-read-be32-requires
 read-be32-requires c κs =
-    let a = c .before .before .before .before .args in
+    let start = c .before .before .before .before in
+    let a = start .args in
     let z = passed-shape nodeHash (a .packet .now) (a .n) (a .chunk .0) (a .root .now)
     (sym (ap said (c .enum-told2 .given .1)) ∙ c .before .before .check-answer .ensures) in
     z .front
@@ -20,32 +21,40 @@ read-be32-requires c κs =
 add-end : tie.Need-add-end
 unfolding chunkLength
 add-end c =
-    let a = c .before .before .before .before .before .args in
+    let at-check-answer = c .before .before .before in
+    let start = at-check-answer .before .before in
+    let a = start .args in
     let z = passed-shape nodeHash (a .packet .now) (a .n) (a .chunk .0) (a .root .now)
-    (sym (ap said (c .before .enum-told2 .given .1)) ∙ c .before .before .before .check-answer .ensures) in
+    (sym (ap said (c .before .enum-told2 .given .1)) ∙ at-check-answer .check-answer .ensures) in
     omega (arith, z .chunk, c .read-be32 .ensures)
 
 part-result-end-2 : tie.Need-part-result-end-2
 unfolding chunkLength
 part-result-end-2 c =
-    let a = c .before .before .before .before .before .args in
+    let at-check-answer = c .before .before .before in
+    let start = at-check-answer .before .before in
+    let a = start .args in
     let z = passed-shape nodeHash (a .packet .now) (a .n) (a .chunk .0) (a .root .now)
-    (sym (ap said (c .before .enum-told2 .given .1)) ∙ c .before .before .before .check-answer .ensures) in
+    (sym (ap said (c .before .enum-told2 .given .1)) ∙ at-check-answer .check-answer .ensures) in
     omega (arith, z .whole, c .read-be32 .ensures)
 
 returns : tie.Need-returns
 returns c =
-    let a = c .before .before .before .before .before .args in
+    let at-check-answer = c .before .before .before in
+    let start = at-check-answer .before .before in
+    let a = start .args in
     let k = c .before .enum-told .given in
     checked-by nodeHash (a .packet .now) (a .n) (a .chunk .0) (a .root .now) (refusalOf (k .0 .0))
-    (sym (ap said (k .1)) ∙ c .before .before .before .check-answer .ensures)
+    (sym (ap said (k .1)) ∙ at-check-answer .check-answer .ensures)
 
 returns-2 : tie.Need-returns-2
 unfolding chunkLength part
 returns-2 c =
-    let a = c .before .before .before .before .before .before .args in
+    let at-check-answer = c .before .before .before .before in
+    let start = at-check-answer .before .before in
+    let a = start .args in
     checked-part nodeHash (a .packet .now) (a .n) (a .chunk .0) (a .root .now) (c .before .read-be32 .result) (c .before .read-be32 .ensures)
-    (sym (ap said (c .before .before .enum-told2 .given .1)) ∙ c .before .before .before .before .check-answer .ensures)
+    (sym (ap said (c .before .before .enum-told2 .given .1)) ∙ at-check-answer .check-answer .ensures)
 
 pub check-spec : {M : Type 1} → statement M
 check-spec =

@@ -21,11 +21,13 @@ loop-holds c = filling-none _ _ _ (c .before .pre .few)
 
 in-turn-requires : tie.Need-in-turn-requires Inv-loop μ-loop
 in-turn-requires c κs =
-    let a = c .before .before .before .args in turn-in (a .packet .now) (a .at) (a .place) (a .count) (c .before .loop .j) (c .before .before .before .pre) (c .loop-test .taken)
+    let start = c .before .before .before in
+    let a = start .args in turn-in (a .packet .now) (a .at) (a .place) (a .count) (c .before .loop .j) (start .pre) (c .loop-test .taken)
 
 loop-again : tie.Need-loop-again Inv-loop μ-loop
 loop-again c =
-    let l = c .before .before .before .loop in
+    let looped = c .before .before .before in
+    let l = looped .loop in
     filling-next _ _ _ (l .j) (l .hashes) (l .inv) _ (c .before .in-turn .result .hash) (c .before .before .loop-test .taken)
     (ap (λ (e : Entry). e .hash) (c .before .in-turn .ensures)) refl
 

@@ -1,7 +1,7 @@
 -- `packet::checking::in_turn` meets its contract. Assumes nothing.
-use Prim.Native.Nat.{ℕ, _+_, _*_, _≤_, _<_}
+use Prim.Native.Nat.{_+_, _*_, _≤_, _<_}
 use lib.ListN.{length}
-use mathlib.Core.Path.{_≡_, sym, _∙_}
+use mathlib.Core.Path.{sym, _∙_}
 use native.Mathlib.Omega.{arith}
 use Rattle.packet.specs.Check.{entryIn}
 use Rattle.packet.specs.Inner.{entryOf, turnEntry}
@@ -15,7 +15,9 @@ past : (c : tie.Else2) → c .before .before .before .args .place < c .before .b
 past c = omega arith
 
 behind : (c : tie.Else2) → c .before .before .before .args .at + 40 * c .before .before .before .args .j ≤ length (c .before .before .before .args .packet .now)
-behind c = c .before .before .before .pre .behind (past c)
+behind c =
+    let entered = c .before .before .before in
+    entered .pre .behind (past c)
 
 add-entry-node : tie.Need-add-entry-node
 add-entry-node c = omega (arith, c .before .before .pre .before (c .if1 .taken))
@@ -26,14 +28,16 @@ entry-node-requires c κs = c .before .before .pre .before (c .if1 .taken)
 returns : tie.Need-returns
 unfolding turnEntry
 returns c =
-    let a = c .before .before .before .args in
+    let start = c .before .before .before in
+    let a = start .args in
     c .entry-node .ensures
     ∙ sym (turned-before (λ i. entryIn (a .packet .now) (a .at + 40 * i)) (a .place) (entryOf (a .node)) (a .j) (c .before .if1 .taken))
 
 returns-2 : tie.Need-returns-2
 unfolding turnEntry
 returns-2 c =
-    let a = c .before .before .before .args in
+    let start = c .before .before .before in
+    let a = start .args in
     sym (turned-here (λ i. entryIn (a .packet .now) (a .at + 40 * i)) (a .place) (entryOf (a .node)) (a .j) (c .if2 .taken))
 
 add-entry-node-2 : tie.Need-add-entry-node-2
@@ -45,7 +49,8 @@ entry-node-requires-2 c κs = omega (arith, behind c)
 returns-3 : tie.Need-returns-3
 unfolding turnEntry
 returns-3 c =
-    let a = c .before .before .before .before .args in
+    let start = c .before .before .before .before in
+    let a = start .args in
     c .entry-node2 .ensures
     ∙ sym (turned-behind (λ i. entryIn (a .packet .now) (a .at + 40 * i)) (a .place) (entryOf (a .node)) (a .j) (c .before .before .if1 .left) (c .before .if2 .left))
 

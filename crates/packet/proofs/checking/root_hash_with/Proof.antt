@@ -12,27 +12,37 @@ use Rattle.packet.proofs.checking.root_hash_with.Tie as tie
 
 sizes-in-turn-requires : tie.Need-sizes-in-turn-requires
 sizes-in-turn-requires c κs =
-    let a = c .before .before .before .before .args in
-    turns-in (a .packet .now) (a .at) (a .n) (a .chunk .0) (c .before .root-count .result) (c .before .before .root-place .result) (c .before .before .before .before .pre)
+    let start = c .before .before .before .before in
+    let a = start .args in
+    turns-in (a .packet .now) (a .at) (a .n) (a .chunk .0) (c .before .root-count .result) (c .before .before .root-place .result) (start .pre)
     (c .before .root-count .ensures) (c .before .before .root-place .ensures)
 
 hashes-in-turn-requires : tie.Need-hashes-in-turn-requires
 hashes-in-turn-requires c κs =
-    let a = c .before .before .before .before .before .args in
-    turns-in (a .packet .now) (a .at) (a .n) (a .chunk .0) (c .before .before .root-count .result) (c .before .before .before .root-place .result) (c .before .before .before .before .before .pre)
-    (c .before .before .root-count .ensures) (c .before .before .before .root-place .ensures)
+    let at-root-place = c .before .before .before in
+    let start = at-root-place .before .before in
+    let a = start .args in
+    turns-in (a .packet .now) (a .at) (a .n) (a .chunk .0) (c .before .before .root-count .result) (at-root-place .root-place .result) (start .pre)
+    (c .before .before .root-count .ensures) (at-root-place .root-place .ensures)
 
 root-hash-requires : tie.Need-root-hash-requires
-root-hash-requires c κs = omega (arith, c .before .before .before .root-count .ensures, length-roots-le (c .before .before .before .before .before .before .args .n) (c .before .before .before .before .before .before .pre .chunk .count))
+root-hash-requires c κs =
+    let at-root-count = c .before .before .before in
+    let start = at-root-count .before .before .before in
+    omega (arith, at-root-count .root-count .ensures, length-roots-le (start .args .n) (start .pre .chunk .count))
 
 returns : tie.Need-returns
 returns c =
-    let a = c .before .before .before .before .before .before .before .args in
+    let at-root-indexes = c .before .before .before in
+    let at-root-count = at-root-indexes .before in
+    let at-root-place = at-root-count .before in
+    let start = at-root-place .before .before in
+    let a = start .args in
     c .root-hash .ensures
     ∙ ap nodeHash
-    (gathered-message (a .packet .now) (a .at) (a .n) (a .chunk .0) (entryOf (a .node)) (c .before .before .before .before .before .before .before .pre .chunk) (c .before .hashes-in-turn .result)
-    (numbers (c .before .before .before .root-indexes .result)) (c .before .before .sizes-in-turn .result) (c .before .before .before .before .root-count .result) (c .before .before .before .before .before .root-place .result)
-    (c .before .before .before .before .root-count .ensures) (c .before .before .before .before .before .root-place .ensures) (c .before .hashes-in-turn .ensures) (c .before .before .before .root-indexes .ensures)
+    (gathered-message (a .packet .now) (a .at) (a .n) (a .chunk .0) (entryOf (a .node)) (start .pre .chunk) (c .before .hashes-in-turn .result)
+    (numbers (at-root-indexes .root-indexes .result)) (c .before .before .sizes-in-turn .result) (at-root-count .root-count .result) (at-root-place .root-place .result)
+    (at-root-count .root-count .ensures) (at-root-place .root-place .ensures) (c .before .hashes-in-turn .ensures) (at-root-indexes .root-indexes .ensures)
     (c .before .before .sizes-in-turn .ensures))
 
 pub root-hash-with-spec : {M : Type 1} → statement M

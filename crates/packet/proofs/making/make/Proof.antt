@@ -12,47 +12,61 @@ use Rattle.packet.proofs.making.make.Tie as tie
 
 sub-make-read : tie.Need-sub-make-read
 sub-make-read c =
-    let a = c .before .before .before .before .before .before .before .before .before .args in
+    let at-verify = c .before .before .before in
+    let start = at-verify .before .before .before .before .before .before in
+    let a = start .args in
     let r = registerOf (a .tree .now) (a .signatures .now) (a .bitfield .now) (a .content .now) (a .n) (a .s) (a .size) in
     let k = c .before .start .given in
-    lying nodeHash r (a .chunk .0) (k .0 .0 .0) (k .0 .1 .0 .0) (sym (ap verifiedOf (k .1)) ∙ c .before .before .before .verify .ensures) .ordered
+    lying nodeHash r (a .chunk .0) (k .0 .0 .0) (k .0 .1 .0 .0) (sym (ap verifiedOf (k .1)) ∙ at-verify .verify .ensures) .ordered
 
 part-make-read-start : tie.Need-part-make-read-start
 part-make-read-start c =
-    let a = c .before .before .before .before .before .before .before .before .before .args in
+    let at-verify = c .before .before .before in
+    let start = at-verify .before .before .before .before .before .before in
+    let a = start .args in
     let r = registerOf (a .tree .now) (a .signatures .now) (a .bitfield .now) (a .content .now) (a .n) (a .s) (a .size) in
     let k = c .before .start .given in
-    lying nodeHash r (a .chunk .0) (k .0 .0 .0) (k .0 .1 .0 .0) (sym (ap verifiedOf (k .1)) ∙ c .before .before .before .verify .ensures) .ordered
+    lying nodeHash r (a .chunk .0) (k .0 .0 .0) (k .0 .1 .0 .0) (sym (ap verifiedOf (k .1)) ∙ at-verify .verify .ensures) .ordered
 
 part-make-read-end : tie.Need-part-make-read-end
 part-make-read-end c =
-    let a = c .before .before .before .before .before .before .before .before .before .args in
+    let at-verify = c .before .before .before in
+    let start = at-verify .before .before .before .before .before .before in
+    let a = start .args in
     let r = registerOf (a .tree .now) (a .signatures .now) (a .bitfield .now) (a .content .now) (a .n) (a .s) (a .size) in
     let k = c .before .start .given in
-    lying nodeHash r (a .chunk .0) (k .0 .0 .0) (k .0 .1 .0 .0) (sym (ap verifiedOf (k .1)) ∙ c .before .before .before .verify .ensures) .inside
+    lying nodeHash r (a .chunk .0) (k .0 .0 .0) (k .0 .1 .0 .0) (sym (ap verifiedOf (k .1)) ∙ at-verify .verify .ensures) .inside
 
 make-read-requires : tie.Need-make-read-requires
 make-read-requires c κs =
-    let a = c .before .before .before .before .before .before .before .before .before .before .before .args in
+    let at-start = c .before .before .before in
+    let at-verify = at-start .before .before in
+    let start = at-verify .before .before .before .before .before .before in
+    let a = start .args in
     let r = registerOf (a .tree .now) (a .signatures .now) (a .bitfield .now) (a .content .now) (a .n) (a .s) (a .size) in
-    let k = c .before .before .before .start .given in
-    let l = lying nodeHash r (a .chunk .0) (k .0 .0 .0) (k .0 .1 .0 .0) (sym (ap verifiedOf (k .1)) ∙ c .before .before .before .before .before .verify .ensures) in
+    let k = at-start .start .given in
+    let l = lying nodeHash r (a .chunk .0) (k .0 .0 .0) (k .0 .1 .0 .0) (sym (ap verifiedOf (k .1)) ∙ at-verify .verify .ensures) in
     readable nodeHash r (a .chunk .0) (l .verdict) _ (read-bytes nodeHash r (a .chunk .0) (l .verdict) _ (l .same))
 
 returns : tie.Need-returns
 returns c =
-    let a = c .before .before .before .before .before .before .before .before .before .args in
+    let at-verify = c .before .before .before in
+    let start = at-verify .before .before .before .before .before .before in
+    let a = start .args in
     let r = registerOf (a .tree .now) (a .signatures .now) (a .bitfield .now) (a .content .now) (a .n) (a .s) (a .size) in
     let k = c .before .refusal .given in
     made-none nodeHash r (a .chunk .0) (a .out .now) (k .0 .0)
-    (nothing nodeHash r (a .chunk .0) (k .0 .0 .number) (spotOf (k .0 .0 .place)) (sym (ap verifiedOf (k .1)) ∙ c .before .before .before .verify .ensures) .0)
+    (nothing nodeHash r (a .chunk .0) (k .0 .0 .number) (spotOf (k .0 .0 .place)) (sym (ap verifiedOf (k .1)) ∙ at-verify .verify .ensures) .0)
 
 returns-2 : tie.Need-returns-2
 returns-2 c =
-    let a = c .before .before .before .before .before .before .before .before .before .before .before .before .before .before .args in
+    let at-start = c .before .before .before .before .before .before in
+    let at-verify = at-start .before .before in
+    let start = at-verify .before .before .before .before .before .before in
+    let a = start .args in
     let r = registerOf (a .tree .now) (a .signatures .now) (a .bitfield .now) (a .content .now) (a .n) (a .s) (a .size) in
-    let k = c .before .before .before .before .before .before .start .given in
-    let l = lying nodeHash r (a .chunk .0) (k .0 .0 .0) (k .0 .1 .0 .0) (sym (ap verifiedOf (k .1)) ∙ c .before .before .before .before .before .before .before .before .verify .ensures) in
+    let k = at-start .start .given in
+    let l = lying nodeHash r (a .chunk .0) (k .0 .0 .0) (k .0 .1 .0 .0) (sym (ap verifiedOf (k .1)) ∙ at-verify .verify .ensures) in
     made-from nodeHash r (a .chunk .0) (a .out .now) (l .verdict) _ (read-bytes nodeHash r (a .chunk .0) (l .verdict) _ (l .same)) (c .before .before .make-read .result)
     (c .before .before .make-read .last .1 .1 .1 .1 .0) (c .before .before .make-read .ensures)
 

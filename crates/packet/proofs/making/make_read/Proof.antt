@@ -6,14 +6,18 @@ use Rattle.packet.proofs.making.make_read.Tie as tie
 
 returns : tie.Need-returns
 returns c =
-    let a = c .before .before .before .before .before .args in
+    let start = c .before .before .before .before .before in
+    let a = start .args in
     no-room (a .tree .now) (a .n) (a .chunk .0) (a .bytes .now) (a .out .now) (c .before .packet-length .result) (c .before .packet-length .ensures) (c .if1 .taken)
 
 returns-2 : tie.Need-returns-2
 returns-2 c =
-    let a = c .before .before .before .before .before .before .before .before .before .args in
-    made-whole (a .tree .now) (a .n) (a .chunk .0) (a .bytes .now) (a .out .now) (c .before .before .before .before .before .packet-length .result) (c .before .before .before .before .before .packet-length .ensures)
-    (c .before .before .before .before .if1 .left) (c .before .before .write-packet .last .1 .1 .1 .1 .0) (c .before .before .write-packet .ensures)
+    let branch1 = c .before .before .before .before in
+    let at-packet-length = branch1 .before in
+    let start = at-packet-length .before .before .before .before in
+    let a = start .args in
+    made-whole (a .tree .now) (a .n) (a .chunk .0) (a .bytes .now) (a .out .now) (at-packet-length .packet-length .result) (at-packet-length .packet-length .ensures)
+    (branch1 .if1 .left) (c .before .before .write-packet .last .1 .1 .1 .1 .0) (c .before .before .write-packet .ensures)
 
 pub make-read-spec : {M : Type 1} → statement M
 make-read-spec =

@@ -6,8 +6,9 @@ use Rattle.packet.proofs.making.packet_length.Tie as tie
 
 returns : tie.Need-returns
 returns c =
-    let a = c .before .before .before .before .args in
-    packet-long (a .tree .now) (a .n) (a .chunk .0) (a .bytes .now) (c .before .before .before .before .pre) (c .before .sibling-count .result) (c .other-count .result)
+    let start = c .before .before .before .before in
+    let a = start .args in
+    packet-long (a .tree .now) (a .n) (a .chunk .0) (a .bytes .now) (start .pre) (c .before .sibling-count .result) (c .other-count .result)
     (c .before .sibling-count .ensures .0) (c .other-count .ensures .0)
 
 pub packet-length-spec : {M : Type 1} → statement M

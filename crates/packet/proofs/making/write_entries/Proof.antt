@@ -1,6 +1,6 @@
 -- `packet::making::write_entries` meets its contract. Assumes nothing.
-use Prim.Native.Nat.{ℕ, zero-le, _+_, _-_, _*_, _≤_, _<_}
-use mathlib.Core.Path.{_≡_, refl, sym, ap, _∙_, subst}
+use Prim.Native.Nat.{ℕ, zero-le, _+_, _-_, _≤_}
+use mathlib.Core.Path.{_≡_, sym, ap, _∙_, subst}
 use native.Mathlib.Omega.{arith}
 use lib.ListN.{length, getD}
 use Rattle.byte_strings.specs.Lists.{part, put}
@@ -23,44 +23,64 @@ abbrev μ-loop : tie.MeasureT-loop
 -- the entry lies in the tree file
 inside : (c : tie.After-entry-place Inv-loop μ-loop) → c .entry-place .result + 40 ≤ length (c .before .before .before .before .before .before .args .tree .now)
 inside c =
-    subst (λ (x : ℕ). x + 40 ≤ length (c .before .before .before .before .before .before .args .tree .now)) (sym (c .entry-place .ensures)) (subst (EntryIn (c .before .before .before .before .before .before .args .tree .now)) (number-at (c .before .before .before .before .before .before .args .t2) (c .before .before .before .loop .j)) (c .before .before .before .before .before .before .pre .0 .each (c .before .before .before .loop .j) (c .before .before .loop-test .taken)) .inside)
+    let looped = c .before .before .before in
+    let start = looped .before .before .before in
+    subst (λ (x : ℕ). x + 40 ≤ length (start .args .tree .now)) (sym (c .entry-place .ensures))
+    (subst (EntryIn (start .args .tree .now)) (number-at (start .args .t2) (looped .loop .j)) (start .pre .0 .each (looped .loop .j) (c .before .before .loop-test .taken)) .inside)
 
 loop-holds : tie.Need-loop-holds Inv-loop μ-loop
 loop-holds c = let a = c .before .before .args in (zero-le, writing-none (a .tree .now) (numbers (a .t2)) (a .out .now) (a .at))
 
 mul-entry-place : tie.Need-mul-entry-place Inv-loop μ-loop
-mul-entry-place c = omega (arith, c .before .before .before .before .pre .0 .few)
+mul-entry-place c =
+    let entered = c .before .before .before .before in
+    omega (arith, entered .pre .0 .few)
 
 array-copy-out-entry-place : tie.Need-array-copy-out-entry-place Inv-loop μ-loop
-array-copy-out-entry-place c = omega (arith, c .before .before .before .before .pre .0 .few)
+array-copy-out-entry-place c =
+    let entered = c .before .before .before .before in
+    omega (arith, entered .pre .0 .few)
 
 entry-place-requires : tie.Need-entry-place-requires Inv-loop μ-loop
-entry-place-requires c κs = subst (EntryIn (c .before .before .before .before .before .args .tree .now)) (number-at (c .before .before .before .before .before .args .t2) (c .before .before .loop .j)) (c .before .before .before .before .before .pre .0 .each (c .before .before .loop .j) (c .before .loop-test .taken)) .small
+entry-place-requires c κs =
+    let start = c .before .before .before .before .before in
+    subst (EntryIn (start .args .tree .now)) (number-at (start .args .t2) (c .before .before .loop .j)) (start .pre .0 .each (c .before .before .loop .j) (c .before .loop-test .taken)) .small
 
 add-end : tie.Need-add-end Inv-loop μ-loop
 add-end c = omega (arith, inside c)
 
 mul-copy-to : tie.Need-mul-copy-to Inv-loop μ-loop
-mul-copy-to c = omega (arith, c .before .before .before .before .before .before .before .pre .0 .few)
+mul-copy-to c =
+    let entered = c .before .before .before .before .before .before .before in
+    omega (arith, entered .pre .0 .few)
 
 add-copy-to : tie.Need-add-copy-to Inv-loop μ-loop
-add-copy-to c = omega (arith, c .before .before .before .before .before .before .before .pre .1, c .before .before .before .before .before .before .before .pre .0 .few, c .before .before .before .before .loop .inv .1 .long)
+add-copy-to c =
+    let looped = c .before .before .before .before in
+    let entered = looped .before .before .before in
+    omega (arith, entered .pre .1, entered .pre .0 .few, looped .loop .inv .1 .long)
 
 part-copy-to-end : tie.Need-part-copy-to-end Inv-loop μ-loop
 part-copy-to-end c = omega (arith, inside (c .before))
 
 copy-to-requires : tie.Need-copy-to-requires Inv-loop μ-loop
 copy-to-requires c κs =
-    omega (arith, c .before .before .before .before .before .before .before .before .pre .1, c .before .before .before .before .before .loop .inv .1 .long, lent-length (c .before .before .before .before .before .before .before .before .args .tree .now) (c .before .before .entry-place .result) (inside (c .before .before)))
+    let looped = c .before .before .before .before .before in
+    let start = looped .before .before .before in
+    omega (arith, start .pre .1, looped .loop .inv .1 .long, lent-length (start .args .tree .now) (c .before .before .entry-place .result) (inside (c .before .before)))
 
 loop-again : tie.Need-loop-again Inv-loop μ-loop
 loop-again c =
-    let a = c .before .before .before .before .before .before .before .before .before .before .before .args in
-    let l = c .before .before .before .before .before .before .before .before .loop in
-    let p = c .before .before .before .before .before .entry-place in (
+    let at-entry-place = c .before .before .before .before .before in
+    let tested = at-entry-place .before .before in
+    let looped = tested .before in
+    let start = looped .before .before .before in
+    let a = start .args in
+    let l = looped .loop in
+    let p = at-entry-place .entry-place in (
       omega arith,
-      writing-next (a .tree .now) (numbers (a .t2)) (a .out .now) (a .at) (a .count) (l .j) (l .out) (c .before .before .copy-to .last .0) _ (c .before .before .before .before .before .before .before .before .before .before .before .pre .0)
-          (c .before .before .before .before .before .before .before .loop-test .taken) (c .before .before .before .before .before .before .before .before .before .before .before .pre .1) (l .inv .1) (c .before .before .copy-to .kept .0)
+      writing-next (a .tree .now) (numbers (a .t2)) (a .out .now) (a .at) (a .count) (l .j) (l .out) (c .before .before .copy-to .last .0) _ (start .pre .0)
+          (tested .loop-test .taken) (start .pre .1) (l .inv .1) (c .before .before .copy-to .kept .0)
           (lent-entry (a .tree .now) (p .result) (entryPlace (getD (numbers (a .t2)) (l .j) 0)) (p .ensures ∙ ap entryPlace (sym (number-at (a .t2) (l .j)))))
           (c .before .before .copy-to .ensures),
     )
@@ -70,7 +90,8 @@ same-length c = c .before .loop .inv .1 .long
 
 returns : tie.Need-returns Inv-loop μ-loop
 returns c =
-    let a = c .before .before .before .before .args in
+    let start = c .before .before .before .before in
+    let a = start .args in
     let e : c .before .loop .j ≡ a .count = omega arith in
     c .before .loop .inv .1 .holds ∙ ap (λ (i : ℕ). put (a .out .now) (a .at) (entriesAt (a .tree .now) (numbers (a .t2)) i)) e
 

@@ -14,58 +14,116 @@ use Rattle.packet.proofs.making.write_packet.Tie as tie
 
 other-indexes-requires : tie.Need-other-indexes-requires
 other-indexes-requires c κs =
-    let a = c .before .before .before .before .before .before .args in
-    let h = c .before .before .before .before .before .before .pre .readable .chunk in
+    let start = c .before .before .before .before .before .before in
+    let a = start .args in
+    let h = start .pre .readable .chunk in
     (h .count, subst (λ (x : ℕ). x < length (roots (a .n))) (sym (c .root-place .ensures)) (place-below (a .n) (a .chunk .0) h))
 
 copy-to-requires : tie.Need-copy-to-requires
 copy-to-requires c κs =
-    let a = c .before .before .before .before .before .before .before .before .before .before .before .args in
-    let r = c .before .before .before .before .before .before .before .before .before .before .before .pre in
-    let u = c .before .before .before .before .before .before .before .sibling-count in
-    let o = c .before .before .before .other-count in
-    omega (arith, packet-long (a .tree .now) (a .n) (a .chunk .0) (a .bytes .now) (r .readable) (u .result) (o .result) (u .ensures .0) (o .ensures .0), r .room, ap length (c .before .before .be32 .ensures), length-be 4 (length (a .bytes .now)))
+    let at-other-count = c .before .before .before in
+    let at-sibling-count = at-other-count .before .before .before .before in
+    let start = at-sibling-count .before .before .before .before in
+    let a = start .args in
+    let r = start .pre in
+    let u = at-sibling-count .sibling-count in
+    let o = at-other-count .other-count in
+    omega (
+      arith,
+      packet-long (a .tree .now) (a .n) (a .chunk .0) (a .bytes .now) (r .readable) (u .result) (o .result) (u .ensures .0) (o .ensures .0),
+      r .room,
+      ap length
+          (c .before .before .be32 .ensures),
+      length-be 4 (length (a .bytes .now)),
+    )
 
 copy-to-requires-2 : tie.Need-copy-to-requires-2
 copy-to-requires-2 c κs =
-    let a = c .before .before .before .before .before .before .before .before .before .before .before .before .before .before .before .args in
-    let r = c .before .before .before .before .before .before .before .before .before .before .before .before .before .before .before .pre in
-    let u = c .before .before .before .before .before .before .before .before .before .before .before .sibling-count in
-    let o = c .before .before .before .before .before .before .before .other-count in
-    omega (arith, packet-long (a .tree .now) (a .n) (a .chunk .0) (a .bytes .now) (r .readable) (u .result) (o .result) (u .ensures .0) (o .ensures .0), r .room, c .before .before .before .copy-to .kept .0)
+    let at-copy-to = c .before .before .before in
+    let at-other-count = at-copy-to .before .before .before .before in
+    let at-sibling-count = at-other-count .before .before .before .before in
+    let start = at-sibling-count .before .before .before .before in
+    let a = start .args in
+    let r = start .pre in
+    let u = at-sibling-count .sibling-count in
+    let o = at-other-count .other-count in
+    omega (arith, packet-long (a .tree .now) (a .n) (a .chunk .0) (a .bytes .now) (r .readable) (u .result) (o .result) (u .ensures .0) (o .ensures .0), r .room, at-copy-to .copy-to .kept .0)
 
 write-section-requires : tie.Need-write-section-requires
 write-section-requires c κs =
-    let a = c .before .before .before .before .before .before .before .before .before .before .before .before .before .before .before .before .before .before .before .args in
-    let r = c .before .before .before .before .before .before .before .before .before .before .before .before .before .before .before .before .before .before .before .pre in
-    let u = c .before .before .before .before .before .before .before .before .before .before .before .before .before .before .before .sibling-count in
-    let o = c .before .before .before .before .before .before .before .before .before .before .before .other-count in (
-      siblings-in (a .tree .now) (a .n) (a .chunk .0) (a .bytes .now) (r .readable) (numbers (c .before .before .before .before .before .before .before .before .before .before .before .before .before .before .sibling-indexes .result)) (u .result) (u .ensures .0) (c .before .before .before .before .before .before .before .before .before .before .before .before .before .before .sibling-indexes .ensures),
-      omega (arith, packet-long (a .tree .now) (a .n) (a .chunk .0) (a .bytes .now) (r .readable) (u .result) (o .result) (u .ensures .0) (o .ensures .0), r .room, c .before .before .before .copy-to2 .kept .0, c .before .before .before .before .before .before .before .copy-to .kept .0),
+    let at-copy-to2 = c .before .before .before in
+    let at-copy-to = at-copy-to2 .before .before .before .before in
+    let at-other-count = at-copy-to .before .before .before .before in
+    let at-sibling-indexes = at-other-count .before .before .before in
+    let at-sibling-count = at-sibling-indexes .before in
+    let start = at-sibling-count .before .before .before .before in
+    let a = start .args in
+    let r = start .pre in
+    let u = at-sibling-count .sibling-count in
+    let o = at-other-count .other-count in (
+      siblings-in (a .tree .now) (a .n) (a .chunk .0) (a .bytes .now) (r .readable) (numbers (at-sibling-indexes .sibling-indexes .result)) (u .result) (u .ensures .0)
+          (at-sibling-indexes .sibling-indexes .ensures),
+      omega (
+        arith,
+        packet-long (a .tree .now) (a .n) (a .chunk .0) (a .bytes .now) (r .readable) (u .result) (o .result) (u .ensures .0)
+            (o .ensures .0),
+        r .room,
+        at-copy-to2 .copy-to2 .kept .0,
+        at-copy-to .copy-to .kept .0,
+      ),
     )
 
 write-section-requires-2 : tie.Need-write-section-requires-2
 write-section-requires-2 c κs =
-    let a = c .before .before .before .before .before .before .before .before .before .before .before .before .before .before .before .before .before .before .before .before .before .before .before .args in
-    let r = c .before .before .before .before .before .before .before .before .before .before .before .before .before .before .before .before .before .before .before .before .before .before .before .pre in
-    let u = c .before .before .before .before .before .before .before .before .before .before .before .before .before .before .before .before .before .before .before .sibling-count in
-    let o = c .before .before .before .before .before .before .before .before .before .before .before .before .before .before .before .other-count in (
-      others-in (a .tree .now) (a .n) (a .chunk .0) (a .bytes .now) (r .readable) (numbers (c .before .before .before .before .before .before .before .before .before .before .before .before .before .before .before .before .other-indexes .result)) (o .result) (c .before .before .before .before .before .before .before .before .before .before .before .before .before .before .before .before .before .root-place .result) (o .ensures .0) (c .before .before .before .before .before .before .before .before .before .before .before .before .before .before .before .before .before .root-place .ensures) (c .before .before .before .before .before .before .before .before .before .before .before .before .before .before .before .before .other-indexes .ensures),
-      omega (arith, packet-long (a .tree .now) (a .n) (a .chunk .0) (a .bytes .now) (r .readable) (u .result) (o .result) (u .ensures .0) (o .ensures .0), r .room, c .before .before .before .write-section .kept .1 .1 .1 .0, c .before .before .before .before .before .before .before .copy-to2 .kept .0, c .before .before .before .before .before .before .before .before .before .before .before .copy-to .kept .0),
+    let at-write-section = c .before .before .before in
+    let at-copy-to2 = at-write-section .before .before .before .before in
+    let at-copy-to = at-copy-to2 .before .before .before .before in
+    let at-other-count = at-copy-to .before .before .before .before in
+    let at-other-indexes = at-other-count .before in
+    let at-root-place = at-other-indexes .before in
+    let at-sibling-count = at-root-place .before .before in
+    let start = at-sibling-count .before .before .before .before in
+    let a = start .args in
+    let r = start .pre in
+    let u = at-sibling-count .sibling-count in
+    let o = at-other-count .other-count in (
+      others-in (a .tree .now) (a .n) (a .chunk .0) (a .bytes .now) (r .readable) (numbers (at-other-indexes .other-indexes .result)) (o .result)
+          (at-root-place .root-place .result) (o .ensures .0) (at-root-place .root-place .ensures) (at-other-indexes .other-indexes .ensures),
+      omega (
+        arith,
+        packet-long (a .tree .now) (a .n) (a .chunk .0) (a .bytes .now) (r .readable) (u .result) (o .result) (u .ensures .0)
+            (o .ensures .0),
+        r .room,
+        at-write-section .write-section .kept .1 .1 .1 .0,
+        at-copy-to2 .copy-to2 .kept .0,
+        at-copy-to .copy-to .kept .0,
+      ),
     )
 
 returns : tie.Need-returns
 returns c =
-    let a = c .before .before .before .before .before .before .before .before .before .before .before .before .before .before .before .before .before .before .before .before .before .before .before .before .before .before .args in
-    let r = c .before .before .before .before .before .before .before .before .before .before .before .before .before .before .before .before .before .before .before .before .before .before .before .before .before .before .pre in
-    let u = c .before .before .before .before .before .before .before .before .before .before .before .before .before .before .before .before .before .before .before .before .before .before .sibling-count in
-    let o = c .before .before .before .before .before .before .before .before .before .before .before .before .before .before .before .before .before .before .other-count in
-    packet-written (a .tree .now) (a .n) (a .chunk .0) (a .bytes .now) (r .readable) (a .out .now) (c .before .before .before .before .before .before .before .before .before .before .before .before .before .before .copy-to .last .0) (c .before .before .before .before .before .before .before .before .before .before .copy-to2 .last .0)
-    (c .before .before .before .before .before .before .write-section .last .1 .1 .1 .0) (c .before .before .write-section2 .last .1 .1 .1 .0) (c .before .before .before .before .before .before .before .before .before .before .before .before .before .before .before .before .before .be32 .result) _ _ (u .result) (u .ensures .0)
-    (r .room) (c .before .before .before .before .before .before .before .before .before .before .before .before .before .before .before .before .before .be32 .ensures) (c .before .before .before .before .before .before .before .before .before .before .before .before .before .before .copy-to .ensures) (c .before .before .before .before .before .before .before .before .before .before .copy-to2 .ensures)
-    (siblings-section (a .tree .now) (a .n) (a .chunk .0) (a .bytes .now) (r .readable) (numbers (c .before .before .before .before .before .before .before .before .before .before .before .before .before .before .before .before .before .before .before .before .before .sibling-indexes .result)) (u .result) (u .ensures .0) (c .before .before .before .before .before .before .before .before .before .before .before .before .before .before .before .before .before .before .before .before .before .sibling-indexes .ensures))
-    (c .before .before .before .before .before .before .write-section .ensures)
-    (others-section (a .tree .now) (a .n) (a .chunk .0) (a .bytes .now) (r .readable) (numbers (c .before .before .before .before .before .before .before .before .before .before .before .before .before .before .before .before .before .before .before .other-indexes .result)) (o .result) (c .before .before .before .before .before .before .before .before .before .before .before .before .before .before .before .before .before .before .before .before .root-place .result) (o .ensures .0) (c .before .before .before .before .before .before .before .before .before .before .before .before .before .before .before .before .before .before .before .before .root-place .ensures) (c .before .before .before .before .before .before .before .before .before .before .before .before .before .before .before .before .before .before .before .other-indexes .ensures))
+    let at-write-section = c .before .before .before .before .before .before in
+    let at-copy-to2 = at-write-section .before .before .before .before in
+    let at-copy-to = at-copy-to2 .before .before .before .before in
+    let at-be32 = at-copy-to .before .before .before in
+    let at-other-count = at-be32 .before in
+    let at-other-indexes = at-other-count .before in
+    let at-root-place = at-other-indexes .before in
+    let at-sibling-indexes = at-root-place .before in
+    let at-sibling-count = at-sibling-indexes .before in
+    let start = at-sibling-count .before .before .before .before in
+    let a = start .args in
+    let r = start .pre in
+    let u = at-sibling-count .sibling-count in
+    let o = at-other-count .other-count in
+    packet-written (a .tree .now) (a .n) (a .chunk .0) (a .bytes .now) (r .readable) (a .out .now) (at-copy-to .copy-to .last .0) (at-copy-to2 .copy-to2 .last .0)
+    (at-write-section .write-section .last .1 .1 .1 .0) (c .before .before .write-section2 .last .1 .1 .1 .0) (at-be32 .be32 .result) _ _ (u .result) (u .ensures .0)
+    (r .room) (at-be32 .be32 .ensures) (at-copy-to .copy-to .ensures) (at-copy-to2 .copy-to2 .ensures)
+    (siblings-section (a .tree .now) (a .n) (a .chunk .0) (a .bytes .now) (r .readable) (numbers (at-sibling-indexes .sibling-indexes .result)) (u .result) (u .ensures .0)
+    (at-sibling-indexes .sibling-indexes .ensures))
+    (at-write-section .write-section .ensures)
+    (others-section (a .tree .now) (a .n) (a .chunk .0) (a .bytes .now) (r .readable) (numbers (at-other-indexes .other-indexes .result)) (o .result)
+    (at-root-place .root-place .result) (o .ensures .0) (at-root-place .root-place .ensures) (at-other-indexes .other-indexes .ensures))
     (c .before .before .write-section2 .ensures)
 
 pub write-packet-spec : {M : Type 1} → statement M

@@ -26,10 +26,12 @@ abbrev μ-loop : tie.MeasureT-loop
 -- the place that is read lies in the array
 place : (c : tie.After-skipping Inv-loop μ-loop) → c .skipping .result < 20
 place c =
-    let a = c .before .before .before .before .before .args in
-    let m = c .before .before .before .root-count in
+    let at-root-count = c .before .before .before in
+    let start = at-root-count .before .before in
+    let a = start .args in
+    let m = at-root-count .root-count in
     let g : c .before .before .loop .j < length (roots (a .n)) - 1 = subst (λ (x : ℕ). c .before .before .loop .j < x - 1) (m .ensures) (c .before .loop-test .taken) in
-    omega (arith, c .skipping .ensures, skipped-below (a .place) (c .before .before .loop .j) (length (roots (a .n))) g (c .before .before .before .before .before .pre .1), length-roots-le (a .n) (c .before .before .before .before .before .pre .0))
+    omega (arith, c .skipping .ensures, skipped-below (a .place) (c .before .before .loop .j) (length (roots (a .n))) g (start .pre .1), length-roots-le (a .n) (start .pre .0))
 
 sub-count : tie.Need-sub-count Inv-loop μ-loop
 sub-count c = omega (arith, c .root-count .ensures)
@@ -39,7 +41,9 @@ unfolding numbers
 loop-holds c = filling-none _ _ _ (omega (arith, c .root-count .ensures, length-roots-le (c .before .before .args .n) (c .before .before .pre .0)))
 
 skipping-requires : tie.Need-skipping-requires Inv-loop μ-loop
-skipping-requires c κs = omega (arith, c .before .before .root-count .ensures, length-roots-le (c .before .before .before .before .args .n) (c .before .before .before .before .pre .0))
+skipping-requires c κs =
+    let start = c .before .before .before .before in
+    omega (arith, c .before .before .root-count .ensures, length-roots-le (start .args .n) (start .pre .0))
 
 mul-found : tie.Need-mul-found Inv-loop μ-loop
 mul-found c = omega (arith, place c)
@@ -48,21 +52,31 @@ array-copy-out-found : tie.Need-array-copy-out-found Inv-loop μ-loop
 array-copy-out-found c = place c
 
 mul-found-2 : tie.Need-mul-found-2 Inv-loop μ-loop
-mul-found-2 c = omega (arith, c .before .before .before .before .root-count .ensures, length-roots-le (c .before .before .before .before .before .before .args .n) (c .before .before .before .before .before .before .pre .0))
+mul-found-2 c =
+    let at-root-count = c .before .before .before .before in
+    let start = at-root-count .before .before in
+    omega (arith, at-root-count .root-count .ensures, length-roots-le (start .args .n) (start .pre .0))
 
 array-set-from-found : tie.Need-array-set-from-found Inv-loop μ-loop
-array-set-from-found c = omega (arith, c .before .before .before .before .root-count .ensures, length-roots-le (c .before .before .before .before .before .before .args .n) (c .before .before .before .before .before .before .pre .0))
+array-set-from-found c =
+    let at-root-count = c .before .before .before .before in
+    let start = at-root-count .before .before in
+    omega (arith, at-root-count .root-count .ensures, length-roots-le (start .args .n) (start .pre .0))
 
 loop-again : tie.Need-loop-again Inv-loop μ-loop
 loop-again c =
-    let a = c .before .before .before .before .before .before .args in
-    let l = c .before .before .before .loop in
-    let is = c .before .before .before .before .before .root-indexes in
+    let looped = c .before .before .before in
+    let at-root-count = looped .before in
+    let at-root-indexes = at-root-count .before in
+    let start = at-root-indexes .before in
+    let a = start .args in
+    let l = looped .loop in
+    let is = at-root-indexes .root-indexes in
     let q = c .before .skipping in
-    let m = c .before .before .before .before .root-count in
+    let m = at-root-count .root-count in
     let g : l .j < length (roots (a .n)) - 1 = subst (λ (x : ℕ). l .j < x - 1) (m .ensures) (c .before .before .loop-test .taken) in
     let s : q .result < length (roots (a .n)) =
-    subst (λ (x : ℕ). x < length (roots (a .n))) (sym (q .ensures)) (skipped-below (a .place) (l .j) (length (roots (a .n))) g (c .before .before .before .before .before .before .pre .1)) in
+    subst (λ (x : ℕ). x < length (roots (a .n))) (sym (q .ensures)) (skipped-below (a .place) (l .j) (length (roots (a .n))) g (start .pre .1)) in
     filling-next _ _ _ (l .j) (numbers (l .found)) (l .inv) _ (getD (is .result) (q .result) (record { 0 = 0 }) .0) (c .before .before .loop-test .taken)
     (root-in (is .result) (a .n) (q .result) (is .ensures) s ∙ ap (λ (i : ℕ). getD (roots (a .n)) i 0) (q .ensures))
     (numbers-set (l .found) (l .j) (getD (is .result) (q .result) (record { 0 = 0 })))
@@ -70,7 +84,8 @@ loop-again c =
 returns : tie.Need-returns Inv-loop μ-loop
 unfolding otherRow
 returns c =
-    let a = c .before .before .before .before .args in
+    let start = c .before .before .before .before in
+    let a = start .args in
     filling-all _ _ _ _ _ (c .before .loop .inv) (c .loop-test .left)
     ∙ ap (λ (i : ℕ). padded 0 (i - 1) (run (λ j. getD (roots (a .n)) (skipped (a .place) j) 0) 0 (i - 1))) (c .before .before .root-count .ensures)
 

@@ -1,6 +1,6 @@
 -- `packet::path::root_place` meets its contract. Assumes nothing.
 use Prim.Native.Nat.{ℕ, _-_, _≤_, _<_}
-use mathlib.Core.Path.{_≡_, sym, ap, _∙_, subst}
+use mathlib.Core.Path.{sym, ap, _∙_, subst}
 use native.Mathlib.Omega.{arith}
 use lib.ListN.{length}
 use borrow.Author.Tests.{not-true, not-false}
@@ -22,41 +22,62 @@ loop-holds : tie.Need-loop-holds Inv-loop μ-loop
 loop-holds c = let a = c .before .before .args in seeking-none (roots (a .n)) (a .chunk .0)
 
 mul-ends-before : tie.Need-mul-ends-before Inv-loop μ-loop
-mul-ends-before c = omega (arith, c .before .before .before .root-count .ensures, length-roots-le (c .before .before .before .before .args .n) (c .before .before .before .before .pre))
+mul-ends-before c =
+    let at-root-count = c .before .before .before in
+    let start = at-root-count .before in
+    omega (arith, at-root-count .root-count .ensures, length-roots-le (start .args .n) (start .pre))
 
 array-copy-out-ends-before : tie.Need-array-copy-out-ends-before Inv-loop μ-loop
-array-copy-out-ends-before c = omega (arith, c .before .before .before .root-count .ensures, length-roots-le (c .before .before .before .before .args .n) (c .before .before .before .before .pre))
+array-copy-out-ends-before c =
+    let at-root-count = c .before .before .before in
+    let start = at-root-count .before in
+    omega (arith, at-root-count .root-count .ensures, length-roots-le (start .args .n) (start .pre))
 
 ends-before-requires : tie.Need-ends-before-requires Inv-loop μ-loop
 ends-before-requires c κs =
-    let a = c .before .before .before .before .before .args in
-    let is = c .before .before .before .root-indexes in
-    root-small (is .result) (a .n) (c .before .before .loop .j) (c .before .before .before .before .before .pre) (is .ensures)
-    (subst (λ (x : ℕ). c .before .before .loop .j < x) (c .before .before .before .before .root-count .ensures) (c .before .loop-test .taken))
+    let at-root-indexes = c .before .before .before in
+    let at-root-count = at-root-indexes .before in
+    let start = at-root-count .before in
+    let a = start .args in
+    let is = at-root-indexes .root-indexes in
+    root-small (is .result) (a .n) (c .before .before .loop .j) (start .pre) (is .ensures)
+    (subst (λ (x : ℕ). c .before .before .loop .j < x) (at-root-count .root-count .ensures) (c .before .loop-test .taken))
 
 returns : tie.Need-returns Inv-loop μ-loop
 returns c =
-    let a = c .before .before .before .before .before .before .before .args in
-    let is = c .before .before .before .before .before .root-indexes in
-    let j = c .before .before .before .before .loop .j in
-    let h : j < length (roots (a .n)) = subst (λ (x : ℕ). j < x) (c .before .before .before .before .before .before .root-count .ensures) (c .before .before .before .loop-test .taken) in
-    seeking-found (roots (a .n)) (a .chunk .0) j (placeAbove (roots (a .n)) (a .chunk .0)) (c .before .before .before .before .loop .inv) h
+    let tested = c .before .before .before in
+    let looped = tested .before in
+    let at-root-indexes = looped .before in
+    let at-root-count = at-root-indexes .before in
+    let start = at-root-count .before in
+    let a = start .args in
+    let is = at-root-indexes .root-indexes in
+    let j = looped .loop .j in
+    let h : j < length (roots (a .n)) = subst (λ (x : ℕ). j < x) (at-root-count .root-count .ensures) (tested .loop-test .taken) in
+    seeking-found (roots (a .n)) (a .chunk .0) j (placeAbove (roots (a .n)) (a .chunk .0)) (looped .loop .inv) h
     (ap (filled (a .chunk .0)) (sym (root-in (is .result) (a .n) j (is .ensures) h)) ∙ sym (c .before .ends-before .ensures) ∙ not-true _ (c .if1 .taken))
 
 loop-again : tie.Need-loop-again Inv-loop μ-loop
 loop-again c =
-    let a = c .before .before .before .before .before .before .before .args in
-    let is = c .before .before .before .before .before .root-indexes in
-    let j = c .before .before .before .before .loop .j in
-    let h : j < length (roots (a .n)) = subst (λ (x : ℕ). j < x) (c .before .before .before .before .before .before .root-count .ensures) (c .before .before .before .loop-test .taken) in
-    seeking-next (roots (a .n)) (a .chunk .0) j (placeAbove (roots (a .n)) (a .chunk .0)) (c .before .before .before .before .loop .inv) h
+    let tested = c .before .before .before in
+    let looped = tested .before in
+    let at-root-indexes = looped .before in
+    let at-root-count = at-root-indexes .before in
+    let start = at-root-count .before in
+    let a = start .args in
+    let is = at-root-indexes .root-indexes in
+    let j = looped .loop .j in
+    let h : j < length (roots (a .n)) = subst (λ (x : ℕ). j < x) (at-root-count .root-count .ensures) (tested .loop-test .taken) in
+    seeking-next (roots (a .n)) (a .chunk .0) j (placeAbove (roots (a .n)) (a .chunk .0)) (looped .loop .inv) h
     (ap (filled (a .chunk .0)) (sym (root-in (is .result) (a .n) j (is .ensures) h)) ∙ sym (c .before .ends-before .ensures) ∙ not-false _ (c .if1 .left))
 
 returns-2 : tie.Need-returns-2 Inv-loop μ-loop
 returns-2 c =
-    let a = c .before .before .before .before .args in
+    let at-root-count = c .before .before .before in
+    let start = at-root-count .before in
+    let a = start .args in
     seeking-end (roots (a .n)) (a .chunk .0) (c .before .loop .j) (placeAbove (roots (a .n)) (a .chunk .0)) (c .before .loop .inv)
-    (subst (λ (x : ℕ). x ≤ c .before .loop .j) (c .before .before .before .root-count .ensures) (c .loop-test .left))
+    (subst (λ (x : ℕ). x ≤ c .before .loop .j) (at-root-count .root-count .ensures) (c .loop-test .left))
 
 pub root-place-spec : {M : Type 1} → statement M
 root-place-spec =

@@ -25,22 +25,25 @@ array-copy-out-depth c = omega (arith, place c)
 
 depth-requires : tie.Need-depth-requires
 depth-requires c κs =
-    let a = c .before .before .before .args in
+    let start = c .before .before .before in
+    let a = start .args in
     let is = c .before .before .root-indexes in
     let q = c .before .root-place in
-    root-small (is .result) (a .n) (q .result) (c .before .before .before .pre .count) (is .ensures)
-    (subst (λ (x : ℕ). x < length (roots (a .n))) (sym (q .ensures)) (place-below (a .n) (a .chunk .0) (c .before .before .before .pre)))
+    root-small (is .result) (a .n) (q .result) (start .pre .count) (is .ensures)
+    (subst (λ (x : ℕ). x < length (roots (a .n))) (sym (q .ensures)) (place-below (a .n) (a .chunk .0) (start .pre)))
 
 returns : tie.Need-returns
 returns c =
-    let a = c .before .before .before .before .args in
-    let is = c .before .before .before .root-indexes in
+    let at-root-indexes = c .before .before .before in
+    let start = at-root-indexes .before in
+    let a = start .args in
+    let is = at-root-indexes .root-indexes in
     let q = c .before .before .root-place in
-    let h : q .result < length (roots (a .n)) = subst (λ (x : ℕ). x < length (roots (a .n))) (sym (q .ensures)) (place-below (a .n) (a .chunk .0) (c .before .before .before .before .pre)) in
+    let h : q .result < length (roots (a .n)) = subst (λ (x : ℕ). x < length (roots (a .n))) (sym (q .ensures)) (place-below (a .n) (a .chunk .0) (start .pre)) in
     let e : c .depth .result ≡ length (siblings (a .n) (a .chunk .0)) =
     c .depth .ensures ∙ sibling-count (a .n) (a .chunk .0) (getD (is .result) (q .result) (record { 0 = 0 }) .0)
     (root-in (is .result) (a .n) (q .result) (is .ensures) h ∙ ap (λ (j : ℕ). getD (roots (a .n)) j 0) (q .ensures)) in
-    (e, subst (λ (x : ℕ). x ≤ 20) (sym e) (few-siblings (a .n) (a .chunk .0) (c .before .before .before .before .pre)))
+    (e, subst (λ (x : ℕ). x ≤ 20) (sym e) (few-siblings (a .n) (a .chunk .0) (start .pre)))
 
 pub sibling-count-spec : {M : Type 1} → statement M
 sibling-count-spec =

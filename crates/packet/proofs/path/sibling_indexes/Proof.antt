@@ -25,17 +25,23 @@ unfolding numbers
 loop-holds c = filling-none _ _ _ (c .pre .1)
 
 beside-requires : tie.Need-beside-requires Inv-loop μ-loop
-beside-requires c κs = omega (arith, c .block-over .ensures, shr-le (c .before .before .before .args .chunk .0) (c .before .before .loop .h))
+beside-requires c κs =
+    let start = c .before .before .before in
+    omega (arith, c .block-over .ensures, shr-le (start .args .chunk .0) (c .before .before .loop .h))
 
 node-index-requires : tie.Need-node-index-requires Inv-loop μ-loop
 node-index-requires c κs =
-    omega (arith, c .beside .ensures, beside-end (c .before .block-over .result), c .before .block-over .ensures, shr-le (c .before .before .before .before .args .chunk .0) (c .before .before .before .loop .h))
+    let looped = c .before .before .before in
+    let start = looped .before in
+    omega (arith, c .beside .ensures, beside-end (c .before .block-over .result), c .before .block-over .ensures, shr-le (start .args .chunk .0) (looped .loop .h))
 
 loop-again : tie.Need-loop-again Inv-loop μ-loop
 loop-again c =
-    let l = c .before .before .before .before .loop in
+    let tested = c .before .before .before in
+    let looped = tested .before in
+    let l = looped .loop in
     let i = c .node-index in
-    filling-next _ _ _ (l .h) (numbers (l .found)) (l .inv) _ (i .result .0) (c .before .before .before .loop-test .taken)
+    filling-next _ _ _ (l .h) (numbers (l .found)) (l .inv) _ (i .result .0) (tested .loop-test .taken)
     (i .ensures ∙ ap (index (l .h)) (c .before .beside .ensures ∙ ap beside (c .before .before .block-over .ensures))) (numbers-set (l .found) (l .h) (i .result))
 
 returns : tie.Need-returns Inv-loop μ-loop

@@ -13,19 +13,23 @@ put-digits-requires c κs =
     record { fits = search needs; room = w (omega arith) .room }
 
 returns : tie.Need-returns
-returns c = let a = c .before .before .before .args in number-absent (a .k) (a .out .now) (a .at) (a .field) (c .enum-told .given .1)
+returns c =
+    let start = c .before .before .before in
+    let a = start .args in number-absent (a .k) (a .out .now) (a .at) (a .field) (c .enum-told .given .1)
 
 same-length : tie.Need-same-length
 same-length c =
-    let start = c .before .before .before .before .before .before .before .before in
+    let at-field = c .before .before .before .before .before in
+    let start = at-field .before .before .before in
     let a = start .args in
-    number-kept (a .k) (a .out .now) (a .at) (a .field) _ (c .before .before .before .before .before .field .given .1) (start .pre .0) (start .pre .1) _ _ (c .before .before .put-digits .ensures)
+    number-kept (a .k) (a .out .now) (a .at) (a .field) _ (at-field .field .given .1) (start .pre .0) (start .pre .1) _ _ (c .before .before .put-digits .ensures)
 
 returns-2 : tie.Need-returns-2
 returns-2 c =
-    let start = c .before .before .before .before .before .before .before .before in
+    let at-field = c .before .before .before .before .before in
+    let start = at-field .before .before .before in
     let a = start .args in
-    number-put (a .k) (a .out .now) (a .at) (a .field) _ (c .before .before .before .before .before .field .given .1) (start .pre .0) (start .pre .1) _ _ (c .before .before .put-digits .ensures)
+    number-put (a .k) (a .out .now) (a .at) (a .field) _ (at-field .field .given .1) (start .pre .0) (start .pre .1) _ _ (c .before .before .put-digits .ensures)
 
 pub put-number-spec : {M : Type 1} → statement M
 put-number-spec =

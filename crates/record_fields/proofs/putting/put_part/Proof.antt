@@ -13,27 +13,31 @@ put-digits-requires c κs =
 
 copy-to-requires : tie.Need-copy-to-requires
 copy-to-requires c κs =
-    let start = c .before .before .before .before .before .before .before in
+    let at-put-digits = c .before .before .before in
+    let start = at-put-digits .before .before .before .before in
     let a = start .args in
-    part-room (a .k) (a .out .now) (a .at) (a .bytes .now) (start .pre .0) (start .pre .1) (omega arith) _ _ (c .before .before .before .put-digits .ensures)
+    part-room (a .k) (a .out .now) (a .at) (a .bytes .now) (start .pre .0) (start .pre .1) (omega arith) _ _ (at-put-digits .put-digits .ensures)
 
 add-result : tie.Need-add-result
 add-result c =
-    let start = c .before .before .before .before .before .before .before .before .before .before in
+    let at-put-digits = c .before .before .before .before .before .before in
+    let start = at-put-digits .before .before .before .before in
     let a = start .args in
-    omega (arith, part-next (a .k) (a .out .now) (a .at) (a .bytes .now) (start .pre .0) (start .pre .1) (omega arith) _ _ (c .before .before .before .before .before .before .put-digits .ensures))
+    omega (arith, part-next (a .k) (a .out .now) (a .at) (a .bytes .now) (start .pre .0) (start .pre .1) (omega arith) _ _ (at-put-digits .put-digits .ensures))
 
 same-length : tie.Need-same-length
 same-length c =
-    let start = c .before .before .before .before .before .before .before .before .before .before in
+    let at-put-digits = c .before .before .before .before .before .before in
+    let start = at-put-digits .before .before .before .before in
     let a = start .args in
-    part-kept (a .k) (a .out .now) (a .at) (a .bytes .now) (start .pre .0) (start .pre .1) (omega arith) _ _ (c .before .before .before .before .before .before .put-digits .ensures) _ (c .before .before .copy-to .ensures)
+    part-kept (a .k) (a .out .now) (a .at) (a .bytes .now) (start .pre .0) (start .pre .1) (omega arith) _ _ (at-put-digits .put-digits .ensures) _ (c .before .before .copy-to .ensures)
 
 returns : tie.Need-returns
 returns c =
-    let start = c .before .before .before .before .before .before .before .before .before .before in
+    let at-put-digits = c .before .before .before .before .before .before in
+    let start = at-put-digits .before .before .before .before in
     let a = start .args in
-    part-put (a .k) (a .out .now) (a .at) (a .bytes .now) (start .pre .0) (start .pre .1) (omega arith) _ _ (c .before .before .before .before .before .before .put-digits .ensures) _ (c .before .before .copy-to .ensures)
+    part-put (a .k) (a .out .now) (a .at) (a .bytes .now) (start .pre .0) (start .pre .1) (omega arith) _ _ (at-put-digits .put-digits .ensures) _ (c .before .before .copy-to .ensures)
 
 pub put-part-spec : {M : Type 1} → statement M
 put-part-spec =

@@ -35,19 +35,21 @@ sub-if4 c =
 
 returns-4 : tie.Need-returns-4
 returns-4 c =
-    let read = c .before .before .before .before .before in
+    let at-x = c .before .before .before in
+    let read = at-x .before .before in
     let tag = read .before in
     let start = tag .before .before .before .before in
     let a = start .args in
     bytes-row-short (a .d .now) (a .at) (a .k) (a .longest) (start .pre .1) (omega arith) (tag .before .before .if1 .left) (tag .if2 .left)
-    (read .digits .result) _ _ (c .before .before .before .x .given .1) (read .digits .ensures) (c .if4 .taken)
+    (read .digits .result) _ _ (at-x .x .given .1) (read .digits .ensures) (c .if4 .taken)
 
 add-t19 : tie.Need-add-t19
 add-t19 c =
-    let read = c .before .before .before .before .before in
+    let at-x = c .before .before .before in
+    let read = at-x .before .before in
     let tag = read .before in
     let a = tag .before .before .before .before .args in
-    omega (arith, c .if4 .left, next-inside (a .d .now) (a .at) (read .digits .result) _ _ (c .before .before .before .x .given .1) (read .digits .ensures))
+    omega (arith, c .if4 .left, next-inside (a .d .now) (a .at) (read .digits .result) _ _ (at-x .x .given .1) (read .digits .ensures))
 
 returns-5 : tie.Need-returns-5
 returns-5 c =
@@ -60,12 +62,13 @@ returns-5 c =
 
 returns-6 : tie.Need-returns-6
 returns-6 c =
-    let read = c .before .before .before .before .before in
+    let at-x = c .before .before .before in
+    let read = at-x .before .before in
     let tag = read .before in
     let start = tag .before .before .before .before in
     let a = start .args in
     bytes-row-given (a .d .now) (a .at) (a .k) (a .longest) (start .pre .1) (omega arith) (tag .before .before .if1 .left) (tag .if2 .left)
-    (read .digits .result) _ _ (c .before .before .before .x .given .1) (read .digits .ensures) (c .before .if3 .left) (c .if4 .left)
+    (read .digits .result) _ _ (at-x .x .given .1) (read .digits .ensures) (c .before .if3 .left) (c .if4 .left)
 
 pub bytes-row-spec : {M : Type 1} → statement M
 bytes-row-spec =

@@ -117,8 +117,9 @@ digits-digits-requires : (t : ℕ) → digits-lts.Need-digits-requires (
   joined-reads.Learnt,
 ) (digits-at t) digits.Post
 digits-digits-requires t c κs =
-    let start = c .before .before .before .before .before .before in
-    (omega (arith, start .pre .0, c .if3 .left), omega (arith, c .before .before .before .before .if1 .left))
+    let branch1 = c .before .before .before .before in
+    let start = branch1 .before .before in
+    (omega (arith, start .pre .0, c .if3 .left), omega (arith, branch1 .if1 .left))
 
 digits-joined-requires : (t : ℕ) → digits-lts.Need-joined-requires (
   wide-reads.Asked,
@@ -142,10 +143,11 @@ digits-returns-4 : (t : ℕ) → digits-lts.Need-returns-4 (
   joined-reads.Learnt,
 ) (digits-at t) digits.Post
 digits-returns-4 t c =
-    let read = c .before .before .before .before in
+    let branch2 = c .before .before .before in
+    let read = branch2 .before in
     let a = read .before .before .before .before .args in
     digits-more (a .d .now) (a .k) (a .at) (read .wide .result) (c .before .digits .result) (c .joined .result) (read .before .before .if1 .left) (read .wide .ensures)
-    (c .before .before .before .if2 .left) (omega (arith, read .wide .ensures, read .before .shared-slice-known2 .given (a .at))) (c .before .before .if3 .left) (c .before .digits .ensures) (c .joined .ensures)
+    (branch2 .if2 .left) (omega (arith, read .wide .ensures, read .before .shared-slice-known2 .given (a .at))) (c .before .before .if3 .left) (c .before .digits .ensures) (c .joined .ensures)
 
 pub +digits-spec : {M : Type 1} → statement M
 +digits-spec = close μ-digits λ t. digits-lts.spec (

@@ -72,13 +72,17 @@ put-digits-add-put-digits : (t : ℕ) → put-digits-lts.Need-add-put-digits (
   put-digits-below t,
   put-digits.Post,
 ) (put-digits-at t) put-digits.Post
-put-digits-add-put-digits t c = let start = c .before .before .before in omega (arith, start .pre .1 .room, some-length (start .args .k) (start .args .x))
+put-digits-add-put-digits t c =
+    let start-2 = c .before .before .before in
+    let start = start-2 in omega (arith, start .pre .1 .room, some-length (start .args .k) (start .args .x))
 
 put-digits-sub-put-digits : (t : ℕ) → put-digits-lts.Need-sub-put-digits (
   put-digits-below t,
   put-digits.Post,
 ) (put-digits-at t) put-digits.Post
-put-digits-sub-put-digits t c = let start = c .before .before .before in omega (arith, longer (start .args .k) (start .args .x) (start .pre .1 .fits) (c .before .if1 .left))
+put-digits-sub-put-digits t c =
+    let start-2 = c .before .before .before in
+    let start = start-2 in omega (arith, longer (start .args .k) (start .args .x) (start .pre .1 .fits) (c .before .if1 .left))
 
 put-digits-put-digits-requires : (t : ℕ) → put-digits-lts.Need-put-digits-requires (
   put-digits-below t,

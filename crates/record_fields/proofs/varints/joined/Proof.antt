@@ -8,10 +8,14 @@ returns : tie.Need-returns
 returns c = joined-zero _ _ _ _ (c .before .before .high .given .1) (c .if1 .taken)
 
 returns-2 : tie.Need-returns-2
-returns-2 c = joined-is _ _ _ _ (c .before .before .before .high .given .1) (c .before .if1 .left) (c .if2 .taken)
+returns-2 c =
+    let at-high = c .before .before .before in
+    joined-is _ _ _ _ (at-high .high .given .1) (c .before .if1 .left) (c .if2 .taken)
 
 returns-4 : tie.Need-returns-4
-returns-4 c = joined-large _ _ _ _ (c .before .before .before .high .given .1) (c .before .if1 .left) (c .if2 .left)
+returns-4 c =
+    let at-high = c .before .before .before in
+    joined-large _ _ _ _ (at-high .high .given .1) (c .before .if1 .left) (c .if2 .left)
 
 pub joined-spec : {M : Type 1} → statement M
 joined-spec =

@@ -7,15 +7,20 @@ use Rattle.record_find.proofs.chunks.node_at.Tie as tie
 
 returns : tie.Need-returns
 returns c =
-    let a = c .before .before .before .before .before .args in
-    let read = c .before .before .before .read-node in
+    let at-read-node = c .before .before .before in
+    let start = at-read-node .before .before in
+    let a = start .args in
+    let read = at-read-node .read-node in
     node-done (a .bytes .now) (index 0 (a .chunk .0)) (read .result .answer) (read .result .node) (read .ensures) (c .enum-told .given .1)
 
 returns-2 : tie.Need-returns-2
 returns-2 c =
-    let a = c .before .before .before .before .before .before .args in
-    let read = c .before .before .before .before .read-node in
-    node-none (a .bytes .now) (index 0 (a .chunk .0)) (read .result .answer) (read .result .node) (read .ensures) (c .before .enum-told2 .given .0 .0) (c .no-record .result) (c .before .enum-told2 .given .1) (c .no-record .ensures)
+    let at-read-node = c .before .before .before .before in
+    let start = at-read-node .before .before in
+    let a = start .args in
+    let read = at-read-node .read-node in
+    node-none (a .bytes .now) (index 0 (a .chunk .0)) (read .result .answer) (read .result .node) (read .ensures) (c .before .enum-told2 .given .0 .0) (c .no-record .result)
+    (c .before .enum-told2 .given .1) (c .no-record .ensures)
 
 pub node-at-spec : {M : Type 1} → statement M
 node-at-spec =

@@ -18,45 +18,64 @@ use Rattle.record_find.proofs.chunks.node_of.Tie as tie
 
 sub-node-at : tie.Need-sub-node-at
 sub-node-at c =
-    let a = c .before .before .before .before .before .before .before .before .args in
+    let at-verify = c .before .before .before in
+    let start = at-verify .before .before .before .before .before in
+    let a = start .args in
     let k = c .before .start .given in
-    lies nodeHash (registerOf (a .tree .now) (a .signatures .now) (a .bitfield .now) (a .content .now) (a .n) (a .s) (a .size)) (a .chunk .0) (k .0 .0 .0) (k .0 .1 .0 .0) (sym (ap verifiedOf (k .1)) ∙ c .before .before .before .verify .ensures) .ordered
+    lies nodeHash (registerOf (a .tree .now) (a .signatures .now) (a .bitfield .now) (a .content .now) (a .n) (a .s) (a .size)) (a .chunk .0) (k .0 .0 .0) (k .0 .1 .0 .0)
+    (sym (ap verifiedOf (k .1)) ∙ at-verify .verify .ensures) .ordered
 
 part-node-at-start : tie.Need-part-node-at-start
 part-node-at-start c =
-    let a = c .before .before .before .before .before .before .before .before .args in
+    let at-verify = c .before .before .before in
+    let start = at-verify .before .before .before .before .before in
+    let a = start .args in
     let k = c .before .start .given in
-    lies nodeHash (registerOf (a .tree .now) (a .signatures .now) (a .bitfield .now) (a .content .now) (a .n) (a .s) (a .size)) (a .chunk .0) (k .0 .0 .0) (k .0 .1 .0 .0) (sym (ap verifiedOf (k .1)) ∙ c .before .before .before .verify .ensures) .ordered
+    lies nodeHash (registerOf (a .tree .now) (a .signatures .now) (a .bitfield .now) (a .content .now) (a .n) (a .s) (a .size)) (a .chunk .0) (k .0 .0 .0) (k .0 .1 .0 .0)
+    (sym (ap verifiedOf (k .1)) ∙ at-verify .verify .ensures) .ordered
 
 part-node-at-end : tie.Need-part-node-at-end
 part-node-at-end c =
-    let a = c .before .before .before .before .before .before .before .before .args in
+    let at-verify = c .before .before .before in
+    let start = at-verify .before .before .before .before .before in
+    let a = start .args in
     let k = c .before .start .given in
-    lies nodeHash (registerOf (a .tree .now) (a .signatures .now) (a .bitfield .now) (a .content .now) (a .n) (a .s) (a .size)) (a .chunk .0) (k .0 .0 .0) (k .0 .1 .0 .0) (sym (ap verifiedOf (k .1)) ∙ c .before .before .before .verify .ensures) .inside
+    lies nodeHash (registerOf (a .tree .now) (a .signatures .now) (a .bitfield .now) (a .content .now) (a .n) (a .s) (a .size)) (a .chunk .0) (k .0 .0 .0) (k .0 .1 .0 .0)
+    (sym (ap verifiedOf (k .1)) ∙ at-verify .verify .ensures) .inside
 
 node-at-requires : tie.Need-node-at-requires
 node-at-requires c κs =
-    let a = c .before .before .before .before .before .before .before .before .before .args in
+    let at-verify = c .before .before .before .before in
+    let start = at-verify .before .before .before .before .before in
+    let a = start .args in
     let k = c .before .before .start .given in
-    small nodeHash (registerOf (a .tree .now) (a .signatures .now) (a .bitfield .now) (a .content .now) (a .n) (a .s) (a .size)) (a .chunk .0) (k .0 .0 .0) (k .0 .1 .0 .0) (sym (ap verifiedOf (k .1)) ∙ c .before .before .before .before .verify .ensures)
+    small nodeHash (registerOf (a .tree .now) (a .signatures .now) (a .bitfield .now) (a .content .now) (a .n) (a .s) (a .size)) (a .chunk .0) (k .0 .0 .0) (k .0 .1 .0 .0)
+    (sym (ap verifiedOf (k .1)) ∙ at-verify .verify .ensures)
 
 returns : tie.Need-returns
 returns c =
-    let a = c .before .before .before .before .before .before .before .before .before .before .args in
+    let at-refusal = c .before .before .before in
+    let at-verify = at-refusal .before .before in
+    let start = at-verify .before .before .before .before .before in
+    let a = start .args in
     let r = registerOf (a .tree .now) (a .signatures .now) (a .bitfield .now) (a .content .now) (a .n) (a .s) (a .size) in
-    let k = c .before .before .before .refusal .given in
-    let e = sym (ap verifiedOf (k .1)) ∙ c .before .before .before .before .before .verify .ensures in
+    let k = at-refusal .refusal .given in
+    let e = sym (ap verifiedOf (k .1)) ∙ at-verify .verify .ensures in
     ap (nodeTold (Refused (k .0 .0))) (ap (λ (x : Verdict × Node). x .1) (c .before .no-node .ensures))
     ∙ read-refused (readVerdict nodeHash r (a .chunk .0)) noNode (readNode (tree (index 0 (a .chunk .0))) (readPart nodeHash r (a .chunk .0))) (k .0 .0 .number) (spotOf (k .0 .0 .place))
     (nothing nodeHash r (a .chunk .0) (k .0 .0 .number) (spotOf (k .0 .0 .place)) e .0)
 
 returns-2 : tie.Need-returns-2
 returns-2 c =
-    let a = c .before .before .before .before .before .before .before .before .before .before .args in
+    let at-start = c .before .before .before in
+    let at-verify = at-start .before .before in
+    let start = at-verify .before .before .before .before .before in
+    let a = start .args in
     let r = registerOf (a .tree .now) (a .signatures .now) (a .bitfield .now) (a .content .now) (a .n) (a .s) (a .size) in
-    let k = c .before .before .before .start .given in
-    let l = lies nodeHash r (a .chunk .0) (k .0 .0 .0) (k .0 .1 .0 .0) (sym (ap verifiedOf (k .1)) ∙ c .before .before .before .before .before .verify .ensures) in
-    read-done (readVerdict nodeHash r (a .chunk .0)) noNode (nodeTold (c .node-at .result .answer) (c .node-at .result .node)) (readNode (tree (index 0 (a .chunk .0))) (readPart nodeHash r (a .chunk .0))) (l .verdict)
+    let k = at-start .start .given in
+    let l = lies nodeHash r (a .chunk .0) (k .0 .0 .0) (k .0 .1 .0 .0) (sym (ap verifiedOf (k .1)) ∙ at-verify .verify .ensures) in
+    read-done (readVerdict nodeHash r (a .chunk .0)) noNode (nodeTold (c .node-at .result .answer) (c .node-at .result .node))
+    (readNode (tree (index 0 (a .chunk .0))) (readPart nodeHash r (a .chunk .0))) (l .verdict)
     (c .node-at .ensures ∙ ap (readNode (tree (index 0 (a .chunk .0)))) (l .same))
 
 pub node-of-spec : {M : Type 1} → statement M

@@ -17,43 +17,60 @@ use Rattle.record_find.proofs.chunks.path_of.Tie as tie
 
 sub-path-at : tie.Need-sub-path-at
 sub-path-at c =
-    let a = c .before .before .before .before .before .before .before .before .before .args in
+    let at-verify = c .before .before .before in
+    let start = at-verify .before .before .before .before .before .before in
+    let a = start .args in
     let k = c .before .start .given in
-    lies nodeHash (registerOf (a .tree .now) (a .signatures .now) (a .bitfield .now) (a .content .now) (a .n) (a .s) (a .size)) (a .chunk .0) (k .0 .0 .0) (k .0 .1 .0 .0) (sym (ap verifiedOf (k .1)) ∙ c .before .before .before .verify .ensures) .ordered
+    lies nodeHash (registerOf (a .tree .now) (a .signatures .now) (a .bitfield .now) (a .content .now) (a .n) (a .s) (a .size)) (a .chunk .0) (k .0 .0 .0) (k .0 .1 .0 .0)
+    (sym (ap verifiedOf (k .1)) ∙ at-verify .verify .ensures) .ordered
 
 part-path-at-start : tie.Need-part-path-at-start
 part-path-at-start c =
-    let a = c .before .before .before .before .before .before .before .before .before .args in
+    let at-verify = c .before .before .before in
+    let start = at-verify .before .before .before .before .before .before in
+    let a = start .args in
     let k = c .before .start .given in
-    lies nodeHash (registerOf (a .tree .now) (a .signatures .now) (a .bitfield .now) (a .content .now) (a .n) (a .s) (a .size)) (a .chunk .0) (k .0 .0 .0) (k .0 .1 .0 .0) (sym (ap verifiedOf (k .1)) ∙ c .before .before .before .verify .ensures) .ordered
+    lies nodeHash (registerOf (a .tree .now) (a .signatures .now) (a .bitfield .now) (a .content .now) (a .n) (a .s) (a .size)) (a .chunk .0) (k .0 .0 .0) (k .0 .1 .0 .0)
+    (sym (ap verifiedOf (k .1)) ∙ at-verify .verify .ensures) .ordered
 
 part-path-at-end : tie.Need-part-path-at-end
 part-path-at-end c =
-    let a = c .before .before .before .before .before .before .before .before .before .args in
+    let at-verify = c .before .before .before in
+    let start = at-verify .before .before .before .before .before .before in
+    let a = start .args in
     let k = c .before .start .given in
-    lies nodeHash (registerOf (a .tree .now) (a .signatures .now) (a .bitfield .now) (a .content .now) (a .n) (a .s) (a .size)) (a .chunk .0) (k .0 .0 .0) (k .0 .1 .0 .0) (sym (ap verifiedOf (k .1)) ∙ c .before .before .before .verify .ensures) .inside
+    lies nodeHash (registerOf (a .tree .now) (a .signatures .now) (a .bitfield .now) (a .content .now) (a .n) (a .s) (a .size)) (a .chunk .0) (k .0 .0 .0) (k .0 .1 .0 .0)
+    (sym (ap verifiedOf (k .1)) ∙ at-verify .verify .ensures) .inside
 
 path-at-requires : tie.Need-path-at-requires
 path-at-requires c κs =
-    let a = c .before .before .before .before .before .before .before .before .before .before .args in
+    let at-verify = c .before .before .before .before in
+    let start = at-verify .before .before .before .before .before .before in
+    let a = start .args in
     let k = c .before .before .start .given in
-    small nodeHash (registerOf (a .tree .now) (a .signatures .now) (a .bitfield .now) (a .content .now) (a .n) (a .s) (a .size)) (a .chunk .0) (k .0 .0 .0) (k .0 .1 .0 .0) (sym (ap verifiedOf (k .1)) ∙ c .before .before .before .before .verify .ensures)
+    small nodeHash (registerOf (a .tree .now) (a .signatures .now) (a .bitfield .now) (a .content .now) (a .n) (a .s) (a .size)) (a .chunk .0) (k .0 .0 .0) (k .0 .1 .0 .0)
+    (sym (ap verifiedOf (k .1)) ∙ at-verify .verify .ensures)
 
 returns : tie.Need-returns
 returns c =
-    let a = c .before .before .before .before .before .before .before .before .before .args in
+    let at-verify = c .before .before .before in
+    let start = at-verify .before .before .before .before .before .before in
+    let a = start .args in
     let r = registerOf (a .tree .now) (a .signatures .now) (a .bitfield .now) (a .content .now) (a .n) (a .s) (a .size) in
     let k = c .before .refusal .given in
-    let e = sym (ap verifiedOf (k .1)) ∙ c .before .before .before .verify .ensures in
+    let e = sym (ap verifiedOf (k .1)) ∙ at-verify .verify .ensures in
     read-refused (readVerdict nodeHash r (a .chunk .0)) false (readPath (a .path .now) (tree (index 0 (a .chunk .0))) (readPart nodeHash r (a .chunk .0))) (k .0 .0 .number) (spotOf (k .0 .0 .place))
     (nothing nodeHash r (a .chunk .0) (k .0 .0 .number) (spotOf (k .0 .0 .place)) e .0)
 
 returns-2 : tie.Need-returns-2
 returns-2 c =
-    let a = c .before .before .before .before .before .before .before .before .before .before .before .args in
+    let at-start = c .before .before .before in
+    let at-verify = at-start .before .before in
+    let start = at-verify .before .before .before .before .before .before in
+    let a = start .args in
     let r = registerOf (a .tree .now) (a .signatures .now) (a .bitfield .now) (a .content .now) (a .n) (a .s) (a .size) in
-    let k = c .before .before .before .start .given in
-    let l = lies nodeHash r (a .chunk .0) (k .0 .0 .0) (k .0 .1 .0 .0) (sym (ap verifiedOf (k .1)) ∙ c .before .before .before .before .before .verify .ensures) in
+    let k = at-start .start .given in
+    let l = lies nodeHash r (a .chunk .0) (k .0 .0 .0) (k .0 .1 .0 .0) (sym (ap verifiedOf (k .1)) ∙ at-verify .verify .ensures) in
     read-done (readVerdict nodeHash r (a .chunk .0)) false (comparedTold (c .path-at .result)) (readPath (a .path .now) (tree (index 0 (a .chunk .0))) (readPart nodeHash r (a .chunk .0))) (l .verdict)
     (c .path-at .ensures ∙ ap (readPath (a .path .now) (tree (index 0 (a .chunk .0)))) (l .same))
 

@@ -16,7 +16,8 @@ abbrev μ-loop : tie.MeasureT-loop
 
 loop-holds : tie.Need-loop-holds Inv-loop μ-loop
 loop-holds c =
-    let a = c .before .before .before .before .before .before .args in
+    let start = c .before .before .before .before .before .before in
+    let a = start .args in
     let r = registerOf (a .tree .now) (a .signatures .now) (a .bitfield .now) (a .content .now) (a .n) (a .s) (a .size) in
     left-all (judgeIn nodeHash r (a .path .now)) (a .n) _ (c .chunk-behind .ensures)
 
@@ -25,34 +26,47 @@ sub-t12 c = omega (arith, c .before .if1 .taken)
 
 returns : tie.Need-returns Inv-loop μ-loop
 returns c =
-    let a = c .before .before .before .before .before .before .before .before .before .before .before .before .before .before .args in
+    let at-path-of = c .before .before .before in
+    let branch1 = at-path-of .before .before in
+    let looped = branch1 .before .before in
+    let start = looped .before .before .before .before .before .before .before in
+    let a = start .args in
     let r = registerOf (a .tree .now) (a .signatures .now) (a .bitfield .now) (a .content .now) (a .n) (a .s) (a .size) in
-    let l = c .before .before .before .before .before .before .before .loop in
-    let p = c .before .before .before .path-of in
-    left-failed (judgeIn nodeHash r (a .path .now)) (a .n) (l .chunk .0) (l .inv) (c .before .before .before .before .before .if1 .taken) (p .result) (p .ensures) _ (c .before .refusal .given .1)
+    let l = looped .loop in
+    let p = at-path-of .path-of in
+    left-failed (judgeIn nodeHash r (a .path .now)) (a .n) (l .chunk .0) (l .inv) (branch1 .if1 .taken) (p .result) (p .ensures) _ (c .before .refusal .given .1)
 
 returns-2 : tie.Need-returns-2 Inv-loop μ-loop
 returns-2 c =
-    let a = c .before .before .before .before .before .before .before .before .before .before .before .before .before .args in
+    let branch1 = c .before .before .before .before in
+    let looped = branch1 .before .before in
+    let start = looped .before .before .before .before .before .before .before in
+    let a = start .args in
     let r = registerOf (a .tree .now) (a .signatures .now) (a .bitfield .now) (a .content .now) (a .n) (a .s) (a .size) in
-    let l = c .before .before .before .before .before .before .loop in
+    let l = looped .loop in
     let p = c .before .before .path-of in
-    left-found (judgeIn nodeHash r (a .path .now)) (a .n) (l .chunk .0) (l .inv) (c .before .before .before .before .if1 .taken) (p .result) (p .ensures) (c .enum-told .given .1)
+    left-found (judgeIn nodeHash r (a .path .now)) (a .n) (l .chunk .0) (l .inv) (branch1 .if1 .taken) (p .result) (p .ensures) (c .enum-told .given .1)
 
 loop-less : tie.Need-loop-less Inv-loop μ-loop
-loop-less c = omega (arith, c .before .before .before .before .if1 .taken)
+loop-less c =
+    let branch1 = c .before .before .before .before in
+    omega (arith, branch1 .if1 .taken)
 
 loop-again : tie.Need-loop-again Inv-loop μ-loop
 loop-again c =
-    let a = c .before .before .before .before .before .before .before .before .before .before .before .before .before .args in
+    let branch1 = c .before .before .before .before in
+    let looped = branch1 .before .before in
+    let start = looped .before .before .before .before .before .before .before in
+    let a = start .args in
     let r = registerOf (a .tree .now) (a .signatures .now) (a .bitfield .now) (a .content .now) (a .n) (a .s) (a .size) in
-    let l = c .before .before .before .before .before .before .loop in
+    let l = looped .loop in
     let p = c .before .before .path-of in
-    left-less (judgeIn nodeHash r (a .path .now)) (a .n) (l .chunk .0) (l .inv) (c .before .before .before .before .if1 .taken) (p .result) (p .ensures) (c .enum-told2 .given .1)
+    left-less (judgeIn nodeHash r (a .path .now)) (a .n) (l .chunk .0) (l .inv) (branch1 .if1 .taken) (p .result) (p .ensures) (c .enum-told2 .given .1)
 
 returns-3 : tie.Need-returns-3 Inv-loop μ-loop
 returns-3 c =
-    let a = c .before .before .before .before .before .before .before .before .before .args in
+    let start = c .before .before .before .before .before .before .before .before .before in
+    let a = start .args in
     let r = registerOf (a .tree .now) (a .signatures .now) (a .bitfield .now) (a .content .now) (a .n) (a .s) (a .size) in
     let l = c .before .before .loop in
     left-none (judgeIn nodeHash r (a .path .now)) (a .n) (l .chunk .0) (l .inv) (c .if1 .left)

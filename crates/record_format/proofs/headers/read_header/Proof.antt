@@ -6,7 +6,9 @@ use Rattle.record_format.proofs.headers.read_header.Statement.{statemen
 use Rattle.record_format.proofs.headers.read_header.Tie as tie
 
 returns : tie.Need-returns
-returns c = read-sized (c .before .before .before .args .bytes .now) (c .refusal .result) (c .before .if1 .taken) (c .refusal .ensures)
+returns c =
+    let start = c .before .before .before in
+    read-sized (start .args .bytes .now) (c .refusal .result) (c .before .if1 .taken) (c .refusal .ensures)
 
 returns-2 : tie.Need-returns-2
 returns-2 c =

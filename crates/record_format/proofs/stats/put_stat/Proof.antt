@@ -8,24 +8,29 @@ use Rattle.record_format.proofs.stats.put_stat.Tie as tie
 
 put-three-requires-2 : tie.Need-put-three-requires-2
 put-three-requires-2 c κs =
-    let start = c .before .before .before .before .before .before in
+    let at-put-three = c .before .before .before in
+    let start = at-put-three .before .before .before in
     let a = start .args in
-    let one = three-next 1 _ (a .out .now) 0 _ _ (omega arith) (omega (arith, start .pre)) (c .before .before .before .put-three .ensures) in
+    let one = three-next 1 _ (a .out .now) 0 _ _ (omega arith) (omega (arith, start .pre)) (at-put-three .put-three .ensures) in
     (omega arith, omega (arith, start .pre, one .0, one .1))
 
 put-three-requires-3 : tie.Need-put-three-requires-3
 put-three-requires-3 c κs =
-    let start = c .before .before .before .before .before .before .before .before .before .before in
+    let at-put-three2 = c .before .before .before in
+    let at-put-three = at-put-three2 .before .before .before .before in
+    let start = at-put-three .before .before .before in
     let a = start .args in
-    let one = three-next 1 _ (a .out .now) 0 _ _ (omega arith) (omega (arith, start .pre)) (c .before .before .before .before .before .before .before .put-three .ensures) in
-    let two = three-next 4 _ _ _ _ _ (omega arith) (omega (arith, start .pre, one .0, one .1)) (c .before .before .before .put-three2 .ensures) in
+    let one = three-next 1 _ (a .out .now) 0 _ _ (omega arith) (omega (arith, start .pre)) (at-put-three .put-three .ensures) in
+    let two = three-next 4 _ _ _ _ _ (omega arith) (omega (arith, start .pre, one .0, one .1)) (at-put-three2 .put-three2 .ensures) in
     (omega arith, omega (arith, start .pre, one .0, one .1, two .0, two .1))
 
 returns : tie.Need-returns
 returns c =
-    let start = c .before .before .before .before .before .before .before .before .before .before .before .before .before in
+    let at-put-three2 = c .before .before .before .before .before .before in
+    let at-put-three = at-put-three2 .before .before .before .before in
+    let start = at-put-three .before .before .before in
     let a = start .args in
-    stat-put (statOf (a .stat)) (a .out .now) _ _ _ _ _ _ (start .pre) (c .before .before .before .before .before .before .before .before .before .before .put-three .ensures) (c .before .before .before .before .before .before .put-three2 .ensures) (c .before .before .put-three3 .ensures)
+    stat-put (statOf (a .stat)) (a .out .now) _ _ _ _ _ _ (start .pre) (at-put-three .put-three .ensures) (at-put-three2 .put-three2 .ensures) (c .before .before .put-three3 .ensures)
 
 pub put-stat-spec : {M : Type 1} → statement M
 put-stat-spec =

@@ -5,13 +5,21 @@ use Rattle.record_node.proofs.judging.bytes_lie.Statement.{statement}
 use Rattle.record_node.proofs.judging.bytes_lie.Tie as tie
 
 returns : tie.Need-returns
-returns c = let a = c .before .before .before .before .before .before .args in lie-long (a .d .now) (a .field) (a .longest) _ (c .before .before .before .field .given .1) (c .if1 .taken)
+returns c =
+    let at-field = c .before .before .before in
+    let start = at-field .before .before .before in
+    let a = start .args in lie-long (a .d .now) (a .field) (a .longest) _ (at-field .field .given .1) (c .if1 .taken)
 
 returns-2 : tie.Need-returns-2
-returns-2 c = let a = c .before .before .before .args in lie-absent (a .d .now) (a .field) (a .longest) (c .enum-told .given .1)
+returns-2 c =
+    let start = c .before .before .before in
+    let a = start .args in lie-absent (a .d .now) (a .field) (a .longest) (c .enum-told .given .1)
 
 returns-3 : tie.Need-returns-3
-returns-3 c = let a = c .before .before .before .before .before .before .before .args in lie-given (a .d .now) (a .field) (a .longest) _ (c .before .before .before .before .field .given .1) (c .before .if1 .left) (c .lies .result) (c .lies .ensures)
+returns-3 c =
+    let at-field = c .before .before .before .before in
+    let start = at-field .before .before .before in
+    let a = start .args in lie-given (a .d .now) (a .field) (a .longest) _ (at-field .field .given .1) (c .before .if1 .left) (c .lies .result) (c .lies .ensures)
 
 pub bytes-lie-spec : {M : Type 1} → statement M
 bytes-lie-spec =

@@ -11,33 +11,44 @@ use Rattle.record_node.proofs.judging.node_fits.Tie as tie
 
 returns : tie.Need-returns
 returns c =
-    let a = c .before .before .before .before .before .args in
+    let start = c .before .before .before .before .before in
+    let a = start .args in
     no-path (a .d .now) (a .node) (no (PathLies (a .d .now) (a .node .path)) (c .before .path-lies .result) (not-true _ (c .if1 .taken)) (c .before .path-lies .ensures))
 
 returns-2 : tie.Need-returns-2
 returns-2 c =
-    let a = c .before .before .before .before .before .before .before .args in
+    let start = c .before .before .before .before .before .before .before in
+    let a = start .args in
     no-value (a .d .now) (a .node) (no (ValueFits (a .node .value)) (c .before .value-fits .result) (not-true _ (c .if2 .taken)) (c .before .value-fits .ensures))
 
 returns-3 : tie.Need-returns-3
 returns-3 c =
-    let a = c .before .before .before .before .before .before .before .before .before .args in
+    let start = c .before .before .before .before .before .before .before .before .before in
+    let a = start .args in
     no-trie (a .d .now) (a .node) (no (BytesLie (a .d .now) (a .node .trie) 1024) (c .before .bytes-lie .result) (not-true _ (c .if3 .taken)) (c .before .bytes-lie .ensures))
 
 returns-4 : tie.Need-returns-4
 returns-4 c =
-    let a = c .before .before .before .before .before .before .before .before .before .before .before .args in
+    let start = c .before .before .before .before .before .before .before .before .before .before .before in
+    let a = start .args in
     no-sequence (a .d .now) (a .node)
     (no (Most 18446744073709551615 (numberOf (a .node .sequence))) (c .before .number-fits .result) (not-true _ (c .if4 .taken)) (c .before .number-fits .ensures))
 
 returns-5 : tie.Need-returns-5
 returns-5 c =
-    let a = c .before .before .before .before .before .before .before .before .before .before .before .before .args in
+    let branch3 = c .before .before .before in
+    let at-bytes-lie = branch3 .before in
+    let branch2 = at-bytes-lie .before in
+    let at-value-fits = branch2 .before in
+    let branch1 = at-value-fits .before in
+    let at-path-lies = branch1 .before in
+    let start = at-path-lies .before .before .before .before in
+    let a = start .args in
     node-lies (a .d .now) (a .node)
     (yes (Most 18446744073709551615 (numberOf (a .node .sequence))) (c .before .before .number-fits .result) (not-false _ (c .before .if4 .left)) (c .before .before .number-fits .ensures))
-    (yes (PathLies (a .d .now) (a .node .path)) (c .before .before .before .before .before .before .before .before .path-lies .result) (not-false _ (c .before .before .before .before .before .before .before .if1 .left)) (c .before .before .before .before .before .before .before .before .path-lies .ensures))
-    (yes (ValueFits (a .node .value)) (c .before .before .before .before .before .before .value-fits .result) (not-false _ (c .before .before .before .before .before .if2 .left)) (c .before .before .before .before .before .before .value-fits .ensures))
-    (yes (BytesLie (a .d .now) (a .node .trie) 1024) (c .before .before .before .before .bytes-lie .result) (not-false _ (c .before .before .before .if3 .left)) (c .before .before .before .before .bytes-lie .ensures))
+    (yes (PathLies (a .d .now) (a .node .path)) (at-path-lies .path-lies .result) (not-false _ (branch1 .if1 .left)) (at-path-lies .path-lies .ensures))
+    (yes (ValueFits (a .node .value)) (at-value-fits .value-fits .result) (not-false _ (branch2 .if2 .left)) (at-value-fits .value-fits .ensures))
+    (yes (BytesLie (a .d .now) (a .node .trie) 1024) (at-bytes-lie .bytes-lie .result) (not-false _ (branch3 .if3 .left)) (at-bytes-lie .bytes-lie .ensures))
     (c .writers-lie .result) (c .writers-lie .ensures)
 
 pub node-fits-spec : {M : Type 1} → statement M

@@ -8,7 +8,9 @@ returns : tie.Need-returns
 returns c = value-absent (c .before .before .args .value) (c .enum-told .given .1)
 
 returns-2 : tie.Need-returns-2
-returns-2 c = value-given (c .before .before .before .before .args .value) _ (c .before .before .value .given .1) (c .stat-fits .result) (c .stat-fits .ensures)
+returns-2 c =
+    let start = c .before .before .before .before in
+    value-given (start .args .value) _ (c .before .before .value .given .1) (c .stat-fits .result) (c .stat-fits .ensures)
 
 pub value-fits-spec : {M : Type 1} → statement M
 value-fits-spec =

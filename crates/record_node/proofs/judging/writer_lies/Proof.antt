@@ -8,17 +8,23 @@ use Rattle.record_node.proofs.judging.writer_lies.Statement.{statement}
 use Rattle.record_node.proofs.judging.writer_lies.Tie as tie
 
 returns : tie.Need-returns
-returns c = let a = c .before .before .before .before .args in key-short (a .d .now) (a .writer) (c .if1 .taken)
+returns c =
+    let start = c .before .before .before .before in
+    let a = start .args in key-short (a .d .now) (a .writer) (c .if1 .taken)
 
 returns-2 : tie.Need-returns-2
 returns-2 c =
-    let a = c .before .before .before .before .before .before .args in
+    let start = c .before .before .before .before .before .before in
+    let a = start .args in
     key-outside (a .d .now) (a .writer) (no (Lies (a .d .now) (a .writer .key)) (c .before .lies .result) (not-true _ (c .if2 .taken)) (c .before .lies .ensures))
 
 returns-3 : tie.Need-returns-3
 returns-3 c =
-    let a = c .before .before .before .before .before .before .before .args in
-    writer-lies (a .d .now) (a .writer) (c .before .before .before .if1 .left) (yes (Lies (a .d .now) (a .writer .key)) (c .before .before .lies .result) (not-false _ (c .before .if2 .left)) (c .before .before .lies .ensures))
+    let branch1 = c .before .before .before in
+    let start = branch1 .before .before .before .before in
+    let a = start .args in
+    writer-lies (a .d .now) (a .writer) (branch1 .if1 .left)
+    (yes (Lies (a .d .now) (a .writer .key)) (c .before .before .lies .result) (not-false _ (c .before .if2 .left)) (c .before .before .lies .ensures))
     (c .bytes-lie .result) (c .bytes-lie .ensures)
 
 pub writer-lies-spec : {M : Type 1} → statement M

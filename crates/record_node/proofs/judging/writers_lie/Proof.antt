@@ -18,10 +18,14 @@ abbrev μ-loop : tie.MeasureT-loop
 μ-loop d count list i₀ i = count - i
 
 returns : tie.Need-returns Inv-loop μ-loop
-returns c = let a = c .before .before .before .args in writers-many (a .d .now) (a .writers) (c .if1 .taken)
+returns c =
+    let start = c .before .before .before in
+    let a = start .args in writers-many (a .d .now) (a .writers) (c .if1 .taken)
 
 loop-holds : tie.Need-loop-holds Inv-loop μ-loop
-loop-holds c = let a = c .before .before .before .args in (judged-none (a .d .now) (a .writers .list), omega arith)
+loop-holds c =
+    let start = c .before .before .before in
+    let a = start .args in (judged-none (a .d .now) (a .writers .list), omega arith)
 
 array-copy-out-writer-lies : tie.Need-array-copy-out-writer-lies Inv-loop μ-loop
 array-copy-out-writer-lies c = omega (arith, c .before .before .if1 .left)
@@ -31,27 +35,41 @@ mul-writer-lies c = omega (arith, c .before .before .if1 .left)
 
 returns-2 : tie.Need-returns-2 Inv-loop μ-loop
 returns-2 c =
-    let a = c .before .before .before .before .before .before .before .before .args in
-    let i = c .before .before .before .before .loop .i in
-    writers-one (a .d .now) (a .writers) i (c .before .before .before .loop-test .taken) (no (WriterLies (a .d .now) (getD (a .writers .list) i noWriter)) (c .before .writer-lies .result) (not-true _ (c .if2 .taken)) (c .before .writer-lies .ensures))
+    let tested = c .before .before .before in
+    let looped = tested .before in
+    let start = looped .before .before .before .before in
+    let a = start .args in
+    let i = looped .loop .i in
+    writers-one (a .d .now) (a .writers) i (tested .loop-test .taken)
+    (no (WriterLies (a .d .now) (getD (a .writers .list) i noWriter)) (c .before .writer-lies .result) (not-true _ (c .if2 .taken)) (c .before .writer-lies .ensures))
 
 add-i : tie.Need-add-i Inv-loop μ-loop
-add-i c = omega (arith, c .before .before .before .before .loop .inv .1)
+add-i c =
+    let looped = c .before .before .before .before in
+    omega (arith, looped .loop .inv .1)
 
 loop-less : tie.Need-loop-less Inv-loop μ-loop
-loop-less c = omega (arith, c .before .before .before .loop-test .taken)
+loop-less c =
+    let tested = c .before .before .before in
+    omega (arith, tested .loop-test .taken)
 
 loop-again : tie.Need-loop-again Inv-loop μ-loop
 loop-again c =
-    let a = c .before .before .before .before .before .before .before .before .args in
-    let i = c .before .before .before .before .loop .i in (
-      judged-next (a .d .now) (a .writers .list) i (c .before .before .before .before .loop .inv .0) (yes (WriterLies (a .d .now) (getD (a .writers .list) i noWriter)) (c .before .writer-lies .result) (not-false _ (c .if2 .left)) (c .before .writer-lies .ensures)),
-      omega (arith, c .before .before .before .loop-test .taken, c .before .before .before .before .before .if1 .left),
+    let tested = c .before .before .before in
+    let looped = tested .before in
+    let branch1 = looped .before in
+    let start = branch1 .before .before .before in
+    let a = start .args in
+    let i = looped .loop .i in (
+      judged-next (a .d .now) (a .writers .list) i (looped .loop .inv .0)
+          (yes (WriterLies (a .d .now) (getD (a .writers .list) i noWriter)) (c .before .writer-lies .result) (not-false _ (c .if2 .left)) (c .before .writer-lies .ensures)),
+      omega (arith, tested .loop-test .taken, branch1 .if1 .left),
     )
 
 returns-3 : tie.Need-returns-3 Inv-loop μ-loop
 returns-3 c =
-    let a = c .before .before .before .before .before .args in
+    let start = c .before .before .before .before .before in
+    let a = start .args in
     writers-all (a .d .now) (a .writers) (c .before .before .if1 .left) (c .before .loop .i) (c .loop-test .left) (c .before .loop .inv .0)
 
 pub writers-lie-spec : {M : Type 1} → statement M

@@ -6,23 +6,38 @@ use Rattle.record_node.proofs.reading.five_fields.Tie as tie
 
 last-fields-requires : tie.Need-last-fields-requires
 last-fields-requires c κs =
-    let a = c .before .before .before .before .before .args in
-    raw-fourth (a .d .now) (c .before .before .before .three-parts .result) _ _ _ _ (c .before .path .given .1) (c .before .before .before .three-parts .ensures)
+    let at-three-parts = c .before .before .before in
+    let start = at-three-parts .before .before in
+    let a = start .args in
+    raw-fourth (a .d .now) (at-three-parts .three-parts .result) _ _ _ _ (c .before .path .given .1) (at-three-parts .three-parts .ensures)
 
 returns : tie.Need-returns
-returns c = let a = c .before .before .before .before .before .args in raw-first (a .d .now) (c .before .before .before .three-parts .result) (c .no-writers .result) (c .before .enum-told .given .1) (c .before .before .before .three-parts .ensures)
+returns c =
+    let at-three-parts = c .before .before .before in
+    let start = at-three-parts .before .before in
+    let a = start .args in raw-first (a .d .now) (at-three-parts .three-parts .result) (c .no-writers .result) (c .before .enum-told .given .1) (at-three-parts .three-parts .ensures)
 
 returns-2 : tie.Need-returns-2
 returns-2 c =
-    let a = c .before .before .before .before .before .before .before .before .before .args in
-    let tail = c .before .before .before .last-fields in
-    raw-tail (a .d .now) (c .before .before .before .before .before .before .before .three-parts .result) _ _ _ _ (c .before .before .before .before .before .path .given .1) (c .before .before .before .before .before .before .before .three-parts .ensures) (tail .result .last) (tail .result .writers) (c .enum-told2 .given .1) (tail .ensures)
+    let at-last-fields = c .before .before .before in
+    let at-path = at-last-fields .before .before in
+    let at-three-parts = at-path .before .before in
+    let start = at-three-parts .before .before in
+    let a = start .args in
+    let tail = at-last-fields .last-fields in
+    raw-tail (a .d .now) (at-three-parts .three-parts .result) _ _ _ _ (at-path .path .given .1) (at-three-parts .three-parts .ensures) (tail .result .last) (tail .result .writers)
+    (c .enum-told2 .given .1) (tail .ensures)
 
 returns-3 : tie.Need-returns-3
 returns-3 c =
-    let a = c .before .before .before .before .before .before .before .before .before .before .args in
-    let tail = c .before .before .before .before .last-fields in
-    raw-read (a .d .now) (c .before .before .before .before .before .before .before .before .three-parts .result) _ _ _ _ (c .before .before .before .before .before .before .path .given .1) (c .before .before .before .before .before .before .before .before .three-parts .ensures) (tail .result .last) (tail .result .writers) _ (c .before .last .given .1) (tail .ensures)
+    let at-last-fields = c .before .before .before .before in
+    let at-path = at-last-fields .before .before in
+    let at-three-parts = at-path .before .before in
+    let start = at-three-parts .before .before in
+    let a = start .args in
+    let tail = at-last-fields .last-fields in
+    raw-read (a .d .now) (at-three-parts .three-parts .result) _ _ _ _ (at-path .path .given .1) (at-three-parts .three-parts .ensures) (tail .result .last) (tail .result .writers)
+    _ (c .before .last .given .1) (tail .ensures)
 
 pub five-fields-spec : {M : Type 1} → statement M
 five-fields-spec =

@@ -13,10 +13,12 @@ number-row-requires c κs =
 
 returns : tie.Need-returns
 returns c =
-    let one = c .before .before .before .before .before .before .before .before .before in
+    let at-number-row = c .before .before .before .before in
+    let at-row = at-number-row .before .before in
+    let one = at-row .before .before .before in
     let a = one .before .before .args in
-    tail-left (a .d .now) (a .at) (one .writers-row .result .row) (one .writers-row .result .writers) _ (c .before .before .before .before .before .before .row .given .1) (one .writers-row .ensures)
-    (c .before .before .before .before .number-row .result) _ _ (c .before .before .sequence .given .1) (c .before .before .before .before .number-row .ensures) (c .if1 .taken)
+    tail-left (a .d .now) (a .at) (one .writers-row .result .row) (one .writers-row .result .writers) _ (at-row .row .given .1) (one .writers-row .ensures)
+    (at-number-row .number-row .result) _ _ (c .before .before .sequence .given .1) (at-number-row .number-row .ensures) (c .if1 .taken)
 
 returns-2 : tie.Need-returns-2
 returns-2 c =
@@ -26,17 +28,20 @@ returns-2 c =
 
 returns-3 : tie.Need-returns-3
 returns-3 c =
-    let one = c .before .before .before .before .before .before .before in
+    let at-row = c .before .before .before .before in
+    let one = at-row .before .before .before in
     let a = one .before .before .args in
-    tail-number (a .d .now) (a .at) (one .writers-row .result .row) (one .writers-row .result .writers) _ (c .before .before .before .before .row .given .1) (one .writers-row .ensures)
+    tail-number (a .d .now) (a .at) (one .writers-row .result .row) (one .writers-row .result .writers) _ (at-row .row .given .1) (one .writers-row .ensures)
     (c .before .before .number-row .result) (c .enum-told2 .given .1) (c .before .before .number-row .ensures)
 
 returns-4 : tie.Need-returns-4
 returns-4 c =
-    let one = c .before .before .before .before .before .before .before .before .before in
+    let at-number-row = c .before .before .before .before in
+    let at-row = at-number-row .before .before in
+    let one = at-row .before .before .before in
     let a = one .before .before .args in
-    tail-read (a .d .now) (a .at) (one .writers-row .result .row) (one .writers-row .result .writers) _ (c .before .before .before .before .before .before .row .given .1) (one .writers-row .ensures)
-    (c .before .before .before .before .number-row .result) _ _ (c .before .before .sequence .given .1) (c .before .before .before .before .number-row .ensures) (c .if1 .left)
+    tail-read (a .d .now) (a .at) (one .writers-row .result .row) (one .writers-row .result .writers) _ (at-row .row .given .1) (one .writers-row .ensures)
+    (at-number-row .number-row .result) _ _ (c .before .before .sequence .given .1) (at-number-row .number-row .ensures) (c .if1 .left)
 
 pub last-fields-spec : {M : Type 1} → statement M
 last-fields-spec =

@@ -1,5 +1,5 @@
 -- The definition says it.
-use mathlib.Core.Path.{_≡_, ap₂}
+use mathlib.Core.Path.{ap₂}
 use Rattle.refusals.specs.Verdict.{Verdict}
 use Rattle.record_fields.specs.declared.rows.Number.the-variants.{Absent as NoNumber}
 use Rattle.record_fields.specs.declared.rows.Bytes.the-variants.{Absent as NoBytes}

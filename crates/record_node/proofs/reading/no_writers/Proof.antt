@@ -1,5 +1,5 @@
 -- The definition says it.
-use mathlib.Core.Path.{_≡_, ap}
+use mathlib.Core.Path.{ap}
 use lib.ListN.{replicate}
 use Rattle.record_node.specs.declared.writers.Writer.{Writer}
 use Rattle.record_node.specs.declared.writers.Writers.{Writers}

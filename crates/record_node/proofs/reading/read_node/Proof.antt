@@ -9,14 +9,18 @@ use Rattle.record_node.proofs.reading.read_node.Tie as tie
 
 judged-requires : tie.Need-judged-requires
 judged-requires c κs =
-    let found = c .before .before .before .before .five-fields in
-    let a = c .before .before .before .before .before .before .args in
+    let at-five-fields = c .before .before .before .before in
+    let start = at-five-fields .before .before in
+    let found = at-five-fields .five-fields in
+    let a = start .args in
     subst (λ (p : Plain). RawRead (a .bytes .now) p (found .result .writers)) (c .before .plain .given .1) (found .ensures)
 
 returns : tie.Need-returns
 returns c =
-    let found = c .before .before .before .before .five-fields in
-    let a = c .before .before .before .before .before .before .args in
+    let at-five-fields = c .before .before .before .before in
+    let start = at-five-fields .before .before in
+    let found = at-five-fields .five-fields in
+    let a = start .args in
     refused-node (a .bytes .now) (c .no-node .result .answer) (c .no-node .result .node) (c .no-node .ensures)
     (raw-rejected (a .bytes .now) (subst (λ (p : Plain). RawRead (a .bytes .now) p (found .result .writers)) (c .before .enum-told .given .1) (found .ensures)))
 

@@ -19,19 +19,24 @@ part-read-stat-end c =
     omega (arith, value-inside (a .d .now) (a .field) _ (c .before .before .field .given .1) (start .pre))
 
 returns : tie.Need-returns
-returns c = let a = c .before .before .before .args in value-none (a .d .now) (a .field) (c .enum-told .given .1)
+returns c =
+    let start = c .before .before .before in
+    let a = start .args in value-none (a .d .now) (a .field) (c .enum-told .given .1)
 
 returns-2 : tie.Need-returns-2
 returns-2 c =
-    let start = c .before .before .before .before .before .before .before .before .before in
+    let at-field = c .before .before .before .before .before .before in
+    let start = at-field .before .before .before in
     let a = start .args in
-    value-wrong (a .d .now) (a .field) _ (c .before .before .before .before .before .before .field .given .1) (start .pre) _ refl (c .before .before .read-stat .result) (c .enum-told2 .given .1) (c .before .before .read-stat .ensures)
+    value-wrong (a .d .now) (a .field) _ (at-field .field .given .1) (start .pre) _ refl (c .before .before .read-stat .result) (c .enum-told2 .given .1) (c .before .before .read-stat .ensures)
 
 returns-3 : tie.Need-returns-3
 returns-3 c =
-    let start = c .before .before .before .before .before .before .before .before .before .before in
+    let at-read-stat = c .before .before .before in
+    let at-field = at-read-stat .before .before .before .before in
+    let start = at-field .before .before .before in
     let a = start .args in
-    value-right (a .d .now) (a .field) _ (c .before .before .before .before .before .before .before .field .given .1) (start .pre) _ refl (c .before .before .before .read-stat .result) _ (c .before .stat .given .1) (c .before .before .before .read-stat .ensures)
+    value-right (a .d .now) (a .field) _ (at-field .field .given .1) (start .pre) _ refl (at-read-stat .read-stat .result) _ (c .before .stat .given .1) (at-read-stat .read-stat .ensures)
 
 pub read-value-spec : {M : Type 1} → statement M
 read-value-spec =

@@ -8,18 +8,24 @@ use Rattle.record_node.proofs.reading.with_path.Tie as tie
 
 returns : tie.Need-returns
 returns c =
-    let a = c .before .before .before .before .before .before .args in
-    let p = c .before .before .before .field .given .0 .0 in
-    path-given (a .d .now) (a .field) p (c .before .before .before .field .given .1) (yes (PathLies (a .d .now) p) (c .before .path-lies .result) (c .if1 .taken) (c .before .path-lies .ensures))
+    let at-field = c .before .before .before in
+    let start = at-field .before .before .before in
+    let a = start .args in
+    let p = at-field .field .given .0 .0 in
+    path-given (a .d .now) (a .field) p (at-field .field .given .1) (yes (PathLies (a .d .now) p) (c .before .path-lies .result) (c .if1 .taken) (c .before .path-lies .ensures))
 
 returns-2 : tie.Need-returns-2
-returns-2 c = let a = c .before .before .before .args in path-absent (a .d .now) (a .field) (c .enum-told .given .1)
+returns-2 c =
+    let start = c .before .before .before in
+    let a = start .args in path-absent (a .d .now) (a .field) (c .enum-told .given .1)
 
 returns-3 : tie.Need-returns-3
 returns-3 c =
-    let a = c .before .before .before .before .before .before .args in
-    let p = c .before .before .before .field .given .0 .0 in
-    path-wrong (a .d .now) (a .field) p (c .before .before .before .field .given .1) (c .before .before .before .before .before .before .pre) (no (PathLies (a .d .now) p) (c .before .path-lies .result) (c .if1 .left) (c .before .path-lies .ensures))
+    let at-field = c .before .before .before in
+    let start = at-field .before .before .before in
+    let a = start .args in
+    let p = at-field .field .given .0 .0 in
+    path-wrong (a .d .now) (a .field) p (at-field .field .given .1) (start .pre) (no (PathLies (a .d .now) p) (c .before .path-lies .result) (c .if1 .left) (c .before .path-lies .ensures))
 
 pub with-path-spec : {M : Type 1} → statement M
 with-path-spec =

@@ -1,47 +1,57 @@
 -- The field decides, and then the bytes of its part.
 use Prim.Native.Nat.{_+_}
 use native.Mathlib.Omega.{arith}
-use Rattle.record_node.proofs.Keyed.{row-next, one-bad, one-end, part-inside, one-none, one-read, from-front}
+use Rattle.record_node.proofs.Keyed.{one-bad, one-end, part-inside, one-none, one-read, from-front}
 use borrow.Author.Needs.{needs}
 use Rattle.record_node.proofs.writers.one_writer.Statement.{statement}
 use Rattle.record_node.proofs.writers.one_writer.Tie as tie
 
 add-to : tie.Need-add-to
 add-to c =
-    let one = c .before .before .before .before .before .before .before in
+    let at-field = c .before .before .before .before .before in
+    let one = at-field .before .before in
     let a = one .before .before .args in
-    omega (arith, part-inside (a .d .now) (a .at) (one .bytes-row .result) _ _ (c .before .before .before .before .before .field .given .1) (one .bytes-row .ensures) _ (c .before .before .field2 .given .1))
+    omega (arith, part-inside (a .d .now) (a .at) (one .bytes-row .result) _ _ (at-field .field .given .1) (one .bytes-row .ensures) _ (c .before .before .field2 .given .1))
 
 part-read-writer-end : tie.Need-part-read-writer-end
 part-read-writer-end c =
-    let one = c .before .before .before .before .before .before .before in
+    let at-field = c .before .before .before .before .before in
+    let one = at-field .before .before in
     let a = one .before .before .args in
-    omega (arith, part-inside (a .d .now) (a .at) (one .bytes-row .result) _ _ (c .before .before .before .before .before .field .given .1) (one .bytes-row .ensures) _ (c .before .before .field2 .given .1))
+    omega (arith, part-inside (a .d .now) (a .at) (one .bytes-row .result) _ _ (at-field .field .given .1) (one .bytes-row .ensures) _ (c .before .before .field2 .given .1))
 
 returns : tie.Need-returns
-returns c = let a = c .before .before .before .before .args in one-bad (a .d .now) (a .at) (c .before .before .bytes-row .result) (c .enum-told .given .1) (c .before .before .bytes-row .ensures)
+returns c =
+    let start = c .before .before .before .before in
+    let a = start .args in one-bad (a .d .now) (a .at) (c .before .before .bytes-row .result) (c .enum-told .given .1) (c .before .before .bytes-row .ensures)
 
 returns-2 : tie.Need-returns-2
 returns-2 c =
-    let one = c .before .before .before .before .before in
+    let at-field = c .before .before .before in
+    let one = at-field .before .before in
     let a = one .before .before .args in
-    one-end (a .d .now) (a .at) (one .bytes-row .result) _ _ (c .before .before .before .field .given .1) (one .bytes-row .ensures) (c .enum-told2 .given .1)
+    one-end (a .d .now) (a .at) (one .bytes-row .result) _ _ (at-field .field .given .1) (one .bytes-row .ensures) (c .enum-told2 .given .1)
 
 returns-3 : tie.Need-returns-3
 returns-3 c =
-    let one = c .before .before .before .before .before .before .before .before .before .before .before in
+    let at-field2 = c .before .before .before .before .before .before in
+    let at-field = at-field2 .before .before .before in
+    let one = at-field .before .before in
     let a = one .before .before .args in
-    let p = c .before .before .before .before .before .before .field2 .given .0 .0 in
-    one-none (a .d .now) (a .at) (one .bytes-row .result) _ _ (c .before .before .before .before .before .before .before .before .before .field .given .1) (one .bytes-row .ensures) _ (c .before .before .before .before .before .before .field2 .given .1)
+    let p = at-field2 .field2 .given .0 .0 in
+    one-none (a .d .now) (a .at) (one .bytes-row .result) _ _ (at-field .field .given .1) (one .bytes-row .ensures) _ (at-field2 .field2 .given .1)
     _ (from-front (a .d .now) (p .at + p .len)) (c .before .before .read-writer .result) (c .enum-told3 .given .1) (c .before .before .read-writer .ensures)
 
 returns-4 : tie.Need-returns-4
 returns-4 c =
-    let one = c .before .before .before .before .before .before .before .before .before .before .before .before in
+    let at-read-writer = c .before .before .before in
+    let at-field2 = at-read-writer .before .before .before .before in
+    let at-field = at-field2 .before .before .before in
+    let one = at-field .before .before in
     let a = one .before .before .args in
-    let p = c .before .before .before .before .before .before .before .field2 .given .0 .0 in
-    one-read (a .d .now) (a .at) (one .bytes-row .result) _ _ (c .before .before .before .before .before .before .before .before .before .before .field .given .1) (one .bytes-row .ensures) _ (c .before .before .before .before .before .before .before .field2 .given .1)
-    (one .before .before .pre) _ (from-front (a .d .now) (p .at + p .len)) (c .before .before .before .read-writer .result) _ (c .before .writer .given .1) (c .before .before .before .read-writer .ensures)
+    let p = at-field2 .field2 .given .0 .0 in
+    one-read (a .d .now) (a .at) (one .bytes-row .result) _ _ (at-field .field .given .1) (one .bytes-row .ensures) _ (at-field2 .field2 .given .1)
+    (one .before .before .pre) _ (from-front (a .d .now) (p .at + p .len)) (at-read-writer .read-writer .result) _ (c .before .writer .given .1) (at-read-writer .read-writer .ensures)
 
 pub one-writer-spec : {M : Type 1} → statement M
 one-writer-spec =

@@ -20,39 +20,59 @@ one-writer-requires c κs = c .loop .inv .ends
 
 returns : tie.Need-returns Inv-loop μ-loop
 returns c =
-    let l = c .before .before .before .loop in
-    let a = c .before .before .before .before .before .before .args in
+    let looped = c .before .before .before in
+    let start = looped .before .before .before in
+    let l = looped .loop in
+    let a = start .args in
     grown-bad (a .d .now) (a .at) (l .list) (l .count) (l .next) (l .inv) (c .before .before .one-writer .result) (c .enum-told .given .1) (c .before .before .one-writer .ensures)
 
 returns-2 : tie.Need-returns-2 Inv-loop μ-loop
 returns-2 c =
-    let l = c .before .before .before .loop in
-    let a = c .before .before .before .before .before .before .args in
+    let looped = c .before .before .before in
+    let start = looped .before .before .before in
+    let l = looped .loop in
+    let a = start .args in
     grown-end (a .d .now) (a .at) (l .list) (l .count) (l .next) (l .inv) (c .before .before .one-writer .result) (c .enum-told2 .given .1) (c .before .before .one-writer .ensures)
 
 returns-3 : tie.Need-returns-3 Inv-loop μ-loop
 returns-3 c =
-    let l = c .before .before .before .before .before .loop in
-    let a = c .before .before .before .before .before .before .before .before .args in
-    grown-ninth (a .d .now) (a .at) (l .list) (l .count) (l .next) (l .inv) (c .before .before .before .before .one-writer .result) _ _ (c .before .before .writer .given .1) (c .before .before .before .before .one-writer .ensures) (c .if1 .taken)
+    let at-one-writer = c .before .before .before .before in
+    let looped = at-one-writer .before in
+    let start = looped .before .before .before in
+    let l = looped .loop in
+    let a = start .args in
+    grown-ninth (a .d .now) (a .at) (l .list) (l .count) (l .next) (l .inv) (at-one-writer .one-writer .result) _ _ (c .before .before .writer .given .1)
+    (at-one-writer .one-writer .ensures) (c .if1 .taken)
 
 array-set-from-list : tie.Need-array-set-from-list Inv-loop μ-loop
-array-set-from-list c = omega (arith, c .before .before .before .before .before .loop .inv .few, c .if1 .left)
+array-set-from-list c =
+    let looped = c .before .before .before .before .before in
+    omega (arith, looped .loop .inv .few, c .if1 .left)
 
 mul-list : tie.Need-mul-list Inv-loop μ-loop
-mul-list c = omega (arith, c .before .before .before .before .before .loop .inv .few)
+mul-list c =
+    let looped = c .before .before .before .before .before in
+    omega (arith, looped .loop .inv .few)
 
 add-count : tie.Need-add-count Inv-loop μ-loop
-add-count c = omega (arith, c .before .before .before .before .before .loop .inv .few)
+add-count c =
+    let looped = c .before .before .before .before .before in
+    omega (arith, looped .loop .inv .few)
 
 loop-less : tie.Need-loop-less Inv-loop μ-loop
-loop-less c = omega (arith, c .before .before .before .before .before .loop .inv .few, c .if1 .left)
+loop-less c =
+    let looped = c .before .before .before .before .before in
+    omega (arith, looped .loop .inv .few, c .if1 .left)
 
 loop-again : tie.Need-loop-again Inv-loop μ-loop
 loop-again c =
-    let l = c .before .before .before .before .before .loop in
-    let a = c .before .before .before .before .before .before .before .before .args in
-    grown-more (a .d .now) (a .at) (l .list) (l .count) (l .next) (l .inv) (c .before .before .before .before .one-writer .result) _ _ (c .before .before .writer .given .1) (c .before .before .before .before .one-writer .ensures) (c .if1 .left)
+    let at-one-writer = c .before .before .before .before in
+    let looped = at-one-writer .before in
+    let start = looped .before .before .before in
+    let l = looped .loop in
+    let a = start .args in
+    grown-more (a .d .now) (a .at) (l .list) (l .count) (l .next) (l .inv) (at-one-writer .one-writer .result) _ _ (c .before .before .writer .given .1)
+    (at-one-writer .one-writer .ensures) (c .if1 .left)
 
 pub writers-row-spec : {M : Type 1} → statement M
 writers-row-spec =

@@ -6,10 +6,14 @@ use Rattle.record_node.proofs.writing.put_node.Statement.{statement}
 use Rattle.record_node.proofs.writing.put_node.Tie as tie
 
 add-to : tie.Need-add-to
-add-to c = let start = c .before .before .before .before .before in omega (arith, start .pre .fits .inside .path)
+add-to c =
+    let start-2 = c .before .before .before .before .before in
+    let start = start-2 in omega (arith, start .pre .fits .inside .path)
 
 part-put-part-end : tie.Need-part-put-part-end
-part-put-part-end c = let start = c .before .before .before .before .before .before in omega (arith, start .pre .fits .inside .path)
+part-put-part-end c =
+    let start-2 = c .before .before .before .before .before .before in
+    let start = start-2 in omega (arith, start .pre .fits .inside .path)
 
 put-part-requires : tie.Need-put-part-requires
 put-part-requires c κs =
@@ -19,37 +23,54 @@ put-part-requires c κs =
 
 put-value-requires : tie.Need-put-value-requires
 put-value-requires c κs =
-    let start = c .before .before .before .before .before .before .before .before .before .before .before in
+    let at-put-part = c .before .before .before in
+    let start = at-put-part .before .before .before .before .before .before .before .before in
     let a = start .args in
-    value-room (a .d .now) (a .node) (start .pre .fits) (a .out .now) (start .pre .room) _ _ (c .before .before .before .put-part .ensures)
+    value-room (a .d .now) (a .node) (start .pre .fits) (a .out .now) (start .pre .room) _ _ (at-put-part .put-part .ensures)
 
 put-bytes-requires : tie.Need-put-bytes-requires
 put-bytes-requires c κs =
-    let start = c .before .before .before .before .before .before .before .before .before .before .before .before .before .before .before in
+    let at-put-value = c .before .before .before in
+    let at-put-part = at-put-value .before .before .before .before in
+    let start = at-put-part .before .before .before .before .before .before .before .before in
     let a = start .args in
-    trie-room (a .d .now) (a .node) (start .pre .fits) (a .out .now) (start .pre .room) _ _ (c .before .before .before .before .before .before .before .put-part .ensures) _ _ (c .before .before .before .put-value .ensures)
+    trie-room (a .d .now) (a .node) (start .pre .fits) (a .out .now) (start .pre .room) _ _ (at-put-part .put-part .ensures) _ _ (at-put-value .put-value .ensures)
 
 put-writers-requires : tie.Need-put-writers-requires
 put-writers-requires c κs =
-    let start = c .before .before .before .before .before .before .before .before .before .before .before .before .before .before .before .before .before .before .before in
+    let at-put-bytes = c .before .before .before in
+    let at-put-value = at-put-bytes .before .before .before .before in
+    let at-put-part = at-put-value .before .before .before .before in
+    let start = at-put-part .before .before .before .before .before .before .before .before in
     let a = start .args in
-    writers-room (a .d .now) (a .node) (start .pre .fits) (a .out .now) (start .pre .room) _ _ (c .before .before .before .before .before .before .before .before .before .before .before .put-part .ensures) _ _ (c .before .before .before .before .before .before .before .put-value .ensures) _ _ (c .before .before .before .put-bytes .ensures)
+    writers-room (a .d .now) (a .node) (start .pre .fits) (a .out .now) (start .pre .room) _ _ (at-put-part .put-part .ensures) _ _ (at-put-value .put-value .ensures) _ _
+    (at-put-bytes .put-bytes .ensures)
 
 put-number-requires : tie.Need-put-number-requires
 put-number-requires c κs =
-    let start = c .before .before .before .before .before .before .before .before .before .before .before .before .before .before .before .before .before .before .before .before .before .before .before in
+    let at-put-writers = c .before .before .before in
+    let at-put-bytes = at-put-writers .before .before .before .before in
+    let at-put-value = at-put-bytes .before .before .before .before in
+    let at-put-part = at-put-value .before .before .before .before in
+    let start = at-put-part .before .before .before .before .before .before .before .before in
     let a = start .args in (
       omega arith,
-      number-room (a .d .now) (a .node) (start .pre .fits) (a .out .now) (start .pre .room) _ _ (c .before .before .before .before .before .before .before .before .before .before .before .before .before .before .before .put-part .ensures) _ _ (c .before .before .before .before .before .before .before .before .before .before .before .put-value .ensures) _ _ (c .before .before .before .before .before .before .before .put-bytes .ensures)
-          _ _ (c .before .before .before .put-writers .ensures),
+      number-room (a .d .now) (a .node) (start .pre .fits) (a .out .now) (start .pre .room) _ _ (at-put-part .put-part .ensures) _ _ (at-put-value .put-value .ensures) _ _
+          (at-put-bytes .put-bytes .ensures)
+          _ _ (at-put-writers .put-writers .ensures),
     )
 
 returns : tie.Need-returns
 returns c =
-    let start = c .before .before .before .before .before .before .before .before .before .before .before .before .before .before .before .before .before .before .before .before .before .before .before .before .before .before in
+    let at-put-writers = c .before .before .before .before .before .before in
+    let at-put-bytes = at-put-writers .before .before .before .before in
+    let at-put-value = at-put-bytes .before .before .before .before in
+    let at-put-part = at-put-value .before .before .before .before in
+    let start = at-put-part .before .before .before .before .before .before .before .before in
     let a = start .args in
-    node-put (a .d .now) (a .node) (start .pre .fits) (a .out .now) (start .pre .room) _ _ (c .before .before .before .before .before .before .before .before .before .before .before .before .before .before .before .before .before .before .put-part .ensures) _ _ (c .before .before .before .before .before .before .before .before .before .before .before .before .before .before .put-value .ensures) _ _ (c .before .before .before .before .before .before .before .before .before .before .put-bytes .ensures)
-    _ _ (c .before .before .before .before .before .before .put-writers .ensures) _ _ (c .before .before .put-number .ensures)
+    node-put (a .d .now) (a .node) (start .pre .fits) (a .out .now) (start .pre .room) _ _ (at-put-part .put-part .ensures) _ _ (at-put-value .put-value .ensures) _ _
+    (at-put-bytes .put-bytes .ensures)
+    _ _ (at-put-writers .put-writers .ensures) _ _ (c .before .before .put-number .ensures)
 
 pub put-node-spec : {M : Type 1} → statement M
 put-node-spec =

@@ -7,22 +7,32 @@ use Rattle.record_node.proofs.writing.put_value.Tie as tie
 
 part-put-part-end : tie.Need-part-put-part-end
 part-put-part-end c =
-    let a = c .before .before .before .before .before .before .before .before .before .args in
-    omega (arith, stat-len (a .value) (a .out .now) (a .at) _ (c .before .before .before .before .before .before .value .given .1) _ _ _ (c .before .before .before .put-stat .ensures))
+    let at-put-stat = c .before .before .before in
+    let at-value = at-put-stat .before .before .before in
+    let start = at-value .before .before .before in
+    let a = start .args in
+    omega (arith, stat-len (a .value) (a .out .now) (a .at) _ (at-value .value .given .1) _ _ _ (at-put-stat .put-stat .ensures))
 
 put-part-requires : tie.Need-put-part-requires
 put-part-requires c κs =
-    let start = c .before .before .before .before .before .before .before .before .before .before in
+    let at-put-stat = c .before .before .before .before in
+    let at-value = at-put-stat .before .before .before in
+    let start = at-value .before .before .before in
     let a = start .args in
-    (omega arith, stat-room (a .value) (a .out .now) (a .at) _ (c .before .before .before .before .before .before .before .value .given .1) _ _ _ (c .before .before .before .before .put-stat .ensures) (start .pre))
+    (omega arith, stat-room (a .value) (a .out .now) (a .at) _ (at-value .value .given .1) _ _ _ (at-put-stat .put-stat .ensures) (start .pre))
 
 returns : tie.Need-returns
-returns c = let a = c .before .before .before .args in value-nothing (a .value) (a .out .now) (a .at) (c .enum-told .given .1)
+returns c =
+    let start = c .before .before .before in
+    let a = start .args in value-nothing (a .value) (a .out .now) (a .at) (c .enum-told .given .1)
 
 returns-2 : tie.Need-returns-2
 returns-2 c =
-    let a = c .before .before .before .before .before .before .before .before .before .before .before .before .before .args in
-    value-put (a .value) (a .out .now) (a .at) _ (c .before .before .before .before .before .before .before .before .before .before .value .given .1) _ _ _ (c .before .before .before .before .before .before .before .put-stat .ensures) _ _ (c .before .before .put-part .ensures)
+    let at-put-stat = c .before .before .before .before .before .before .before in
+    let at-value = at-put-stat .before .before .before in
+    let start = at-value .before .before .before in
+    let a = start .args in
+    value-put (a .value) (a .out .now) (a .at) _ (at-value .value .given .1) _ _ _ (at-put-stat .put-stat .ensures) _ _ (c .before .before .put-part .ensures)
 
 pub put-value-spec : {M : Type 1} → statement M
 put-value-spec =

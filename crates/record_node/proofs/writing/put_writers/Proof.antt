@@ -1,7 +1,7 @@
 -- So many were put. The measure is what is left of the count.
 use native.Mathlib.Omega.{arith}
 use Prim.Native.Nat.{_-_, _≤_}
-use Rattle.record_node.proofs.Placed.{Placed, placed-none, few-left, one-roomy, one-len, one-room, one-placed, placed-all}
+use Rattle.record_node.proofs.Placed.{Placed, placed-none, one-roomy, one-len, one-room, one-placed, placed-all}
 use borrow.Author.Needs.{needs}
 use Rattle.record_node.proofs.writing.put_writers.Statement.{statement}
 use Rattle.record_node.proofs.writing.put_writers.Tie as tie
@@ -13,7 +13,9 @@ abbrev μ-loop : tie.MeasureT-loop
 μ-loop out₀ at d count list next₀ i₀ out next i = count - i
 
 loop-holds : tie.Need-loop-holds Inv-loop μ-loop
-loop-holds c = let a = c .before .before .before .args in (placed-none (a .d .now) (a .writers .list) (a .out .now) (a .at), omega arith)
+loop-holds c =
+    let start = c .before .before .before in
+    let a = start .args in (placed-none (a .d .now) (a .writers .list) (a .out .now) (a .at), omega arith)
 
 mul-put-writer : tie.Need-mul-put-writer Inv-loop μ-loop
 mul-put-writer c =
@@ -27,38 +29,53 @@ array-copy-out-put-writer c =
 
 put-writer-requires : tie.Need-put-writer-requires Inv-loop μ-loop
 put-writer-requires c κs =
-    let start = c .before .before .before .before .before .before .before in
+    let looped = c .before .before .before in
+    let start = looped .before .before .before .before in
     let a = start .args in
-    let l = c .before .before .before .loop in
+    let l = looped .loop in
     one-roomy (a .d .now) (a .writers) (a .out .now) (a .at) (start .pre) (l .out) (l .next) (l .i) (l .inv .0) (c .before .before .loop-test .taken) _ (omega arith)
 
 part-put-part-end : tie.Need-part-put-part-end Inv-loop μ-loop
 part-put-part-end c =
-    let start = c .before .before .before .before .before .before .before .before .before .before .before in
+    let at-put-writer = c .before .before .before in
+    let tested = at-put-writer .before .before .before in
+    let looped = tested .before in
+    let start = looped .before .before .before .before in
     let a = start .args in
-    let l = c .before .before .before .before .before .before .before .loop in
-    omega (arith, one-len (a .d .now) (a .writers) (a .out .now) (a .at) (start .pre) (l .out) (l .next) (l .i) (l .inv .0) (c .before .before .before .before .before .before .loop-test .taken) _ _ _ (c .before .before .before .put-writer .ensures))
+    let l = looped .loop in
+    omega (arith, one-len (a .d .now) (a .writers) (a .out .now) (a .at) (start .pre) (l .out) (l .next) (l .i) (l .inv .0) (tested .loop-test .taken) _ _ _ (at-put-writer .put-writer .ensures))
 
 put-part-requires : tie.Need-put-part-requires Inv-loop μ-loop
 put-part-requires c κs =
-    let start = c .before .before .before .before .before .before .before .before .before .before .before .before in
+    let at-put-writer = c .before .before .before .before in
+    let tested = at-put-writer .before .before .before in
+    let looped = tested .before in
+    let start = looped .before .before .before .before in
     let a = start .args in
-    let l = c .before .before .before .before .before .before .before .before .loop in
-    (omega arith, one-room (a .d .now) (a .writers) (a .out .now) (a .at) (start .pre) (l .out) (l .next) (l .i) (l .inv .0) (c .before .before .before .before .before .before .before .loop-test .taken) _ _ _ (c .before .before .before .before .put-writer .ensures))
+    let l = looped .loop in
+    (omega arith, one-room (a .d .now) (a .writers) (a .out .now) (a .at) (start .pre) (l .out) (l .next) (l .i) (l .inv .0) (tested .loop-test .taken) _ _ _ (at-put-writer .put-writer .ensures))
 
 add-i : tie.Need-add-i Inv-loop μ-loop
-add-i c = omega (arith, c .before .before .before .before .before .before .before .before .before .before .before .loop .inv .0 .few)
+add-i c =
+    let looped = c .before .before .before .before .before .before .before .before .before .before .before in
+    omega (arith, looped .loop .inv .0 .few)
 
 loop-less : tie.Need-loop-less Inv-loop μ-loop
-loop-less c = omega (arith, c .before .before .before .before .before .before .before .before .before .before .loop-test .taken)
+loop-less c =
+    let tested = c .before .before .before .before .before .before .before .before .before .before in
+    omega (arith, tested .loop-test .taken)
 
 loop-again : tie.Need-loop-again Inv-loop μ-loop
 loop-again c =
-    let start = c .before .before .before .before .before .before .before .before .before .before .before .before .before .before .before in
+    let at-put-writer = c .before .before .before .before .before .before .before in
+    let tested = at-put-writer .before .before .before in
+    let looped = tested .before in
+    let start = looped .before .before .before .before in
     let a = start .args in
-    let l = c .before .before .before .before .before .before .before .before .before .before .before .loop in (
-      one-placed (a .d .now) (a .writers) (a .out .now) (a .at) (start .pre) (l .out) (l .next) (l .i) (l .inv .0) (c .before .before .before .before .before .before .before .before .before .before .loop-test .taken) _ _ _ (c .before .before .before .before .before .before .before .put-writer .ensures) _ _ (c .before .before .put-part .ensures),
-      omega (arith, c .before .before .before .before .before .before .before .before .before .before .loop-test .taken),
+    let l = looped .loop in (
+      one-placed (a .d .now) (a .writers) (a .out .now) (a .at) (start .pre) (l .out) (l .next) (l .i) (l .inv .0) (tested .loop-test .taken) _ _ _
+          (at-put-writer .put-writer .ensures) _ _ (c .before .before .put-part .ensures),
+      omega (arith, tested .loop-test .taken),
     )
 
 same-length : tie.Need-same-length Inv-loop μ-loop
@@ -66,7 +83,8 @@ same-length c = c .before .loop .inv .0 .same
 
 returns : tie.Need-returns Inv-loop μ-loop
 returns c =
-    let a = c .before .before .before .before .before .args in
+    let start = c .before .before .before .before .before in
+    let a = start .args in
     let l = c .before .loop in
     placed-all (a .d .now) (a .writers) (a .out .now) (a .at) (l .out) (l .next) (l .i) (l .inv .0) (omega (arith, l .inv .1, c .loop-test .left))
 

@@ -27,41 +27,58 @@ mul-smaller-of c = let h = c .before .before .before .pre .few in search needs
 
 in-group-requires : tie.Need-in-group-requires Inv-loop μ-loop
 in-group-requires c κs =
-    let a = c .before .before .before .before .before .before .args in
+    let tested = c .before .before .before in
+    let looped = tested .before in
+    let start = looped .before .before in
+    let a = start .args in
     let s = c .before .before .smaller-of .ensures in
-    group-in (a .xs .now) (a .tuples) (a .from) (a .end) (c .before .before .before .before .before .before .pre) (c .before .before .before .before .loop .k) (c .before .before .smaller-of .result) (c .group-tuple .result) (c .before .before .before .before .loop .inv .0)
-    (c .before .before .before .loop-test .taken) (s .left) (s .right) (c .group-tuple .ensures ∙ ap (λ (j : ℕ). tupleIn (a .tuples) (j / 16)) (c .before .chunk-behind .ensures))
+    group-in (a .xs .now) (a .tuples) (a .from) (a .end) (start .pre) (looped .loop .k) (c .before .before .smaller-of .result) (c .group-tuple .result) (looped .loop .inv .0)
+    (tested .loop-test .taken) (s .left) (s .right) (c .group-tuple .ensures ∙ ap (λ (j : ℕ). tupleIn (a .tuples) (j / 16)) (c .before .chunk-behind .ensures))
 
 returns : tie.Need-returns Inv-loop μ-loop
 returns c =
-    let a = c .before .before .before .before .before .before .before .before .before .args in
-    let s = c .before .before .before .before .before .smaller-of .ensures in
-    let k = c .before .before .before .before .before .before .before .loop .k in
-    found-here (notMissing (a .xs .now)) (c .before .before .in-group .result) (a .from) k (c .before .before .before .before .before .smaller-of .result) (a .end) (s .above k (omega arith) (c .before .before .before .before .before .before .loop-test .taken)) (s .right)
-    (c .before .before .in-group .ensures) (c .before .before .before .before .before .before .before .loop .inv .1) (c .enum-told2 .given .0 .0) (c .enum-told2 .given .1)
+    let at-smaller-of = c .before .before .before .before .before in
+    let tested = at-smaller-of .before in
+    let looped = tested .before in
+    let start = looped .before .before in
+    let a = start .args in
+    let s = at-smaller-of .smaller-of .ensures in
+    let k = looped .loop .k in
+    found-here (notMissing (a .xs .now)) (c .before .before .in-group .result) (a .from) k (at-smaller-of .smaller-of .result) (a .end) (s .above k (omega arith) (tested .loop-test .taken)) (s .right)
+    (c .before .before .in-group .ensures) (looped .loop .inv .1) (c .enum-told2 .given .0 .0) (c .enum-told2 .given .1)
 
 loop-less : tie.Need-loop-less Inv-loop μ-loop
 loop-less c =
-    let s = c .before .before .before .before .before .smaller-of .ensures in
-    let k = c .before .before .before .before .before .before .before .loop .k in
-    omega (arith, s .above k (omega arith) (c .before .before .before .before .before .before .loop-test .taken), s .right)
+    let at-smaller-of = c .before .before .before .before .before in
+    let tested = at-smaller-of .before in
+    let looped = tested .before in
+    let s = at-smaller-of .smaller-of .ensures in
+    let k = looped .loop .k in
+    omega (arith, s .above k (omega arith) (tested .loop-test .taken), s .right)
 
 loop-again : tie.Need-loop-again Inv-loop μ-loop
 loop-again c =
-    let a = c .before .before .before .before .before .before .before .before .before .args in
-    let s = c .before .before .before .before .before .smaller-of .ensures in
-    let k = c .before .before .before .before .before .before .before .loop .k in (
-      omega (arith, s .above k (omega arith) (c .before .before .before .before .before .before .loop-test .taken), c .before .before .before .before .before .before .before .loop .inv .0),
-      none-here (notMissing (a .xs .now)) (c .before .before .in-group .result) (a .from) k (c .before .before .before .before .before .smaller-of .result) (a .end) (s .above k (omega arith) (c .before .before .before .before .before .before .loop-test .taken)) (s .right)
-          (c .before .before .in-group .ensures) (c .before .before .before .before .before .before .before .loop .inv .1) (c .enum-told .given .1),
+    let at-smaller-of = c .before .before .before .before .before in
+    let tested = at-smaller-of .before in
+    let looped = tested .before in
+    let start = looped .before .before in
+    let a = start .args in
+    let s = at-smaller-of .smaller-of .ensures in
+    let k = looped .loop .k in (
+      omega (arith, s .above k (omega arith) (tested .loop-test .taken), looped .loop .inv .0),
+      none-here (notMissing (a .xs .now)) (c .before .before .in-group .result) (a .from) k (at-smaller-of .smaller-of .result) (a .end)
+          (s .above k (omega arith) (tested .loop-test .taken)) (s .right)
+          (c .before .before .in-group .ensures) (looped .loop .inv .1) (c .enum-told .given .1),
     )
 
 returns-2 : tie.Need-returns-2 Inv-loop μ-loop
 returns-2 c =
-    let a = c .before .before .before .args in
+    let start = c .before .before .before in
+    let a = start .args in
     sym (c .before .loop .inv .1 ∙ lowest-end (notMissing (a .xs .now)) (c .before .loop .k) (a .end) (c .loop-test .left))
 
 pub by-groups-spec : {M : Type 1} → statement M
 by-groups-spec =
     tie.close
-    (tie.spec Inv-loop μ-loop loop-holds add-smaller-of mul-smaller-of (λ c κs. search needs) (λ c κs. search needs) (λ c κs. search needs) in-group-requires (λ c. search needs) (λ c. search needs) returns loop-less loop-again returns-2)
+    (tie.spec Inv-loop μ-loop loop-holds add-smaller-of mul-smaller-of (λ c κs. search needs) (λ c κs. search needs) (λ c κs. search needs) in-group-requires (λ c. search needs)
+    (λ c. search needs) returns loop-less loop-again returns-2)

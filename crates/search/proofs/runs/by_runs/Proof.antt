@@ -27,36 +27,49 @@ mul-smaller-of c = let h = c .before .before .before .pre .0 in search needs
 
 in-run-requires : tie.Need-in-run-requires Inv-loop μ-loop
 in-run-requires c κs =
-    let a = c .before .before .before .before .args in
+    let start = c .before .before .before .before in
+    let a = start .args in
     let s = c .smaller-of .ensures in
     let k = c .before .before .loop .k in
-    (s .above k (omega arith) (c .before .loop-test .taken), run-in (a .xs .now) (a .n) k (c .smaller-of .result) (c .before .before .before .before .pre .0) (c .before .before .before .before .pre .1) (s .left) (s .right))
+    (s .above k (omega arith) (c .before .loop-test .taken), run-in (a .xs .now) (a .n) k (c .smaller-of .result) (start .pre .0) (start .pre .1) (s .left) (s .right))
 
 returns : tie.Need-returns Inv-loop μ-loop
 returns c =
-    let a = c .before .before .before .before .before .before .before .args in
-    let s = c .before .before .before .smaller-of .ensures in
-    let k = c .before .before .before .before .before .loop .k in
-    found-here (notMissing (a .xs .now)) (c .before .before .in-run .result) (a .from) k (c .before .before .before .smaller-of .result) (a .n) (s .above k (omega arith) (c .before .before .before .before .loop-test .taken)) (s .right)
-    (c .before .before .in-run .ensures) (c .before .before .before .before .before .loop .inv) (c .enum-told2 .given .0 .0) (c .enum-told2 .given .1)
+    let at-smaller-of = c .before .before .before in
+    let tested = at-smaller-of .before in
+    let looped = tested .before in
+    let start = looped .before .before in
+    let a = start .args in
+    let s = at-smaller-of .smaller-of .ensures in
+    let k = looped .loop .k in
+    found-here (notMissing (a .xs .now)) (c .before .before .in-run .result) (a .from) k (at-smaller-of .smaller-of .result) (a .n) (s .above k (omega arith) (tested .loop-test .taken)) (s .right)
+    (c .before .before .in-run .ensures) (looped .loop .inv) (c .enum-told2 .given .0 .0) (c .enum-told2 .given .1)
 
 loop-less : tie.Need-loop-less Inv-loop μ-loop
 loop-less c =
-    let s = c .before .before .before .smaller-of .ensures in
-    let k = c .before .before .before .before .before .loop .k in
-    omega (arith, s .above k (omega arith) (c .before .before .before .before .loop-test .taken), s .right)
+    let at-smaller-of = c .before .before .before in
+    let tested = at-smaller-of .before in
+    let looped = tested .before in
+    let s = at-smaller-of .smaller-of .ensures in
+    let k = looped .loop .k in
+    omega (arith, s .above k (omega arith) (tested .loop-test .taken), s .right)
 
 loop-again : tie.Need-loop-again Inv-loop μ-loop
 loop-again c =
-    let a = c .before .before .before .before .before .before .before .args in
-    let s = c .before .before .before .smaller-of .ensures in
-    let k = c .before .before .before .before .before .loop .k in
-    none-here (notMissing (a .xs .now)) (c .before .before .in-run .result) (a .from) k (c .before .before .before .smaller-of .result) (a .n) (s .above k (omega arith) (c .before .before .before .before .loop-test .taken)) (s .right)
-    (c .before .before .in-run .ensures) (c .before .before .before .before .before .loop .inv) (c .enum-told .given .1)
+    let at-smaller-of = c .before .before .before in
+    let tested = at-smaller-of .before in
+    let looped = tested .before in
+    let start = looped .before .before in
+    let a = start .args in
+    let s = at-smaller-of .smaller-of .ensures in
+    let k = looped .loop .k in
+    none-here (notMissing (a .xs .now)) (c .before .before .in-run .result) (a .from) k (at-smaller-of .smaller-of .result) (a .n) (s .above k (omega arith) (tested .loop-test .taken)) (s .right)
+    (c .before .before .in-run .ensures) (looped .loop .inv) (c .enum-told .given .1)
 
 returns-2 : tie.Need-returns-2 Inv-loop μ-loop
 returns-2 c =
-    let a = c .before .before .before .args in
+    let start = c .before .before .before in
+    let a = start .args in
     sym (c .before .loop .inv ∙ lowest-end (notMissing (a .xs .now)) (c .before .loop .k) (a .n) (c .loop-test .left))
 
 pub by-runs-spec : {M : Type 1} → statement M

@@ -1,7 +1,6 @@
 -- `search::runs::group_tuple` meets its contract. Assumes nothing.
 use Prim.Native.Nat.{_/_}
 use Rattle.search.proofs.Steps.{tuple-at, tuple-rest}
-use borrow.Author.Needs.{needs}
 use Rattle.search.proofs.runs.group_tuple.Statement.{statement}
 use Rattle.search.proofs.runs.group_tuple.Tie as tie
 

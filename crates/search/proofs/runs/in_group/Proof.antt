@@ -12,13 +12,16 @@ returns : tie.Need-returns
 returns c = let a = c .before .before .args in group-over (a .xs .now) (a .tuple) (a .from) (a .end) (c .before .before .pre) (c .if1 .taken)
 
 first-missing-requires : tie.Need-first-missing-requires
-first-missing-requires c κs = c .before .before .before .pre .room
+first-missing-requires c κs =
+    let entered = c .before .before .before in
+    entered .pre .room
 
 returns-2 : tie.Need-returns-2
 returns-2 c =
-    let a = c .before .before .before .before .args in
+    let start = c .before .before .before .before in
+    let a = start .args in
     c .first-missing .ensures ∙ ap (λ (k : ℕ). lowest (storedHeld (a .xs .now)) k (a .end - k)) (c .before .chunk-behind .ensures)
-    ∙ group-read (a .xs .now) (a .tuple) (a .from) (a .end) (c .before .before .before .before .pre) (c .before .before .if1 .left)
+    ∙ group-read (a .xs .now) (a .tuple) (a .from) (a .end) (start .pre) (c .before .before .if1 .left)
 
 pub in-group-spec : {M : Type 1} → statement M
 in-group-spec = tie.close (tie.spec returns (λ c κs. search needs) first-missing-requires returns-2)

@@ -17,14 +17,16 @@ run-tuples-requires c κs =
 
 returns : tie.Need-returns
 returns c =
-    let a = c .before .before .before .before .args in
-    run-over (a .xs .now) (storedTuples (a .xs .now) (a .from / 64)) (a .from) (a .end) (c .before .before .before .before .pre .1)
+    let start = c .before .before .before .before in
+    let a = start .args in
+    run-over (a .xs .now) (storedTuples (a .xs .now) (a .from / 64)) (a .from) (a .end) (start .pre .1)
     (sym (c .before .run-tuples .ensures ∙ ap (λ (j : ℕ). storedTuples (a .xs .now) (j / 64)) (c .before .before .chunk-behind .ensures)) ∙ c .if1 .taken)
 
 by-groups-requires : tie.Need-by-groups-requires
 by-groups-requires c κs =
-    let a = c .before .before .before .before .args in
-    let p = c .before .before .before .before .pre .1 in
+    let start = c .before .before .before .before in
+    let a = start .args in
+    let p = start .pre .1 in
     record {
       room = p .room;
       few = p .few;

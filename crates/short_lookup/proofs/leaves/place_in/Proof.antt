@@ -16,56 +16,86 @@ abbrev μ-loop : tie.MeasureT-loop
 μ-loop tree n chunk k₀ start₀ k start = chunk .0 - k .0
 
 returns : tie.Need-returns Inv-loop μ-loop
-returns c = let a = c .before .before .before .args in place-nine (a .tree .now) (a .n) (a .chunk .0) (c .if1 .taken)
+returns c =
+    let start = c .before .before .before in
+    let a = start .args in place-nine (a .tree .now) (a .n) (a .chunk .0) (c .if1 .taken)
 
 loop-holds : tie.Need-loop-holds Inv-loop μ-loop
-loop-holds c = let a = c .before .before .before .args in (omega arith, begun (leafFits (a .tree .now)) (a .tree .now) (a .chunk .0 + 1))
+loop-holds c =
+    let start = c .before .before .before in
+    let a = start .args in (omega arith, begun (leafFits (a .tree .now)) (a .tree .now) (a .chunk .0 + 1))
 
 leaf-index-requires : tie.Need-leaf-index-requires Inv-loop μ-loop
-leaf-index-requires c κs = omega (arith, c .loop .inv .0, c .before .before .before .before .pre .count)
+leaf-index-requires c κs =
+    let entered = c .before .before .before .before in
+    omega (arith, c .loop .inv .0, entered .pre .count)
 
 stored-size-requires : tie.Need-stored-size-requires Inv-loop μ-loop
 stored-size-requires c κs =
-    let a = c .before .before .before .before .before .args in
+    let start = c .before .before .before .before .before in
+    let a = start .args in
     let k = c .before .loop .k .0 in
     subst (EntryIn (a .tree .now)) (sym (c .leaf-index .ensures))
-    (leaf-in (a .tree .now) (a .n) k (c .before .before .before .before .before .pre) (omega (arith, c .before .loop .inv .0)))
+    (leaf-in (a .tree .now) (a .n) k (start .pre) (omega (arith, c .before .loop .inv .0)))
 
 returns-2 : tie.Need-returns-2 Inv-loop μ-loop
 returns-2 c =
-    let a = c .before .before .before .before .before .before .before .args in
-    let l = c .before .before .before .loop in
+    let looped = c .before .before .before in
+    let branch1 = looped .before in
+    let start = branch1 .before .before .before in
+    let a = start .args in
+    let l = looped .loop in
     let i = c .before .before .leaf-index in
     let z = c .before .stored-size in
-    place-long (a .tree .now) (a .n) (a .chunk .0) (l .k .0) (l .start .0) (i .result .0) (z .result) (c .before .before .before .before .if1 .left) (l .inv)
+    place-long (a .tree .now) (a .n) (a .chunk .0) (l .k .0) (l .start .0) (i .result .0) (z .result) (branch1 .if1 .left) (l .inv)
     (record { at = i .ensures; says = z .ensures }) (c .if2 .taken)
 
 returns-3 : tie.Need-returns-3 Inv-loop μ-loop
 returns-3 c =
-    let a = c .before .before .before .before .before .before .before .before .before .before .args in
-    let l = c .before .before .before .before .before .before .loop in
-    let i = c .before .before .before .before .before .leaf-index in
-    let z = c .before .before .before .before .stored-size in
-    place-here (a .tree .now) (a .n) (a .chunk .0) (l .k .0) (l .start .0) (i .result .0) (z .result) (c .before .before .before .before .before .before .before .if1 .left) (l .inv)
-    (record { at = i .ensures; says = z .ensures }) (c .before .before .before .if2 .left) (c .if3 .taken)
+    let branch2 = c .before .before .before in
+    let at-stored-size = branch2 .before in
+    let at-leaf-index = at-stored-size .before in
+    let looped = at-leaf-index .before in
+    let branch1 = looped .before in
+    let start = branch1 .before .before .before in
+    let a = start .args in
+    let l = looped .loop in
+    let i = at-leaf-index .leaf-index in
+    let z = at-stored-size .stored-size in
+    place-here (a .tree .now) (a .n) (a .chunk .0) (l .k .0) (l .start .0) (i .result .0) (z .result) (branch1 .if1 .left) (l .inv)
+    (record { at = i .ensures; says = z .ensures }) (branch2 .if2 .left) (c .if3 .taken)
 
 add-t14 : tie.Need-add-t14 Inv-loop μ-loop
-add-t14 c = omega (arith, c .before .before .before .before .before .before .before .loop .inv .0, c .before .before .before .before .before .before .before .loop .inv .1 .small, c .before .before .before .before .before .before .before .before .before .before .before .pre .count)
+add-t14 c =
+    let looped = c .before .before .before .before .before .before .before in
+    let entered = looped .before .before .before .before in
+    omega (arith, looped .loop .inv .0, looped .loop .inv .1 .small, entered .pre .count)
 
 add-t14-2 : tie.Need-add-t14-2 Inv-loop μ-loop
-add-t14-2 c = omega (arith, c .before .before .before .before .before .before .before .before .loop .inv .0, c .before .before .before .before .before .before .before .before .before .before .before .before .pre .count)
+add-t14-2 c =
+    let looped = c .before .before .before .before .before .before .before .before in
+    let entered = looped .before .before .before .before in
+    omega (arith, looped .loop .inv .0, entered .pre .count)
 
 loop-less : tie.Need-loop-less Inv-loop μ-loop
-loop-less c = omega (arith, c .before .before .before .before .before .before .before .before .loop .inv .0)
+loop-less c =
+    let looped = c .before .before .before .before .before .before .before .before in
+    omega (arith, looped .loop .inv .0)
 
 loop-again : tie.Need-loop-again Inv-loop μ-loop
 loop-again c =
-    let a = c .before .before .before .before .before .before .before .before .before .before .before .before .args in
-    let l = c .before .before .before .before .before .before .before .before .loop in
-    let i = c .before .before .before .before .before .before .before .leaf-index in
-    let z = c .before .before .before .before .before .before .stored-size in
-    place-on (a .tree .now) (a .n) (a .chunk .0) (l .k .0) (l .start .0) (i .result .0) (z .result) (c .before .before .before .before .before .before .before .before .before .if1 .left) (l .inv)
-    (record { at = i .ensures; says = z .ensures }) (c .before .before .before .before .before .if2 .left) (c .before .before .if3 .left)
+    let branch2 = c .before .before .before .before .before in
+    let at-stored-size = branch2 .before in
+    let at-leaf-index = at-stored-size .before in
+    let looped = at-leaf-index .before in
+    let branch1 = looped .before in
+    let start = branch1 .before .before .before in
+    let a = start .args in
+    let l = looped .loop in
+    let i = at-leaf-index .leaf-index in
+    let z = at-stored-size .stored-size in
+    place-on (a .tree .now) (a .n) (a .chunk .0) (l .k .0) (l .start .0) (i .result .0) (z .result) (branch1 .if1 .left) (l .inv)
+    (record { at = i .ensures; says = z .ensures }) (branch2 .if2 .left) (c .before .before .if3 .left)
 
 pub place-in-spec : {M : Type 1} → statement M
 place-in-spec =

@@ -8,7 +8,8 @@ use Rattle.station_table.proofs.words.enter.Tie as tie
 
 returns : tie.Need-returns
 returns c =
-    let a = c .before .before .before .args in
+    let start = c .before .before .before in
+    let a = start .args in
     entered-21 (a .table .now) (a .station) (record { register = a .register; chunk = a .chunk }) (c .refuse .result) (c .refuse .ensures) (omega (arith, c .before .if1 .taken))
 
 returns-2 : tie.Need-returns-2

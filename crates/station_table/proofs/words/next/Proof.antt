@@ -26,7 +26,8 @@ returns c =
     let l = counted .before .before in
     let t = l .before .before .before .args .table .now in
     c .turn-of .ensures
-    ∙ sym (l .loop .inv .1 ∙ meet-one t (getD t 160 0 % 16) (l .loop .k) (counted .count .result) (omega (arith, counted .before .loop-test .taken)) (counted .count .ensures .0) (c .before .if1 .taken))
+    ∙ sym (l .loop .inv .1 ∙ meet-one t (getD t 160 0 % 16) (l .loop .k) (counted .count .result) (omega (arith, counted .before .loop-test .taken)) (counted .count .ensures .0)
+    (c .before .if1 .taken))
 
 loop-again : tie.Need-loop-again Inv-loop μ-loop
 loop-again c =

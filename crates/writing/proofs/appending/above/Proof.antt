@@ -14,19 +14,38 @@ sub-node-index : tie.Need-sub-node-index
 sub-node-index c = let s = c .before in block-two (s .args .n) (s .args .d) (s .pre .few) (s .pre .depth)
 
 node-index-requires : tie.Need-node-index-requires
-node-index-requires c κs = let s = c .before in (omega (arith, completed-few (s .args .n) (s .args .d) (s .pre .few) (omega (arith, s .pre .depth))), omega (arith, s .pre .few, completed-block (s .args .n) (s .args .d) (s .pre .few) (omega (arith, s .pre .depth)) .1))
+node-index-requires c κs =
+    let s = c .before in (
+      omega (arith, completed-few (s .args .n) (s .args .d) (s .pre .few) (omega (arith, s .pre .depth))),
+      omega
+          (arith, s .pre .few, completed-block (s .args .n) (s .args .d) (s .pre .few) (omega (arith, s .pre .depth)) .1),
+    )
 
 stored-hash-requires : tie.Need-stored-hash-requires
 stored-hash-requires c κs = let s = c .before .before in sibling-in (s .args .tree .now) (s .args .n) (s .args .d) _ (s .pre .few) (s .pre .depth) (s .pre .room) (c .node-index .ensures)
 
 stored-size-requires : tie.Need-stored-size-requires
-stored-size-requires c κs = let s = c .before .before .before .before in sibling-in (s .args .tree .now) (s .args .n) (s .args .d) _ (s .pre .few) (s .pre .depth) (s .pre .room) (c .before .before .node-index .ensures)
+stored-size-requires c κs =
+    let start = c .before .before .before .before in
+    let s = start in sibling-in (s .args .tree .now) (s .args .n) (s .args .d) _ (s .pre .few) (s .pre .depth) (s .pre .room) (c .before .before .node-index .ensures)
 
 add-size : tie.Need-add-size
-add-size c = let s = c .before .before .before .before .before .before in record { fits = sum-fits (s .args .tree .now) (s .args .n) (s .args .d) _ _ (s .args .node .size) (c .before .before .before .before .node-index .ensures) (c .before .stored-size .ensures) (s .pre .sum) }
+add-size c =
+    let at-node-index = c .before .before .before .before in
+    let start = at-node-index .before .before in
+    let s = start in record {
+      fits = sum-fits (s .args .tree .now) (s .args .n) (s .args .d) _ _ (s .args .node .size) (at-node-index .node-index .ensures)
+          (c .before .stored-size .ensures) (s .pre .sum);
+    }
 
 returns : tie.Need-returns
-returns c = let a = c .before .before .before .before .before .before .before .before .before .args in node-above (a .tree .now) _ (a .node .hash) _ (a .n) (a .d) _ _ (a .node .size) (c .before .before .before .before .before .before .before .node-index .ensures) (c .before .before .before .before .before .before .stored-hash .ensures) (c .before .before .before .before .stored-size .ensures) (c .parent-hash .ensures)
+returns c =
+    let at-stored-size = c .before .before .before .before in
+    let at-stored-hash = at-stored-size .before .before in
+    let at-node-index = at-stored-hash .before in
+    let start = at-node-index .before .before in
+    let a = start .args in node-above (a .tree .now) _ (a .node .hash) _ (a .n) (a .d) _ _ (a .node .size) (at-node-index .node-index .ensures)
+    (at-stored-hash .stored-hash .ensures) (at-stored-size .stored-size .ensures) (c .parent-hash .ensures)
 
 pub above-spec : {M : Type 1} → statement M
 above-spec =

@@ -12,15 +12,28 @@ given c =
     (c .args .size)
 
 store-requires : tie.Need-store-requires
-store-requires c κs = store-fits (given (c .before .before .before .before .before .before .before .before .before .before .before .before .before .before)) (c .before .before .before .before .before .before .before .before .before .before .before .before .before .before .args .chunk .now) (c .before .before .before .before .before .judge .result) (c .before .before .before .enum-told .given .1) (c .before .before .before .before .before .judge .ensures)
+store-requires c κs =
+    let at-enum-told = c .before .before .before in
+    let at-judge = at-enum-told .before .before in
+    let start = at-judge .before .before .before .before .before .before .before .before .before in
+    store-fits (given start) (start .args .chunk .now) (at-judge .judge .result) (at-enum-told .enum-told .given .1) (at-judge .judge .ensures)
 
 returns : tie.Need-returns
-returns c = append-not (given (c .before .before .before .before .before .before .before .before .before .before .before .before)) (c .before .before .before .before .before .before .before .before .before .before .before .before .args .chunk .now) (c .before .before .before .judge .result) (c .before .found .given .0 .0) (c .before .found .given .1) (c .before .before .before .judge .ensures)
+returns c =
+    let at-judge = c .before .before .before in
+    let start = at-judge .before .before .before .before .before .before .before .before .before in
+    append-not (given start) (start .args .chunk .now) (at-judge .judge .result) (c .before .found .given .0 .0) (c .before .found .given .1) (at-judge .judge .ensures)
 
 returns-2 : tie.Need-returns-2
-returns-2 c = append-done (given (c .before .before .before .before .before .before .before .before .before .before .before .before .before .before .before .before .before .before .before .before .before)) (c .before .before .before .before .before .before .before .before .before .before .before .before .before .before .before .before .before .before .before .before .before .args .chunk .now) _ _ _ _ (c .before .before .before .before .before .before .before .before .before .before .before .before .judge .result) (c .before .before .before .before .before .before .before .before .before .before .enum-told .given .1) (c .before .before .before .before .before .before .before .before .before .before .before .before .judge .ensures) (c .before .before .before .before .before .before .store .ensures)
+returns-2 c =
+    let at-store = c .before .before .before .before .before .before in
+    let at-enum-told = at-store .before .before .before .before in
+    let at-judge = at-enum-told .before .before in
+    let start = at-judge .before .before .before .before .before .before .before .before .before in
+    append-done (given start) (start .args .chunk .now) _ _ _ _ (at-judge .judge .result) (at-enum-told .enum-told .given .1) (at-judge .judge .ensures) (at-store .store .ensures)
 
 pub append-spec : {M : Type 1} → statement M
 append-spec =
     tie.close
-    (tie.spec (λ c κs. search needs) (λ c. search needs) (λ c. search needs) store-requires (λ c. search needs) (λ c. search needs) (λ c. search needs) returns (λ c. search needs) (λ c. search needs) (λ c. search needs) returns-2)
+    (tie.spec (λ c κs. search needs) (λ c. search needs) (λ c. search needs) store-requires (λ c. search needs) (λ c. search needs) (λ c. search needs) returns (λ c. search needs)
+    (λ c. search needs) (λ c. search needs) returns-2)

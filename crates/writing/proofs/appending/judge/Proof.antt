@@ -17,16 +17,33 @@ given c =
     (c .args .size)
 
 returns : tie.Need-returns
-returns c = append-over (given (c .before .before .before .before .before .before .before)) (c .before .before .before .before .before .before .before .args .chunk .now) (said (c .refuse .result)) (c .before .if1 .taken) (c .refuse .ensures)
+returns c =
+    let start = c .before .before .before .before .before .before .before in
+    append-over (given start) (start .args .chunk .now) (said (c .refuse .result)) (c .before .if1 .taken) (c .refuse .ensures)
 
 judge-own-requires : tie.Need-judge-own-requires
-judge-own-requires c κs = (c .before .before .before .if1 .left, data-inside (given (c .before .before .before .before .before .before .before .before .before)) (c .before .before .judge-later .result) (c .enum-told .given .1) (c .before .before .judge-later .ensures))
+judge-own-requires c κs =
+    let branch1 = c .before .before .before in
+    let start = branch1 .before .before .before .before .before .before in
+    (branch1 .if1 .left, data-inside (given start) (c .before .before .judge-later .result) (c .enum-told .given .1) (c .before .before .judge-later .ensures))
 
 returns-2 : tie.Need-returns-2
-returns-2 c = append-within (given (c .before .before .before .before .before .before .before .before .before .before)) (c .before .before .before .before .before .before .before .before .before .before .args .chunk .now) _ (c .before .before .before .before .if1 .left) (refused-before (laterChecks (given (c .before .before .before .before .before .before .before .before .before .before))) (judged (ownChecks (given (c .before .before .before .before .before .before .before .before .before .before)) (c .before .before .before .before .before .before .before .before .before .before .args .chunk .now)) done) (c .before .before .before .judge-later .result) (c .before .found .given .0 .0) (c .before .found .given .1) (c .before .before .before .judge-later .ensures))
+returns-2 c =
+    let at-judge-later = c .before .before .before in
+    let branch1 = at-judge-later .before in
+    let start = branch1 .before .before .before .before .before .before in
+    append-within (given start) (start .args .chunk .now) _ (branch1 .if1 .left)
+    (refused-before (laterChecks (given start)) (judged (ownChecks (given start) (start .args .chunk .now)) done) (at-judge-later .judge-later .result)
+    (c .before .found .given .0 .0) (c .before .found .given .1) (at-judge-later .judge-later .ensures))
 
 returns-3 : tie.Need-returns-3
-returns-3 c = append-within (given (c .before .before .before .before .before .before .before .before .before .before)) (c .before .before .before .before .before .before .before .before .before .before .args .chunk .now) _ (c .before .before .before .before .if1 .left) (passed-before (laterChecks (given (c .before .before .before .before .before .before .before .before .before .before))) (said (c .judge-own .result)) (judged (ownChecks (given (c .before .before .before .before .before .before .before .before .before .before)) (c .before .before .before .before .before .before .before .before .before .before .args .chunk .now)) done) (c .before .before .before .judge-later .result) (c .before .enum-told .given .1) (c .before .before .before .judge-later .ensures) (c .judge-own .ensures))
+returns-3 c =
+    let at-judge-later = c .before .before .before in
+    let branch1 = at-judge-later .before in
+    let start = branch1 .before .before .before .before .before .before in
+    append-within (given start) (start .args .chunk .now) _ (branch1 .if1 .left)
+    (passed-before (laterChecks (given start)) (said (c .judge-own .result)) (judged (ownChecks (given start) (start .args .chunk .now)) done)
+    (at-judge-later .judge-later .result) (c .before .enum-told .given .1) (at-judge-later .judge-later .ensures) (c .judge-own .ensures))
 
 pub judge-spec : {M : Type 1} → statement M
 judge-spec =

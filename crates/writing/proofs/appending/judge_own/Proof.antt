@@ -18,24 +18,60 @@ given c =
     (c .args .size)
 
 returns : tie.Need-returns
-returns c = own-answered (given (c .before .before .before .before .before .before .before)) (c .before .before .before .before .before .before .before .args .chunk .now) (said (c .refuse .result)) false _ _ _ _ (lt-leb _ _ (c .before .if1 .taken)) refl refl refl refl (c .refuse .ensures)
+returns c =
+    let start = c .before .before .before .before .before .before .before in
+    own-answered (given start) (start .args .chunk .now) (said (c .refuse .result)) false _ _ _ _ (lt-leb _ _ (c .before .if1 .taken)) refl refl refl refl (c .refuse .ensures)
 
 returns-2 : tie.Need-returns-2
-returns-2 c = own-answered (given (c .before .before .before .before .before .before .before .before)) (c .before .before .before .before .before .before .before .before .args .chunk .now) (said (c .refuse2 .result)) true false _ _ _ (le-leb _ _ (c .before .before .if1 .left)) (ne-eqb _ _ (c .before .if2 .taken)) refl refl refl (c .refuse2 .ensures)
+returns-2 c =
+    let start = c .before .before .before .before .before .before .before .before in
+    own-answered (given start) (start .args .chunk .now) (said (c .refuse2 .result)) true false _ _ _ (le-leb _ _ (c .before .before .if1 .left))
+    (ne-eqb _ _ (c .before .if2 .taken)) refl refl refl (c .refuse2 .ensures)
 
 returns-3 : tie.Need-returns-3
-returns-3 c = let a = c .before .before .before .before .before .before .before .before .before .before .args in own-answered (given (c .before .before .before .before .before .before .before .before .before .before)) (a .chunk .now) (said (c .refuse3 .result)) true true false _ _ (le-leb _ _ (c .before .before .before .before .if1 .left)) (eq-eqb _ _ (c .before .before .before .if2 .left)) (short-of (a .tree .now) (c .before .before .used-tree .ensures) (c .before .if3 .taken)) refl refl (c .refuse3 .ensures)
+returns-3 c =
+    let branch2 = c .before .before .before in
+    let branch1 = branch2 .before in
+    let start = branch1 .before .before .before .before .before .before in
+    let a = start .args in own-answered (given start) (a .chunk .now) (said (c .refuse3 .result)) true true false _ _ (le-leb _ _ (branch1 .if1 .left))
+    (eq-eqb _ _ (branch2 .if2 .left)) (short-of (a .tree .now) (c .before .before .used-tree .ensures) (c .before .if3 .taken)) refl refl (c .refuse3 .ensures)
 
 returns-4 : tie.Need-returns-4
-returns-4 c = let a = c .before .before .before .before .before .before .before .before .before .before .before .before .args in own-answered (given (c .before .before .before .before .before .before .before .before .before .before .before .before)) (a .chunk .now) (said (c .refuse4 .result)) true true true false _ (le-leb _ _ (c .before .before .before .before .before .before .if1 .left)) (eq-eqb _ _ (c .before .before .before .before .before .if2 .left)) (long-of (a .tree .now) (c .before .before .before .before .used-tree .ensures) (c .before .before .before .if3 .left)) (short-of (a .bitfield .now) (c .before .before .used-bitfield .ensures) (c .before .if4 .taken)) refl (c .refuse4 .ensures)
+returns-4 c =
+    let branch3 = c .before .before .before in
+    let at-used-tree = branch3 .before in
+    let branch2 = at-used-tree .before in
+    let branch1 = branch2 .before in
+    let start = branch1 .before .before .before .before .before .before in
+    let a = start .args in own-answered (given start) (a .chunk .now) (said (c .refuse4 .result)) true true true false _ (le-leb _ _ (branch1 .if1 .left))
+    (eq-eqb _ _ (branch2 .if2 .left)) (long-of (a .tree .now) (at-used-tree .used-tree .ensures) (branch3 .if3 .left))
+    (short-of (a .bitfield .now) (c .before .before .used-bitfield .ensures) (c .before .if4 .taken)) refl (c .refuse4 .ensures)
 
 returns-5 : tie.Need-returns-5
-returns-5 c = let a = c .before .before .before .before .before .before .before .before .before .before .before .before .before .args in own-answered (given (c .before .before .before .before .before .before .before .before .before .before .before .before .before)) (a .chunk .now) (said (c .refuse5 .result)) true true true true false (le-leb _ _ (c .before .before .before .before .before .before .before .if1 .left)) (eq-eqb _ _ (c .before .before .before .before .before .before .if2 .left)) (long-of (a .tree .now) (c .before .before .before .before .before .used-tree .ensures) (c .before .before .before .before .if3 .left)) (long-of (a .bitfield .now) (c .before .before .before .used-bitfield .ensures) (c .before .before .if4 .left)) (lt-leb _ _ (c .before .if5 .taken)) (c .refuse5 .ensures)
+returns-5 c =
+    let at-used-bitfield = c .before .before .before in
+    let branch3 = at-used-bitfield .before in
+    let at-used-tree = branch3 .before in
+    let branch2 = at-used-tree .before in
+    let branch1 = branch2 .before in
+    let start = branch1 .before .before .before .before .before .before in
+    let a = start .args in own-answered (given start) (a .chunk .now) (said (c .refuse5 .result)) true true true true false (le-leb _ _ (branch1 .if1 .left))
+    (eq-eqb _ _ (branch2 .if2 .left)) (long-of (a .tree .now) (at-used-tree .used-tree .ensures) (branch3 .if3 .left))
+    (long-of (a .bitfield .now) (at-used-bitfield .used-bitfield .ensures) (c .before .before .if4 .left)) (lt-leb _ _ (c .before .if5 .taken)) (c .refuse5 .ensures)
 
 returns-6 : tie.Need-returns-6
-returns-6 c = let a = c .before .before .before .before .before .before .before .before .before .before .before .before .args in own-answered (given (c .before .before .before .before .before .before .before .before .before .before .before .before)) (a .chunk .now) done true true true true true (le-leb _ _ (c .before .before .before .before .before .before .if1 .left)) (eq-eqb _ _ (c .before .before .before .before .before .if2 .left)) (long-of (a .tree .now) (c .before .before .before .before .used-tree .ensures) (c .before .before .before .if3 .left)) (long-of (a .bitfield .now) (c .before .before .used-bitfield .ensures) (c .before .if4 .left)) (le-leb _ _ (c .if5 .left)) refl
+returns-6 c =
+    let branch3 = c .before .before .before in
+    let at-used-tree = branch3 .before in
+    let branch2 = at-used-tree .before in
+    let branch1 = branch2 .before in
+    let start = branch1 .before .before .before .before .before .before in
+    let a = start .args in own-answered (given start) (a .chunk .now) done true true true true true (le-leb _ _ (branch1 .if1 .left)) (eq-eqb _ _ (branch2 .if2 .left))
+    (long-of (a .tree .now) (at-used-tree .used-tree .ensures) (branch3 .if3 .left))
+    (long-of (a .bitfield .now) (c .before .before .used-bitfield .ensures) (c .before .if4 .left)) (le-leb _ _ (c .if5 .left)) refl
 
 pub judge-own-spec : {M : Type 1} → statement M
 judge-own-spec =
     tie.close
-    (tie.spec (λ c κs. search needs) returns (λ c κs. search needs) returns-2 (λ c. search needs) (λ c κs. search needs) (λ c κs. search needs) returns-3 (λ c. search needs) (λ c κs. search needs) (λ c κs. search needs) returns-4 (λ c. search needs) (λ c κs. search needs) returns-5 returns-6)
+    (tie.spec (λ c κs. search needs) returns (λ c κs. search needs) returns-2 (λ c. search needs) (λ c κs. search needs) (λ c κs. search needs) returns-3 (λ c. search needs)
+    (λ c κs. search needs) (λ c κs. search needs) returns-4 (λ c. search needs) (λ c κs. search needs) returns-5 returns-6)

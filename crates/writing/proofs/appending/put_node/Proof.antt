@@ -18,13 +18,21 @@ node-ending-requires c κs =
 
 write-entry-requires : tie.Need-write-entry-requires
 write-entry-requires c κs =
-    let a = c .before .before .before .before .before .before .args in
-    place-in (a .tree .now) (a .n) (a .d) _ (c .before .before .before .before .before .before .pre .few) (c .before .before .before .before .before .before .pre .depth) (c .before .before .before .before .before .before .pre .room) (c .before .before .before .node-ending .ensures ∙ ap (ending (a .d)) (c .before .before .before .before .chunk-behind .ensures))
+    let at-node-ending = c .before .before .before in
+    let at-chunk-behind = at-node-ending .before in
+    let start = at-chunk-behind .before .before in
+    let a = start .args in
+    place-in (a .tree .now) (a .n) (a .d) _ (start .pre .few) (start .pre .depth) (start .pre .room)
+    (at-node-ending .node-ending .ensures ∙ ap (ending (a .d)) (at-chunk-behind .chunk-behind .ensures))
 
 returns : tie.Need-returns
 returns c =
-    let a = c .before .before .before .before .before .before .before .before .before .args in
-    node-put (a .tree .now) _ (a .node .hash) (a .n) (a .d) (a .node .size) _ (c .before .before .before .before .before .before .node-ending .ensures ∙ ap (ending (a .d)) (c .before .before .before .before .before .before .before .chunk-behind .ensures)) (c .before .before .write-entry .ensures)
+    let at-node-ending = c .before .before .before .before .before .before in
+    let at-chunk-behind = at-node-ending .before in
+    let start = at-chunk-behind .before .before in
+    let a = start .args in
+    node-put (a .tree .now) _ (a .node .hash) (a .n) (a .d) (a .node .size) _ (at-node-ending .node-ending .ensures ∙ ap (ending (a .d)) (at-chunk-behind .chunk-behind .ensures))
+    (c .before .before .write-entry .ensures)
 
 pub put-node-spec : {M : Type 1} → statement M
 put-node-spec = tie.close (tie.spec (λ c κs. search needs) node-ending-requires write-entry-requires (λ c. search needs) returns)

@@ -23,7 +23,9 @@ parents : (c : tie.After-completed Inv-loop μ-loop) → c .completed .result �
 parents c = c .completed .ensures ∙ ap completed (c .before .chunk-behind .ensures)
 
 -- the file with one entry more
-step : (c : tie.After-put-node Inv-loop μ-loop) → Going (c .before .before .before .before .before .before .before .args .tree .now) (c .before .before .before .before .before .before .before .args .n) (entryOf (c .before .before .before .before .before .before .before .args .leaf)) (c .before .before .before .loop .d + 1) (c .put-node .last .0)
+step : (c : tie.After-put-node Inv-loop μ-loop) → Going (c .before .before .before .before .before .before .before .args .tree .now)
+    (c .before .before .before .before .before .before .before .args .n) (entryOf (c .before .before .before .before .before .before .before .args .leaf))
+    (c .before .before .before .loop .d + 1) (c .put-node .last .0)
 step c =
     let s = c .before .before .before .before .before .before .before in
     let l = c .before .before .before .loop in
@@ -34,31 +36,47 @@ below : (c : tie.In-loop Inv-loop μ-loop) → c .before .loop .d < completed (c
 below c = omega (arith, c .loop-test .taken, parents (c .before .before))
 
 loop-holds : tie.Need-loop-holds Inv-loop μ-loop
-loop-holds c = let s = c .before .before .before in (search needs, made-first (s .args .tree .now) (s .args .n) (entryOf (s .args .leaf)), going-none (s .args .tree .now) (s .args .n) (entryOf (s .args .leaf)))
+loop-holds c =
+    let s = c .before .before .before in (search needs, made-first (s .args .tree .now) (s .args .n) (entryOf (s .args .leaf)), going-none (s .args .tree .now) (s .args .n) (entryOf (s .args .leaf)))
 
 put-node-requires : tie.Need-put-node-requires Inv-loop μ-loop
-put-node-requires c κs = let s = c .before .before .before .before .before .before in record { few = s .pre .few; depth = omega (arith, below (c .before)); room = omega (arith, s .pre .room, c .before .before .loop .inv .2 .long) }
+put-node-requires c κs =
+    let start = c .before .before .before .before .before .before in
+    let s = start in record { few = s .pre .few; depth = omega (arith, below (c .before)); room = omega (arith, s .pre .room, c .before .before .loop .inv .2 .long) }
 
 above-requires : tie.Need-above-requires Inv-loop μ-loop
 above-requires c κs =
-    let s = c .before .before .before .before .before .before .before .before .before .before in
+    let earlier = c .before .before .before in
+    let earlier-2 = earlier .before .before in
+    let looped = earlier-2 .before in
+    let s = looped .before .before .before .before in
     record {
       few = s .pre .few;
-      depth = below (c .before .before .before .before .before);
-      room = omega (arith, s .pre .room, step (c .before .before .before) .long);
-      sum = above-fits (s .args .tree .now) (s .args .n) (entryOf (s .args .leaf)) (c .before .before .before .before .before .before .loop .d) _ (entryOf (c .before .before .before .before .before .before .loop .node)) (s .pre .few) (below (c .before .before .before .before .before)) (s .pre .sum) (step (c .before .before .before)) (c .before .before .before .before .before .before .loop .inv .1);
+      depth = below earlier-2;
+      room = omega (arith, s .pre .room, step earlier .long);
+      sum =
+          above-fits (s .args .tree .now) (s .args .n) (entryOf (s .args .leaf)) (looped .loop .d) _ (entryOf (looped .loop .node)) (s .pre .few) (below earlier-2) (s .pre .sum)
+          (step earlier) (looped .loop .inv .1);
     }
 
 loop-again : tie.Need-loop-again Inv-loop μ-loop
 loop-again c =
-    let s = c .before .before .before .before .before .before .before .before .before .before .before in (
-      omega (arith, c .before .before .before .before .before .before .loop-test .taken),
-      above-made (s .args .tree .now) (s .args .n) (entryOf (s .args .leaf)) (c .before .before .before .before .before .before .before .loop .d) _ (entryOf (c .before .before .before .before .before .before .before .loop .node)) _ (s .pre .few) (below (c .before .before .before .before .before .before)) (step (c .before .before .before .before)) (c .before .before .before .before .before .before .before .loop .inv .1) (c .above .ensures),
-      step (c .before .before .before .before),
+    let earlier = c .before .before .before .before in
+    let tested = earlier .before .before in
+    let looped = tested .before in
+    let start = looped .before .before .before .before in
+    let s = start in (
+      omega (arith, tested .loop-test .taken),
+      above-made (s .args .tree .now) (s .args .n) (entryOf (s .args .leaf)) (looped .loop .d) _ (entryOf (looped .loop .node)) _ (s .pre .few) (below tested) (step earlier)
+          (looped .loop .inv .1) (c .above .ensures),
+      step earlier,
     )
 
 put-node-requires-2 : tie.Need-put-node-requires-2 Inv-loop μ-loop
-put-node-requires-2 c κs = let s = c .before .before .before .before .before .before in record { few = s .pre .few; depth = omega (arith, c .before .before .loop .inv .0, parents (c .before .before .before)); room = omega (arith, s .pre .room, c .before .before .loop .inv .2 .long) }
+put-node-requires-2 c κs =
+    let earlier = c .before .before .before in
+    let start = earlier .before .before .before in
+    let s = start in record { few = s .pre .few; depth = omega (arith, c .before .before .loop .inv .0, parents earlier); room = omega (arith, s .pre .room, c .before .before .loop .inv .2 .long) }
 
 returns : tie.Need-returns Inv-loop μ-loop
 returns c =
@@ -73,4 +91,5 @@ returns c =
 pub write-filled-spec : {M : Type 1} → statement M
 write-filled-spec =
     tie.close
-    (tie.spec Inv-loop μ-loop (λ c κs. search needs) (λ c κs. search needs) loop-holds put-node-requires above-requires (λ c. search needs) (λ c. search needs) loop-again put-node-requires-2 (λ c. search needs) returns)
+    (tie.spec Inv-loop μ-loop (λ c κs. search needs) (λ c κs. search needs) loop-holds put-node-requires above-requires (λ c. search needs) (λ c. search needs)
+    loop-again put-node-requires-2 (λ c. search needs) returns)

@@ -12,13 +12,21 @@ given c =
     (c .args .size)
 
 stored-root-hash-requires : tie.Need-stored-root-hash-requires
-stored-root-hash-requires c κs = root-fits (given (c .before .before .before .before .before .before .before)) (c .before .before .judge .result) (c .enum-told .given .1) (c .before .before .judge .ensures)
+stored-root-hash-requires c κs =
+    let start = c .before .before .before .before .before .before .before in
+    root-fits (given start) (c .before .before .judge .result) (c .enum-told .given .1) (c .before .before .judge .ensures)
 
 returns : tie.Need-returns
-returns c = root-not (given (c .before .before .before .before .before .before .before .before)) (c .before .before .before .judge .result) (c .before .found .given .0 .0) (c .before .found .given .1) (c .before .before .before .judge .ensures)
+returns c =
+    let at-judge = c .before .before .before in
+    let start = at-judge .before .before .before .before .before in
+    root-not (given start) (at-judge .judge .result) (c .before .found .given .0 .0) (c .before .found .given .1) (at-judge .judge .ensures)
 
 returns-2 : tie.Need-returns-2
-returns-2 c = root-done (given (c .before .before .before .before .before .before .before .before)) _ (c .before .before .before .judge .result) (c .before .enum-told .given .1) (c .before .before .before .judge .ensures) (c .stored-root-hash .ensures)
+returns-2 c =
+    let at-judge = c .before .before .before in
+    let start = at-judge .before .before .before .before .before in
+    root-done (given start) _ (at-judge .judge .result) (c .before .enum-told .given .1) (at-judge .judge .ensures) (c .stored-root-hash .ensures)
 
 pub root-hash-spec : {M : Type 1} → statement M
 root-hash-spec =

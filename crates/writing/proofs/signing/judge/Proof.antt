@@ -17,13 +17,25 @@ given c =
     (c .args .size)
 
 judge-own-requires : tie.Need-judge-own-requires
-judge-own-requires c κs = counts-right (given (c .before .before .before .before .before .before .before)) (c .before .before .judge .result) (c .enum-told .given .1) (c .before .before .judge .ensures)
+judge-own-requires c κs =
+    let start = c .before .before .before .before .before .before .before in
+    counts-right (given start) (c .before .before .judge .result) (c .enum-told .given .1) (c .before .before .judge .ensures)
 
 returns : tie.Need-returns
-returns c = let a = c .before .before .before .before .before .before .before .before .args in sign-by (given (c .before .before .before .before .before .before .before .before)) _ (refused-before (registerChecks (given (c .before .before .before .before .before .before .before .before))) (judged (ownSignChecks (a .signatures .now) (a .n) (a .s)) done) (c .before .before .before .judge .result) (c .before .found .given .0 .0) (c .before .found .given .1) (c .before .before .before .judge .ensures))
+returns c =
+    let at-judge = c .before .before .before in
+    let start = at-judge .before .before .before .before .before in
+    let a = start .args in sign-by (given start) _
+    (refused-before (registerChecks (given start)) (judged (ownSignChecks (a .signatures .now) (a .n) (a .s)) done) (at-judge .judge .result) (c .before .found .given .0 .0)
+    (c .before .found .given .1) (at-judge .judge .ensures))
 
 returns-2 : tie.Need-returns-2
-returns-2 c = let a = c .before .before .before .before .before .before .before .before .args in sign-by (given (c .before .before .before .before .before .before .before .before)) _ (passed-before (registerChecks (given (c .before .before .before .before .before .before .before .before))) (said (c .judge-own .result)) (judged (ownSignChecks (a .signatures .now) (a .n) (a .s)) done) (c .before .before .before .judge .result) (c .before .enum-told .given .1) (c .before .before .before .judge .ensures) (c .judge-own .ensures))
+returns-2 c =
+    let at-judge = c .before .before .before in
+    let start = at-judge .before .before .before .before .before in
+    let a = start .args in sign-by (given start) _
+    (passed-before (registerChecks (given start)) (said (c .judge-own .result)) (judged (ownSignChecks (a .signatures .now) (a .n) (a .s)) done) (at-judge .judge .result)
+    (c .before .enum-told .given .1) (at-judge .judge .ensures) (c .judge-own .ensures))
 
 pub judge-spec : {M : Type 1} → statement M
 judge-spec =

@@ -13,17 +13,31 @@ given c =
     (c .args .size)
 
 used-signatures-requires : tie.Need-used-signatures-requires
-used-signatures-requires c κs = sign-fits (given (c .before .before .before .before .before .before .before .before)) (c .before .before .judge .result) (c .enum-told .given .1) (c .before .before .judge .ensures) .0
+used-signatures-requires c κs =
+    let start = c .before .before .before .before .before .before .before .before in
+    sign-fits (given start) (c .before .before .judge .result) (c .enum-told .given .1) (c .before .before .judge .ensures) .0
 
 copy-to-requires : tie.Need-copy-to-requires
 copy-to-requires c κs =
-    omega (arith, c .before .before .used-signatures .ensures, sign-fits (given (c .before .before .before .before .before .before .before .before .before .before .before)) (c .before .before .before .before .before .judge .result) (c .before .before .before .enum-told .given .1) (c .before .before .before .before .before .judge .ensures) .1)
+    let at-enum-told = c .before .before .before in
+    let at-judge = at-enum-told .before .before in
+    let start = at-judge .before .before .before .before .before .before in
+    omega (arith, c .before .before .used-signatures .ensures, sign-fits (given start) (at-judge .judge .result) (at-enum-told .enum-told .given .1) (at-judge .judge .ensures) .1)
 
 returns : tie.Need-returns
-returns c = sign-not (given (c .before .before .before .before .before .before .before .before .before)) (c .before .before .before .before .before .before .before .before .before .args .signature .now) (c .before .before .before .judge .result) (c .before .found .given .0 .0) (c .before .found .given .1) (c .before .before .before .judge .ensures)
+returns c =
+    let at-judge = c .before .before .before in
+    let start = at-judge .before .before .before .before .before .before in
+    sign-not (given start) (start .args .signature .now) (at-judge .judge .result) (c .before .found .given .0 .0) (c .before .found .given .1) (at-judge .judge .ensures)
 
 returns-2 : tie.Need-returns-2
-returns-2 c = sign-done (given (c .before .before .before .before .before .before .before .before .before .before .before .before .before .before)) (c .before .before .before .before .before .before .before .before .before .before .before .before .before .before .args .signature .now) _ _ (c .before .before .before .before .before .before .before .before .judge .result) (c .before .before .before .before .before .before .enum-told .given .1) (c .before .before .before .before .before .before .before .before .judge .ensures) (c .before .before .before .before .before .used-signatures .ensures) (c .before .before .copy-to .ensures)
+returns-2 c =
+    let at-used-signatures = c .before .before .before .before .before in
+    let at-enum-told = at-used-signatures .before in
+    let at-judge = at-enum-told .before .before in
+    let start = at-judge .before .before .before .before .before .before in
+    sign-done (given start) (start .args .signature .now) _ _ (at-judge .judge .result) (at-enum-told .enum-told .given .1) (at-judge .judge .ensures)
+    (at-used-signatures .used-signatures .ensures) (c .before .before .copy-to .ensures)
 
 pub store-signature-spec : {M : Type 1} → statement M
 store-signature-spec =

@@ -12,18 +12,32 @@ abbrev given : (c : tie.Start) → Buffers
 given c = lent (c .args .tree .now) (c .args .signatures .now) (c .args .bitfield .now) (c .args .content .now)
 
 returns : tie.Need-returns
-returns c = start-not (given (c .before .before .before .before .before .before)) (said (c .refuse .result)) (λ f. omega (arith, f .tree, c .before .if1 .taken)) (c .refuse .ensures)
+returns c =
+    let start = c .before .before .before .before .before .before in
+    start-not (given start) (said (c .refuse .result)) (λ f. omega (arith, f .tree, c .before .if1 .taken)) (c .refuse .ensures)
 
 returns-2 : tie.Need-returns-2
-returns-2 c = start-not (given (c .before .before .before .before .before .before .before)) (said (c .refuse2 .result)) (λ f. omega (arith, f .signatures, c .before .if2 .taken)) (c .refuse2 .ensures)
+returns-2 c =
+    let start = c .before .before .before .before .before .before .before in
+    start-not (given start) (said (c .refuse2 .result)) (λ f. omega (arith, f .signatures, c .before .if2 .taken)) (c .refuse2 .ensures)
 
 returns-3 : tie.Need-returns-3
-returns-3 c = start-not (given (c .before .before .before .before .before .before .before .before)) (said (c .refuse3 .result)) (λ f. omega (arith, f .bitfield, c .before .if3 .taken)) (c .refuse3 .ensures)
+returns-3 c =
+    let start = c .before .before .before .before .before .before .before .before in
+    start-not (given start) (said (c .refuse3 .result)) (λ f. omega (arith, f .bitfield, c .before .if3 .taken)) (c .refuse3 .ensures)
 
 returns-4 : tie.Need-returns-4
-returns-4 c = let a = c .before .before .before .before .before .before .before .before .before .before .before .before .before .before .before .before .before .args in start-done (a .tree .now) (a .signatures .now) (a .bitfield .now) (a .content .now) _ _ _ (record { tree = c .before .before .before .before .before .before .before .before .before .before .before .before .if1 .left; signatures = c .before .before .before .before .before .before .before .before .before .before .before .if2 .left; bitfield = c .before .before .before .before .before .before .before .before .before .before .if3 .left }) (c .before .before .before .before .before .before .write-headers .ensures)
+returns-4 c =
+    let at-write-headers = c .before .before .before .before .before .before in
+    let branch3 = at-write-headers .before .before .before .before in
+    let branch2 = branch3 .before in
+    let branch1 = branch2 .before in
+    let start = branch1 .before .before .before .before .before in
+    let a = start .args in start-done (a .tree .now) (a .signatures .now) (a .bitfield .now) (a .content .now) _ _ _
+    (record { tree = branch1 .if1 .left; signatures = branch2 .if2 .left; bitfield = branch3 .if3 .left }) (at-write-headers .write-headers .ensures)
 
 pub start-spec : {M : Type 1} → statement M
 start-spec =
     tie.close
-    (tie.spec (λ c κs. search needs) returns (λ c κs. search needs) returns-2 (λ c κs. search needs) returns-3 (λ c κs. search needs) (λ c. search needs) (λ c. search needs) (λ c. search needs) returns-4)
+    (tie.spec (λ c κs. search needs) returns (λ c κs. search needs) returns-2 (λ c κs. search needs) returns-3 (λ c κs. search needs) (λ c. search needs) (λ c. search needs)
+    (λ c. search needs) returns-4)

@@ -5,9 +5,17 @@ use Rattle.writing.proofs.starting.write_headers.Statement.{statement}
 use Rattle.writing.proofs.starting.write_headers.Tie as tie
 
 returns : tie.Need-returns
-returns c = headers-put _ _ _ _ _ _ _ _ _ (c .before .before .before .before .before .before .before .before .before .before .before .before .before .before .before .before .before .tree-header .ensures) (c .before .before .before .before .before .before .before .before .before .before .before .signatures-header .ensures) (c .before .before .before .before .before .bitfield-header .ensures) (c .before .before .before .before .before .before .before .before .before .before .before .before .before .before .write-header .ensures) (c .before .before .before .before .before .before .before .before .write-header2 .ensures) (c .before .before .write-header3 .ensures)
+returns c =
+    let at-bitfield-header = c .before .before .before .before .before in
+    let at-write-header2 = at-bitfield-header .before .before .before in
+    let at-signatures-header = at-write-header2 .before .before .before in
+    let at-write-header = at-signatures-header .before .before .before in
+    let at-tree-header = at-write-header .before .before .before in
+    headers-put _ _ _ _ _ _ _ _ _ (at-tree-header .tree-header .ensures) (at-signatures-header .signatures-header .ensures) (at-bitfield-header .bitfield-header .ensures)
+    (at-write-header .write-header .ensures) (at-write-header2 .write-header2 .ensures) (c .before .before .write-header3 .ensures)
 
 pub write-headers-spec : {M : Type 1} → statement M
 write-headers-spec =
     tie.close
-    (tie.spec (λ c κs. search needs) (λ c κs. search needs) (λ c κs. search needs) (λ c κs. search needs) (λ c κs. search needs) (λ c κs. search needs) (λ c. search needs) (λ c. search needs) (λ c. search needs) returns)
+    (tie.spec (λ c κs. search needs) (λ c κs. search needs) (λ c κs. search needs) (λ c κs. search needs) (λ c κs. search needs) (λ c κs. search needs) (λ c. search needs)
+    (λ c. search needs) (λ c. search needs) returns)

@@ -1,0 +1,2 @@
+-- What C is answered by the calls on journals, proved.
+pub mod Laws

@@ -1,0 +1,2 @@
+-- Laws of stored leaf entries of a copy.
+pub mod Calls

@@ -1,0 +1,2 @@
+-- The stored entry of a leaf of a copy.
+pub mod StoredLeaf

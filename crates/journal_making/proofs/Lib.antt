@@ -1,0 +1,4 @@
+-- Making a journal, proved.
+pub mod Numbers
+pub mod Puts
+pub mod Answers

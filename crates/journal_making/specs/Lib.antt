@@ -1,0 +1,2 @@
+-- Making a journal.
+pub mod Making

@@ -1,0 +1,2 @@
+-- A file as it is, held against a journal.
+pub mod Between

@@ -1,0 +1,61 @@
+-- `parts_audit::tree_part` meets its contract. Assumes nothing.
+use mathlib.Core.Path.{ap}
+use borrow.Author.Needs.{needs}
+use Rattle.refusals.specs.Verdict.{done}
+use Rattle.refusals.specs.Meaning.{said}
+use Rattle.blake2b.specs.Hash.{nodeHash}
+use Rattle.file_format.specs.Belongs.{Register}
+use Rattle.checks.specs.Lent.{registerOf}
+use Rattle.audit.proofs.Whole.{files-in}
+use Rattle.parts_audit.proofs.Laws.{end-most, tree-refused, tree-says}
+use Rattle.parts_audit.proofs.tree_part.Statement.{statement}
+use Rattle.parts_audit.proofs.tree_part.Tie as tie
+
+abbrev given : tie.Start → Register
+given c =
+    registerOf (c .args .tree .now) (c .args .signatures .now) (c .args .bitfield .now) (c .args .content .now) (c .args .n) (c .args .s) (c .args .size)
+
+returns : tie.Need-returns
+returns c =
+    let s = c .before .before .before .before .before .before .before in
+    let judge = c .before .before .judge in
+    let enum-told2 = c .enum-told2 in
+    tree-refused nodeHash (given s) (s .args .from .0) (s .args .to .0) (judge .result) (judge .ensures) _ (enum-told2 .given .1)
+
+entry-count-requires : tie.Need-entry-count-requires
+entry-count-requires c κs =
+    let s = c .before .before .before .before .before .before .before in
+    let judge = c .before .before .judge in
+    let enum-told = c .enum-told in
+    files-in (given s) done (judge .result) (judge .ensures) (ap said (enum-told .given .1)) .nodes .count
+
+wrong-between-requires : tie.Need-wrong-between-requires
+wrong-between-requires c κs =
+    let at-judge = c .before .before .before .before in
+    let s = at-judge .before .before .before .before .before in
+    let judge = at-judge .judge in
+    let enum-told = c .before .before .enum-told in
+    let lesser = c .lesser in
+    let entry-count = c .before .entry-count in (
+      files-in (given s) done (judge .result) (judge .ensures) (ap said (enum-told .given .1)),
+      end-most (lesser .result) (s .args .to .0) (entry-count .result) _ (lesser .ensures) (entry-count .ensures),
+    )
+
+returns-2 : tie.Need-returns-2
+returns-2 c =
+    let at-enum-told = c .before .before .before in
+    let at-judge = at-enum-told .before .before in
+    let s = at-judge .before .before .before .before .before in
+    let judge = at-judge .judge in
+    let enum-told = at-enum-told .enum-told in
+    let wrong-between = c .wrong-between in
+    let lesser = c .before .lesser in
+    let entry-count = c .before .before .entry-count in
+    tree-says nodeHash (given s) (s .args .from .0) (s .args .to .0) (judge .result) (judge .ensures) (ap said (enum-told .given .1)) (said (wrong-between .result))
+    (lesser .result) (entry-count .result) (entry-count .ensures) (lesser .ensures) (wrong-between .ensures)
+
+pub tree-part-spec : {M : Type 1} → statement M
+tree-part-spec =
+    tie.close
+    (tie.spec (λ c κs. search needs) (λ c. search needs) (λ c. search needs) returns entry-count-requires (λ c κs. search needs) wrong-between-requires
+    returns-2)

@@ -1,0 +1,4 @@
+-- Parts of a register's audit, and what answers say together.
+pub mod Range
+pub mod Part
+pub mod Together

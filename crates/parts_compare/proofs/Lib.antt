@@ -1,0 +1,2 @@
+-- Laws of the parts of the comparing walk.
+pub mod Laws

@@ -1,0 +1,2 @@
+-- Parts of the comparing walk.
+pub mod Part

@@ -1,0 +1,2 @@
+-- Laws of the parts of a copy's audit.
+pub mod Laws

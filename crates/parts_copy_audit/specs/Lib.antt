@@ -1,0 +1,2 @@
+-- Parts of a copy's audit.
+pub mod Part

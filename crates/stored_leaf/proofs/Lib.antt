@@ -1,0 +1,3 @@
+-- Laws of stored leaf entries.
+pub mod Calls
+pub mod Answers

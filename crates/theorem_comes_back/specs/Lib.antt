@@ -1,0 +1,2 @@
+-- A released piece of a register comes back.
+pub mod ComesBack

@@ -1,0 +1,4 @@
+-- Laws of what calls leave of a copy.
+pub mod Stay
+pub mod Releases
+pub mod Kept

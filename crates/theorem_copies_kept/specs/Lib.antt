@@ -1,0 +1,2 @@
+-- What calls leave of a copy.
+pub mod Theorems

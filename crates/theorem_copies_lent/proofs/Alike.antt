@@ -1,0 +1,280 @@
+-- The proof of `LentForAll`, call by call. Assumes nothing.
+use Prim.Native.Nat.{ℕ, _+_, _-_}
+use mathlib.Core.Path.{_≡_, refl, sym, ap, ap₂, _∙_}
+use mathlib.Core.Bool.{Bool, true, false, cond}
+use mathlib.Core.List.{List, [], _∷_}
+use borrow.Author.Tests.{leb-true, ltb-true, ltb-false, leb-false}
+use lib.Dec.{leb, ltb}
+use lib.ListN.{length}
+use Rattle.refusals.specs.Verdict.{Verdict, tree, done, refused, unlessRefused}
+use Rattle.byte_strings.specs.Lists.{part, sameList, zeros}
+use Rattle.byte_strings.specs.Lowest.{Lowest, lowest}
+use Rattle.tree_index.specs.Tree.{index, roots}
+use Rattle.bitfield.specs.Release.{storedHeld}
+use Rattle.file_format.specs.Messages.{leafMessage}
+use Rattle.file_format.specs.Stored.{storedHash, storedSize, storedRootMessage}
+use Rattle.file_format.specs.Belongs.{Register, Buffers, buffersOf}
+use Rattle.checks.specs.Checks.{Check, judged, registerChecks, holds}
+use Rattle.checks.proofs.Judged.{judged-same}
+use Rattle.writing.specs.Append.{rootUnlessRefused}
+use Rattle.writing.specs.RootHash.{rootVerdict, rootAnswer}
+use Rattle.audit.specs.Audit.{refusedAt}
+use Rattle.audit.proofs.Audited.{accepted-audited}
+use Rattle.prefix_root.specs.PrefixRoot.{ownChecks, prefixVerdict, prefixRoot}
+use Rattle.lookup.specs.Descent.{Ending}
+use Rattle.lookup.specs.Lookup.{Found, foundUnless, chunkOf, startOf, stopRefused, toChunk, toByte, placeVerdict, heldVerdict, byteVerdict, placeOf, heldPlaceOf, byteAt}
+use Rattle.lookup.specs.Read.{chunkBytes, andThen, partUnless, readVerdict, readPart}
+use Rattle.lookup.specs.Meaning.{readFound}
+use Rattle.release.specs.Release.{releaseVerdict, releasedRegister, afterRelease}
+use Rattle.search.specs.Search.{soughtUnless, firstMissing, searchFor}
+use Rattle.short_lookup.specs.ShortLookup.{shortPlaceIn, shortByteIn, foundBehind, shortPlaceOf, shortByteAt, shortSearchFor}
+use Rattle.short_lookup.proofs.Walks.{place-nine, byte-nine}
+use Rattle.record_find.specs.ChunkRecords.{headerAfter, nodeAfter, pathAfter, headerIn, pathIn}
+use Rattle.record_find.specs.Finding.{findBy, findIn}
+use Rattle.packet.specs.Packet.{packetOf, roomOr14, outUnless, lengthUnless, makeVerdict, afterMake, madeLength}
+use Rattle.copy_checks.specs.Copy.{Copy, known, filesOf, unsigned, lentAsCopy}
+use Rattle.copy_checks.specs.Checks.{copyJudged}
+use Rattle.lookup.specs.Unknown.{firstUnknown}
+use Rattle.copy_lookup.specs.Lookups.{copyPlaceVerdict, copyHeldVerdict, copyByteVerdict, copyPlaceOf, copyHeldPlaceOf, copyByteAt}
+use Rattle.copy_lookup.specs.Reading.{copyReadVerdict, copyReadPart, copyReadFound}
+use Rattle.copy_roots.specs.Roots.{rootUnless, copyRootVerdict, copyRootAnswer, copyPrefixVerdict, copyPrefixRoot, copySearch}
+use Rattle.copy_short_lookup.specs.Leaves.{leavesToChunk, leavesToByte}
+use Rattle.copy_short_lookup.specs.Short.{unknownAmong, copyShortPlaceVerdict, copyShortByteVerdict, copyShortPlaceOf, copyShortByteAt, copyShortSearch}
+use Rattle.copy_packet.specs.Making.{copyMakeVerdict, copyAfterMake, copyMadeLength}
+use Rattle.copy_release.specs.Release.{copyReleaseVerdict, releasedCopy, copyAfterRelease}
+use Rattle.copy_records.specs.Records.{copyHeader, copyPath, copyFind}
+use Rattle.theorem_copies_agree.specs.Theorems.{AllKnown}
+use Rattle.theorem_copies_agree.proofs.Known.{short-chunk-known, short-byte-known}
+use Rattle.theorem_copy_audit.specs.Theorems.{SignaturesPass}
+use Rattle.theorem_copy_audit.proofs.Registers.{all-known, lent-sound, lent-signed}
+use Rattle.theorem_copy_audit.proofs.Sound.{sound-accepted}
+use Rattle.theorem_copies_lent.specs.Theorems.{filesIn, LentAlike, LentForAll}
+use Rattle.theorem_copies_lent.proofs.Checked.{to-chunk, to-byte, roots-known, checks-same, behind-same}
+
+module _ (F : List ℕ → List ℕ) (r : Register) (all : AllKnown (lentAsCopy r)) (g : SignaturesPass r) where
+  abbrev c : Copy
+  c = lentAsCopy r
+
+  abbrev size : ℕ → ℕ
+  size i = storedSize (r .tree) (index 0 i)
+
+  abbrev nine : ℕ → List Check
+  nine i = record { number = 9; right = ltb i (r .n) } ∷ []
+
+  abbrev nineByte : ℕ → List Check
+  nineByte b = record { number = 9; right = leb b (r .size) } ∷ []
+
+  -- ---- lookups
+
+  same-place : (i : ℕ) → copyPlaceOf c i ≡ placeOf r i
+  unfolding copyPlaceOf copyPlaceVerdict placeOf placeVerdict
+  same-place i =
+      ap (λ (e : Ending). foundUnless (copyJudged c (judged (nine i) (stopRefused e))) (startOf e) (size i)) (to-chunk r all i)
+      ∙ ap (λ (v : Verdict). foundUnless v (startOf (toChunk r i)) (size i)) (behind-same r all g (nine i) (stopRefused (toChunk r i)))
+
+  abbrev gone : ℕ → Ending → Verdict
+  gone i e = cond (storedHeld (r .bitfield) i) (stopRefused e) (refused 18 (tree (index 0 i)))
+
+  same-held : (i : ℕ) → copyHeldVerdict c i ≡ heldVerdict r i
+  unfolding copyHeldVerdict heldVerdict
+  same-held i = ap (λ (e : Ending). copyJudged c (judged (nine i) (gone i e))) (to-chunk r all i) ∙ behind-same r all g (nine i) (gone i (toChunk r i))
+
+  same-held-place : (i : ℕ) → copyHeldPlaceOf c i ≡ heldPlaceOf r i
+  unfolding copyHeldPlaceOf heldPlaceOf
+  same-held-place i = ap₂ (λ (v : Verdict) (e : Ending). foundUnless v (startOf e) (size i)) (same-held i) (to-chunk r all i)
+
+  same-byte : (b : ℕ) → copyByteAt c b ≡ byteAt r b
+  unfolding copyByteAt copyByteVerdict byteAt byteVerdict
+  same-byte b =
+      ap (λ (e : Ending). foundUnless (copyJudged c (judged (nineByte b) (stopRefused e))) (chunkOf e) (b - startOf e)) (to-byte r all b)
+      ∙ ap (λ (v : Verdict). foundUnless v (chunkOf (toByte r b)) (b - startOf (toByte r b))) (behind-same r all g (nineByte b) (stopRefused (toByte r b)))
+
+  same-search : (from : ℕ) → copySearch c from ≡ searchFor r from
+  unfolding copySearch searchFor
+  same-search from = ap (λ (v : Verdict). soughtUnless v (firstMissing (r .bitfield) (r .n) from)) (checks-same r all g done)
+
+  same-short-search : (from : ℕ) → copyShortSearch c from ≡ shortSearchFor r from
+  unfolding copyShortSearch shortSearchFor
+  same-short-search from = ap (λ (v : Verdict). soughtUnless v (lowest (storedHeld (r .bitfield)) from (r .n - from))) (checks-same r all g done)
+
+  -- a verdict of a call's own that leaves what a short lookup finds as it is, behind the checks
+  then-found : (w : Verdict) (x : Found) → foundBehind w x ≡ x → foundBehind (judged (registerChecks r) w) x ≡ foundBehind (judged (registerChecks r) done) x
+  unfolding judged
+  then-found w x e = go (registerChecks r)
+    where
+      go : (cs : List Check) → foundBehind (judged cs w) x ≡ foundBehind (judged cs done) x
+      go [] = e
+      go (k ∷ cs) = pick (k .right) (go cs)
+        where
+          pick : (b : Bool) → foundBehind (judged cs w) x ≡ foundBehind (judged cs done) x
+              → foundBehind (judged (record { number = k .number; right = b } ∷ cs) w) x ≡ foundBehind (judged (record { number = k .number; right = b } ∷ cs) done) x
+          pick true q = q
+          pick false q = refl
+
+  same-short-place : (i : ℕ) → copyShortPlaceOf c i ≡ shortPlaceOf r i
+  unfolding copyShortPlaceOf copyShortPlaceVerdict shortPlaceOf unknownAmong refusedAt judged
+  same-short-place i =
+      let own : Verdict = judged (nine i) (unknownAmong c (leavesToChunk (r .tree) i)) in
+      ap (λ (v : Verdict). foundBehind v (shortPlaceIn (r .tree) (r .n) i)) (checks-same r all g own)
+      ∙ then-found own (shortPlaceIn (r .tree) (r .n) i) (pick (ltb i (r .n)) refl)
+    where
+      pick : (x : Bool) → ltb i (r .n) ≡ x
+          → foundBehind (judged (record { number = 9; right = x } ∷ []) (unknownAmong c (leavesToChunk (r .tree) i))) (shortPlaceIn (r .tree) (r .n) i)
+          ≡ shortPlaceIn (r .tree) (r .n) i
+      pick true e =
+          ap (λ (l : Lowest). foundBehind (refusedAt 20 tree l done) (shortPlaceIn (r .tree) (r .n) i)) (short-chunk-known c all i (ltb-true i (r .n) e))
+      pick false e = place-nine (r .tree) (r .n) i (ltb-false i (r .n) e)
+
+  same-short-byte : (b : ℕ) → copyShortByteAt c b ≡ shortByteAt r b
+  unfolding copyShortByteAt copyShortByteVerdict shortByteAt unknownAmong refusedAt judged
+  same-short-byte b =
+      let own : Verdict = judged (nineByte b) (unknownAmong c (leavesToByte (r .tree) (r .n) (r .size) b)) in
+      ap (λ (v : Verdict). foundBehind v (shortByteIn (r .tree) (r .n) (r .size) b)) (checks-same r all g own)
+      ∙ then-found own (shortByteIn (r .tree) (r .n) (r .size) b) (pick (leb b (r .size)) refl)
+    where
+      pick : (x : Bool) → leb b (r .size) ≡ x
+          → foundBehind (judged (record { number = 9; right = x } ∷ []) (unknownAmong c (leavesToByte (r .tree) (r .n) (r .size) b))) (shortByteIn (r .tree) (r .n) (r .size) b)
+          ≡ shortByteIn (r .tree) (r .n) (r .size) b
+      pick true e =
+          ap (λ (l : Lowest). foundBehind (refusedAt 20 tree l done) (shortByteIn (r .tree) (r .n) (r .size) b)) (short-byte-known c all b)
+      pick false e = byte-nine (r .tree) (r .n) (r .size) b (leb-false b (r .size) e)
+
+  -- ---- hashes and bytes
+
+  same-root : copyRootVerdict c ≡ rootVerdict r
+  unfolding copyRootVerdict rootVerdict
+  same-root = checks-same r all g done
+
+  unless-same : (v : Verdict) → rootUnless F v (r .tree) (r .n) ≡ rootUnlessRefused F v r
+  unless-same done = refl
+  unless-same (refused m at) = refl
+
+  same-root-hash : copyRootAnswer F c ≡ rootAnswer F r
+  unfolding copyRootAnswer rootAnswer
+  same-root-hash = ap (λ (v : Verdict). rootUnless F v (r .tree) (r .n)) same-root ∙ unless-same (rootVerdict r)
+
+  same-old : (m : ℕ) → copyPrefixVerdict c m ≡ prefixVerdict r m
+  unfolding copyPrefixVerdict prefixVerdict refusedAt
+  same-old m =
+      ap (copyJudged c)
+      (judged-same (ownChecks (r .n) m) (refusedAt 20 tree (firstUnknown (known c) (roots m)) done) done
+      (λ p. ap (λ (l : Lowest). refusedAt 20 tree l done) (roots-known r all m (leb-true m (r .n) (p .0)))))
+      ∙ behind-same r all g (ownChecks (r .n) m) done
+
+  same-old-root : (m : ℕ) → copyPrefixRoot F c m ≡ prefixRoot F r m
+  unfolding copyPrefixRoot prefixRoot
+  same-old-root m = ap (λ (v : Verdict). unlessRefused v (F (storedRootMessage (r .tree) m)) (zeros 32)) (same-old m)
+
+  same-bytes : (i : ℕ) → chunkBytes (unsigned c) i ≡ chunkBytes r i
+  unfolding chunkBytes toChunk
+  same-bytes i = refl
+
+  same-read : (i : ℕ) → copyReadVerdict F c i ≡ readVerdict F r i
+  unfolding copyReadVerdict readVerdict
+  same-read i =
+      ap₂ (λ (v : Verdict) (bytes : List ℕ). andThen v (cond (sameList (storedHash (r .tree) (index 0 i)) (F (leafMessage bytes))) done (refused 10 (tree (index 0 i)))))
+      (same-held i) (same-bytes i)
+
+  same-part : (i : ℕ) → copyReadPart F c i ≡ readPart F r i
+  unfolding copyReadPart readPart
+  same-part i = ap₂ (partUnless F) (same-read i) (same-bytes i)
+
+  same-found : (i : ℕ) → copyReadFound F c i ≡ readFound F r i
+  unfolding copyReadFound readFound toChunk
+  same-found i = ap (λ (v : Verdict). foundUnless v (startOf (toChunk r i)) (startOf (toChunk r i) + size i)) (same-read i)
+
+  -- ---- what is written
+
+  same-release : (i : ℕ) → copyReleaseVerdict c i ≡ releaseVerdict r i
+  unfolding copyReleaseVerdict releaseVerdict
+  same-release i = same-held i
+
+  same-released : (i : ℕ) → releasedCopy c i ≡ lentAsCopy (releasedRegister r i)
+  unfolding releasedCopy releasedRegister toChunk
+  same-released i = refl
+
+  files-of : (v : Verdict) (a b : Buffers) → unlessRefused v (filesIn a) (filesIn b) ≡ filesIn (unlessRefused v a b)
+  files-of done a b = refl
+  files-of (refused m at) a b = refl
+
+  same-files : (i : ℕ) → copyAfterRelease c i ≡ filesIn (afterRelease r i)
+  unfolding copyAfterRelease afterRelease
+  same-files i =
+      ap₂ (λ (v : Verdict) (d : Copy). unlessRefused v (filesOf d) (filesOf c)) (same-release i) (same-released i)
+      ∙ files-of (releaseVerdict r i) (buffersOf (releasedRegister r i)) (buffersOf r)
+
+  same-packet : (i : ℕ) → packetOf (unsigned c) i ≡ packetOf r i
+  unfolding packetOf chunkBytes toChunk
+  same-packet i = refl
+
+  same-make : (i : ℕ) (out : List ℕ) → copyMakeVerdict F c i out ≡ makeVerdict F r i out
+  unfolding copyMakeVerdict makeVerdict
+  same-make i out = ap₂ (λ (v : Verdict) (p : List ℕ). andThen v (roomOr14 (holds out (length p)))) (same-read i) (same-packet i)
+
+  same-long : (i : ℕ) (out : List ℕ) → copyMadeLength F c i out ≡ madeLength F r i out
+  unfolding copyMadeLength madeLength
+  same-long i out = ap₂ lengthUnless (same-make i out) (same-packet i)
+
+  same-made : (i : ℕ) (out : List ℕ) → copyAfterMake F c i out ≡ afterMake F r i out
+  unfolding copyAfterMake afterMake
+  same-made i out = ap₂ (λ (v : Verdict) (p : List ℕ). outUnless v p out) (same-make i out) (same-packet i)
+
+  -- ---- records
+
+  same-header : (i : ℕ) → copyHeader F c i ≡ headerIn F r i
+  same-header i = ap₂ (λ (v : Verdict) (d : List ℕ). headerAfter v d i) (same-read i) (same-part i)
+
+  same-path : (i : ℕ) (path : List ℕ) → copyPath F c i path ≡ pathIn F r i path
+  same-path i path = ap₂ (λ (v : Verdict) (d : List ℕ). pathAfter v d i path) (same-read i) (same-part i)
+
+  same-find : (path : List ℕ) → copyFind F c path ≡ findIn F r path
+  same-find path = (λ j. findBy (λ i. same-path i path j) (checks-same r all g done j) (same-header 0 j .0) (r .n))
+
+  pub alike : LentAlike F r
+  alike =
+      record {
+        lookups =
+            record {
+              place = same-place;
+              heldPlace = same-held-place;
+              byte = same-byte;
+              search = same-search;
+              shortPlace = same-short-place;
+              shortByte = same-short-byte;
+              shortSearch = same-short-search;
+            };
+        reads =
+            record {
+              rootVerdicts = same-root;
+              root = same-root-hash;
+              oldVerdicts = same-old;
+              oldRoot = same-old-root;
+              verdict = same-read;
+              part = same-part;
+              found = same-found;
+            };
+        writes =
+            record {
+              releaseVerdicts = same-release;
+              released = same-released;
+              files = same-files;
+              makeVerdicts = same-make;
+              long = same-long;
+              packet = same-made;
+            };
+        records =
+            record {
+              header = same-header;
+              node = λ i. ap₂ (λ (v : Verdict) (d : List ℕ). nodeAfter v d i) (same-read i) (same-part i);
+              path = same-path;
+              find = same-find;
+            };
+      }
+
+pub lent-for-all : LentForAll
+lent-for-all =
+    record {
+      every = alike;
+      accepted = λ F r e.
+          let a = accepted-audited F r e in (alike F r (all-known F r a) (lent-signed F r a), sound-accepted F (lentAsCopy r) (lent-sound F r a) ∙ sym e);
+    }

@@ -1,0 +1,2 @@
+-- A register that is lent as a copy.
+pub mod Theorems

@@ -1,0 +1,2 @@
+-- What the audit of a copy accepts.
+pub mod Theorems

@@ -1,0 +1,2 @@
+-- Packets that are made from copies.
+pub mod CopyPackets

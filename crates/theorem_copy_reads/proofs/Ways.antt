@@ -1,0 +1,382 @@
+-- Where a descent meets an unknown entry: at a root that is not right of the sought one, or at a child of a parent that it visits. Assumes nothing.
+use Prim.Native.Nat.{ℕ, zero, suc, _+_, _*_, _/_, _^_, _≤_, _<_}
+use mathlib.Core.Path.{_≡_, refl, sym, ap, _∙_, subst}
+use mathlib.Core.Bool.{Bool, true, false, cond, _||_}
+use mathlib.Core.Logic.{_⊎_, inl, inr}
+use mathlib.Core.List.{List, [], _∷_, _++_, append-assoc, map, map-append}
+use native.Mathlib.Nat.{add-zero}
+use native.Mathlib.Omega.{arith}
+use borrow.Author.Tests.{leb-true, ltb-true, ltb-false, eqb-true, eq-eqb, lt-ltb, le-ltb}
+use lib.Dec.{leb, ltb, eqb}
+use Rattle.refusals.specs.Verdict.{Spot, Verdict, none, tree, done, refused}
+use Rattle.byte_strings.specs.Lists.{run, total, among}
+use Rattle.byte_strings.specs.Lowest.{Lowest, nowhere, first, lowest}
+use Rattle.byte_strings.proofs.Lists.{total-append}
+use Rattle.tree_index.specs.Tree.{index, depth, block, roots}
+use Rattle.tree_index.proofs.Index.{index-of}
+use Rattle.bitfield.specs.Release.{storedHeld}
+use Rattle.file_format.specs.Sizes.{longestChunk, mostChunks}
+use Rattle.file_format.specs.Stored.{storedSize}
+use Rattle.checks.specs.Checks.{Check, judged, addsUp}
+use Rattle.checks.proofs.Judged.{AllRight, judged-right}
+use Rattle.audit.specs.Audit.{refusedAt}
+use Rattle.lookup.specs.Descent.{Ending, stopped, reached, unknown, ifKnown, chunkWithin, byteWithin, descend, fromRoots, descent}
+use Rattle.lookup.specs.Lookup.{stopRefused, byteEnding}
+use Rattle.lookup.specs.Unknown.{firstUnknown}
+use Rattle.lookup.specs.Theorems.{Right, Visits, fromRoot, toLeft, toRight, HoldsChunk, HoldsByte}
+use Rattle.packet.specs.Packet.{rootAbove}
+use Rattle.packet.specs.Inner.{ChunkOf}
+use Rattle.theorem_taking_laws.proofs.Descents.{Half, inLeft, inRight, halves, block-above}
+use Rattle.theorem_used_bytes.proofs.Lookups.{choose}
+use Rattle.copy_checks.specs.Copy.{Copy, known}
+use Rattle.copy_checks.specs.Checks.{lentChecks, unknownRoot, sizeCheck, copyJudged}
+use Rattle.copy_checks.specs.Descents.{copyToChunk, copyToByte}
+use Rattle.copy_checks.proofs.Steps.{lent-passed}
+use Rattle.copy_lookup.specs.Lookups.{copyPlaceVerdict, copyHeldVerdict, copyByteVerdict}
+use Rattle.short_lookup.specs.ShortLookup.{leafFits, leafPassed}
+use Rattle.short_lookup.proofs.Answers.{lowest-says}
+use Rattle.copy_short_lookup.specs.Leaves.{leavesBelow, walkedTo, leavesToChunk, leavesToByte}
+use Rattle.copy_short_lookup.specs.Short.{unknownAmong, copyShortPlaceVerdict, copyShortByteVerdict}
+use Rattle.copy_roots.specs.Roots.{copyPrefixVerdict}
+use Rattle.theorem_copy_reads.specs.Ways.{ChunkBehind, ByteBehind, RootOnWay, ChildOnWay, Met, Meets, Twenty, LeafBelow, Twenties, MeetsForAll}
+
+-- ---- a descent, for what is sought by any test
+
+-- what holds of the blocks that a descent comes to (`Has`), and of the roots that it passed (`Behind`)
+pub record Sought (within : ℕ → ℕ → ℕ → ℕ → Bool) (t : List ℕ) (n : ℕ) (Behind : List ℕ → Type 0) (Has : ℕ → ℕ → ℕ → Type 0) : Type 0 where
+  pub left : (d k s : ℕ) → Has (suc d) k s → within d (2 * k) s (storedSize t (index d (2 * k))) ≡ true → Has d (2 * k) s
+  pub right : (d k s : ℕ) → Right t (suc d) k → Has (suc d) k s → within d (2 * k) s (storedSize t (index d (2 * k))) ≡ false
+      → Has d (2 * k + 1) (s + storedSize t (index d (2 * k)))
+  pub none : Behind []
+  pub past : (before : List ℕ) (i : ℕ) → Behind before → within (depth i) (block i) (total (map (storedSize t) before)) (storedSize t i) ≡ false
+      → Behind (before ++ (i ∷ []))
+  pub top : (before : List ℕ) (i : ℕ) (after : List ℕ) → roots n ≡ before ++ (i ∷ after) → Behind before
+      → within (depth i) (block i) (total (map (storedSize t) before)) (storedSize t i) ≡ true → Has (depth i) (block i) (total (map (storedSize t) before))
+
+module _ (known : ℕ → Bool) (within : ℕ → ℕ → ℕ → ℕ → Bool) (t : List ℕ) (n : ℕ) (Behind : List ℕ → Type 0) (Has : ℕ → ℕ → ℕ → Type 0)
+    (sought : Sought within t n Behind Has) where
+  abbrev Way : ℕ → Type 0
+  Way j = RootOnWay n Behind j ⊎ ChildOnWay t n Has j
+
+  abbrev On : Ending → Type 0
+  On (stopped i) = Unit {0}
+  On (reached k s) = Unit {0}
+  On (unknown j) = (known j ≡ false) × Way j
+
+  -- an entry of the way is read
+  read : (i : ℕ) (e : Ending) → Way i → On e → On (ifKnown (known i) i e)
+  read i e w h = go (known i) refl
+    where
+      go : (b : Bool) → known i ≡ b → On (ifKnown b i e)
+      go true f = h
+      go false f = (f, w)
+
+  below : (d k s : ℕ) → Visits t n d k s → Has d k s → On (descend known within t d k s)
+  unfolding descend
+  below zero k s v h = pick (leb (storedSize t (index 0 k)) longestChunk)
+    where
+      pick : (b : Bool) → On (choose b (reached k s) (stopped (index 0 k)))
+      pick true = tt
+      pick false = tt
+  below (suc d) k s v h =
+      read l (ifKnown (known r) r (on sum)) (inr (record { d = d; k = k; start = s; visited = v; has = h; here = inl refl }))
+      (read r (on sum) (inr (record { d = d; k = k; start = s; visited = v; has = h; here = inr refl })) (pick (below d) sum refl))
+    where
+      l : ℕ
+      l = index d (2 * k)
+
+      r : ℕ
+      r = index d (2 * k + 1)
+
+      sum : Bool
+      sum = eqb (storedSize t (index (suc d) k)) (storedSize t l + storedSize t r)
+
+      child : Bool → Ending
+      child b = choose b (descend known within t d (2 * k) s) (descend known within t d (2 * k + 1) (s + storedSize t l))
+
+      on : Bool → Ending
+      on b = choose b (child (within d (2 * k) s (storedSize t l))) (stopped (index (suc d) k))
+
+      turn : ((k s : ℕ) → Visits t n d k s → Has d k s → On (descend known within t d k s)) → Right t (suc d) k → (b : Bool)
+          → within d (2 * k) s (storedSize t l) ≡ b → On (child b)
+      turn rec e true w = rec (2 * k) s (toLeft d k s v e) (sought .left d k s h w)
+      turn rec e false w = rec (2 * k + 1) (s + storedSize t l) (toRight d k s v e) (sought .right d k s e h w)
+
+      pick : ((k s : ℕ) → Visits t n d k s → Has d k s → On (descend known within t d k s)) → (b : Bool) → sum ≡ b → On (on b)
+      pick rec true e =
+          turn rec (eqb-true (storedSize t (index (suc d) k)) (storedSize t l + storedSize t r) e) (within d (2 * k) s (storedSize t l)) refl
+      pick rec false e = tt
+
+  abbrev len : List ℕ → ℕ
+  len before = total (map (storedSize t) before)
+
+  from : (is before : List ℕ) → roots n ≡ before ++ is → Behind before → On (fromRoots known within t is (len before))
+  unfolding fromRoots total
+  from [] before e p = tt
+  from (i ∷ is) before e p =
+      read i (on (within (depth i) (block i) (len before) (storedSize t i))) (inl (record { before = before; after = is; here = e; behind = p }))
+      (pick (from is) (within (depth i) (block i) (len before) (storedSize t i)) refl)
+    where
+      on : Bool → Ending
+      on b = choose b (descend known within t (depth i) (block i) (len before)) (fromRoots known within t is (len before + storedSize t i))
+
+      sum : len (before ++ (i ∷ [])) ≡ len before + storedSize t i
+      sum =
+          ap total (map-append (storedSize t) before (i ∷ [])) ∙ total-append (map (storedSize t) before) (storedSize t i ∷ [])
+          ∙ ap (λ (x : ℕ). len before + x) (add-zero (storedSize t i))
+
+      pick : ((before : List ℕ) → roots n ≡ before ++ is → Behind before → On (fromRoots known within t is (len before))) → (b : Bool)
+          → within (depth i) (block i) (len before) (storedSize t i) ≡ b → On (on b)
+      pick rec true w =
+          below (depth i) (block i) (len before)
+          (fromRoot before is (depth i) (block i) (e ∙ ap (λ (x : ℕ). before ++ (x ∷ is)) (sym (index-of i)))) (sought .top before i is e p w)
+      pick rec false w =
+          subst (λ (x : ℕ). On (fromRoots known within t is x)) sum
+          (rec (before ++ (i ∷ [])) (e ∙ sym (append-assoc before (i ∷ []) is)) (sought .past before i p w))
+
+  pub descent-on : (j : ℕ) → descent known within t n ≡ unknown j → (known j ≡ false) × Way j
+  unfolding descent total
+  descent-on j e = subst On e (from (roots n) [] refl (sought .none))
+
+-- ---- a chunk, and a byte
+
+behind-more : (c : ℕ) (before : List ℕ) (i : ℕ) → ChunkBehind c before → (block i + 1) * 2 ^ depth i ≤ c → ChunkBehind c (before ++ (i ∷ []))
+behind-more c [] i p h = (h, tt)
+behind-more c (x ∷ before) i p h = (p .0, behind-more c before i (p .1) h)
+
+-- the root above a chunk is the first that ends behind it
+above-is : (c : ℕ) (before : List ℕ) (i : ℕ) (after : List ℕ) → ChunkBehind c before → c < (block i + 1) * 2 ^ depth i
+    → rootAbove (before ++ (i ∷ after)) c ≡ i
+unfolding rootAbove
+above-is c [] i after p h = ap (λ (b : Bool). elim b [ true ↦ i | false ↦ rootAbove after c ]) (lt-ltb c ((block i + 1) * 2 ^ depth i) h)
+above-is c (x ∷ before) i after p h =
+    ap (λ (b : Bool). elim b [ true ↦ x | false ↦ rootAbove (before ++ (i ∷ after)) c ]) (le-ltb c ((block x + 1) * 2 ^ depth x) (p .0))
+    ∙ above-is c before i after (p .1) h
+
+chunk-sought : (t : List ℕ) (n c : ℕ) → ChunkOf n c → Sought (chunkWithin c) t n (ChunkBehind c) (HoldsChunk c)
+unfolding chunkWithin
+chunk-sought t n c h =
+    record {
+      left = λ d k s e w. pick-left d k (halves c d k e) (ltb-true c ((2 * k + 1) * 2 ^ d) w);
+      right = λ d k s r e w. pick-right d k (halves c d k e) (ltb-false c ((2 * k + 1) * 2 ^ d) w);
+      none = tt;
+      past = λ before i p w. behind-more c before i p (ltb-false c ((block i + 1) * 2 ^ depth i) w);
+      top = λ before i after e p w.
+          let q : rootAbove (roots n) c ≡ i =
+          ap (λ (l : List ℕ). rootAbove l c) e ∙ above-is c before i after p (ltb-true c ((block i + 1) * 2 ^ depth i) w) in
+          subst (λ (x : ℕ). block x ≡ c / 2 ^ depth x) q (block-above t c n h);
+    }
+  where
+    pick-left : (d k : ℕ) → Half c d k → c < (2 * k + 1) * 2 ^ d → 2 * k ≡ c / 2 ^ d
+    pick-left d k (inLeft p l r w) m = sym p
+    pick-left d k (inRight p l r w) m = absurd (omega arith)
+
+    pick-right : (d k : ℕ) → Half c d k → (2 * k + 1) * 2 ^ d ≤ c → 2 * k + 1 ≡ c / 2 ^ d
+    pick-right d k (inLeft p l r w) m = absurd (omega arith)
+    pick-right d k (inRight p l r w) m = sym p
+
+byte-sought : (t : List ℕ) (n b : ℕ) → Sought (byteWithin b) t n (ByteBehind t b) (HoldsByte t b)
+unfolding byteWithin total
+byte-sought t n b =
+    record {
+      left = λ d k s h w. (h .0, ltb-true b (s + storedSize t (index d (2 * k))) w);
+      right = λ d k s r h w. (ltb-false b (s + storedSize t (index d (2 * k))) w, omega (arith, h .1, r));
+      none = omega arith;
+      past = λ before i p w.
+          let q : total (map (storedSize t) (before ++ (i ∷ []))) ≡ total (map (storedSize t) before) + storedSize t i =
+          ap total (map-append (storedSize t) before (i ∷ [])) ∙ total-append (map (storedSize t) before) (storedSize t i ∷ [])
+          ∙ ap (λ (x : ℕ). total (map (storedSize t) before) + x) (add-zero (storedSize t i)) in
+          omega (arith, q, ltb-false b (total (map (storedSize t) before) + storedSize t i) w);
+      top = λ before i after e p w.
+          (p, subst (λ (x : ℕ). b < total (map (storedSize t) before) + storedSize t x) (sym (index-of i)) (ltb-true b (total (map (storedSize t) before) + storedSize t i) w));
+    }
+
+meets : (c : Copy) → Meets c
+unfolding copyToChunk copyToByte byteEnding
+meets c =
+    record {
+      chunk = λ i few below j e.
+          let q = descent-on (known c) (chunkWithin i) (c .tree) (c .n) (ChunkBehind i) (HoldsChunk i)
+          (chunk-sought (c .tree) (c .n) i (record { count = few; below = below })) j e in
+          record { unknown = q .0; way = q .1 };
+      byte = λ b j e. at b j (eqb b (c .size)) e;
+    }
+  where
+    at : (b j : ℕ) (x : Bool) → choose x (reached (c .n) (c .size)) (descent (known c) (byteWithin b) (c .tree) (c .n)) ≡ unknown j
+        → Met c (ByteBehind (c .tree) b) (HoldsByte (c .tree) b) j
+    at b j true e = let z : _≡_ {A = ℕ} 0 1 = cc in absurd (omega arith)
+    at b j false e =
+        let q = descent-on (known c) (byteWithin b) (c .tree) (c .n) (ByteBehind (c .tree) b) (HoldsByte (c .tree) b) (byte-sought (c .tree) (c .n) b) j e in
+        record { unknown = q .0; way = q .1 }
+
+-- ---- a call's 20
+
+-- no check has this number
+abbrev Others : ℕ → List Check → Type 0
+Others m [] = Unit {0}
+Others m (c ∷ cs) = (c .number ≡ m → ⊥) × Others m cs
+
+-- so it comes from behind them
+behind-others : (m : ℕ) (at : Spot) (cs : List Check) (next : Verdict) → Others m cs → judged cs next ≡ refused m at → AllRight cs × (next ≡ refused m at)
+unfolding judged
+behind-others m at [] next o e = (tt, e)
+behind-others m at (c ∷ cs) next o e = pick (c .right) refl e (behind-others m at cs next (o .1))
+  where
+    pick : (b : Bool) → c .right ≡ b → cond b (judged cs next) (refused (c .number) none) ≡ refused m at
+        → (judged cs next ≡ refused m at → AllRight cs × (next ≡ refused m at)) → ((c .right ≡ true) × AllRight cs) × (next ≡ refused m at)
+    pick true f g rec = let r = rec g in ((f, r .0), r .1)
+    pick false f g rec = let z : c .number ≡ m = cc in absurd (o .0 z)
+
+or-true : (b : Bool) → (b || true) ≡ true
+or-true true = refl
+or-true false = refl
+
+first-unknown : (f : ℕ → Bool) (is : List ℕ) (j : ℕ) → firstUnknown f is ≡ first j → (f j ≡ false) × (among j is ≡ true)
+unfolding firstUnknown among
+first-unknown f [] j e = let z : _≡_ {A = ℕ} 0 1 = cc in absurd (omega arith)
+first-unknown f (i ∷ is) j e = pick (f i) refl e (first-unknown f is j)
+  where
+    pick : (b : Bool) → f i ≡ b → cond b (firstUnknown f is) (first i) ≡ first j → (firstUnknown f is ≡ first j → (f j ≡ false) × (among j is ≡ true))
+        → (f j ≡ false) × ((eqb j i || among j is) ≡ true)
+    pick true p q rec = let r = rec q in (r .0, ap (λ (b : Bool). eqb j i || b) (r .1) ∙ or-true (eqb j i))
+    pick false p q rec =
+        let s : i ≡ j = cc in (subst (λ (x : ℕ). f x ≡ false) s p, ap (λ (b : Bool). b || among j is) (eq-eqb j i (sym s)))
+
+in-middle : (j : ℕ) (before after : List ℕ) → among j (before ++ (j ∷ after)) ≡ true
+unfolding among
+in-middle j [] after = ap (λ (b : Bool). b || among j after) (eq-eqb j j refl)
+in-middle j (x ∷ before) after = ap (λ (b : Bool). eqb j x || b) (in-middle j before after) ∙ or-true (eqb j x)
+
+-- an unknown root, or what comes behind the checks
+copy-twenty : (c : Copy) (next : Verdict) (at : Spot) → copyJudged c next ≡ refused 20 at
+    → ((j : ℕ) × (at ≡ tree j) × (known c j ≡ false) × (among j (roots (c .n)) ≡ true)) ⊎ ((c .n ≤ mostChunks) × (next ≡ refused 20 at))
+unfolding copyJudged lentChecks unknownRoot refusedAt
+copy-twenty c next at e =
+    let six : List Check = sizeCheck (addsUp (c .tree) (c .n) (c .size)) in
+    let a = behind-others 20 at (lentChecks c) (refusedAt 20 tree (unknownRoot c) (judged six next))
+    (λ e. omega arith, (λ e. omega arith, (λ e. omega arith, (λ e. omega arith, (λ e. omega arith, (λ e. omega arith, tt)))))) e in
+    pick (unknownRoot c) refl (a .1) (lent-passed c done (judged-right (lentChecks c) done (a .0)) .0 .count)
+  where
+    pick : (l : Lowest) → unknownRoot c ≡ l → refusedAt 20 tree l (judged (sizeCheck (addsUp (c .tree) (c .n) (c .size))) next) ≡ refused 20 at → c .n ≤ mostChunks
+        → ((j : ℕ) × (at ≡ tree j) × (known c j ≡ false) × (among j (roots (c .n)) ≡ true)) ⊎ ((c .n ≤ mostChunks) × (next ≡ refused 20 at))
+    pick nowhere p q few = inr (few, behind-others 20 at (sizeCheck (addsUp (c .tree) (c .n) (c .size))) next (λ e. omega arith, tt) q .1)
+    pick (first j) p q few =
+        let r = first-unknown (known c) (roots (c .n)) j p in let here : at ≡ tree j = cc in inl (j, here, r .0, r .1)
+
+-- a descent's 20 is an ending at an unknown entry
+stop-twenty : (e : Ending) (at : Spot) → stopRefused e ≡ refused 20 at → (j : ℕ) × (at ≡ tree j) × (e ≡ unknown j)
+unfolding stopRefused
+stop-twenty (stopped i) at q = let z : _≡_ {A = ℕ} 10 20 = cc in absurd (omega arith)
+stop-twenty (reached k s) at q = let z : _≡_ {A = ℕ} 0 1 = cc in absurd (omega arith)
+stop-twenty (unknown j) at q = let here : at ≡ tree j = cc in (j, here, refl)
+
+held-twenty : (b : Bool) (v : Verdict) (spot at : Spot) → cond b v (refused 18 spot) ≡ refused 20 at → v ≡ refused 20 at
+held-twenty true v spot at e = e
+held-twenty false v spot at e = let z : _≡_ {A = ℕ} 18 20 = cc in absurd (omega arith)
+
+-- an unknown root, or what a call comes to behind the checks and its own
+called : (c : Copy) (Other : ℕ → Type 0) (at : Spot) (right : Bool) (next : Verdict)
+    → (c .n ≤ mostChunks → right ≡ true → next ≡ refused 20 at → (j : ℕ) × (at ≡ tree j) × (known c j ≡ false) × ((among j (roots (c .n)) ≡ true) ⊎ Other j))
+    → copyJudged c (judged (record { number = 9; right = right } ∷ []) next) ≡ refused 20 at → Twenty c Other at
+called c Other at right next come q = pick (copy-twenty c (judged (record { number = 9; right = right } ∷ []) next) at q)
+  where
+    pick : ((j : ℕ) × (at ≡ tree j) × (known c j ≡ false) × (among j (roots (c .n)) ≡ true))
+        ⊎ ((c .n ≤ mostChunks) × (judged (record { number = 9; right = right } ∷ []) next ≡ refused 20 at)) → Twenty c Other at
+    pick (inl r) = record { j = r .0; here = r .1; unknown = r .2; way = inl (r .3) }
+    pick (inr r) =
+        let a = behind-others 20 at (record { number = 9; right = right } ∷ []) next (λ e. omega arith, tt) (r .1) in
+        let d = come (r .0) (a .0 .0) (a .1) in record { j = d .0; here = d .1; unknown = d .2; way = d .3 }
+
+-- a descent's
+met : (c : Copy) (Behind : List ℕ → Type 0) (Has : ℕ → ℕ → ℕ → Type 0) (at : Spot) (e : Ending) → stopRefused e ≡ refused 20 at
+    → ((j : ℕ) → e ≡ unknown j → Met c Behind Has j)
+    → (j : ℕ) × (at ≡ tree j) × (known c j ≡ false) × ((among j (roots (c .n)) ≡ true) ⊎ ChildOnWay (c .tree) (c .n) Has j)
+met c Behind Has at e q meet =
+    let d = stop-twenty e at q in
+    let m = meet (d .0) (d .2) in (d .0, d .1, m .unknown, pick (d .0) (m .way))
+  where
+    pick : (j : ℕ) → RootOnWay (c .n) Behind j ⊎ ChildOnWay (c .tree) (c .n) Has j → (among j (roots (c .n)) ≡ true) ⊎ ChildOnWay (c .tree) (c .n) Has j
+    pick j (inl r) = inl (ap (among j) (r .here) ∙ in-middle j (r .before) (r .after))
+    pick j (inr r) = inr r
+
+-- that of a list
+listed : (c : Copy) (Other : ℕ → Type 0) (at : Spot) (is : List ℕ) → refusedAt 20 tree (firstUnknown (known c) is) done ≡ refused 20 at
+    → ((j : ℕ) → among j is ≡ true → Other j)
+    → (j : ℕ) × (at ≡ tree j) × (known c j ≡ false) × ((among j (roots (c .n)) ≡ true) ⊎ Other j)
+unfolding refusedAt
+listed c Other at is q other = pick (firstUnknown (known c) is) refl q
+  where
+    pick : (l : Lowest) → firstUnknown (known c) is ≡ l → refusedAt 20 tree l done ≡ refused 20 at
+        → (j : ℕ) × (at ≡ tree j) × (known c j ≡ false) × ((among j (roots (c .n)) ≡ true) ⊎ Other j)
+    pick nowhere e r = let z : _≡_ {A = ℕ} 0 1 = cc in absurd (omega arith)
+    pick (first j) e r =
+        let u = first-unknown (known c) is j e in
+        let here : at ≡ tree j = cc in (j, here, u .0, inr (other j (u .1)))
+
+none-listed : {A : Type 0} (j : ℕ) → among j [] ≡ true → A
+unfolding among
+none-listed j e = let z : _≡_ {A = ℕ} 0 1 = cc in absurd (omega arith)
+
+-- the leaves of a walk
+among-run : (j i m : ℕ) → among j (run (index 0) i m) ≡ true → LeafBelow (i + m) j
+unfolding among run
+among-run j i zero e = let z : _≡_ {A = ℕ} 0 1 = cc in absurd (omega arith)
+among-run j i (suc m) e = pick (eqb j (index 0 i)) refl e (among-run j (suc i) m)
+  where
+    pick : (b : Bool) → eqb j (index 0 i) ≡ b → (b || among j (run (index 0) (suc i) m)) ≡ true → (among j (run (index 0) (suc i) m) ≡ true → LeafBelow (suc i + m) j)
+        → LeafBelow (i + suc m) j
+    pick true f g rec = (i, omega arith, eqb-true j (index 0 i) f)
+    pick false f g rec = let r = rec g in (r .0, omega (arith, r .1), r .2)
+
+walked-below : (f : ℕ → Bool) (m j : ℕ) → among j (leavesBelow (walkedTo (lowest f 0 m) m)) ≡ true → LeafBelow m j
+unfolding leavesBelow
+walked-below f m j e =
+    let r = among-run j 0 (walkedTo (lowest f 0 m) m) e in (r .0, omega (arith, r .1, few (lowest f 0 m) refl), r .2)
+  where
+    few : (l : Lowest) → lowest f 0 m ≡ l → walkedTo l m ≤ m
+    few nowhere q = omega arith
+    few (first k) q = omega (arith, lowest-says f 0 m k q .below)
+
+twenties : (c : Copy) → Twenties c
+unfolding copyPlaceVerdict copyHeldVerdict copyByteVerdict copyShortPlaceVerdict copyShortByteVerdict unknownAmong leavesToChunk leavesToByte copyPrefixVerdict
+twenties c =
+    record {
+      place = λ i at e.
+          called c (Child i) at (ltb i (c .n)) (stopRefused (copyToChunk c i)) (λ few r q. met c (ChunkBehind i) (HoldsChunk i) at (copyToChunk c i) q (by-chunk i few r)) e;
+      held = λ i at e.
+          called c (Child i) at (ltb i (c .n)) (cond (storedHeld (c .bitfield) i) (stopRefused (copyToChunk c i)) (refused 18 (tree (index 0 i))))
+          (λ few r q. met c (ChunkBehind i) (HoldsChunk i) at (copyToChunk c i)
+          (held-twenty (storedHeld (c .bitfield) i) (stopRefused (copyToChunk c i)) (tree (index 0 i)) at q) (by-chunk i few r)) e;
+      byte = λ b at e.
+          called c (ChildOnWay (c .tree) (c .n) (HoldsByte (c .tree) b)) at (leb b (c .size)) (stopRefused (copyToByte c b))
+          (λ few r q. met c (ByteBehind (c .tree) b) (HoldsByte (c .tree) b) at (copyToByte c b) q (meets c .byte b)) e;
+      shortPlace = λ i at e.
+          called c (LeafBelow (i + 1)) at (ltb i (c .n)) (unknownAmong c (leavesToChunk (c .tree) i))
+          (λ few r q. listed c (LeafBelow (i + 1)) at (leavesToChunk (c .tree) i) q (walked-below (leafFits (c .tree)) (i + 1))) e;
+      shortByte = λ b at e.
+          called c (LeafBelow (c .n)) at (leb b (c .size)) (unknownAmong c (leavesToByte (c .tree) (c .n) (c .size) b))
+          (λ few r q. listed c (LeafBelow (c .n)) at (leavesToByte (c .tree) (c .n) (c .size) b) q (by-byte b (eqb b (c .size)))) e;
+      old = λ m at e.
+          called c (λ j. (m ≤ c .n) × (among j (roots m) ≡ true)) at (leb m (c .n)) (refusedAt 20 tree (firstUnknown (known c) (roots m)) done)
+          (λ few r q. listed c (λ j. (m ≤ c .n) × (among j (roots m) ≡ true)) at (roots m) q (λ j a. (leb-true m (c .n) r, a))) e;
+      checks = λ at e. rooted at (copy-twenty c done at e);
+    }
+  where
+    Child : ℕ → ℕ → Type 0
+    Child i = ChildOnWay (c .tree) (c .n) (HoldsChunk i)
+
+    by-chunk : (i : ℕ) → c .n ≤ mostChunks → ltb i (c .n) ≡ true → (j : ℕ) → copyToChunk c i ≡ unknown j → Met c (ChunkBehind i) (HoldsChunk i) j
+    by-chunk i few r j q = meets c .chunk i few (ltb-true i (c .n) r) j q
+
+    by-byte : (b : ℕ) (x : Bool) (j : ℕ)
+        → among j (elim x [ true ↦ [] | false ↦ leavesBelow (walkedTo (lowest (leafPassed (c .tree) b) 0 (c .n)) (c .n)) ]) ≡ true → LeafBelow (c .n) j
+    by-byte b true j q = none-listed j q
+    by-byte b false j q = walked-below (leafPassed (c .tree) b) (c .n) j q
+
+    rooted : (at : Spot) → ((j : ℕ) × (at ≡ tree j) × (known c j ≡ false) × (among j (roots (c .n)) ≡ true)) ⊎ ((c .n ≤ mostChunks) × (done ≡ refused 20 at))
+        → Twenty c (λ j. ⊥) at
+    rooted at (inl r) = record { j = r .0; here = r .1; unknown = r .2; way = inl (r .3) }
+    rooted at (inr r) = let e = r .1 in let z : _≡_ {A = ℕ} 0 1 = cc in absurd (omega arith)
+
+pub meets-all : MeetsForAll
+meets-all c = (meets c, twenties c)

@@ -1,0 +1,2 @@
+-- What reading a journal accepts.
+pub mod Exact

@@ -1,0 +1,6 @@
+-- The calls on a journal together, proved.
+pub mod Mixed
+pub mod OneFile
+pub mod Gives
+pub mod Making
+pub mod Whole

@@ -1,0 +1,3 @@
+-- The calls on a journal together.
+pub mod Whole
+pub mod Making

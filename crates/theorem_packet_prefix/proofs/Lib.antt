@@ -1,0 +1,4 @@
+-- Packets of the first m chunks.
+pub mod Agree
+pub mod First
+pub mod Prefix

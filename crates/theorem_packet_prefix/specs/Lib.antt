@@ -1,0 +1,2 @@
+-- Packets of the first m chunks.
+pub mod Prefix

@@ -1,0 +1,3 @@
+-- What parts give together.
+pub mod Cover
+pub mod Whole

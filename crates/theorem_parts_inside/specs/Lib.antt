@@ -1,0 +1,2 @@
+-- Where parts lie.
+pub mod Parts

@@ -9,12 +9,14 @@ numbers n, s and the data size are taken from the files' lengths here as FORMAT.
 """
 
 import copy
+import json
 import os
 import random
+import re
 import shutil
 import sys
 
-from program import FILES, KINDS, TARGET, expect, fresh, lay, run, under
+from program import FILES, KINDS, PAGE, TARGET, expect, fresh, lay, page, run, under, version
 import copy_model
 import needs as needs_model
 import record_model as records
@@ -22,6 +24,7 @@ import sleep_model as model
 
 ROOM = os.path.join(TARGET, 'tests', 'tool', 'answers')
 NAMES = ('metadata', 'content')
+WORDS = ['/', '/coat', '/coat/', '/coat/sleeve', '/x', '/nosuch', '/*', '/coat/*', '**e*', '/**/[0-9]', '/caf?', '/other/[0-4]', '**', '/*/?']
 
 
 class Unreadable(Exception):
@@ -47,6 +50,11 @@ def counted(images):
 
 def is_copy(r):
     return isinstance(r, copy_model.Copy)
+
+
+def is_fresh(r):
+    """A copy of which no root is known: nothing was taken in."""
+    return is_copy(r) and model.root_hash(r)[:2] == ('refused', 20)
 
 
 def whole(*registers):
@@ -98,12 +106,14 @@ class Tried:
     def __init__(self, rng, folder, inputs):
         self.rng, self.folder, self.inputs = rng, folder, inputs
 
-    def command(self, words, expected, writes=False, stdin=b''):
-        """`expected` gives what is printed (None where it isn't compared) and the registers afterwards where the command writes; or raises."""
+    def command(self, words, expected, writes=False, stdin=b'', first=lambda: None):
+        """`expected` gives what is printed (None where it isn't compared) and the registers afterwards where the command writes; or raises. `first` raises
+        where something is wrong with what the command was given, which is told before the archive is looked at."""
         before = under(self.folder)
         ran = run(*words, stdin=stdin)
         now = under(self.folder)
         try:
+            first()
             registers = registers_in(self.folder if not writes else self.laid(before))
             printed, after = expected(*registers) if writes else (expected(*registers), None)
             status, refusals = 0, []
@@ -136,13 +146,16 @@ class Tried:
         def expected(*registers):
             lines = b''
             for name, r in zip(NAMES, registers):
-                answer, unknown = model.root_hash(r), b''
-                if is_copy(r) and answer[:2] == ('refused', 20):
-                    unknown = b', and not all its roots are known'
+                known = b''
+                if is_fresh(r):
+                    known = b'; nothing is taken in yet of its %s, so %s: `sleep-archive packets take %s FILE --root METADATA,CONTENT` takes in a file that `packets make` made of ' \
+                        b'the archive, under root hashes that you know from it or from a sheet' % (
+                            plural(r.n, b'chunk'), b'no name is known' if name == 'metadata' else b'no piece is held', self.folder.encode())
                 else:
-                    given(answer)
-                lines += b'%s: %s%s\n' % (name.encode(), shown_counts(r), unknown)
-            return lines
+                    given(model.root_hash(r))
+                    known = b', %d of them held' % (r.n - len(not_held(r, 0))) if is_copy(r) else b''
+                lines += b'%s: %s%s\n' % (name.encode(), shown_counts(r), known)
+            return lines + b'page: %s\n' % shown_page(self.folder)
         self.command(['status', self.folder], expected)
 
     def audit(self):
@@ -186,25 +199,102 @@ class Tried:
 
     def list(self):
         """A record that is refused is marked, with its number and the refusal; the others are listed."""
-        every = self.rng.random() < 0.5
+        every, form = self.rng.random() < 0.5, self.rng.choice([None, None, '--long', '--json', '-0'])
+        words = [self.rng.choice(WORDS) for _ in range(self.rng.choice([0, 0, 0, 1, 2]))]
         def expected(metadata, content):
-            missing, seen, lines, marked = set(not_held(content, 0)), set(), [], []
+            missing, seen, lines, marked, met = set(range(content.n)) if is_fresh(content) else set(not_held(content, 0)), set(), [], [], set()
+            if is_fresh(metadata):
+                given(model.root_hash(metadata))
             for chunk in reversed(range(metadata.n)):
                 answer = records.read_record(metadata, chunk)
-                if answer[0] == 'refused':
+                if is_copy(metadata) and answer[0] == 'refused' and answer[1] in (18, 20):
+                    pass  # not held in this copy: no mark, and its name is not known
+                elif answer[0] == 'refused':
                     if answer[2] is None and answer[1] != 15:
                         raise Refused(*answer[1:])
                     marked.append(answer[1:])
                     lines.append(None)
                 elif chunk and (every or answer[1].path not in seen):
-                    lines.append(list_line(answer[1], content.n, missing))
+                    means = [word for word in words if is_meant(word, answer[1].path)]
+                    met.update(means)
+                    if means or not words:
+                        lines.append(list_line(answer[1], content.n, missing, form, chunk))
                     seen.add(answer[1].path)
             if marked:
-                raise Several(marked[::-1])
+                raise Several(marked[::-1] if form != '-0' else [None])
+            if met != set(words):
+                raise Several([None])
+            if form == '--json':
+                return b'[\n' + b',\n'.join(reversed(lines)) + b'\n]\n' if lines else b'[]\n'
             return b''.join(reversed(lines))
-        ran = self.command(['list', self.folder] + (['--all'] if every else []), expected)
+        ran = self.command(['list', self.folder, *words] + (['--all'] if every else []) + ([form] if form else []), expected)
         if ran.status == 1 and ran.refusals():
             Tried.marked += len(ran.refusals())
+
+    def diff(self, other):
+        """Between two archives, or since one had fewer chunks."""
+        first = None if self.rng.random() < 0.7 else (self.rng.randrange(12), self.rng.randrange(12))
+        def expected(metadata, content):
+            if first is None:
+                others = registers_in(other)
+                first_checks(content)
+                before = names_of(metadata)
+                first_checks(others[1])
+                after, whence = names_of(others[0]), others[1]
+            else:
+                if first[0] > metadata.n or first[1] > content.n:
+                    raise Several([None])
+                first_checks(content)
+                after, before, whence = names_of(metadata), names_of(metadata, first[0]), content
+                if any(stat.offset is None or stat.offset + (stat.blocks or 1) > first[1] for _, stat in before.values()):
+                    raise Several([None])
+            lines = b''
+            for name in sorted({*before, *after}):
+                word = b'added' if name not in before else b'missing' if name not in after else None
+                if word is None and (first is None or before[name][0] != after[name][0]):
+                    word = differs(before[name], content, after[name], whence)
+                lines += b'' if word is None else b'%-8s%s\n' % (word, name)
+            Tried.told = lines
+            if lines:
+                raise Several([None])
+            return lines
+        Tried.told = None
+        ran = self.command(['diff', self.folder] + ([other] if first is None else ['--first', '%d,%d' % first]), expected)
+        expect(Tried.told is None or ran.out == Tried.told, 'other differences', ran, Tried.told)
+        expect(ran.status == 2 or Tried.told is None or b'nothing is audited' in ran.err, 'not said', ran)
+
+    def signature(self):
+        chunk, name = self.rng.randrange(12), self.rng.choice(NAMES)
+        def expected(*registers):
+            r = registers[NAMES.index(name)]
+            whole(r)
+            given(model.root_hash(r))
+            signature = bytes(r.signatures[32 + 64 * chunk:96 + 64 * chunk]) if chunk < r.s else bytes(64)
+            if signature == bytes(64):
+                raise Several([None])
+            return signature.hex().encode() + b'\n'
+        self.command(['signature', self.folder, name, str(chunk)], expected)
+
+    def verify(self):
+        """With a command that takes the signatures of even chunks alone."""
+        def expected(*registers):
+            lines, refusals, good = b'', [], True
+            for name, r in zip(NAMES, registers):
+                answer = copy_model.audit_copy(r) if is_copy(r) else model.audit(r)
+                if answer[0] == 'refused':
+                    refusals.append(answer[1:])
+                    continue
+                own = [] if is_copy(r) else [k for k in range(r.s) if any(r.signatures[32 + 64 * k:96 + 64 * k])]
+                good &= own[-1:] == [r.n - 1] and all(k % 2 == 0 for k in own)
+            if refusals or not good:
+                raise Several(refusals or [None])
+        self.command(['verify', self.folder, '--with', 'test $(($4 % 2)) = 0'], expected)
+
+    def sheet(self):
+        def expected(*registers):
+            for r in registers:
+                given((copy_model.audit_copy(r) if is_copy(r) else model.audit(r)) + (None,))
+        self.command(['sheet', self.folder] + self.rng.choice([[], ['--html']]), expected)
 
     def missing(self):
         start, name = self.rng.choice([0, self.rng.randrange(40)]), self.rng.choice(NAMES)
@@ -266,9 +356,17 @@ class Tried:
     def add(self):
         pieces = self.inputs.pieces()
         words = [word for path, file, _ in pieces for word in ('--as', path, file)]
-        def expected(metadata, content):
+        def first():
+            refusals = []
+            for path, _, chunk in pieces:
+                answer = records.write_node(records.Node(os.fsencode(path), None), bytearray(4096))
+                refusals += [answer[1:]] if answer[0] == 'refused' else []
+                refusals += [(7, None)] if len(chunk) > 65536 else []
             if len({path for path, *_ in pieces}) < len(pieces):
                 raise Unreadable
+            if refusals:
+                raise Several(refusals)
+        def expected(metadata, content):
             chunks, set_of_records, start = [chunk for *_, chunk in pieces], [], content.size
             if metadata.n == 0:
                 set_of_records.append(records.header_bytes(bytes(32)))
@@ -281,7 +379,7 @@ class Tried:
             content, content_root = appended(content, chunks)
             metadata, metadata_root = appended(metadata, set_of_records)
             return b'metadata %s\ncontent %s\n' % (metadata_root.hex().encode(), content_root.hex().encode()), (metadata, content)
-        self.command(['add', self.folder, *words], expected, writes=True)
+        self.command(['add', self.folder, *words], expected, writes=True, first=first)
 
     def sign(self):
         which = self.rng.choice([NAMES, NAMES, NAMES, NAMES[:1], NAMES[1:]])
@@ -304,9 +402,9 @@ class Tried:
         chunks = [self.chunk_number() for _ in range(self.rng.choice([1, 1, 2, 5]))]
         paths = [self.inputs.path() for _ in range(self.rng.choice([0, 0, 1, 2, 3]))]
         def expected(metadata, content):
-            named = [chunk_named(metadata, content, path) for path in names_as_found(metadata, paths)]
+            named = [chunk_named(metadata, content, path) for path in paths]
             content = copy.deepcopy(content)
-            for chunk in chunks + [dict(zip(names_as_found(metadata, paths), named))[path] for path in paths]:
+            for chunk in chunks + named:
                 given(model.release(content, chunk))
             return b'', (metadata, content)
         self.command(['release', self.folder, *map(str, chunks), *paths], expected, writes=True)
@@ -350,6 +448,18 @@ def shown_counts(r):
     return b'%s, %s, %s%s' % (plural(r.n, b'chunk'), plural(r.size, b'byte'), plural(r.s, b'signature'), b', one is owed' if r.s < r.n else b'')
 
 
+def shown_page(folder):
+    """What is said of the page in a folder, which may be damaged."""
+    found = under(folder).get(PAGE)
+    first = b'The page of the format, as sleep-archive %s has it.\n' % version().encode()
+    if found is None:
+        return b'none; a folder made by `new` or `copy` without --no-page has it as README.txt'
+    if found.startswith(first):
+        return b'README.txt, of version %s%s' % (version().encode(), b'' if found == page() else b", with other words than that version's")
+    other = re.match(rb'The page of the format, as sleep-archive ([A-Za-z0-9.-]+) has it\.\n', found)
+    return b'README.txt, of version ' + other[1] if other else b'README.txt is another file, and no page of this program'
+
+
 def shown_root(r):
     answer = model.root_hash(r)
     return b', root hash %s' % answer[1].hex().encode() if answer[0] == 'done' else b', and not all its roots are known'
@@ -365,20 +475,62 @@ def not_held(r, start):
         start = chunk + 1
 
 
-def list_line(node, n, missing):
+def list_line(node, n, missing, form, record):
     stat = node.stat or records.Stat()
     held = '-' if stat.offset is None or stat.offset >= n else 'no' if stat.offset in missing else 'held'
-    shown = ['-' if number is None else str(number) for number in (stat.offset, stat.size)]
-    return b'%7s %7s %-4s ' % (shown[0].encode(), shown[1].encode(), held.encode()) + node.path + b'\n'
+    if form == '-0':
+        return node.path + b'\0'
+    if form == '--json':
+        return json.dumps({'record': record, 'name': node.path.decode(), 'name_hex': node.path.hex(), 'chunk': stat.offset, 'chunks': stat.blocks, 'size': stat.size,
+                           'held': None if held == '-' else held, 'mode': stat.mode, 'mtime': stat.mtime, 'time': None}).encode()
+    shown = ['-' if number is None else str(number) for number in (stat.offset, stat.size, stat.blocks)]
+    line = b'%7s %7s %-4s ' % (shown[0].encode(), shown[1].encode(), held.encode())
+    if form == '--long':
+        line = b'%6d %6o %5s %s%-20s ' % (record, stat.mode, shown[2].encode(), line, b'-')
+    return line + node.path + b'\n'
 
 
-def names_as_found(metadata, paths):
-    """Several names are found by one walk from the latest record down, so what is wrong with one that stands later is told first."""
-    if len(paths) < 2:
-        return paths
-    found = {path: records.find(metadata, os.fsencode(path)) for path in set(paths)}
-    place = lambda path: -(found[path][1] + 1) if found[path][0] == 'done' and found[path][1] is not None else 0
-    return sorted(dict.fromkeys(paths), key=place)
+def is_meant(word, path):
+    """Whether a path, or a folder above it, is the word as it stands or as a pattern, as the help says it."""
+    word = os.fsencode(word).rstrip(b'/')
+    above = [path[:at] for at in range(len(path)) if path[at:at + 1] == b'/'] + [path]
+    pattern = b''.join(b'.*' if part == b'**' else b'[^/]*' if part == b'*' else b'[^/][\x80-\xbf]*' if part == b'?' else part if part.startswith(b'[') else re.escape(part)
+                       for part in re.findall(rb'\*\*|\*|\?|\[[a-z0-9-]+\]|.', word))
+    return any(one == word or re.fullmatch(pattern, one, re.S) for one in above)
+
+
+def names_of(metadata, below=None):
+    """The records that stand for the names, of the records below a number: refused as finding is that goes down to the first."""
+    given(records.read_record(metadata, 0) if metadata.n else model.root_hash(metadata))
+    found = {}
+    for chunk in reversed(range(1, metadata.n)):
+        node = given(records.read_record(metadata, chunk))
+        if below is None or chunk < below:
+            found.setdefault(node.path, (chunk, node.stat or records.Stat()))
+    return found
+
+
+def first_checks(content):
+    """The checks that every call makes; the roots of a copy need not be known."""
+    answer = model.root_hash(content)
+    if answer[:2] != ('refused', 20):
+        given(answer)
+
+
+def differs(one, content, other, others):
+    """How two pieces of one name differ: by the entries of their leaves, in the order of their chunks."""
+    runs = [range(stat.offset, stat.offset + (1 if stat.blocks is None else stat.blocks)) if stat.offset is not None else range(0) for _, stat in (one, other)]
+    if not all(len(run) and run[-1] < r.n for run, r in zip(runs, (content, others))):
+        return b'unknown'
+    if len(runs[0]) != len(runs[1]):
+        return b'changed'
+    for first, second in zip(*runs):
+        leaves = [model.stored_leaf(content, first), model.stored_leaf(others, second)]
+        if 'refused' in (leaves[0][0], leaves[1][0]):
+            return b'unknown'
+        if leaves[0] != leaves[1]:
+            return b'changed'
+    return None
 
 
 def chunk_named(metadata, content, path):
@@ -428,7 +580,7 @@ class Inputs:
         return pieces
 
 
-READING = ['status', 'audit', 'root', 'label', 'get', 'get_named', 'list', 'missing', 'packet', 'needs', 'owed']
+READING = ['status', 'audit', 'root', 'label', 'get', 'get_named', 'list', 'missing', 'packet', 'needs', 'owed', 'signature', 'verify', 'sheet']
 WRITING = ['add', 'sign', 'release']
 
 
@@ -470,7 +622,7 @@ def made(folder, words, counts):
         else:
             registers.append(copy_model.Copy(*map(bytearray, copy_model.copy_sizes(*count)), *count))
             given(copy_model.make_copy(registers[-1]) + (None,))
-    expect(under(folder) == as_files(registers), 'a new copy is another', words)
+    expect(under(folder) == dict(as_files(registers), **{PAGE: page()}), 'a new copy is another', words)
 
 
 def copies(rng, inputs, archive, spoilt):
@@ -487,6 +639,7 @@ def copies(rng, inputs, archive, spoilt):
     for name in READING + WRITING:
         getattr(copied, name)()
     copied.compare(archive)
+    copied.diff(archive)
     for _ in range(2):
         lay(spoilt, under(part))
         damage(rng, spoilt, rng.choice([archive, part]))
@@ -509,7 +662,7 @@ def main(rounds, seed):
     for _ in range(rounds):
         shutil.rmtree(archive, ignore_errors=True)
         expect(run('new', archive).status == 0, 'no new archive')
-        expect(under(archive) == as_files([model.register_of([])] * 2), 'a new archive is another')
+        expect(under(archive) == dict(as_files([model.register_of([])] * 2), **{PAGE: page()}), 'a new archive is another')
         grown = Tried(rng, archive, inputs)
         for _ in range(rng.randrange(1, 8)):
             lay(before, under(archive))
@@ -519,6 +672,8 @@ def main(rounds, seed):
         for name in READING:
             getattr(grown, name)()
         grown.compare(rng.choice([archive, before]))
+        for other in (archive, before):
+            grown.diff(other)
         copies(rng, inputs, archive, spoilt)
         for _ in range(4):
             lay(spoilt, under(archive))
@@ -528,6 +683,7 @@ def main(rounds, seed):
             for name in rng.sample(READING, 5) + WRITING:
                 getattr(tried, name)()
             tried.compare(archive)
+            tried.diff(archive)
     total = sum(Tried.counts.values())
     by_status = [sum(count for (_, status), count in Tried.counts.items() if status == wanted) for wanted in (0, 1, 2)]
     expect(Tried.marked or rounds < 5, 'no record was marked')

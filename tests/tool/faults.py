@@ -15,11 +15,12 @@ later is dropped whole, or in a random choice that keeps some of it: of a write 
 import copy
 import os
 import random
+import shutil
 import struct
 import subprocess
 import sys
 
-from program import FILES, JOURNAL, KEPT, KEYS, TARGET, UNSYNCED, done, expect, fresh, lay, parsed, run, under
+from program import FILES, JOURNAL, KEPT, KEYS, PAGE, PAGE_UNSYNCED, TARGET, UNSYNCED, done, expect, fresh, lay, page, parsed, run, under
 import sleep_model as model
 
 ROOM = os.path.join(TARGET, 'tests', 'tool', 'faults')
@@ -28,6 +29,8 @@ ARCHIVE = os.path.join(FOLDER, 'coats')
 INPUTS = os.path.join(ROOM, 'inputs')
 OFFICE = os.path.join(ROOM, 'office', 'coats')
 LOG = os.path.join(ROOM, 'log')
+OUT = os.path.join(FOLDER, 'out')
+SIGNER = os.path.join(TARGET, 'tests', 'signer')
 
 
 class Disk:
@@ -64,6 +67,9 @@ class Disk:
             self.later[self.current[path]].append((letter, offset, length, data))
         elif letter == 's':
             self.sync(path)
+        elif letter == 'a':
+            for path in list(self.current):
+                self.sync(path)
 
     def sync(self, path):
         number = self.current[path]
@@ -179,12 +185,13 @@ class Command:
     def check_ranges(self):
         """Before the journal and its entry in the folder are synced no byte and no length of a file changes, and afterwards only what the journal names."""
         journal = self.journal()
-        written = [k for k, (letter, path, *_) in enumerate(self.steps) if letter in 'wlp' and not path.endswith(UNSYNCED)]
+        written = [k for k, (letter, path, *_) in enumerate(self.steps) if letter in 'wlp' and not path.endswith((UNSYNCED, PAGE_UNSYNCED))]
         begun = [(letter, path) for letter, path, *_ in self.steps[:written[0] if written else None]
                  if letter != 'r' and path in ('coats', 'coats/' + UNSYNCED, 'coats/' + JOURNAL)]
         begun = begun[begun.index(('c', 'coats/' + UNSYNCED)):][:5]
         expected = [(letter, 'coats/' + UNSYNCED) for letter in 'cwsn'] + [('s', 'coats')]
         expect(begun == expected, '%s: changed before the journal is synced' % self.name, begun)
+        self.check_page()
         states, ranges = parsed(journal)
         for file in FILES + KEYS:
             path = 'coats/' + file
@@ -200,6 +207,14 @@ class Command:
                 inside.update(range(offset, offset + length) if kind != 4 else [])
             expect(inside.issuperset(differ), '%s: changed outside the journal: %s' % (self.name, file))
         self.check_witnesses(ranges)
+
+    def check_page(self):
+        """A page is whole and synced, with its entry in the folder, before the journal is begun: so no archive comes to be without it."""
+        laid = 'coats/' + PAGE in self.after and 'coats/' + PAGE not in self.before
+        steps = [step for step in self.steps if step[1] in ('coats', 'coats/' + PAGE_UNSYNCED, 'coats/' + UNSYNCED)]
+        steps = [(letter, path) for letter, path, *_ in steps if letter not in 'rm' and (letter, path) != ('u', 'coats/' + PAGE_UNSYNCED)]
+        expected = [(letter, 'coats/' + PAGE_UNSYNCED) for letter in 'cwsn'] + [('s', 'coats'), ('c', 'coats/' + UNSYNCED)]
+        expect(steps[:6] == expected if laid else expected[0] not in steps, '%s: the page comes otherwise' % self.name, steps[:6])
 
     def check_witnesses(self, ranges):
         """The entries of both trees' roots, and the keys, stand in the journal where it doesn't change them."""
@@ -284,6 +299,7 @@ class Command:
         now = under(FOLDER)
         if 'coats/metadata.tree' not in now and now is not None:
             now.pop('coats/' + UNSYNCED, None)  # the next `new` drops it
+            expect(now.get('coats/' + PAGE, page()) == page(), '%s, %s: a page that is not whole' % (self.name, what))
         state = 'before' if self.is_before(now) else 'after' if now == self.after else 'neither'
         expect(state in ((only,) if only else ('before', 'after')), '%s, %s: %s' % (self.name, what, state), ran, sorted(now))
         if 'coats/metadata.tree' in now:
@@ -296,8 +312,11 @@ class Command:
         return state
 
     def is_before(self, now):
-        """Where there was no archive, an empty folder is none either."""
-        return now == self.before or ('coats' not in self.before and now == dict(self.before, coats=None))
+        """Where there was no archive, an empty folder is none either, nor one that has a page alone or parts of one."""
+        if 'coats/metadata.tree' in self.before:
+            return now == self.before
+        before, now = ({name: content for name, content in found.items() if os.path.basename(name) not in (PAGE, PAGE_UNSYNCED)} for found in (self.before, now))
+        return now == before or ('coats' not in before and now == dict(before, coats=None))
 
     def full(self, at):
         lay(FOLDER, self.before)
@@ -305,6 +324,9 @@ class Command:
         expect(ran.status in (0, 2), '%s: full at step %d' % (self.name, at), ran)
         if b'nothing is changed\n' in ran.err:
             self.check_room('%s: full at step %d' % (self.name, at))
+        if b'nothing is changed' in ran.err:
+            left = {name for name in under(FOLDER) if name not in self.before}
+            expect(not left, '%s: full at step %d: something is left' % (self.name, at), ran, left)
         still = run('journal', ARCHIVE, '--finish', faults={'UNDER': FOLDER, 'KIND': 'full', 'AT': 1})
         expect(still.status in (0, 2), '%s: opened while full at step %d' % (self.name, at), still)
         only = 'after' if ran.status == 0 or b'finishes it' in ran.err or b'the change is made' in ran.err else 'before' if b'nothing is changed' in ran.err else None
@@ -388,6 +410,13 @@ def commands(rng):
     command('new', ['new', ARCHIVE], {})
     state = command('new with keys', ['new', ARCHIVE, '--metadata-key', key, '--content-key', key], {})
     command('new in a folder', ['new', ARCHIVE], {'coats': None})
+    command('new without a page', ['new', ARCHIVE, '--no-page'], {})
+    command('new where a killed one left parts of a page', ['new', ARCHIVE], {'coats': None, 'coats/' + PAGE_UNSYNCED: page()[:5000]})
+    command('new where a killed one left the page', ['new', ARCHIVE], {'coats': None, 'coats/' + PAGE: page()})
+    folder = os.path.join(ROOM, 'folder')
+    shutil.copytree(INPUTS, folder)
+    signed = command('add of a folder, signed', ['add', ARCHIVE, folder, '--signer', SIGNER], state)
+    command('add in parts, signed', ['add', ARCHIVE, '--as', '/coat', folder, '--split', '4000', '--times', '--sign-with', SIGNER], signed)
     state = command('first add', adding(pieces[:3]), state)
     state = command('sign', signing, state)
     command('add of zeros', adding(pieces[-1:]), state)
@@ -407,9 +436,27 @@ def commands(rng):
     state = command('taking in a record', record, state)
     state = command('release in a copy', ['release', ARCHIVE, '8'], state)
     command('taking in again', taking(8), state)
+    following(command)
     state = command('release to come back', ['release', ARCHIVE, '7', '5'], whole)
     command('coming back', taking(7), state)
     return made
+
+
+def following(command):
+    """Copies for names, files of packets, and copies that grow: by the archive and by a file."""
+    grown, sent, growth = (os.path.join(ROOM, 'office', name) for name in ('grown', 'sent', 'growth'))
+    command('copy for names in a folder', ['copy', ARCHIVE, '--of', OFFICE, '--names', '/coat/4', '/coat/8'], {'coats': None})
+    named = command('copy for names', ['copy', ARCHIVE, '--of', OFFICE, '--names', '/coat/4', '/coat/8'], {})
+    bare = command('copy to be filled', ['copy', ARCHIVE, '--of', OFFICE], {})
+    done('packets', 'make', OFFICE, '/coat/2', '/coat/7', '-o', sent)
+    command('taking in a file', ['packets', 'take', ARCHIVE, sent, '--of', OFFICE], bare)
+    held = command('taking in a file behind others', ['packets', 'take', ARCHIVE, sent], named)
+    shutil.copytree(OFFICE, grown)
+    done('add', grown, *[word for k in range(5) for word in ('--as', '/more/%d' % k, os.path.join(INPUTS, 'piece%d' % (8 - k)))], '--signer', SIGNER)
+    done('packets', 'make', grown, '/more/2', '--since', '11,10', '-o', growth)
+    command('growing', ['grow', ARCHIVE, '--of', grown], held)
+    command('growing by a file', ['grow', ARCHIVE, growth, '--of', grown], named)
+    command('growing while nothing is known', ['grow', ARCHIVE, '--of', grown], bare)
 
 
 def packet_of(register, chunk):
@@ -427,6 +474,84 @@ def office(pieces, signature):
             done('packet', 'make', OFFICE, str(chunk), '-o', packet_of(register, chunk), *flags)
     roots = dict(line.split() for line in done('root', OFFICE).out.decode().splitlines())
     return dict({'coats': None}, **{'coats/' + name: found for name, found in under(OFFICE).items()}), roots
+
+
+def several_commits(rng):
+    """An `add` of several commits is killed, torn or without room at each step: as many commits stand as were made, each wholly, and all files of them."""
+    pieces = fresh(os.path.join(ROOM, 'large'))
+    for k in range(3):
+        with open(os.path.join(pieces, str(k)), 'wb') as file:
+            file.write(rng.randbytes(600000) + bytes(100000))
+    words = lambda *some: ['add', ARCHIVE, *[word for k in some for word in ('--as', '/%d' % k, os.path.join(pieces, str(k)))], '--split', '65536', '--commit-every', '1', '--signer', SIGNER]
+    lay(FOLDER, {})
+    done('new', ARCHIVE)
+    states = [under(FOLDER)]
+    for k in range(3):
+        done(*words(k))
+        states.append(under(FOLDER))
+    lay(FOLDER, states[0])
+    if os.path.exists(LOG):
+        os.remove(LOG)
+    done(*words(0, 1, 2), faults={'UNDER': FOLDER, 'KIND': 'log', 'LOG': LOG})
+    expect(under(FOLDER) == states[3], 'several commits make another archive')
+    steps, least = len(logged()), 0
+    for at in range(1, steps + 2):
+        for kind in ('kill', 'torn', 'full'):
+            lay(FOLDER, states[0])
+            ran = run(*words(0, 1, 2), faults={'UNDER': FOLDER, 'KIND': kind, 'AT': at})
+            expect(ran.status == (2 if kind == 'full' else -9) or at > steps - 4, 'several commits: %s at step %d' % (kind, at), ran)
+            done('journal', ARCHIVE, '--finish')
+            now = under(FOLDER)
+            expect(now in states, 'several commits: %s at step %d: no commit wholly' % (kind, at), ran)
+            commits = states.index(now)
+            expect(commits >= least, 'several commits: one that stood is gone', at)
+            if kind == 'full' and ran.status == 2 and commits < 3:
+                signed, stands = b'signed and not stored: ' in ran.out, b'written down in ' in ran.err or b'the change is made' in ran.err
+                expect(signed != stands, 'what was signed is not printed, or it is stored', ran)
+                said = commits - stands
+                expect(said == 0 or b'%d of 3 files are in the archive' % said in ran.err, 'not said how far', ran)
+        least = commits
+    return steps
+
+
+def given_out(rng):
+    """`export` and `get -o` are killed, torn or without room at each step: what bears a piece's name is the piece, whole, and nothing else has changed but
+    files of the program's own names; then they are done again. After the end no loss of power takes anything."""
+    parts = {'a': rng.randbytes(5000), 'd/b': rng.randbytes(3), 'd/e/c': b''}
+    lay(FOLDER, {})
+    fresh(os.path.join(ROOM, 'large'))
+    for name, content in parts.items():
+        place = os.path.join(ROOM, 'large', name)
+        os.makedirs(os.path.dirname(place), exist_ok=True)
+        with open(place, 'wb') as file:
+            file.write(content)
+    done('new', ARCHIVE)
+    done('add', ARCHIVE, '--as', '/', os.path.join(ROOM, 'large'), '--split', '1000', '--times', '--signer', SIGNER)
+    archive, count = under(FOLDER), 0
+    for words, wanted in ((['export', ARCHIVE, OUT], parts), (['export', ARCHIVE, OUT, '--overwrite'], parts), (['get', ARCHIVE, '/a', '-o', os.path.join(OUT, 'a')], {'a': parts['a']})):
+        before = dict(archive, **({} if words[-1] == OUT else {'out': None, 'out/a': b'another'}))
+        lay(FOLDER, before)
+        if os.path.exists(LOG):
+            os.remove(LOG)
+        done(*words, faults={'UNDER': FOLDER, 'KIND': 'log', 'LOG': LOG})
+        steps, after = logged(), under(FOLDER)
+        expect({name[4:]: content for name, content in after.items() if name.startswith('out/') and content is not None} == wanted, 'other files', sorted(after))
+        for at in range(1, len(steps) + 2):
+            for kind in ('kill', 'torn', 'full'):
+                lay(FOLDER, before)
+                ran = run(*words, faults={'UNDER': FOLDER, 'KIND': kind, 'AT': at})
+                expect(ran.status in ((0, 1, 2) if kind == 'full' else (-9, 0)), '%s: %s at step %d' % (words[0], kind, at), ran)
+                now = {name: content for name, content in under(FOLDER).items() if kind == 'full' or not os.path.basename(name).startswith('.sleep-archive.')}
+                whole = all(content in (after.get(name, b'no such file'), before.get(name, b'no such file')) for name, content in now.items())
+                expect(whole and all(now[name] == archive[name] for name in archive), '%s: %s at step %d: a file is not whole' % (words[0], kind, at), ran, sorted(now))
+                expect(kind != 'full' or ran.status == 0 or at <= len(steps), '%s without room: not told' % words[0], ran)
+                count += 1
+        if words[0] == 'export':
+            disk = Disk(before)
+            for step in steps:
+                disk.step(*step)
+            expect(disk.lost(nothing) == after, 'lost after the end of an export')
+    return count
 
 
 def main(count, seed):
@@ -447,6 +572,8 @@ def main(count, seed):
             states[command.full(at)] += 1
         command.torn_journals(rng)
         recovering += sum(command.lost_while_recovering(at, rng) for at in command.recoveries())
+    print('faults: an add of three commits, %d steps: as many stand as were made' % several_commits(rng))
+    print('faults: export and get -o, %d times: what bears a piece\'s name is whole' % given_out(rng))
     steps = sum(len(command.steps) for command in made)
     print('faults: %d commands, %d steps, each met by a kill, a torn write, dropped writes (all, some) and a full disk: %d times the archive before, %d after'
           % (len(made), steps, states['before'], states['after']))

@@ -1,5 +1,6 @@
 """The program over files, run as a person would run it, and what lies in folders."""
 
+import hashlib
 import os
 import re
 import shutil
@@ -17,6 +18,8 @@ KINDS = ('tree', 'signatures', 'bitfield', 'data')
 FILES = [name + '.' + kind for name in ('metadata', 'content') for kind in KINDS]
 JOURNAL = 'sleep-archive.journal'
 UNSYNCED = JOURNAL + '.new'  # its name until all of it is synced
+PAGE = 'README.txt'  # the page of the format, and its name until all of it is synced
+PAGE_UNSYNCED = 'sleep-archive.page.new'
 KEPT = 'sleep-archive.room'  # room on the disk for the journal of a release; whether it is there is no part of an archive's state
 
 
@@ -91,6 +94,21 @@ def under(path):
     return found
 
 
+def version():
+    """The program's version, as tools/Cargo.toml has it."""
+    with open(os.path.join(os.path.dirname(TARGET), 'tools', 'Cargo.toml')) as file:
+        return re.search(r'^version = "(.*)"$', file.read(), re.M)[1]
+
+
+def page():
+    """The page that `new` and `copy` lay into the folder: lines that name it and its version, then docs/FORMAT.md."""
+    head = ('The page of the format, as sleep-archive %s has it.\n\n'
+            'This folder is an archive: the files of two registers, content and metadata. Pieces are in the content register, and their names in the metadata\n'
+            'register. What follows says what each byte means, so that a reader can be written from it. Nothing in the archive depends on this file.\n\n' % version())
+    with open(os.path.join(os.path.dirname(TARGET), 'docs', 'FORMAT.md'), 'rb') as file:
+        return head.encode() + file.read()
+
+
 def lay(path, found):
     """Makes a folder hold just what `under` gave."""
     shutil.rmtree(path, ignore_errors=True)
@@ -129,7 +147,6 @@ def parsed(journal):
 
 def encoded(states, ranges, length=None, sum_of=None):
     """The bytes of a journal; `length` and `sum_of` are for wrong ones."""
-    import hashlib
     names = FILES + KEYS
     parts = [state.to_bytes(8, 'big') for name in names for state in states[name]]
     for name, kind, offset, size, old, new in ranges:

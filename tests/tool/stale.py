@@ -11,7 +11,7 @@ import shutil
 import subprocess
 import sys
 
-from program import FILES, JOURNAL, KEYS, PROGRAM, TARGET, UNSYNCED, done, environment, expect, fresh, lay, run, under
+from program import FILES, JOURNAL, KEYS, PROGRAM, TARGET, done, environment, expect, fresh, lay, run, under
 
 ROOM = os.path.join(TARGET, 'tests', 'tool', 'stale')
 ARCHIVE = os.path.join(ROOM, 'archive')

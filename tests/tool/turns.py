@@ -13,7 +13,7 @@ import signal
 import subprocess
 import time
 
-from program import JOURNAL, KEPT, PROGRAM, TARGET, Ran, done, environment, expect, fresh, lay, run, under
+from program import KEPT, PROGRAM, TARGET, Ran, done, environment, expect, fresh, run, under
 
 ROOM = os.path.join(TARGET, 'tests', 'tool', 'turns')
 
@@ -164,9 +164,6 @@ def holds():
 
 def killed_holder():
     """What a command under `hold` started keeps the lock when the command is killed."""
-    holder = begun('hold', 'coats', 'sh', '-c', 'cat <&3 & echo held; wait', stdin=subprocess.DEVNULL, pass_fds=())
-    holder.kill()
-    holder.wait()
     holder = subprocess.Popen(['sh', '-c', 'exec 3<&0; exec "$0" hold coats sh -c "cat <&3 & echo held; wait"', PROGRAM], cwd=ROOM, env=environment(), stdin=subprocess.PIPE,
                               stdout=subprocess.PIPE, stderr=subprocess.PIPE)
     expect(holder.stdout.readline() == b'held\n', 'not held')

@@ -4,6 +4,7 @@ usage: python3 tests/tool/usage.py
 """
 
 import fcntl
+import json
 import os
 import random
 import resource
@@ -12,7 +13,7 @@ import signal
 import subprocess
 import time
 
-from program import JOURNAL, PROGRAM, TARGET, UNSYNCED, Ran, done, environment, expect, fresh, run, under
+from program import JOURNAL, PAGE, PROGRAM, TARGET, UNSYNCED, Ran, done, environment, expect, fresh, page, run, under, version
 import sleep_model as model
 
 ROOM = os.path.join(TARGET, 'tests', 'tool', 'usage')
@@ -35,7 +36,7 @@ def wrong(status, says, *words, **named):
 def wrong_words():
     wrong(2, 'a command is needed')
     wrong(2, 'no command mend', 'mend', 'coats')
-    wrong(2, 'no option --first', 'audit', 'coats', '--first', '1')
+    wrong(2, 'no option --first', 'get', 'coats', '0', '--first', '1')
     wrong(2, 'needs a word', 'root', 'coats', '--first')
     wrong(2, 'needs a number, not -1', 'root', 'coats', '--first=-1')
     wrong(2, 'just an archive is needed', 'status')
@@ -73,6 +74,60 @@ def wrong_words():
     wrong(2, 'an archive and a command are needed', 'hold', 'coats')
     wrong(2, '--drop or --finish, and not both', 'journal', 'coats', '--drop', '--finish')
     wrong(2, 'standard input', 'group', 'sleeve')
+    wrong(2, '--signer one for all: one of them', 'add', 'coats', 'sleeve', '--signer', 'cat', '--sign-with', 'cat')
+    wrong(2, '--commit-every needs --signer or --sign-with', 'add', 'coats', 'sleeve', '--commit-every', '5')
+    wrong(2, '--commit-every 193: 1 to 192 are needed', 'add', 'coats', 'sleeve', '--commit-every', '193', '--signer', 'cat')
+    wrong(2, '--split 6: a multiple of 4 is needed, at most 65536', 'add', 'coats', 'long', '--split', '6')
+    wrong(2, '--split needs a number, not 64k', 'needs', 'coats', 'long', '--split', '64k')
+    wrong(2, '--cuts needs a file behind it', 'add', 'coats', 'sleeve', 'collar', '--cuts', 'lengths')
+    wrong(2, '--cuts needs a file behind it', 'add', 'coats', '--cuts', 'lengths', '--cuts', 'lengths', 'sleeve')
+    wrong(2, 'drawings: a folder: --cuts is for one file', 'add', 'coats', '--cuts', 'lengths', 'drawings')
+    wrong(2, 'short: no list of lengths: it is no text', 'add', 'coats', '--cuts', 'short', 'sleeve')
+    wrong(2, 'empty: no lengths in it', 'add', 'coats', '--cuts', 'empty', 'sleeve')
+    wrong(2, 'sleeve: its cuts add up to 65537 bytes, and it has 5000 bytes', 'add', 'coats', '--cuts', 'lengths', 'sleeve')
+    wrong(2, 'no option --signer', 'needs', 'coats', 'sleeve', '--signer', 'cat')
+    wrong(2, 'an archive and a folder are needed', 'export', 'coats')
+    wrong(2, 'sleeve: a name of an archive begins with a slash', 'export', 'coats', 'out', 'sleeve')
+    wrong(2, 'no option --in', 'export', 'coats', 'out', '--in', '/coat')
+    wrong(2, '--names is of pieces', 'missing', 'coats', '--names', '--from', '1')
+    wrong_words_on_paper()
+
+
+def wrong_words_on_paper():
+    """Of the commands that hold an archive against something, list it, or say what differs."""
+    root = 64 * '0'
+    wrong(2, '--first is for the root hash that --root gives', 'audit', 'coats', 'content', '--first', '1')
+    wrong(2, '--root needs metadata or content', 'audit', 'coats', '--root', root)
+    wrong(2, '64 hexadecimal digits', 'audit', 'coats', 'content', '--root', root[1:])
+    wrong(2, '64 hexadecimal digits', 'audit', 'coats', 'content', '--root', root + ' 0')
+    wrong(2, '64 hexadecimal digits', 'audit', 'coats', 'content', '--root', '0x' + root[2:])
+    wrong(2, '--first needs a number', 'audit', 'coats', 'content', '--root', root, '--first', 'all')
+    wrong(2, '--with is needed', 'verify', 'coats')
+    wrong(2, 'metadata or content', 'verify', 'coats', 'contents', '--with', 'true')
+    wrong(2, 'an archive is needed', 'verify', '--with', 'true')
+    wrong(2, 'nowhere: no such file', 'verify', 'nowhere', '--with', 'true')
+    wrong(2, 'an archive, metadata or content, and a chunk', 'signature', 'coats', 'content')
+    wrong(2, 'metadata or content', 'signature', 'coats', 'contents', '0')
+    wrong(2, 'a chunk needs a number, not last', 'signature', 'coats', 'content', 'last')
+    wrong(2, 'just an archive is needed', 'sheet')
+    wrong(2, 'just an archive is needed', 'sheet', 'coats', 'owing')
+    for date in ('today', '2026-02-30', '2026-1-1', '', '<b>', '2026-11-17 '):
+        wrong(2, '--date needs a date as 2026-11-17', 'sheet', 'coats', '--date', date)
+    wrong(2, 'coats/README.txt: a file of an archive; nothing is written', 'sheet', 'coats', '-o', 'coats/README.txt')
+    wrong(2, 'two archives are needed, or one and --first', 'diff', 'coats')
+    wrong(2, 'two archives are needed, or one and --first', 'diff', 'coats', 'owing', '--first', '1,1')
+    wrong(2, 'two archives are needed, or one and --first', 'diff', 'coats', 'owing', 'gone')
+    wrong(2, '--first needs two numbers', 'diff', 'coats', '--first', '1')
+    wrong(2, '--first needs a number, not x', 'diff', 'coats', '--first', '1,x')
+    wrong(2, 'nowhere: no such file', 'diff', 'coats', 'nowhere')
+    wrong(2, 'an archive is needed', 'list')
+    wrong(2, 'sleeve: a name begins with a slash', 'list', 'coats', 'sleeve')
+    for words in (['--json', '-0'], ['--long', '--json'], ['-0', '--long']):
+        wrong(2, '--long, --json or -0, and not two of them', 'list', 'coats', *words)
+    wrong(2, '--no-page takes no word', 'new', 'a', '--no-page=1')
+    wrong(2, 'no option --no-page', 'add', 'coats', 'sleeve', '--no-page')
+    wrong(2, 'no command --men', 'help', '--men')
+    wrong(2, 'no command --versions', '--versions')
 
 
 def wrong_files():
@@ -82,7 +137,11 @@ def wrong_files():
     wrong(2, 'there is an archive already', 'new', 'coats')
     wrong(2, 'no such file or directory', 'new', 'no/such/folder')
     wrong(2, 'nofile: no such file or directory', 'add', 'coats', 'nofile')
-    wrong(2, 'drawings: a folder, and no file', 'add', 'coats', '--as', '/drawings', 'drawings')
+    wrong(2, 'nofile: no such file or directory', 'add', 'coats', 'sleeve', '--cuts', 'nofile')
+    wrong(2, 'nowhere: no such file or directory', 'export', 'nowhere', 'out')
+    wrong(2, 'sleeve: a file, and no folder', 'export', 'coats', 'sleeve')
+    wrong(2, 'coats: the archive itself', 'export', 'coats', 'coats')
+    wrong(2, 'no file to add: the folder has none', 'add', 'coats', '--as', '/drawings', 'drawings')
     wrong(2, 'give it a name by --as', 'add', 'coats', '../usage/sleeve')
     wrong(2, 'give it a name by --as', 'add', 'coats', '--in', '/coat', '..')
     wrong(2, 'standard input needs a name', 'add', 'coats', '-')
@@ -104,6 +163,9 @@ def refused():
     wrong(1, 'refused with 16: a set has 1 to 256 chunks', 'add', 'coats', *[word for k in range(257) for word in ('--as', '/%d' % k, 'sleeve')])
     wrong(1, 'an archive\'s first one has a Header beside the records: at most 255 files', 'add', 'fresh', *[word for k in range(256) for word in ('--as', '/%d' % k, 'sleeve')])
     wrong(1, 'refused with 8', 'add', 'owing', 'sleeve')
+    wrong(1, 'refused with 8', 'add', 'owing', 'sleeve', '--signer', 'cat')
+    wrong(1, '--split SIZE stores it as chunks', 'add', 'coats', 'long', '--signer', 'cat')
+    wrong(1, 'with --signer or --sign-with any number is added', 'add', 'coats', *[word for k in range(257) for word in ('--as', '/%d' % k, 'sleeve')])
     wrong(1, 'refused with 8', 'sign', 'coats', '--content', 'signature')
     wrong(1, 'refused with 9', 'get', 'coats', '3')
     wrong(1, 'no such name', 'get', 'coats', '/coat/pocket')
@@ -116,6 +178,93 @@ def refused():
     wrong(1, '/nosuch: there is no such name', 'release', 'coats', '/sleeve', '/nosuch')
     wrong(1, 'refused with 12', 'packet', 'take', 'gone', 'sleeve', '--number', '0')
     wrong(1, 'refused with 2', 'copy', 'part', '--content', '1048577,5')
+    wrong(1, 'content: the signature of chunk 2 is owed', 'signature', 'owing', 'content', '2')
+    wrong(1, 'content: chunk 0 has no signature of its own, but zeros; the next is that of chunk 2', 'signature', 'coats', 'content', '0')
+    wrong(1, 'content: chunk 1 has no signature of its own, but zeros; none that follows either', 'signature', 'owing', 'content', '1', '--raw')
+    wrong(1, 'content: there is no chunk 3, and no signature of one', 'signature', 'coats', 'content', '3')
+    wrong(1, 'coats: metadata: --first 5,3: it has 4 chunks, and never had 5', 'diff', 'coats', '--first', '5,3')
+    wrong(1, 'coats: content: --first 4,9: it has 3 chunks, and never had 9', 'diff', 'coats', '--first', '4,9')
+    wrong(1, '--first 4,1: /coat/empty stands in the first 4 records, and its chunks are not among the first 1', 'diff', 'coats', '--first', '4,1')
+    wrong(1, '/nosuch: there is no such name', 'list', 'coats', '/nosuch')
+    wrong(1, '/: there is no such name', 'list', 'fresh', '/')
+
+
+def pages():
+    """The page of the format lies in a folder that `new` or `copy` makes; nobody's file is written over; and nothing depends on it."""
+    place = lambda *names: os.path.join(ROOM, *names)
+    told = lambda name: done('status', name, cwd=ROOM).out.splitlines()[-1].decode()
+    for name, words in (('paged', ['new', 'paged']), ('paged copy', ['copy', 'paged copy', '--of', 'coats'])):
+        done(*words, cwd=ROOM)
+        with open(place(name, PAGE), 'rb') as file:
+            expect(file.read() == page() and os.stat(file.name).st_mode & 0o777 == os.stat(place(name, 'content.tree')).st_mode & 0o777, 'another page', name)
+        expect(told(name) == 'page: README.txt, of version ' + version(), 'another version', told(name))
+        done(*words[:1], name + ' bare', *words[2:], '--no-page', cwd=ROOM)
+        bare = under(place(name + ' bare'))
+        expect(PAGE not in bare and dict(bare, **{PAGE: page()}) == under(place(name)), 'more than the page is left out', sorted(bare))
+        expect(told(name + ' bare').startswith('page: none; '), 'not said', told(name + ' bare'))
+    first = b'The page of the format, as sleep-archive '
+    for content, words in ((b'', 'is another file, and no page of this program'), (page() + b'x', ', of version %s, with other words than that version\'s' % version()),
+                           (page()[:100], ', of version %s, with other words' % version()), (first + b'1.2.3 has it.\nolder', ', of version 1.2.3'),
+                           (first + b'\x1b[2J has it.\n', 'is another file'), (first + 200 * b'1', 'is another file'), (b'\0' * 100000, 'is another file')):
+        with open(place('paged', PAGE), 'wb') as file:
+            file.write(content)
+        expect(told('paged').startswith('page: README.txt') and words in told('paged'), 'told otherwise', told('paged'))
+    fresh(place('papers'))
+    for content in (b'mine', page()[:-1], b''):
+        with open(place('papers', PAGE), 'wb') as file:
+            file.write(content)
+        wrong(2, 'papers/README.txt: there is another file of that name; nothing is changed, and --no-page leaves the page of the format out', 'new', 'papers')
+        wrong(2, 'there is another file of that name', 'copy', 'papers', '--of', 'coats')
+    done('new', 'papers', '--no-page', cwd=ROOM)
+    for name in ('paged', 'paged bare', 'paged copy', 'paged copy bare', 'papers'):
+        shutil.rmtree(place(name))
+    fresh(place('papers'))
+    with open(place('papers', PAGE), 'wb') as file:
+        file.write(page())
+    done('new', 'papers', cwd=ROOM)
+    shutil.rmtree(place('papers'))
+
+
+def quiet():
+    """-q leaves out what is said beside an answer, and of some commands the answer that the exit status is; what is wrong is said."""
+    for words in (['audit', 'coats'], ['compare', 'coats', 'coats'], ['diff', 'coats', 'coats'], ['sign', 'coats'], ['sign', 'coats', '--with', 'false'], ['journal', 'coats']):
+        loud, silent = done(*words, cwd=ROOM), done(*words, '-q', cwd=ROOM)
+        expect((loud.out or loud.err) and not silent.out and not silent.err, 'not quiet: %r' % words, loud, silent)
+    for words in (['status', 'coats'], ['list', 'coats'], ['root', 'coats'], ['get', 'coats', '0'], ['sheet', 'coats', '--date', '2026-11-17'], ['sign', 'owing']):
+        expect(done(*words, '-q', cwd=ROOM).out == done(*words, cwd=ROOM).out, 'an answer is left out: %r' % words)
+    wrong(1, 'not accepted: content', 'audit', 'spoilt', '-q')
+    wrong(1, 'the archives are not the same', 'compare', 'coats', 'fresh', '-q')
+    wrong(1, '3 missing, by names and stored hashes; nothing is audited', 'diff', 'coats', 'fresh', '-q')
+    expect(done('--version').out.decode() == 'sleep-archive %s\n' % version(), 'another version')
+
+
+def differences():
+    """What differs by name, in any order of adding, with released pieces; other modes are no difference."""
+    place = lambda *names: os.path.join(ROOM, *names)
+    for name in ('one', 'two'):
+        done('new', name, cwd=ROOM)
+    done('add', 'one', 'sleeve', 'collar', '--as', '/gone', 'empty', '--as', '/other', 'sleeve', cwd=ROOM)
+    os.chmod(place('collar'), 0o600)
+    done('add', 'two', '--as', '/other', 'collar', '--as', '/\x1bnew', 'empty', '--as', '/\xff', 'empty', 'collar', 'sleeve', cwd=ROOM)
+    os.chmod(place('collar'), 0o644)
+    expected = [b'added   /\\x1bnew', b'added   /\xc3\xbf', b'missing /gone', b'changed /other']
+    def compared(*words):
+        ran = run('diff', *words, cwd=ROOM)
+        expect(ran.status == 1 and ran.err == b'sleep-archive: 2 added, 1 changed, 1 missing, by names and stored hashes; nothing is audited\n', 'told otherwise', ran)
+        return ran.out.splitlines()
+    expect(sorted(compared('one', 'two')) == sorted(expected) and compared('one', 'two') == sorted(expected, key=lambda line: line[8:].replace(b'\\x1b', b'\x1b')), 'other differences', compared('one', 'two'))
+    for name in ('one', 'two'):
+        done('sign', name, '--with', 'head -c 64 /dev/urandom', cwd=ROOM)
+    done('release', 'one', '/sleeve', '/gone', cwd=ROOM)
+    done('release', 'two', '/sleeve', '/collar', cwd=ROOM)
+    expect(sorted(compared('one', 'two')) == sorted(expected), 'released pieces are others')
+    same = done('diff', 'one', 'one', cwd=ROOM)
+    expect(not same.out and same.err == b'sleep-archive: no difference, by names and stored hashes; nothing is audited\n', 'told otherwise', same)
+    done('add', 'one', 'sleeve', '--as', '/gone', 'short', cwd=ROOM)
+    ran = run('diff', 'one', '--first', '5,4', cwd=ROOM)
+    expect(ran.status == 1 and ran.out == b'changed /gone\n', 'other differences since then', ran)
+    for name in ('one', 'two'):
+        shutil.rmtree(place(name))
 
 
 def partial_copies():
@@ -123,9 +272,12 @@ def partial_copies():
     done('copy', 'large', '--content', '1048576,%d' % (2 << 30), cwd=ROOM)
     about = os.stat(os.path.join(ROOM, 'large', 'content.data'))
     expect(about.st_size == 2 << 30 and about.st_blocks < 1000, 'another size, or room is taken', about)
-    expect(done('status', 'large', cwd=ROOM).out.endswith(b'not all its roots are known\n'), 'another status')
+    expect(b'nothing is taken in yet of its 1048576 chunks, so no piece is held: `sleep-archive packets take large FILE' in done('status', 'large', cwd=ROOM).out, 'another status')
     shutil.rmtree(os.path.join(ROOM, 'large'))
     done('copy', 'part', '--of', 'coats', cwd=ROOM)
+    for words, known in ((['list', 'part'], 'no name is known'), (['missing', 'part'], 'no piece is held'), (['root', 'part'], 'no name is known'), (['get', 'part', '/sleeve'], 'no name is known')):
+        wrong(1, 'refused with 20', *words)
+        wrong(1, known + ': `sleep-archive packets take part FILE --root METADATA,CONTENT` takes in', *words)
     root = dict(line.split() for line in done('root', 'coats', cwd=ROOM).out.decode().splitlines())
     done('packet', 'make', 'coats', '1', '-o', 'packet1', cwd=ROOM)
     wrong(1, '--root is needed: the archive\'s own root hash: refused with 20', 'packet', 'take', 'part', 'packet1', '--number', '1')
@@ -143,11 +295,65 @@ def partial_copies():
     shutil.rmtree(os.path.join(ROOM, 'part'))
 
 
+def copies_that_follow():
+    """Wrong words and wrong files of `packets`, `grow` and `copy --names`; and what is done, is done in the words that are said."""
+    place = lambda name: os.path.join(ROOM, name)
+    roots = done('root', 'coats', cwd=ROOM).out.decode().split()
+    own = roots[1] + ',' + roots[3]
+    done('packets', 'make', 'coats', '/sleeve', '-o', 'sent', cwd=ROOM)
+    done('copy', 'part', '--of', 'coats', cwd=ROOM)
+    for said, *words in (
+            ('packets make, packets take or packets show', 'packets'), ('packets make, packets take or packets show', 'packets', 'send'),
+            ('an archive and names are needed', 'packets', 'make'), ('an archive and names are needed', 'packets', 'make', 'coats'),
+            ('sleeve: a name of an archive begins with a slash', 'packets', 'make', 'coats', 'sleeve'),
+            ('--first needs two numbers', 'packets', 'make', 'coats', '/sleeve', '--first', '3'),
+            ('--since needs two numbers', 'packets', 'make', 'coats', '--since', '3'),
+            ('--since 100: metadata has', 'packets', 'make', 'coats', '--since', '100,0'),
+            ('an archive and a file of packets are needed', 'packets', 'take', 'part'),
+            ('an archive and a file of packets are needed', 'packets', 'take', 'part', 'sent', 'sent'),
+            ('just a file of packets is needed', 'packets', 'show'), ('nofile: no such file', 'packets', 'show', 'nofile'), ('a folder, and no file', 'packets', 'show', 'coats'),
+            ('--without-journal is for reading', 'packets', 'take', 'part', 'sent', '--without-journal'),
+            ('--root, --of or --with, and not two of them', 'packets', 'take', 'part', 'sent', '--root', own, '--of', 'coats'),
+            ('--root needs the root hashes of metadata and of content', 'packets', 'take', 'part', 'sent', '--root', roots[1]),
+            ('--root needs the root hashes of metadata and of content', 'packets', 'take', 'part', 'sent', '--root', ','),
+            ('--root needs root hashes: 64 hexadecimal digits each', 'packets', 'take', 'part', 'sent', '--root', roots[1] + ',abc'),
+            ('--root METADATA,CONTENT is needed', 'packets', 'take', 'part', 'sent'), ('nobody has checked: metadata ' + roots[1], 'packets', 'take', 'part', 'sent'),
+            ("it can't be run, and nothing is known", 'packets', 'take', 'part', 'sent', '--with', 'exit 127'),
+            ('a copy and --of ARCHIVE are needed', 'grow'), ('a copy and --of ARCHIVE are needed', 'grow', 'part'),
+            ('a copy and --of ARCHIVE are needed', 'grow', 'part', '--of', 'coats', '--root', own),
+            ('--root METADATA,CONTENT is needed', 'grow', 'part', 'sent'), ('--of is another archive', 'grow', 'part', '--of', 'part'), ('there is no option --names', 'grow', 'part', '--names'),
+            ('a folder, --of ARCHIVE, --names and names are needed', 'copy', 'more', '--names', '/sleeve'), ('a folder, --of ARCHIVE', 'copy', 'more', '--of', 'coats', '--names'),
+            ('sleeve: a name of an archive begins with a slash', 'copy', 'more', '--of', 'coats', '--names', 'sleeve'),
+            ('--of ARCHIVE, or --content', 'copy', 'more', '--of', 'coats', '--names', '/sleeve', '--content', '1,1'),
+            ('there is an archive already', 'copy', 'part', '--of', 'coats', '--names', '/sleeve'), ('there is an archive already', 'copy', 'coats', '--of', 'coats', '--names', '/sleeve'),
+            ('--first needs a number', 'packet', 'make', 'coats', '0', '--first', 'x')):
+        wrong(2, said, *words)
+    for said, *words in (
+            ('/nosuch: there is no such name, and no folder of it', 'packets', 'make', 'coats', '/nosuch'), ('refused with 9', 'packets', 'make', 'coats', '/sleeve', '--first', '9,9'),
+            ('there is no such name', 'packets', 'make', 'coats', '/sleeve', '--first', '1,0'), ('/collar: not held here', 'packets', 'make', 'gone', '/collar'),
+            ('refused with 9', 'packet', 'make', 'coats', '0', '--first', '99'), ('refused with 9', 'packet', 'make', 'coats', '0', '--first', '0'),
+            ('no file of packets; nothing is changed', 'packets', 'take', 'part', 'sleeve'), ('no file of packets', 'packets', 'show', 'sleeve'),
+            ('the packet of chunk 0 of metadata, nothing is changed: refused with 13', 'packets', 'take', 'part', 'sent', '--root', 64 * '0' + ',' + roots[3]),
+            ('the signature of the file\'s root hash, ' + roots[1] + ', is not good', 'packets', 'take', 'part', 'sent', '--with', 'false'),
+            ('it is no partial copy: `add` makes it grow', 'grow', 'coats', '--of', 'part'), ('/nosuch: there is no such name', 'copy', 'more', '--of', 'coats', '--names', '/nosuch')):
+        wrong(1, said, *words)
+    expect(not os.path.exists(place('more')), 'something was made')
+    shown = done('packets', 'show', 'sent', cwd=ROOM).out.decode()
+    expect(roots[1] in shown and roots[3] in shown and shown.endswith('nobody has checked\n'), 'shown otherwise', shown)
+    ran = done('packets', 'take', 'part', '-', '--root', own, cwd=ROOM, stdin=open(place('sent'), 'rb').read())
+    expect(b' packets taken in' in ran.out and done('packets', 'take', '-q', 'part', 'sent', cwd=ROOM).out == b'', 'not said', ran)
+    expect(done('get', 'part', '/sleeve', cwd=ROOM).out == done('get', 'coats', '/sleeve', cwd=ROOM).out, 'another piece')
+    done('copy', 'other', '--content', '1,1', cwd=ROOM)
+    wrong(1, 'nothing is changed', 'packets', 'take', 'other', 'sent', '--root', own)
+    for name in ('part', 'other', 'sent'):
+        shutil.rmtree(place(name)) if os.path.isdir(place(name)) else os.remove(place(name))
+
+
 def helps():
     """The help names every command, on lines that a terminal has; a command's own help is its part of it."""
     page = done('--help').out.decode()
     expect(max(map(len, page.splitlines())) <= 78, 'a long line in the help')
-    for name in ('new', 'copy', 'add', 'sign', 'list', 'get', 'status', 'audit', 'compare', 'root', 'label', 'needs', 'release', 'missing', 'packet', 'hold', 'journal', 'group', 'ungroup'):
+    for name in ('new', 'copy', 'add', 'sign', 'list', 'get', 'export', 'status', 'audit', 'verify', 'sheet', 'signature', 'compare', 'diff', 'root', 'label', 'needs', 'release', 'missing', 'packet', 'packets', 'grow', 'hold', 'journal', 'group', 'ungroup'):
         own = done(name, '--help').out.decode()
         heads = [line for line in own.splitlines() if line.startswith('  sleep-archive ')]
         expect(heads and own in page and done(name, '-h').out.decode() == own == done('help', name).out.decode(), 'no help on ' + name, own)
@@ -200,7 +406,14 @@ def odd_names():
     listed = done('list', 'odd', cwd=ROOM).out.splitlines()
     shown = [b'/a\\x0ab', b'/\\xff\\xfe', b'/\\x9b2J', b'/\\xe2\\x80\\xaegpj.', b'/\\xc2\\x9b1m', b'/caf\xc3\xa9', b'/back\\x5cslash', b'/with space', b'/' + 254 * b'x']
     expect([line.split(None, 3)[3] for line in listed] == shown, 'listed otherwise', listed)
+    expect(done('list', 'odd', '-0', cwd=ROOM).out == b''.join(name + b'\0' for name in names), 'other names')
+    objects = json.loads(done('list', 'odd', '--json', cwd=ROOM).out)
+    expect([bytes.fromhex(one['name_hex']) for one in objects] == names, 'other names', objects)
+    expect([one['name'] and one['name'].encode() for one in objects] == [None if set(name) & {0xff} or name == b'/\x9b2J' else name for name in names], 'other names', objects)
+    expect(all(byte in range(32, 127) or byte == 10 for byte in done('list', 'odd', '--json', cwd=ROOM).out), 'a terminal would obey')
+    expect(done('list', 'odd', '--long', cwd=ROOM).out.splitlines()[0] == b'     1 %o     1       0    5000 held %-20s /a\\x0ab' % (os.stat(os.path.join(ROOM, 'sleeve')).st_mode, b'-'), 'another line')
     for name in names:
+        expect(done('list', 'odd', name.replace(b'\\', b'\\\\'), '-0', cwd=ROOM).out == name + b'\0', 'another name is meant', name)
         expect(done('get', 'odd', name, cwd=ROOM).out == sleeve, 'another piece', name)
     for words in (['get', 'odd', b'/\x1b[2J\x9b'], ['audit', b'no\x1b[2Jwhere'], ['add', 'odd', b'no\xe2\x80\xaefile'], [b'\x1b[2J'], ['get', 'odd', b'\x07'], ['new', b'\x1b/x']):
         ran = run(*words, cwd=ROOM)
@@ -263,7 +476,7 @@ def results():
     done('packet', 'make', 'coats', '0', '-o', 'packet', cwd=ROOM)
     root = done('root', 'coats', 'content', cwd=ROOM).out.split()[1]
     checking = ['packet', 'check', 'packet', '--chunks', '3', '--number', '0', '--root', root]
-    for name in ('coats/content.data', 'coats/../coats/metadata.tree', 'link', 'gone/content.tree', 'coats/content.key', 'coats/sleep-archive.journal'):
+    for name in ('coats/content.data', 'coats/../coats/metadata.tree', 'link', 'gone/content.tree', 'coats/content.key', 'coats/sleep-archive.journal', 'coats/README.txt'):
         for words in (['get', 'coats', '1'], ['packet', 'make', 'coats', '1'], checking):
             wrong(2, name + ': a file of an archive; nothing is written', *words, '-o', name)
     write('result', b'good')
@@ -485,6 +698,7 @@ def main():
     fresh(ROOM)
     sleeve = rng.randbytes(5000)
     write('sleeve', sleeve)
+    write('lengths', b'65536 1')
     for name, size in (('collar', 65536), ('empty', 0), ('long', 65537), ('signature', 64), ('short', 3)):
         write(name, rng.randbytes(size))
     fresh(os.path.join(ROOM, 'drawings'))
@@ -498,7 +712,14 @@ def main():
     wrong_words()
     wrong_files()
     refused()
+    shutil.copytree(os.path.join(ROOM, 'coats'), os.path.join(ROOM, 'spoilt'))
+    with open(os.path.join(ROOM, 'spoilt', 'content.data'), 'r+b') as file:
+        file.write(b'spoilt')
     partial_copies()
+    copies_that_follow()
+    pages()
+    quiet()
+    differences()
     helps()
     results()
     smaller()
@@ -512,7 +733,7 @@ def main():
     many_zeros()
     scattered()
     large()
-    print('usage: wrong words, wrong files and refusals told, and nothing changed; the help, results in files, names of any bytes, partial copies, filters, locks, folders that '
+    print('usage: wrong words, wrong files and refusals told, and nothing changed; pages in folders, quiet, differences, the help, results in files, names of any bytes, partial copies, filters, locks, folders that '
           'are moved, a medium that can\'t be written, many zeros, many places, 64 GiB')
 
 

@@ -4,6 +4,7 @@ use std::ffi::{OsStr, OsString};
 use std::os::unix::ffi::{OsStrExt, OsStringExt};
 
 /// An option that a command takes.
+#[derive(Clone)]
 pub struct Rule {
     pub name: &'static str,
     pub takes_word: bool,
@@ -83,14 +84,33 @@ impl Arguments {
         }
     }
 
-    /// The 32 bytes that an option gives in hex.
+    /// The 32 bytes that an option gives in hex; between the digits spaces may stand, as on a sheet.
     pub fn root(&self, name: &str) -> Done<Option<[u8; 32]>> {
         let Some(word) = self.option(name) else { return Ok(None) };
-        match word.to_str().and_then(from_hex).and_then(|bytes| bytes.try_into().ok()) {
+        match word.to_str().and_then(root_in) {
             Some(root) => Ok(Some(root)),
             None => usage(format!("{name} needs a root hash: 64 hexadecimal digits")),
         }
     }
+
+    /// Two root hashes that an option gives, of metadata and of content, with a comma between them; one of them may be left out.
+    pub fn roots(&self, name: &str) -> Done<Option<[Option<[u8; 32]>; 2]>> {
+        let Some(word) = self.option(name) else { return Ok(None) };
+        let parts = word.to_str().unwrap_or_default().split(',').map(str::trim).collect::<Vec<_>>();
+        let root = |part: &str| if part.is_empty() { Some(None) } else { root_in(part).map(Some) };
+        match parts[..] {
+            [metadata, content] if !metadata.is_empty() || !content.is_empty() => match (root(metadata), root(content)) {
+                (Some(metadata), Some(content)) => Ok(Some([metadata, content])),
+                _ => usage(format!("{name} needs root hashes: 64 hexadecimal digits each")),
+            },
+            _ => usage(format!("{name} needs the root hashes of metadata and of content, with a comma between them")),
+        }
+    }
+}
+
+/// The 32 bytes of a root hash in hex; between the digits spaces may stand.
+fn root_in(word: &str) -> Option<[u8; 32]> {
+    from_hex(&word.split_ascii_whitespace().collect::<String>())?.try_into().ok()
 }
 
 fn option(next: &OsStr, words: &mut impl Iterator<Item = OsString>, rules: &[&[Rule]]) -> Done<Typed> {

@@ -22,6 +22,9 @@ const FOLDER_ALONE: i32 = 0o40000;
 const NO_LINK: i32 = 0o100000;
 const CLOSED_AT_EXEC: i32 = 0o2000000;
 
+/// How a file is opened that was found in a folder of the user's: through no link, and without waiting.
+pub const FOUND: i32 = NO_LINK | NOT_WAITING;
+
 /// In the place of a folder's number: paths are those of this process.
 const FROM_HERE: i32 = -100;
 const LINK_ITSELF: i32 = 0x100;
@@ -31,6 +34,9 @@ const AS_IT_IS_NOW: i32 = 0x2000;
 const BASIC: u32 = 0x7ff;
 
 const KIND: u16 = 0o170000;
+
+const TO_READ: i32 = 4;
+const AS_WHO_RUNS: i32 = 0x200;
 
 /// What the system tells about a file; it is laid out in one way on every processor.
 #[repr(C)]
@@ -60,6 +66,14 @@ extern "C" {
     fn unlinkat(folder: i32, name: *const c_char, flags: i32) -> i32;
     fn renameat(folder: i32, name: *const c_char, other: i32, new: *const c_char) -> i32;
     fn dup(file: i32) -> i32;
+    fn mkdirat(folder: i32, name: *const c_char, mode: u32) -> i32;
+    fn renameat2(folder: i32, name: *const c_char, other: i32, new: *const c_char, flags: u32) -> i32;
+    fn linkat(folder: i32, name: *const c_char, other: i32, new: *const c_char, flags: i32) -> i32;
+    fn futimens(file: i32, times: *const [Moment; 2]) -> i32;
+    fn fchmod(file: i32, mode: u32) -> i32;
+    fn umask(mask: u32) -> u32;
+    fn syncfs(file: i32) -> i32;
+    fn faccessat(folder: i32, name: *const c_char, mode: i32, flags: i32) -> i32;
 }
 
 /// How a plain file is opened. A lock that excludes needs a file that can be written, on a network's file system.
@@ -127,6 +141,12 @@ pub fn look(folder: &File, name: &str) -> io::Result<Option<About>> {
 pub fn at_path(path: &Path) -> io::Result<About> {
     let path = CString::new(path.as_os_str().as_bytes())?;
     told(FROM_HERE, &path, 0)
+}
+
+/// Whether this user may read what a path leads to.
+pub fn can_be_read(path: &Path) -> io::Result<()> {
+    let path = CString::new(path.as_os_str().as_bytes())?;
+    done(unsafe { faccessat(FROM_HERE, path.as_ptr(), TO_READ, AS_WHO_RUNS) })
 }
 
 /// What is known of an open file.
@@ -199,4 +219,80 @@ pub fn kept_at_exec(file: RawFd) -> io::Result<RawFd> {
         -1 => Err(io::Error::last_os_error()),
         number => Ok(number),
     }
+}
+
+/// A moment as the system takes it, in seconds since 1970 and nanoseconds.
+#[repr(C)]
+struct Moment {
+    seconds: i64,
+    nanoseconds: i64,
+}
+
+const NOT_CHANGED: i64 = (1 << 30) - 2;
+
+/// Names of any bytes below an open folder: those of pieces. None of them has a slash.
+fn any_name(name: &[u8]) -> io::Result<CString> {
+    CString::new(name).map_err(io::Error::from)
+}
+
+/// A folder in a folder, opened through no link.
+pub fn folder_below(folder: &File, name: &[u8]) -> io::Result<File> {
+    let name = any_name(name)?;
+    let handle = unsafe { openat(folder.as_raw_fd(), name.as_ptr(), FOLDER_ALONE | NO_LINK | CLOSED_AT_EXEC) };
+    if handle < 0 {
+        return Err(io::Error::last_os_error());
+    }
+    Ok(unsafe { File::from_raw_fd(handle) })
+}
+
+pub fn make_folder(folder: &File, name: &[u8]) -> io::Result<()> {
+    let name = any_name(name)?;
+    done(unsafe { mkdirat(folder.as_raw_fd(), name.as_ptr(), 0o777) })
+}
+
+/// Whether there is anything of a name, be it a link.
+pub fn is_there(folder: &File, name: &[u8]) -> io::Result<bool> {
+    Ok(there(told(folder.as_raw_fd(), &any_name(name)?, LINK_ITSELF))?.is_some())
+}
+
+/// Gives a file another name. Unless it may, it takes no name that there is.
+pub fn give_name(folder: &File, name: &str, new: &[u8], overwrite: bool) -> io::Result<()> {
+    const NOT_REPLACING: u32 = 1;
+    let (name, new, folder) = (c_name(name)?, any_name(new)?, folder.as_raw_fd());
+    if overwrite {
+        return done(unsafe { renameat(folder, name.as_ptr(), folder, new.as_ptr()) });
+    }
+    match done(unsafe { renameat2(folder, name.as_ptr(), folder, new.as_ptr(), NOT_REPLACING) }) {
+        // A file system that can't do that has two names for a while.
+        Err(error) if matches!(error.kind(), io::ErrorKind::InvalidInput | io::ErrorKind::Unsupported) => {
+            done(unsafe { linkat(folder, name.as_ptr(), folder, new.as_ptr(), 0) })?;
+            done(unsafe { unlinkat(folder, name.as_ptr(), 0) })
+        }
+        other => other,
+    }
+}
+
+/// Sets the time of a file's last change, in nanoseconds since 1970.
+pub fn set_time(file: &File, nanoseconds: u64) -> io::Result<()> {
+    const SECOND: u64 = 1_000_000_000;
+    let changed = Moment { seconds: (nanoseconds / SECOND) as i64, nanoseconds: (nanoseconds % SECOND) as i64 };
+    done(unsafe { futimens(file.as_raw_fd(), &[Moment { seconds: 0, nanoseconds: NOT_CHANGED }, changed]) })
+}
+
+pub fn set_rights(file: &File, mode: u32) -> io::Result<()> {
+    done(unsafe { fchmod(file.as_raw_fd(), mode) })
+}
+
+/// The rights that new files don't get. Asked for by setting it, so before there are threads.
+pub fn mask() -> u32 {
+    unsafe {
+        let mask = umask(0o077);
+        umask(mask);
+        mask
+    }
+}
+
+/// Syncs all that is on the file system of a folder.
+pub fn sync_all_of(folder: &File) -> io::Result<()> {
+    done(unsafe { syncfs(folder.as_raw_fd()) })
 }

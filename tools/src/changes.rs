@@ -22,6 +22,9 @@ const RELEASED: usize = 64;
 /// Where a whole block of old bytes is zeros it may be a hole, and a file system may show other bytes in it after a stop.
 const BLOCK: usize = 4096;
 
+/// The bytes of a key.
+const KEY: u64 = 32;
+
 /// What is to become of one file.
 pub struct Change<'a> {
     pub number: usize,
@@ -153,7 +156,8 @@ impl Witnesses {
             let Some(file) = folder.plain(number)? else { continue };
             let length = file.about.length;
             let places = match number {
-                METADATA_KEY | CONTENT_KEY => vec![(0, length)],
+                METADATA_KEY | CONTENT_KEY if length == KEY => vec![(0, length)],
+                METADATA_KEY | CONTENT_KEY => Vec::new(), // no key, and no journal either
                 _ => roots_of(length),
             };
             let bytes = Bytes::of(&file.file, length).map_err(|error| folder.trouble(FILES[number], error))?;

@@ -25,7 +25,7 @@ pub const DATA: usize = 3;
 
 pub const HEADER: u64 = 32;
 pub const ENTRY: u64 = 40;
-const SIGNATURE: u64 = 64;
+pub const SIGNATURE: u64 = 64;
 const BITFIELD_ENTRY: u64 = 3328;
 const CHUNKS_PER_ENTRY: u64 = 8192;
 

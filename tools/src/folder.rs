@@ -11,6 +11,7 @@ use crate::sleep_register::{CopyStore, Store};
 use crate::words::{at_file, in_file, Done, Trouble};
 use std::fs::File;
 use std::io;
+use std::ops::Range;
 use std::path::{Path, PathBuf};
 use std::rc::Rc;
 use std::time::Duration;
@@ -140,6 +141,11 @@ impl Folder {
         }
     }
 
+    /// The length that a file has on the disk at this moment; nothing where there is none.
+    pub fn now(&self, number: usize) -> io::Result<Option<u64>> {
+        Ok(below::look(&self.handle, FILES[number])?.map(|about| about.length))
+    }
+
     /// Whether there is a journal, of whatever kind.
     pub fn is_unfinished(&self) -> Done<bool> {
         below::look(&self.handle, NAME).map(|found| found.is_some()).map_err(|error| self.trouble(NAME, error))
@@ -188,7 +194,8 @@ impl Folder {
         Ok(Images(kept(images, counts)))
     }
 
-    fn image_to_write(&self, number: usize, room: u64) -> Done<Image> {
+    /// A file to be written, with room up to this length.
+    pub fn image_to_write(&self, number: usize, room: u64) -> Done<Image> {
         Image::to_write(self.plain(number)?, room).map_err(|error| self.trouble(FILES[number], error))
     }
 
@@ -230,13 +237,14 @@ impl Images {
         self.0.lent()
     }
 
-    /// Makes a part of the data this process's own.
-    pub fn own(&mut self, offset: u64, length: u64) -> io::Result<()> {
+    /// Makes a part of the data this process's own; a part that was is given up.
+    pub fn own(&mut self, before: Range<u64>, part: Range<u64>) -> io::Result<()> {
         let data = match &mut self.0 {
             Kept::Whole(store) => &mut store.data,
             Kept::Copy(store) => &mut store.data,
         };
-        data.own(offset as usize, length as usize)
+        data.give_up(before.start as usize, (before.end - before.start) as usize);
+        data.own(part.start as usize, (part.end - part.start) as usize)
     }
 }
 

@@ -2,7 +2,12 @@
 use crate::words::{usage, Done};
 
 const PAGE: &str = include_str!("help.txt");
-const MARK: &str = "==";
+pub const MARK: &str = "==";
+
+/// The lines of the page, with its marks.
+pub fn marked() -> impl Iterator<Item = &'static str> {
+    PAGE.lines()
+}
 
 /// The whole page, without its marks.
 pub fn page() -> String {

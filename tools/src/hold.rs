@@ -3,7 +3,7 @@ use crate::arguments::Arguments;
 use crate::folder::{Folder, Opening};
 use crate::left_over::NAME;
 use crate::lock::{kept_for_others, HELD};
-use crate::words::{at_file, said, tell, usage, Done, Trouble};
+use crate::words::{at_file, remark, said, usage, Done, Trouble};
 use std::os::unix::process::CommandExt;
 use std::path::Path;
 use std::process::Command;
@@ -19,7 +19,7 @@ pub fn hold(arguments: &Arguments) -> Done<()> {
         return Err(Trouble::File(format!("{}: no archive: metadata.tree is missing", path.display())));
     }
     if folder.is_unfinished()? {
-        tell(&format!(
+        remark(&format!(
             "sleep-archive: {}: a change is unfinished in {NAME}, which belongs to the files: a copy needs it too",
             path.display()
         ));

@@ -74,6 +74,8 @@ pub struct Image {
     file: Option<Rc<Plain>>,
     before: OnceCell<Bytes>,
     watch: Option<&'static Watch>,
+    /// Other bytes than the file's were written here by `written` or `cleared`.
+    altered: bool,
 }
 
 impl Image {
@@ -105,7 +107,7 @@ impl Image {
         let length = usize::try_from(length).map_err(too_long)?.max(old);
         let mapped = memory::whole_pages(length.max(1));
         let start = memory::addresses(mapped)?;
-        let image = Image { start, mapped, length, old, file, before: OnceCell::new(), watch: None };
+        let image = Image { start, mapped, length, old, file, before: OnceCell::new(), watch: None, altered: false };
         let filled = memory::whole_pages(old);
         if let (Some(file), true) = (&image.file, old > 0) {
             memory::place_file(start, filled, &file.file)?;
@@ -175,12 +177,14 @@ impl Image {
 
     /// Bytes in the place of others.
     pub fn written(&mut self, offset: usize, bytes: &[u8]) -> io::Result<()> {
+        self.altered = true;
         self.opened(offset, bytes.len())?.copy_from_slice(bytes);
         Ok(())
     }
 
     /// Zeros in the place of others. Many take no memory.
     pub fn cleared(&mut self, offset: usize, length: usize) -> io::Result<()> {
+        self.altered = true;
         let (from, to) = (memory::whole_pages(offset), (offset + length) / memory::page() * memory::page());
         if to < from + memory::page() {
             self.opened(offset, length)?.fill(0);
@@ -202,6 +206,28 @@ impl Image {
             }
         }
         Ok(())
+    }
+}
+
+impl Image {
+    /// Gives up the pages of a part that are as the file has them: bytes that were written there again take no memory then.
+    pub fn give_up_same(&mut self, part: std::ops::Range<usize>) -> io::Result<()> {
+        let (page, before) = (memory::page(), self.before()?);
+        let pages = part.start / page..part.end.min(self.old) / page;
+        for at in pages.map(|number| number * page) {
+            if self.as_ref()[at..at + page] == before[at..at + page] {
+                memory::give_up(self.start.wrapping_add(at), page);
+            }
+        }
+        Ok(())
+    }
+
+    /// Gives up what `own` made this process's own, so that reading much of a file takes little memory: the file's bytes stand there again.
+    pub fn give_up(&mut self, offset: usize, length: usize) {
+        let (from, pages) = self.pages_of(offset, length);
+        if length > 0 && !self.altered {
+            memory::give_up(self.start.wrapping_add(from), pages);
+        }
     }
 }
 

@@ -8,7 +8,7 @@ use crate::left_over::{Found, Left, NAME};
 use crate::lock::{Patience, Use};
 use crate::outputs::{self, say};
 use crate::reading::only;
-use crate::words::{counted, tell, usage, Done};
+use crate::words::{counted, remark, usage, Done};
 use std::fmt::Write;
 use std::path::Path;
 
@@ -50,7 +50,7 @@ fn aside(folder: &Folder, mut patience: Patience) -> Done<()> {
 }
 
 fn none(folder: &Folder) -> Done<()> {
-    tell(&format!("{}: no journal, so no change is unfinished", folder.path.display()));
+    remark(&format!("{}: no journal, so no change is unfinished", folder.path.display()));
     Ok(())
 }
 

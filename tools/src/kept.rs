@@ -1,8 +1,9 @@
 //! A register as a folder has it: whole, or, without a signatures file, a partial copy. Each has calls of its own, and most of them go by the same name.
-use crate::counts::{used_sizes, BITFIELD, DATA, SIGNATURES, TREE};
+use crate::counts::{root_entries, used_sizes, BITFIELD, DATA, SIGNATURES, TREE};
 use crate::image::Image;
-use crate::sleep_register::{Copied, CopyStore, Node, Pair, Refusal, Register, Store};
+use crate::sleep_register::{Copied, CopyStore, Leaf, Node, Pair, Place, Refusal, Register, Store};
 use crate::words::{Done, Trouble};
+use std::ops::Range;
 
 /// Images to be read.
 #[derive(Clone, Copy)]
@@ -35,6 +36,13 @@ impl<'a> Lent<'a> {
         }
     }
 
+    pub fn tree(&self) -> &'a [u8] {
+        match self {
+            Lent::Whole(lent) => lent.tree,
+            Lent::Copy(lent) => lent.tree,
+        }
+    }
+
     /// The register, where it is whole: what is not for copies.
     pub fn whole(self, what: &str) -> Done<Register<'a>> {
         match self {
@@ -43,8 +51,28 @@ impl<'a> Lent<'a> {
         }
     }
 
-    pub fn audit(&self) -> Result<(), Refusal> {
-        asked!(self, audit())
+    /// The register as it was when it had m chunks: the same files, told m and the size that those chunks have, the lengths of m's roots together. A packet
+    /// made of it is the very one that a register of the first m chunks gives (crates/theorem_packet_prefix).
+    pub fn first(&self, m: u64) -> Result<Lent<'a>, Refusal> {
+        if m == self.n() {
+            return self.root_hash().map(|_| *self);
+        }
+        self.old_root(m)?;
+        let length = |at: u64| u64::from_be_bytes(self.tree()[at as usize + 32..at as usize + 40].try_into().expect("8 bytes"));
+        let size = root_entries(m).into_iter().try_fold(0, |size: u64, at| size.checked_add(length(at)));
+        let size = size.filter(|size| *size <= self.size()).ok_or(Refusal { number: 6, place: Place::None })?;
+        Ok(match *self {
+            Lent::Whole(lent) => Lent::Whole(Register { n: m, s: m, size, ..lent }),
+            Lent::Copy(lent) => Lent::Copy(Copied { n: m, size, ..lent }),
+        })
+    }
+
+    pub fn audit_tree_part(&self, range: Range<u64>) -> Result<(), Refusal> {
+        asked!(self, audit_tree_part(range))
+    }
+
+    pub fn audit_bitfield_part(&self, range: Range<u64>) -> Result<(), Refusal> {
+        asked!(self, audit_bitfield_part(range))
     }
 
     pub fn root_hash(&self) -> Result<[u8; 32], Refusal> {
@@ -81,6 +109,11 @@ impl<'a> Lent<'a> {
 
     pub fn find(&self, path: &[u8]) -> Result<Option<u64>, Refusal> {
         asked!(self, find(path))
+    }
+
+    /// The stored entry of a chunk's leaf, held or not.
+    pub fn stored_leaf(&self, chunk: u64) -> Result<Leaf, Refusal> {
+        asked!(self, stored_leaf(chunk))
     }
 
     /// Bytes that a call may look at.
@@ -131,21 +164,20 @@ impl Kept {
 
     pub fn files(&self) -> Vec<Filed<'_>> {
         match self {
-            Kept::Whole(Store { tree, signatures, bitfield, data, n, s, size }) => {
-                let lengths = used_sizes(*n, *s, *size);
-                [tree, signatures, bitfield, data]
-                    .into_iter()
-                    .zip(lengths)
-                    .enumerate()
-                    .map(|(kind, (image, length))| (kind, image, length))
-                    .collect()
-            }
+            Kept::Whole(store) => whole_files(store),
             Kept::Copy(CopyStore { tree, bitfield, data, n, size }) => {
                 let lengths = used_sizes(*n, 0, *size);
                 [(TREE, tree), (BITFIELD, bitfield), (DATA, data)].into_iter().map(|(kind, image)| (kind, image, lengths[kind])).collect()
             }
         }
     }
+}
+
+/// The files of a whole register.
+pub fn whole_files(store: &Store<Image>) -> Vec<Filed<'_>> {
+    let Store { tree, signatures, bitfield, data, n, s, size } = store;
+    let images = [tree, signatures, bitfield, data].into_iter().zip(used_sizes(*n, *s, *size));
+    images.enumerate().map(|(kind, (image, length))| (kind, image, length)).collect()
 }
 
 /// The kinds of files that a register has, or a copy of one.

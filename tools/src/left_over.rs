@@ -19,11 +19,16 @@ pub const NAME: &str = "sleep-archive.journal";
 /// The first bytes of journals that older versions wrote.
 const OLD: &[u8] = b"sleep-archive 1\n";
 
-/// What this program takes on, so that no journal costs more than a moment and some memory: bytes, ranges, pages of the files that a judge looks at, and
-/// pages or mappings that reading takes. What it writes itself stays below the first three.
-pub const MOST_BYTES: u64 = 24 << 20;
+/// What this program takes on, so that no journal costs more than a moment and some memory: bytes, ranges, bytes in pages of the files that the judge looks
+/// at, and what reading takes: bytes in pages, and mappings for parts that lie apart. What it writes itself stays below the first three.
+pub const MOST_BYTES: u64 = calls::MOST;
 pub const MOST_RANGES: usize = 1 << 18;
-const MOST_PAGES: u64 = 6000;
+const MOST_IN_PAGES: u64 = 24 << 20;
+const MOST_BORNE: u64 = MOST_BYTES + MOST_IN_PAGES;
+const MOST_APART: u64 = 6000;
+
+/// Where a journal tells its own length.
+const OWN_LENGTH: std::ops::Range<usize> = 16..24;
 
 /// A file that a journal makes is judged in full where it is no longer than this.
 const MOST_MADE: usize = 1 << 20;
@@ -62,10 +67,20 @@ impl Found {
         if length > MOST_BYTES {
             return Err(trouble(io::Error::other(format!("{length} bytes, longer than any journal that this program writes or reads"))));
         }
-        let mut bytes = vec![0; length as usize];
-        looked.file.read_exact_at(&mut bytes, 0).map_err(trouble)?;
+        let bytes = taken(&looked.file, length as usize).map_err(trouble)?;
         Ok(Found::Journal(Journal { bytes, _plain: looked }))
     }
+}
+
+/// The bytes of a journal's file; of one that tells of another length than it has the first alone, which are refused for that.
+fn taken(file: &File, length: usize) -> io::Result<Vec<u8>> {
+    let mut bytes = vec![0; length.min(calls::BESIDE as usize)];
+    file.read_exact_at(&mut bytes, 0)?;
+    if bytes.get(OWN_LENGTH).is_some_and(|own| own == (length as u64).to_be_bytes()) {
+        bytes.resize(length, 0);
+        file.read_exact_at(&mut bytes, 0)?;
+    }
+    Ok(bytes)
 }
 
 impl AsRef<[u8]> for Journal {
@@ -168,29 +183,31 @@ impl Left {
             *lengths = calls::lengths(bytes, number).map_err(|wrong| not_taken(path, &no_journal(wrong, bytes)))?;
         }
         let left = Left { journal, path: path.to_owned(), lengths };
-        let looked_at = left.pages(|kind| matches!(kind, Kind::Replaced | Kind::Witness));
-        if calls::ranges(left.bytes()).take(MOST_RANGES + 1).count() > MOST_RANGES || looked_at > MOST_PAGES {
+        let (looked_at, _) = left.in_pages(|kind| matches!(kind, Kind::Replaced | Kind::Witness));
+        if calls::ranges(left.bytes()).take(MOST_RANGES + 1).count() > MOST_RANGES || looked_at > MOST_IN_PAGES {
             return Err(not_taken(path, "it has more ranges than any journal that this program writes"));
         }
         Ok(left)
     }
 
-    /// The pages that ranges of these kinds lie on, each once; of zeros what their two ends take, and a mapping.
-    fn pages(&self, counted: impl Fn(Kind) -> bool) -> u64 {
-        let (page, mut all, mut last) = (memory::page() as u64, 0, (FILES.len(), 0));
+    /// The bytes of the pages that ranges of these kinds lie on, each once, and how many parts that lie apart; of zeros what their two ends take, and a mapping.
+    fn in_pages(&self, counted: impl Fn(Kind) -> bool) -> (u64, u64) {
+        let (page, mut all, mut parts, mut last) = (memory::page() as u64, 0, 0, (FILES.len(), 0));
         for range in calls::ranges(self.bytes()).take(MOST_RANGES).filter(|range| counted(range.kind)) {
             let (first, end) = (range.offset / page, (range.offset + range.length).div_ceil(page));
             let begun = range.file == last.0 && first < last.1;
             let pages = end - if begun { last.1 } else { first };
             all += if range.kind == Kind::Zeros { pages.min(3) } else { pages };
+            parts += u64::from(range.kind == Kind::Zeros || range.file != last.0 || first > last.1);
             last = (range.file, end);
         }
-        all
+        (all * page, parts)
     }
 
     /// Whether its change can be borne in memory.
     pub fn bear(&self) -> Done<()> {
-        if self.pages(|_| true) > MOST_PAGES {
+        let (bytes, parts) = self.in_pages(|_| true);
+        if bytes > MOST_BORNE || parts > MOST_APART {
             let words = "the change that it holds is unfinished, and has too many parts to be read as done";
             let path = self.path.display();
             return Err(Trouble::File(format!(

@@ -1,12 +1,18 @@
-//! `list`: the pieces by their names. A record that can't be read is marked, and the others are listed.
+//! `list`: the pieces by their names, all or those that words mean. A record that can't be read is marked, and the others are listed.
 use crate::arguments::Arguments;
 use crate::counts::Which;
+use crate::dates;
 use crate::folder::Opening;
+use crate::json;
+use crate::kept::Lent;
 use crate::outputs;
+use crate::patterns::Pattern;
 use crate::printable::printable;
-use crate::reading::{only, Archive};
+use crate::progress::Counter;
+use crate::reading::Archive;
 use crate::sleep_register::{Node, Place, Refusal};
-use crate::words::{counted, refusal, refused, Done, Trouble};
+use crate::walk::{not_held, records, Holding, Said};
+use crate::words::{counted, hex, refusal, refused, remark, usage, Done, Trouble};
 use std::collections::HashSet;
 
 /// More records than these are not marked one by one: the register is another file, or nothing of it can be read.
@@ -17,63 +23,115 @@ const NO_RECORD: u64 = 15;
 const NOT_HELD: u64 = 18;
 const UNKNOWN: u64 = 20;
 
-/// The content chunks that are not held, rising.
-fn not_held(archive: &Archive) -> Done<Vec<u64>> {
-    let (register, mut missing, mut from) = (archive.register(Which::Content), Vec::new(), 0);
-    while let Some(chunk) = register.search(from).map_err(|reason| refused(&archive.named(Which::Content), reason))? {
-        missing.push(chunk);
-        from = chunk + 1;
-    }
-    Ok(missing)
-}
+/// Lines that are written at once.
+const AT_ONCE: usize = 4096;
 
 /// A line of the list, the other way round as yet.
 enum Line<'a> {
-    Piece(&'a [u8], Option<u64>, Option<u64>),
+    Piece(Said<'a>),
     Marked(u64, Refusal),
+}
+
+/// How lines look.
+#[derive(Clone, Copy, PartialEq, Eq)]
+enum Form {
+    Plain,
+    Long,
+    Json,
+    /// The names alone, each with a zero byte behind it.
+    Names,
+}
+
+impl Form {
+    fn of(arguments: &Arguments) -> Done<Form> {
+        match (arguments.has("--long"), arguments.has("--json"), arguments.has("-0")) {
+            (false, false, false) => Ok(Form::Plain),
+            (true, false, false) => Ok(Form::Long),
+            (false, true, false) => Ok(Form::Json),
+            (false, false, true) => Ok(Form::Names),
+            _ => usage("--long, --json or -0, and not two of them"),
+        }
+    }
+}
+
+/// What is to be listed: names that words mean, of each the last piece or all.
+struct Wanted {
+    patterns: Vec<Pattern>,
+    all: bool,
 }
 
 /// `list`: of a name that was written again the last piece, unless all are asked for.
 pub fn list(arguments: &Arguments) -> Done<()> {
-    let archive = Archive::open(only(&arguments.words(), "an archive")?, Opening::reading(arguments)?)?;
-    let missing = not_held(&archive)?;
-    let (lines, marked) = lines(&archive, arguments.has("--all"))?;
-    let mut out = Vec::new();
-    for line in lines.into_iter().rev() {
-        out.extend(printed(&archive, &missing, line));
+    let words = arguments.words();
+    let Some((path, words)) = words.split_first() else { return usage("an archive is needed, and names or patterns at most") };
+    let patterns = words.iter().map(|word| Pattern::of(word)).collect::<Done<Vec<_>>>()?;
+    let (wanted, form) = (Wanted { patterns, all: arguments.has("--all") }, Form::of(arguments)?);
+    let archive = Archive::open(path, Opening::reading(arguments)?)?;
+    let missing = match archive.is_fresh(Which::Content) {
+        true => (0..archive.register(Which::Content).n()).collect(),
+        false => not_held(&archive, Which::Content)?,
+    };
+    let Listed { lines, marked, unheld } = listed(&archive, &wanted)?;
+    print(&archive, &missing, &lines, form)?;
+    if unheld > 0 {
+        let (named, n) = (archive.named(Which::Metadata), archive.register(Which::Metadata).n());
+        remark(&format!("{named}: of {} {unheld} not held in this copy: names that stand there are not known", counted(n, "record")));
     }
-    outputs::give(None, &out)?;
     if marked == 0 {
-        return Ok(());
+        return all_met(&wanted, &lines, unheld);
     }
     let (archive, records) = (archive.named(Which::Metadata), counted(marked as u64, "record"));
+    let marked = if form == Form::Names { "" } else { ", marked above" };
     Err(Trouble::Refused(format!(
-        "{archive}: {records} can't be read, marked above; names in them are not listed, and finding by name ends there"
+        "{archive}: {records} can't be read{marked}; names in them are not listed, and finding by name ends there"
     )))
 }
 
-/// The records from the latest down, and how many can't be read.
-fn lines<'a>(archive: &'a Archive, all: bool) -> Done<(Vec<Line<'a>>, usize)> {
+/// Whether each word means a name that there is.
+fn all_met(wanted: &Wanted, lines: &[Line], unheld: u64) -> Done<()> {
+    let met = |pattern: &&Pattern| !lines.iter().any(|line| matches!(line, Line::Piece(said) if pattern.takes(said.path)));
+    match wanted.patterns.iter().find(met) {
+        None => Ok(()),
+        Some(pattern) if unheld > 0 => {
+            Err(Trouble::Refused(format!("{}: there is no such name in the records that are held here", pattern.words())))
+        }
+        Some(pattern) => Err(Trouble::Refused(format!("{}: there is no such name", pattern.words()))),
+    }
+}
+
+/// The records from the latest down, and how many can't be read; in a copy, how many are not held.
+struct Listed<'a> {
+    lines: Vec<Line<'a>>,
+    marked: usize,
+    unheld: u64,
+}
+
+fn listed<'a>(archive: &'a Archive, wanted: &Wanted) -> Done<Listed<'a>> {
     let metadata = archive.register(Which::Metadata);
-    let (mut seen, mut lines, mut marked) = (HashSet::new(), Vec::new(), 0);
-    for chunk in (0..metadata.n()).rev() {
-        let read = if chunk == 0 { metadata.header_of(0).map(|_| None) } else { metadata.node_of(chunk).map(Some) };
+    if archive.is_fresh(Which::Metadata) {
+        metadata.root_hash().map_err(|reason| archive.trouble(Which::Metadata, reason))?;
+    }
+    let is_copy = matches!(metadata, Lent::Copy(_));
+    let (mut seen, mut lines, mut marked, mut unheld) = (HashSet::new(), Vec::new(), 0, 0);
+    let header = (metadata.n() > 0).then(|| (0, metadata.header_of(0).map(|_| Node::default())));
+    let mut counter = Counter::new("reading records", metadata.n());
+    let meant = |path: &[u8]| wanted.patterns.is_empty() || wanted.patterns.iter().any(|pattern| pattern.takes(path));
+    for (record, read) in records(metadata).chain(header) {
+        counter.next();
         match read {
-            Ok(Some(node)) if all || seen.insert(node.path) => lines.push(piece(&node)),
+            Ok(node) if record > 0 && meant(node.path) && (wanted.all || seen.insert(node.path)) => {
+                lines.push(Line::Piece(Said::of(record, &node)))
+            }
             Ok(_) => {}
+            Err(reason) if is_copy && matches!(reason.number, NOT_HELD | UNKNOWN) => unheld += 1,
             Err(reason) if is_of_one_record(reason) && marked < MOST_MARKED => {
-                lines.push(Line::Marked(chunk, reason));
+                lines.push(Line::Marked(record, reason));
                 marked += 1;
             }
             Err(reason) => return Err(refused(&archive.named(Which::Metadata), reason)),
         }
     }
-    Ok((lines, marked))
-}
-
-fn piece<'a>(node: &Node<'a>) -> Line<'a> {
-    let stat = node.stat.unwrap_or_default();
-    Line::Piece(node.path, stat.offset, stat.size)
+    Ok(Listed { lines, marked, unheld })
 }
 
 /// A refusal with a place, or of a record's form, is this record's; any other is the whole register's.
@@ -81,21 +139,82 @@ fn is_of_one_record(reason: Refusal) -> bool {
     reason.place != Place::None || reason.number == NO_RECORD
 }
 
-fn printed(archive: &Archive, missing: &[u64], line: Line) -> Vec<u8> {
-    let number = |number: Option<u64>| number.map_or("-".to_string(), |number| number.to_string());
-    let held = |chunk: u64| match chunk < archive.register(Which::Content).n() {
-        false => "-",
-        true if missing.binary_search(&chunk).is_ok() => "no",
-        true => "held",
+/// The lines in the order of their records, some at once.
+fn print(archive: &Archive, missing: &[u64], lines: &[Line], form: Form) -> Done<()> {
+    let n = archive.register(Which::Content).n();
+    let printed = |line: &Line| match (line, form) {
+        (Line::Piece(said), Form::Names) => [said.path, b"\0"].concat(),
+        (Line::Marked(..), Form::Names) => Vec::new(),
+        (Line::Piece(said), Form::Json) => in_json(said, Holding::of(said, n, missing)).into_bytes(),
+        (Line::Marked(record, reason), Form::Json) => marked_in_json(*record, *reason).into_bytes(),
+        (Line::Piece(said), form) => in_columns(said, Holding::of(said, n, missing), form),
+        (Line::Marked(record, reason), form) => marked_in_columns(*record, *reason, form).into_bytes(),
     };
-    match line {
-        Line::Piece(path, chunk, size) => {
-            let columns = format!("{:>7} {:>7} {:<4} ", number(chunk), number(size), chunk.map_or("-", held));
-            [columns.as_bytes(), &printable(path), b"\n"].concat()
+    let (between, mut before) = if form == Form::Json { (&b",\n"[..], &b"[\n"[..]) } else { (&b""[..], &b""[..]) };
+    for some in lines.rchunks(AT_ONCE) {
+        let mut out = Vec::new();
+        for line in some.iter().rev() {
+            out.extend(before);
+            out.extend(printed(line));
+            before = between;
         }
-        Line::Marked(record, reason) => {
-            let mark = if matches!(reason.number, NOT_HELD | UNKNOWN) { "no" } else { "bad" };
-            format!("{:>7} {:>7} {mark:<4} record {record}: {}\n", "-", "-", refusal(reason)).into_bytes()
-        }
+        outputs::give(None, &out)?;
     }
+    match (form, lines.is_empty()) {
+        (Form::Json, true) => outputs::give(None, b"[]\n"),
+        (Form::Json, false) => outputs::give(None, b"\n]\n"),
+        _ => Ok(()),
+    }
+}
+
+fn shown(number: Option<u64>) -> String {
+    number.map_or("-".to_string(), |number| number.to_string())
+}
+
+fn in_columns(said: &Said, holding: Holding, form: Form) -> Vec<u8> {
+    let mut columns = format!("{:>7} {:>7} {:<4} ", shown(said.offset), shown(said.size), holding.word());
+    if form == Form::Long {
+        let (mode, time) = (said.mode.map_or("-".into(), |mode| format!("{mode:o}")), said.mtime.map_or("-".into(), dates::time_of));
+        columns = format!("{:>6} {mode:>6} {:>5} {columns}{time:<20} ", said.record, shown(said.blocks));
+    }
+    [columns.as_bytes(), &printable(said.path), b"\n"].concat()
+}
+
+/// What stands in the place of held or no for a record that can't be read.
+fn mark(reason: Refusal) -> &'static str {
+    if matches!(reason.number, NOT_HELD | UNKNOWN) {
+        "no"
+    } else {
+        "bad"
+    }
+}
+
+fn marked_in_columns(record: u64, reason: Refusal, form: Form) -> String {
+    let long = if form == Form::Long { format!("{record:>6} {:>6} {:>5} ", "-", "-") } else { String::new() };
+    format!("{long}{:>7} {:>7} {:<4} record {record}: {}\n", "-", "-", mark(reason), refusal(reason))
+}
+
+fn in_json(said: &Said, holding: Holding) -> String {
+    let held = if holding == Holding::Unknown { "null".into() } else { json::string(holding.word()) };
+    json::object(&[
+        ("record", said.record.to_string()),
+        ("name", json::string_of(said.path)),
+        ("name_hex", json::string(&hex(said.path))),
+        ("chunk", json::number(said.offset)),
+        ("chunks", json::number(said.blocks)),
+        ("size", json::number(said.size)),
+        ("held", held),
+        ("mode", json::number(said.mode)),
+        ("mtime", json::number(said.mtime)),
+        ("time", said.mtime.map_or("null".into(), |time| json::string(&dates::exact_time_of(time)))),
+    ])
+}
+
+fn marked_in_json(record: u64, reason: Refusal) -> String {
+    json::object(&[
+        ("record", record.to_string()),
+        ("bad", json::string(mark(reason))),
+        ("refused", reason.number.to_string()),
+        ("words", json::string(&refusal(reason))),
+    ])
 }

@@ -5,7 +5,7 @@
 //! for the reads that have begun, and no later one overtakes it. The folder's lock is taken between the two, so it keeps that order. Where an archive is
 //! made, and has neither file yet, its journal is the lock (see commit.rs): whoever reads or applies a journal holds its lock too.
 use crate::below::{self, Access};
-use crate::words::{at_file, in_file, said, tell, Done, Trouble};
+use crate::words::{at_file, in_file, remark, said, Done, Trouble};
 use std::fs::{File, TryLockError};
 use std::io;
 use std::os::fd::AsRawFd;
@@ -107,7 +107,7 @@ impl Patience {
     fn tell(&mut self) {
         self.told = true;
         let most = self.limit.map_or(String::new(), |limit| format!(", at most {} s", limit.as_secs()));
-        tell(&format!("sleep-archive: {}: another program uses it; waiting{most}", self.path.display()));
+        remark(&format!("sleep-archive: {}: another program uses it; waiting{most}", self.path.display()));
     }
 
     fn no_turn(&self) -> Trouble {

@@ -2,14 +2,19 @@
 use crate::arguments::Arguments;
 use crate::changes::{changes, Change};
 use crate::commit::{commit, Room};
-use crate::counts::{Which, CONTENT_KEY, LONGEST, METADATA_KEY, MOST_CHUNKS};
+use crate::chosen;
+use crate::counts::{Which, BOTH, CONTENT_KEY, FILES, LONGEST, METADATA_KEY, MOST_CHUNKS};
 use crate::folder::{unmade, unmade_copy, Folder, Opening};
+use crate::image::Image;
 use crate::inputs;
 use crate::journal_calls::{Given, Kind};
 use crate::kept::Kept;
-use crate::progress;
+use crate::page;
+use crate::parcels;
+use crate::progress::{self, Counter};
 use crate::reading::{only, Archive};
 use crate::words::{at_file, counted, refused, usage, Done, Trouble};
+use std::collections::BTreeSet;
 use std::fs::File;
 use std::io;
 use std::path::Path;
@@ -29,8 +34,12 @@ pub fn new(arguments: &Arguments) -> Done<()> {
                 all.push(Change { number: *number, old: None, length: 32, ranges: vec![range] });
             }
         }
-        commit(folder, all, Room::Free)
+        page::beside(folder, !arguments.has("--no-page"), || commit(folder, all, Room::Free))
     })
+}
+
+fn already(path: &Path) -> Trouble {
+    Trouble::File(format!("{}: there is an archive already", path.display()))
 }
 
 /// Makes a folder, and in it what makes an archive of it.
@@ -38,7 +47,7 @@ fn made(path: &Path, opening: Opening, fill: impl Fn(&Folder) -> Done<()>) -> Do
     let made = make_folder(path)?;
     let result = Folder::open(path, opening).and_then(|folder| {
         if folder.is_used()? {
-            return Err(Trouble::File(format!("{}: there is an archive already", path.display())));
+            return Err(already(path));
         }
         fill(&folder)
     });
@@ -73,6 +82,9 @@ fn make_folder(path: &Path) -> Done<bool> {
 
 /// `copy`: a folder with partial copies, of which nothing is known yet. Without numbers of its own the metadata register is an empty one.
 pub fn copy(arguments: &Arguments) -> Done<()> {
+    if arguments.has("--names") {
+        return copy_of_pieces(arguments);
+    }
     let path = Path::new(only(&arguments.words(), "a folder")?);
     let counts = match (arguments.option("--of"), arguments.pair("--metadata")?, arguments.pair("--content")?) {
         (Some(archive), None, None) => counts_of(&Archive::open(archive, Opening::writing(arguments)?.to_read())?)?,
@@ -80,11 +92,55 @@ pub fn copy(arguments: &Arguments) -> Done<()> {
         _ => return usage("--of ARCHIVE is needed, or --content N,SIZE and for the records --metadata N,SIZE"),
     };
     made(path, Opening::writing(arguments)?, |folder| {
-        let (metadata, content) = (copied(path, counts[0])?, copied(path, counts[1])?);
-        let mut all = changes(folder, Which::Metadata, metadata.files())?;
-        all.extend(changes(folder, Which::Content, content.files())?);
-        commit(folder, all, Room::Free)
+        laid(folder, [copied(path, counts[0])?, copied(path, counts[1])?], !arguments.has("--no-page"))
     })
+}
+
+/// Both registers into a folder, with the page of the format where it is wanted.
+fn laid(folder: &Folder, registers: [Kept; 2], page: bool) -> Done<()> {
+    let mut all = changes(folder, Which::Metadata, registers[0].files())?;
+    all.extend(changes(folder, Which::Content, registers[1].files())?);
+    page::beside(folder, page, || commit(folder, all, Room::Free))
+}
+
+/// `copy --names`: a copy that holds these pieces, and the records that finding them takes.
+fn copy_of_pieces(arguments: &Arguments) -> Done<()> {
+    let (words, of) = (arguments.words(), arguments.option("--of"));
+    let (Some((path, names)), Some(of)) = (words.split_first().filter(|(_, names)| !names.is_empty()), of) else {
+        return usage("a folder, --of ARCHIVE, --names and names are needed");
+    };
+    if arguments.has("--metadata") || arguments.has("--content") {
+        return usage("--of ARCHIVE, or --content N,SIZE and --metadata N,SIZE");
+    }
+    let (path, names, opening) = (Path::new(path), chosen::names(names)?, Opening::writing(arguments)?);
+    // Looked at before the other archive is locked: whoever waits for one archive with another locked may wait for somebody who does the same.
+    if FILES.iter().any(|name| path.join(name).symlink_metadata().is_ok()) {
+        return Err(already(path));
+    }
+    let archive = Archive::open(of, opening.to_read())?;
+    counts_of(&archive)?;
+    let registers = BOTH.map(|which| archive.register(which));
+    let chunks = chosen::chosen(&archive, &registers, &names)?;
+    made(path, opening, |folder| {
+        let filled = |which: Which| filled(path, &archive, which, &chunks[which as usize]);
+        laid(folder, [filled(Which::Metadata)?, filled(Which::Content)?], !arguments.has("--no-page"))
+    })
+}
+
+/// A copy of an archive's register that holds these chunks.
+fn filled(path: &Path, archive: &Archive, which: Which, chunks: &BTreeSet<u64>) -> Done<Kept> {
+    let register = archive.register(which);
+    let root = register.root_hash().map_err(|reason| archive.trouble(which, reason))?;
+    let mut kept = copied(path, Some((register.n(), register.size())))?;
+    if let Kept::Copy(store) = &mut kept {
+        store.data = Image::to_write(None, register.size()).map_err(|error| at_file(path, error))?;
+    }
+    let mut counter = Counter::new("taking chunks in", chunks.len() as u64);
+    parcels::each(archive, which, &register, &mut chunks.iter().copied(), &mut |chunk, packet| {
+        counter.next();
+        kept.take_in(packet, chunk, &root).map_err(|reason| refused(&format!("{}: chunk {chunk}", archive.named(which)), reason))
+    })?;
+    Ok(kept)
 }
 
 /// Numbers that a register can have: so many chunks have at most so many bytes. More chunks than any register has are left to the call.

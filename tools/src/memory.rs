@@ -14,11 +14,14 @@ const FIXED: i32 = 0x10;
 const ANONYMOUS: i32 = 0x20;
 const NO_RESERVE: i32 = 0x4000;
 
+const NOT_NEEDED: i32 = 4;
+
 const PAGE_SIZE: i32 = 30;
 
 extern "C" {
     fn mmap(address: *mut u8, length: usize, protection: i32, flags: i32, file: i32, offset: i64) -> *mut u8;
     fn munmap(address: *mut u8, length: usize) -> i32;
+    fn madvise(address: *mut u8, length: usize, advice: i32) -> i32;
     fn mprotect(address: *mut u8, length: usize, protection: i32) -> i32;
     fn memfd_create(name: *const c_char, flags: u32) -> i32;
     fn sysconf(name: i32) -> i64;
@@ -80,6 +83,11 @@ pub fn place_zeros(address: *mut u8, length: usize) -> io::Result<()> {
 
 pub fn give_back(address: *mut u8, length: usize) {
     unsafe { munmap(address, length) };
+}
+
+/// Gives the memory of private pages of a file back, whose bytes stand there again. Where that fails they stay.
+pub fn give_up(address: *mut u8, length: usize) {
+    unsafe { madvise(address, length, NOT_NEEDED) };
 }
 
 /// Lets pages of ours be written, and makes what is written private. Called by the handler of a signal too: it allocates nothing.

@@ -3,7 +3,8 @@ use crate::below;
 use crate::commit::{ROOM, UNSYNCED};
 use crate::counts::FILES;
 use crate::left_over::NAME;
-use crate::words::{at_file, Done, Trouble};
+use crate::page;
+use crate::words::{at_file, is_quiet, Done, Trouble};
 use std::ffi::OsStr;
 use std::fs::{File, OpenOptions, Permissions};
 use std::io::{self, Write};
@@ -12,14 +13,44 @@ use std::path::{Path, PathBuf};
 
 /// Writes a result to a file, or to standard output where none is named or `-`. A plain file gets its bytes wholly or keeps what it had.
 pub fn give(to: Option<&OsStr>, bytes: &[u8]) -> Done<()> {
+    give_by(to, &mut |sink| sink.put(bytes))
+}
+
+/// The same of a result that comes in parts.
+pub fn give_by(to: Option<&OsStr>, fill: &mut dyn FnMut(&mut Sink) -> Done<()>) -> Done<()> {
     match to.filter(|path| *path != "-") {
-        None => print(bytes).map_err(|error| at_file(Path::new("standard output"), error)),
-        Some(path) => give_file(Path::new(path), bytes),
+        None => fill(&mut Sink { name: Path::new("standard output"), file: None, at: None }),
+        Some(path) => give_file(Path::new(path), fill),
+    }
+}
+
+/// Where the parts of a result go.
+pub struct Sink<'a> {
+    name: &'a Path,
+    file: Option<&'a File>,
+    /// Of a plain file: where the next part begins.
+    at: Option<u64>,
+}
+
+impl Sink<'_> {
+    pub fn put(&mut self, bytes: &[u8]) -> Done<()> {
+        let put = match (self.file, self.at) {
+            (None, _) => print(bytes),
+            (Some(mut file), None) => file.write_all(bytes),
+            (Some(file), Some(at)) => file.write_all_at(bytes, at),
+        };
+        self.at = self.at.map(|at| at + bytes.len() as u64);
+        put.map_err(|error| at_file(self.name, error))
+    }
+
+    /// Whether nothing of it is seen before all of it is there.
+    pub fn can_be_taken_back(&self) -> bool {
+        self.at.is_some()
     }
 }
 
 /// Looks first at what the path leads to: what is standard output, or no plain file, is written as it is.
-fn give_file(path: &Path, bytes: &[u8]) -> Done<()> {
+fn give_file(path: &Path, fill: &mut dyn FnMut(&mut Sink) -> Done<()>) -> Done<()> {
     let trouble = |error| at_file(path, error);
     let before = match std::fs::metadata(path) {
         Ok(before) => Some(before),
@@ -30,15 +61,16 @@ fn give_file(path: &Path, bytes: &[u8]) -> Done<()> {
         if path.symlink_metadata().is_ok() {
             return Err(Trouble::File(format!("{}: a link that leads nowhere; nothing is written", path.display())));
         }
-        return replace(path, path, bytes, None);
+        return replace(path, path, fill, None);
     };
     if is_standard_output(path) {
-        return give(None, bytes);
+        return give_by(None, fill);
     }
     if !before.is_file() {
-        return OpenOptions::new().write(true).open(path).and_then(|mut file| file.write_all(bytes)).map_err(trouble);
+        let file = OpenOptions::new().write(true).open(path).map_err(trouble)?;
+        return fill(&mut Sink { name: path, file: Some(&file), at: None });
     }
-    replace(path, &path.canonicalize().map_err(trouble)?, bytes, Some(before.permissions()))
+    replace(path, &path.canonicalize().map_err(trouble)?, fill, Some(before.permissions()))
 }
 
 fn is_standard_output(path: &Path) -> bool {
@@ -47,19 +79,21 @@ fn is_standard_output(path: &Path) -> bool {
 }
 
 /// Writes a file beside its place, and gives it its name when all of it is synced.
-fn replace(path: &Path, place: &Path, bytes: &[u8], rights: Option<Permissions>) -> Done<()> {
+fn replace(path: &Path, place: &Path, fill: &mut dyn FnMut(&mut Sink) -> Done<()>, rights: Option<Permissions>) -> Done<()> {
     if is_of_an_archive(place) {
         return Err(Trouble::File(format!("{}: a file of an archive; nothing is written", path.display())));
     }
     let (file, unsynced) = beside(place).map_err(|error| at_file(path, error))?;
-    let result = file.write_all_at(bytes, 0).and_then(|()| match rights {
-        Some(rights) => file.set_permissions(rights),
-        None => Ok(()),
-    });
-    result.and_then(|()| file.sync_all()).and_then(|()| std::fs::rename(&unsynced, place)).map_err(|error| {
-        let _ = std::fs::remove_file(&unsynced);
-        at_file(path, error)
-    })
+    let named = || {
+        rights.map_or(Ok(()), |rights| file.set_permissions(rights))?;
+        file.sync_all()?;
+        std::fs::rename(&unsynced, place)
+    };
+    fill(&mut Sink { name: path, file: Some(&file), at: Some(0) }).and_then(|()| named().map_err(|error| at_file(path, error))).inspect_err(
+        |_| {
+            let _ = std::fs::remove_file(&unsynced);
+        },
+    )
 }
 
 /// A new file in the folder of a place, of a name that no other run uses: what a killed one left is in nobody's way.
@@ -76,8 +110,9 @@ fn beside(place: &Path) -> io::Result<(File, PathBuf)> {
 
 /// Whether a path is one of the names that an archive's folder has, in such a folder.
 fn is_of_an_archive(path: &Path) -> bool {
-    let own = [NAME, UNSYNCED, ROOM];
-    let known = |name: &OsStr| FILES.iter().chain(&own).any(|known| name == *known) || name.as_encoded_bytes().starts_with(NAME.as_bytes());
+    let (own, pages) = ([NAME, UNSYNCED, ROOM], [page::NAME, page::UNSYNCED]);
+    let names = FILES.iter().chain(&own).chain(&pages);
+    let known = |name: &OsStr| names.clone().any(|known| name == *known) || name.as_encoded_bytes().starts_with(NAME.as_bytes());
     let beside = |name: &str| path.with_file_name(name).symlink_metadata().is_ok();
     path.file_name().is_some_and(known) && ["metadata.tree", "content.tree"].into_iter().chain(own).any(beside)
 }
@@ -91,6 +126,14 @@ fn print(bytes: &[u8]) -> io::Result<()> {
         return out.write_all(b"\n").and_then(|()| out.flush());
     }
     written
+}
+
+/// A line that says in words what the exit status says too; left out where quiet is asked for.
+pub fn report(line: &str) -> Done<()> {
+    if is_quiet() {
+        return Ok(());
+    }
+    say(line)
 }
 
 /// A line on standard output.

@@ -5,12 +5,13 @@ use crate::commit::{commit, Room};
 use crate::counts::Which;
 use crate::folder::{Folder, Opening};
 use crate::inputs;
+use crate::meant::{meant, Meant};
 use crate::outputs::{self, say};
 use crate::printable::shown;
-use crate::reading::{chunk_meant, only, Archive};
+use crate::reading::{only, Archive};
 use crate::sleep_register::{self as proved, PACKET_EXTRA};
 use crate::words::{counted, refusal, refused, usage, Done, Trouble};
-use std::ffi::OsStr;
+use std::ffi::{OsStr, OsString};
 use std::path::Path;
 
 /// A packet's file in messages.
@@ -31,16 +32,32 @@ pub fn packet(arguments: &Arguments) -> Done<()> {
     }
 }
 
+/// `packet make`: of a piece of several chunks a packet of each, in files with the chunk's number behind their name.
 fn make_packet(arguments: &Arguments, words: &[&OsStr]) -> Done<()> {
     let [path, chunk] = words[..] else { return usage("an archive and a chunk are needed") };
     let archive = Archive::open(path, Opening::reading(arguments)?)?;
-    let (which, chunk) = match arguments.has("--metadata") {
-        true => (Which::Metadata, number(chunk, "a chunk")?),
-        false => (Which::Content, chunk_meant(&archive, chunk)?),
+    let (which, meant) = match arguments.has("--metadata") {
+        true => (Which::Metadata, Meant::Chunk(number(chunk, "a chunk")?)),
+        false => (Which::Content, meant(&archive, chunk)?),
+    };
+    let register = archive.register(which);
+    let register = register.first(arguments.number("--first")?.unwrap_or(register.n())).map_err(|reason| archive.trouble(which, reason))?;
+    let numbers = meant.numbers();
+    let several = numbers.end - numbers.start > 1;
+    let to = match (arguments.option("-o").filter(|file| *file != "-"), several) {
+        (None, true) => {
+            let (first, last) = (numbers.start, numbers.end - 1);
+            return usage(format!("{}: chunks {first} to {last}: -o FILE is needed, for a packet of each in FILE.NUMBER", named(chunk)));
+        }
+        (to, _) => to,
     };
     let mut out = vec![0; inputs::LONGEST + PACKET_EXTRA];
-    let length = archive.register(which).make_packet(chunk, &mut out).map_err(|reason| refused(&archive.named(which), reason))?;
-    outputs::give(arguments.option("-o"), &out[..length])
+    for chunk in numbers {
+        let length = register.make_packet(chunk, &mut out).map_err(|reason| refused(&archive.named(which), reason))?;
+        let numbered = to.filter(|_| several).map(|file| [file, OsStr::new(&format!(".{chunk}"))].into_iter().collect::<OsString>());
+        outputs::give(numbered.as_deref().or(to), &out[..length])?;
+    }
+    Ok(())
 }
 
 /// What a packet is checked against: the count of chunks, the chunk number and the root hash.

@@ -1,4 +1,6 @@
-//! What long work is at, on a terminal alone: a proved call says nothing while it runs, so a second thread tells how much of the files it has come to.
+//! What long work is at, on a terminal alone. A second thread tells it: of work in parts how many are done, and, since a proved call says nothing while it
+//! runs, of one call how much of the files it has come to.
+use crate::words::is_quiet;
 use std::io::{stderr, IsTerminal, Write};
 use std::sync::mpsc::{channel, RecvTimeoutError};
 use std::time::{Duration, Instant};
@@ -17,23 +19,18 @@ fn show(line: &str) {
     let _ = write!(stderr(), "\r\x1b[K{line}").and_then(|()| stderr().flush());
 }
 
-/// Does the work. On a terminal a line says what it is and how far it came, from how much of `bytes` was looked at; it is gone afterwards.
-pub fn during<T>(what: &str, bytes: u64, work: impl FnOnce() -> T) -> T {
-    if !stderr().is_terminal() {
+/// Does the work. On a terminal a line says what is told of it, and for how long it goes; it is gone afterwards.
+pub fn telling<T>(mut told: impl FnMut() -> String + Send, work: impl FnOnce() -> T) -> T {
+    if !stderr().is_terminal() || is_quiet() {
         return work();
     }
-    let (before, begun) = (touched(), Instant::now());
+    let begun = Instant::now();
     let (end, ended) = channel::<()>();
     std::thread::scope(|scope| {
         scope.spawn(move || {
-            let (mut wait, mut most) = (FIRST, 0);
+            let mut wait = FIRST;
             while ended.recv_timeout(wait) == Err(RecvTimeoutError::Timeout) {
-                let share = match (before, touched()) {
-                    (Some(before), Some(now)) if bytes > 0 => now.saturating_sub(before).min(bytes) * 100 / bytes,
-                    _ => 0,
-                };
-                most = most.max(share);
-                show(&format!("{what}: some {most} %, {} s", begun.elapsed().as_secs()));
+                show(&format!("{}, {} s", told(), begun.elapsed().as_secs()));
                 wait = NEXT;
             }
             show("");
@@ -44,9 +41,74 @@ pub fn during<T>(what: &str, bytes: u64, work: impl FnOnce() -> T) -> T {
     })
 }
 
+/// The same for one proved call: how far it came is told from how much of `bytes` was looked at.
+pub fn during<T>(what: &str, bytes: u64, work: impl FnOnce() -> T) -> T {
+    let (before, mut most) = (touched(), 0);
+    let told = move || {
+        let share = match (before, touched()) {
+            (Some(before), Some(now)) if bytes > 0 => now.saturating_sub(before).min(bytes) * 100 / bytes,
+            _ => 0,
+        };
+        most = most.max(share);
+        format!("{what}: some {most} %")
+    };
+    telling(told, work)
+}
+
 /// What short work is at, on a terminal; the next line takes its place.
 pub fn note(line: &str) {
-    if stderr().is_terminal() {
+    if stderr().is_terminal() && !is_quiet() {
         show(line);
+    }
+}
+
+/// Counts what is done of long work, on a terminal: how many, and of how many where that is known, after the first moment and now and then.
+pub struct Counter {
+    what: &'static str,
+    total: u64,
+    done: u64,
+    shown: bool,
+    /// Nothing where there is no terminal.
+    next: Option<Instant>,
+}
+
+/// The clock is asked once in so many counts of small things.
+const COUNTS: u64 = 64;
+
+impl Counter {
+    pub fn new(what: &'static str, total: u64) -> Counter {
+        Counter { what, total, done: 0, shown: false, next: (stderr().is_terminal() && !is_quiet()).then(|| Instant::now() + FIRST) }
+    }
+
+    /// One more.
+    pub fn next(&mut self) {
+        self.add(1);
+    }
+
+    /// So many more.
+    pub fn add(&mut self, count: u64) {
+        let before = self.done / COUNTS;
+        self.done += count;
+        if self.next.is_some() && self.done / COUNTS != before {
+            self.tell();
+        }
+    }
+
+    fn tell(&mut self) {
+        let now = Instant::now();
+        if self.next.is_some_and(|next| next <= now) {
+            let of = if self.total == 0 { String::new() } else { format!(" of {}", self.total) };
+            show(&format!("{}: {}{of}", self.what, self.done));
+            self.shown = true;
+            self.next = Some(now + NEXT);
+        }
+    }
+}
+
+impl Drop for Counter {
+    fn drop(&mut self) {
+        if self.shown {
+            show("");
+        }
     }
 }

@@ -4,14 +4,21 @@ use crate::below;
 use crate::counts::{Which, BOTH};
 use crate::folder::{Folder, Images, Opening};
 use crate::inputs;
+use crate::joined;
 use crate::kept::Lent;
-use crate::outputs::{self, say};
-use crate::progress;
-use crate::sleep_register::{self as proved, Comparison, Needs, Register};
+use crate::meant::{meant, Meant};
+use crate::outputs::{self, report, say};
+use crate::page;
+use crate::paper::Paper;
+use crate::parts::{self, Ended, Mark};
+use crate::printable::printable;
+use crate::sleep_register::{self as proved, Comparison, Needs, Refusal, Register};
+use crate::walk::{latest, not_held, Holding};
 use crate::words::{at_file, counted, hex, refusal, refused, usage, Done, Trouble};
 use std::cmp::Ordering;
 use std::ffi::OsStr;
 use std::fmt::Write;
+use std::ops::Range;
 use std::path::Path;
 
 /// The refusal of an entry that a copy does not know.
@@ -22,6 +29,8 @@ pub struct Archive {
     pub folder: Folder,
     metadata: Images,
     content: Images,
+    /// Bytes of a register's data that are this process's own.
+    own: (Which, Range<u64>),
 }
 
 impl Archive {
@@ -31,7 +40,7 @@ impl Archive {
 
     pub fn of(folder: Folder) -> Done<Archive> {
         let (metadata, content) = (folder.to_read(Which::Metadata)?, folder.to_read(Which::Content)?);
-        Ok(Archive { folder, metadata, content })
+        Ok(Archive { folder, metadata, content, own: (Which::Content, 0..0) })
     }
 
     pub fn register(&self, which: Which) -> Lent<'_> {
@@ -42,26 +51,55 @@ impl Archive {
     }
 
     /// The bytes of a chunk, after their hash was compared. They are this process's own before they are hashed, so that what goes out is what was hashed,
-    /// whatever another program writes meanwhile that knows no lock.
-    pub fn read_own(&mut self, which: Which, chunk: u64) -> Done<&[u8]> {
+    /// whatever another program writes meanwhile that knows no lock. So are `ahead` bytes of chunks that will be read next, and those before are given up.
+    pub fn read_own(&mut self, which: Which, chunk: u64, ahead: u64) -> Done<&[u8]> {
         let named = self.named(which);
         let trouble = |reason| refused(&named, reason);
-        if let Ok((start, length)) = self.register(which).place(chunk) {
+        let Ok((start, length)) = self.register(which).place(chunk) else { return self.register(which).read(chunk).map_err(trouble) };
+        if self.own.0 != which || start < self.own.1.start || start + length > self.own.1.end {
             let images = if which == Which::Metadata { &mut self.metadata } else { &mut self.content };
-            images.own(start, length).map_err(|error| at_file(&self.folder.path, error))?;
-            let (bytes, place) = (self.register(which).read(chunk).map_err(trouble)?, self.register(which).place(chunk).map_err(trouble)?);
-            if place != (start, length) || bytes.len() as u64 != length {
-                return Err(Trouble::File(format!("{named}: another program changed it while it was read")));
-            }
-            return Ok(bytes);
+            let end = (start + length.max(ahead)).min(images.lent().size());
+            images.own(self.own.1.clone(), start..end).map_err(|error| at_file(&self.folder.path, error))?;
+            self.own = (which, start..end);
         }
-        self.register(which).read(chunk).map_err(trouble)
+        let (bytes, place) = (self.register(which).read(chunk).map_err(trouble)?, self.register(which).place(chunk).map_err(trouble)?);
+        if place != (start, length) || bytes.len() as u64 != length {
+            return Err(Trouble::File(format!("{named}: another program changed it while it was read")));
+        }
+        Ok(bytes)
+    }
+
+    /// A refusal of a register's, with what to do where it is a copy that knows nothing yet.
+    pub fn trouble(&self, which: Which, reason: proved::Refusal) -> Trouble {
+        match fresh_words(self, which) {
+            Some(words) if reason.number == UNKNOWN => Trouble::Refused(format!("{}: {}; {words}", self.named(which), refusal(reason))),
+            _ => refused(&self.named(which), reason),
+        }
+    }
+
+    /// Whether it is a copy to which nothing was taken in: no root is known.
+    pub fn is_fresh(&self, which: Which) -> bool {
+        let register = self.register(which);
+        matches!(register, Lent::Copy(_)) && register.root_hash().is_err_and(|reason| reason.number == UNKNOWN)
     }
 
     /// How a register is named in a message.
     pub fn named(&self, which: Which) -> String {
         format!("{}: {}", self.folder.path.display(), which.name())
     }
+}
+
+/// What is known of a copy to which nothing was taken in, and what to do; nothing of other registers.
+fn fresh_words(archive: &Archive, which: Which) -> Option<String> {
+    archive.is_fresh(which).then(|| {
+        let (n, path) = (archive.register(which).n(), archive.folder.path.display());
+        let what = if which == Which::Metadata { "so no name is known" } else { "so no piece is held" };
+        format!(
+            "nothing is taken in yet of its {}, {what}: `sleep-archive packets take {path} FILE --root METADATA,CONTENT` takes in a file that \
+             `packets make` made of the archive, under root hashes that you know from it or from a sheet",
+            counted(n, "chunk")
+        )
+    })
 }
 
 /// The one word that a command needs.
@@ -72,15 +110,15 @@ pub fn only<'a>(words: &[&'a OsStr], what: &str) -> Done<&'a OsStr> {
     }
 }
 
+/// A register by its name.
+pub fn only_register(word: &OsStr) -> Done<Which> {
+    BOTH.into_iter().find(|which| word == which.name()).map_or_else(|| usage("a register is named metadata or content"), Ok)
+}
+
 /// An archive, and which of its registers; both where none is named.
-fn archive_and_registers(arguments: &Arguments) -> Done<(&OsStr, Vec<Which>)> {
+pub fn archive_and_registers(arguments: &Arguments) -> Done<(&OsStr, Vec<Which>)> {
     let words = arguments.words();
-    let which = match words.get(1).map(|word| word.as_encoded_bytes()) {
-        None => BOTH.to_vec(),
-        Some(b"metadata") => vec![Which::Metadata],
-        Some(b"content") => vec![Which::Content],
-        Some(_) => return usage("a register is named metadata or content"),
-    };
+    let which = words.get(1).map_or(Ok(BOTH.to_vec()), |word| only_register(word).map(|which| vec![which]))?;
     match words[..] {
         [archive] | [archive, _] => Ok((archive, which)),
         _ => usage("an archive is needed, and metadata or content at most"),
@@ -100,18 +138,27 @@ fn counts(register: &Lent) -> String {
     }
 }
 
+/// How many chunks of a copy are held.
+fn held(archive: &Archive, which: Which) -> Done<u64> {
+    Ok(archive.register(which).n() - not_held(archive, which)?.len() as u64)
+}
+
 /// `status`: what each register has, after the first checks.
 pub fn status(arguments: &Arguments) -> Done<()> {
     let archive = Archive::open(only(&arguments.words(), "an archive")?, Opening::reading(arguments)?)?;
     for which in BOTH {
         let register = archive.register(which);
-        let unknown = match (register, register.root_hash()) {
-            (Lent::Copy(_), Err(reason)) if reason.number == UNKNOWN => ", and not all its roots are known",
-            (_, checked) => checked.map(|_| "").map_err(|reason| refused(&archive.named(which), reason))?,
+        let known = match (register, fresh_words(&archive, which)) {
+            (_, Some(words)) => format!("; {words}"),
+            (Lent::Copy(_), None) => format!(", {} of them held", held(&archive, which)?),
+            (Lent::Whole(_), None) => {
+                register.root_hash().map_err(|reason| refused(&archive.named(which), reason))?;
+                String::new()
+            }
         };
-        say(&format!("{}: {}{unknown}", which.name(), counts(&register)))?;
+        say(&format!("{}: {}{known}", which.name(), counts(&register)))?;
     }
-    Ok(())
+    say(&page::told(&archive.folder))
 }
 
 /// The root hash, to be held against one that is known from elsewhere.
@@ -122,42 +169,67 @@ fn root_words(register: &Lent) -> String {
     }
 }
 
-/// `audit`: whether the images are those of some chunks.
-pub fn audit(arguments: &Arguments) -> Done<()> {
-    let (path, registers) = archive_and_registers(arguments)?;
-    let archive = Archive::open(path, Opening::reading(arguments)?)?;
-    let mut refusals = Vec::new();
-    for which in registers {
-        let register = archive.register(which);
-        match progress::during(&format!("audit of {}", which.name()), register.bytes(), || register.audit()) {
-            Ok(()) => say(&format!("{}: accepted, {}{}", which.name(), counts(&register), root_words(&register)))?,
-            Err(reason) => {
-                say(&format!("{}: {}", which.name(), refusal(reason)))?;
-                refusals.push(which.name());
-            }
+/// Audits a register on several threads, its tree entries from `from` on. Ctrl-C ends the command, with the words that say how an audit goes on.
+pub fn judged(archive: &Archive, which: Which, threads: usize, from: u64) -> Done<Result<(), Refusal>> {
+    let (register, name) = (archive.register(which), which.name());
+    match parts::audit(&format!("audit of {name}"), &register, threads, from) {
+        Ended::Whole(answer) => Ok(answer),
+        Ended::Stopped(entry) => {
+            let so_far = format!("stopped: {name}, {}{}", counts(&register), root_words(&register));
+            Err(parts::stopped(&so_far, name, &Mark::of(&register, entry)))
         }
     }
-    if refusals.is_empty() {
-        return Ok(());
-    }
-    Err(Trouble::Refused(format!("{}: not accepted: {}", archive.folder.path.display(), refusals.join(", "))))
 }
 
-/// `compare`: whether two archives hold the same chunks.
+/// The same, from where a mark stands: says what the register is, or gives the words of its refusal.
+pub fn audited(archive: &Archive, which: Which, threads: usize, mark: Option<&Mark>) -> Done<Result<(), String>> {
+    let register = archive.register(which);
+    let from = mark.map_or(Ok(0), |mark| mark.entry_in(&register, &archive.named(which)))?;
+    let part = mark.map_or(String::new(), |_| format!(" from tree entry {from} on"));
+    match judged(archive, which, threads, from)? {
+        Ok(()) => report(&format!("{}: accepted{part}, {}{}", which.name(), counts(&register), root_words(&register))).map(Ok),
+        Err(reason) => Ok(Err(format!("{part} {}", refusal(reason)).trim_start().into())),
+    }
+}
+
+/// `audit`: whether the images are those of some chunks, on several threads, and have the root hash that stands on paper; a stopped one goes on where it
+/// came to.
+pub fn audit(arguments: &Arguments) -> Done<()> {
+    let (path, registers) = archive_and_registers(arguments)?;
+    let (threads, mark) = (parts::threads(arguments)?, Mark::of_option(arguments, registers.len())?);
+    let paper = Paper::of(arguments, &registers)?;
+    let archive = Archive::open(path, Opening::reading(arguments)?)?;
+    let mut refusals = Vec::new();
+    parts::stop_between_parts();
+    for which in registers {
+        if let Err(words) = audited(&archive, which, threads, mark.as_ref())? {
+            report(&format!("{}: {words}", which.name()))?;
+            refusals.push(which.name());
+        }
+    }
+    if !refusals.is_empty() {
+        return Err(Trouble::Refused(format!("{}: not accepted: {}", archive.folder.path.display(), refusals.join(", "))));
+    }
+    paper.map_or(Ok(()), |paper| report(&paper.holds(&archive)?))
+}
+
+/// `compare`: whether two archives hold the same chunks, on several threads.
 pub fn compare(arguments: &Arguments) -> Done<()> {
     let [first, second] = arguments.words()[..] else { return usage("two archives are needed") };
-    let (first, second) = both(first, second, Opening::reading(arguments)?)?;
+    let threads = parts::threads(arguments)?;
+    let (first, second) = both(first, second, [Opening::reading(arguments)?; 2])?;
     let second = second.as_ref().unwrap_or(&first);
     let whole = |archive: &'_ Archive, which| archive.register(which).whole(&archive.named(which)).map(|_| ());
     BOTH.iter().try_for_each(|which| whole(&first, *which).and_then(|()| whole(second, *which)))?;
     let mut equal = true;
+    parts::stop_between_parts();
     for which in BOTH {
-        let (one, other) = (first.register(which), second.register(which));
-        let bytes = one.bytes() + other.bytes();
-        let (one, other) = (one.whole(&first.named(which))?, other.whole(&second.named(which))?);
-        let outcome = progress::during(&format!("comparing {}", which.name()), bytes, || one.compare(&other));
+        let (one, other) = (first.register(which).whole(&first.named(which))?, second.register(which).whole(&second.named(which))?);
+        let Ended::Whole(outcome) = parts::compare(&format!("comparing {}", which.name()), &one, &other, threads) else {
+            return Err(Trouble::Stopped(format!("stopped while comparing {}: a comparison begins anew", which.name())));
+        };
         equal &= outcome == Comparison::Equal;
-        say(&format!("{}: {}", which.name(), outcome_words(outcome)))?;
+        report(&format!("{}: {}", which.name(), outcome_words(outcome)))?;
     }
     if equal {
         return Ok(());
@@ -166,18 +238,18 @@ pub fn compare(arguments: &Arguments) -> Done<()> {
 }
 
 /// Two archives, locked in an order that is the same for whoever compares them; one where they are the same.
-fn both(first: &OsStr, second: &OsStr, opening: Opening) -> Done<(Archive, Option<Archive>)> {
+pub fn both(first: &OsStr, second: &OsStr, openings: [Opening; 2]) -> Done<(Archive, Option<Archive>)> {
     let identity =
         |path: &OsStr| below::at_path(Path::new(path)).map(|about| about.identity).map_err(|error| at_file(Path::new(path), error));
     Ok(match identity(first)?.cmp(&identity(second)?) {
-        Ordering::Equal => (Archive::open(first, opening)?, None),
+        Ordering::Equal => (Archive::open(first, openings[0])?, None),
         Ordering::Less => {
-            let first = Archive::open(first, opening)?;
-            (first, Some(Archive::open(second, opening)?))
+            let first = Archive::open(first, openings[0])?;
+            (first, Some(Archive::open(second, openings[1])?))
         }
         Ordering::Greater => {
-            let second = Archive::open(second, opening)?;
-            (Archive::open(first, opening)?, Some(second))
+            let second = Archive::open(second, openings[1])?;
+            (Archive::open(first, openings[0])?, Some(second))
         }
     })
 }
@@ -202,7 +274,7 @@ fn root_of(archive: &Archive, which: Which, first: Option<u64>) -> Done<[u8; 32]
         None => register.root_hash(),
         Some(m) => register.old_root(m),
     };
-    root.map_err(|reason| refused(&archive.named(which), reason))
+    root.map_err(|reason| archive.trouble(which, reason))
 }
 
 /// `root`: the root hashes now, or of the first m chunks.
@@ -237,38 +309,48 @@ pub fn label(arguments: &Arguments) -> Done<()> {
     Ok(())
 }
 
-/// The content chunk that a word means: a name, which begins with a slash, or a number.
-pub fn chunk_meant(archive: &Archive, word: &OsStr) -> Done<u64> {
-    if word.as_encoded_bytes().starts_with(b"/") {
-        return crate::names::chunk_named(archive, word.as_encoded_bytes());
-    }
-    number(word, "a chunk").map_err(|_| {
-        Trouble::Usage(format!("{}: a chunk is meant by its number or by its name, which begins with a slash", word.to_string_lossy()))
-    })
-}
-
-/// `get`: the bytes of a chunk, after their hash was compared.
+/// `get`: the bytes of a chunk, or of all chunks of a piece, after their hashes were compared.
 pub fn get(arguments: &Arguments) -> Done<()> {
     let [path, word] = arguments.words()[..] else { return usage("an archive and a chunk are needed") };
     let mut archive = Archive::open(path, Opening::reading(arguments)?)?;
-    let (which, chunk) = match arguments.has("--metadata") {
-        true => (Which::Metadata, number(word, "a chunk")?),
-        false => (Which::Content, chunk_meant(&archive, word)?),
+    let (which, meant) = match arguments.has("--metadata") {
+        true => (Which::Metadata, Meant::Chunk(number(word, "a chunk")?)),
+        false => (Which::Content, meant(&archive, word)?),
     };
-    outputs::give(arguments.option("-o"), archive.read_own(which, chunk)?)
+    match meant {
+        Meant::Piece(chunks) if chunks.count > 1 => joined::give(&mut archive, &chunks, arguments.option("-o")),
+        one => outputs::give(arguments.option("-o"), archive.read_own(which, one.numbers().start, 0)?),
+    }
 }
 
-/// `missing`: the numbers of the chunks that are not held.
+/// `missing`: the numbers of the chunks that are not held, or the names of the pieces that are not held wholly.
 pub fn missing(arguments: &Arguments) -> Done<()> {
     let archive = Archive::open(only(&arguments.words(), "an archive")?, Opening::reading(arguments)?)?;
+    if arguments.has("--names") {
+        if arguments.has("--metadata") || arguments.has("--from") {
+            return usage("--names is of pieces: --metadata and --from are of chunks");
+        }
+        return missing_names(&archive);
+    }
     let which = if arguments.has("--metadata") { Which::Metadata } else { Which::Content };
     let (register, mut from) = (archive.register(which), arguments.number("--from")?.unwrap_or(0));
     let mut lines = String::new();
-    while let Some(chunk) = register.search(from).map_err(|reason| refused(&archive.named(which), reason))? {
+    while let Some(chunk) = register.search(from).map_err(|reason| archive.trouble(which, reason))? {
         writeln!(lines, "{chunk}").unwrap();
         from = chunk + 1;
     }
     outputs::give(None, lines.as_bytes())
+}
+
+fn missing_names(archive: &Archive) -> Done<()> {
+    let (missing, n) = (not_held(archive, Which::Content)?, archive.register(Which::Content).n());
+    let walked = latest(archive.register(Which::Metadata), |_| true);
+    let mut lines = Vec::new();
+    for said in walked.all().iter().filter(|said| Holding::of(said, n, &missing) != Holding::Held) {
+        lines.extend([&printable(said.path), &b"\n"[..]].concat());
+    }
+    outputs::give(None, &lines)?;
+    walked.ended.map_or(Ok(()), |reason| Err(archive.trouble(Which::Metadata, reason)))
 }
 
 /// Prints what a register will need for chunks of these lengths.

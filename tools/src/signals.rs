@@ -1,9 +1,13 @@
-//! Signals: faults of memory, and a pipe that nobody reads.
+//! Signals: Ctrl-C, faults of memory, and a pipe that nobody reads.
+const INTERRUPT: i32 = 2;
 const BUS: i32 = 7;
 const SEGMENT: i32 = 11;
 const PIPE: i32 = 13;
 const SIGNAL_INFO: i32 = 4;
+const RESTART: i32 = 1 << 28;
+const ONCE: i32 = 1 << 31;
 const DEFAULT: usize = 0;
+const IGNORED: usize = 1;
 
 #[repr(C)]
 struct Action {
@@ -31,6 +35,26 @@ fn handle(signal: i32, handler: usize, flags: i32) {
 pub fn on_faults(written: Handler, lost: Handler) {
     handle(SEGMENT, written as *const () as usize, SIGNAL_INFO);
     handle(BUS, lost as *const () as usize, SIGNAL_INFO);
+}
+
+/// `met` meets the first Ctrl-C, and the next ends the program as it would have. Where Ctrl-C is passed over, as in work that a shell put behind, it stays so.
+pub fn on_interrupt(met: Handler) {
+    if !passed_over(INTERRUPT) {
+        handle(INTERRUPT, met as *const () as usize, SIGNAL_INFO | RESTART | ONCE);
+    }
+}
+
+/// No handler meets Ctrl-C any more.
+pub fn interrupt_by_default() {
+    if !passed_over(INTERRUPT) {
+        by_default(INTERRUPT);
+    }
+}
+
+fn passed_over(signal: i32) -> bool {
+    let mut now = Action { handler: DEFAULT, mask: [0; 16], flags: 0, restorer: 0 };
+    unsafe { sigaction(signal, std::ptr::null(), &mut now) };
+    now.handler == IGNORED
 }
 
 pub fn by_default(signal: i32) {

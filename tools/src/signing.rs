@@ -8,11 +8,9 @@ use crate::inputs;
 use crate::kept::{Kept, Lent};
 use crate::outputs::say;
 use crate::reading::only;
-use crate::words::{hex, refused, said, tell, usage, Done, Trouble};
-use std::ffi::OsStr;
-use std::io::{Read, Write};
+use crate::signer::made_by;
+use crate::words::{hex, refused, remark, usage, Done, Trouble};
 use std::path::Path;
-use std::process::{Command, Stdio};
 
 /// Root hashes whose signatures are owed.
 fn owed(folder: &Folder) -> Done<Vec<(Which, [u8; 32])>> {
@@ -45,14 +43,14 @@ pub fn sign(arguments: &Arguments) -> Done<()> {
                 say(&format!("{} {}", which.name(), hex(root)))?;
             }
             if owed.is_empty() {
-                tell(&format!("{}: no signature is owed", path.display()));
+                remark(&format!("{}: no signature is owed", path.display()));
             }
             Ok(())
         }
         (None, false) => store(path, opening, &signatures, &owed),
         (Some(_), false) => usage("--with is instead of --metadata and --content"),
         (Some(_), true) if owed.is_empty() => {
-            tell(&format!("{}: no signature is owed", path.display()));
+            remark(&format!("{}: no signature is owed", path.display()));
             Ok(())
         }
         (Some(command), true) => {
@@ -61,28 +59,6 @@ pub fn sign(arguments: &Arguments) -> Done<()> {
             }
             store(path, opening, &signatures, &owed)
         }
-    }
-}
-
-/// The 64 bytes that a shell command prints: `$1` is the register's name, `$2` the root hash in hex, and its 32 bytes are there to read.
-fn made_by(command: &OsStr, which: Which, root: &[u8; 32]) -> Done<[u8; 64]> {
-    let failed = |words: String| Trouble::File(format!("{}: {words}", command.to_string_lossy()));
-    let mut shell = Command::new("sh");
-    shell.arg("-c").arg(command).arg("sh").arg(which.name()).arg(hex(root));
-    let mut child = shell.stdin(Stdio::piped()).stdout(Stdio::piped()).spawn().map_err(|error| failed(said(&error)))?;
-    // A command that takes the words alone needs not read.
-    let _ = child.stdin.take().expect("a pipe").write_all(root);
-    let mut bytes = Vec::new();
-    let read = child.stdout.take().expect("a pipe").take(65).read_to_end(&mut bytes);
-    if bytes.len() > 64 {
-        let _ = child.kill();
-    }
-    let status = child.wait().map_err(|error| failed(said(&error)))?;
-    read.map_err(|error| failed(said(&error)))?;
-    match bytes.len() {
-        65.. => Err(failed("64 bytes are needed, and it gave more".into())),
-        _ if !status.success() => Err(failed(format!("ended with {status}"))),
-        count => bytes.try_into().map_err(|_| failed(format!("64 bytes are needed, and it gave {count}"))),
     }
 }
 

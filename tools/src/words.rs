@@ -3,6 +3,7 @@ use crate::printable::{harmless, Backslash};
 use crate::sleep_register::{Place, Refusal};
 use std::fmt::Write;
 use std::path::Path;
+use std::sync::atomic::{AtomicBool, Ordering::Relaxed};
 
 /// What ends a command before it is done, with the words for it.
 #[derive(Debug)]
@@ -13,6 +14,8 @@ pub enum Trouble {
     Usage(String),
     /// A file that can't be read or written: status 2.
     File(String),
+    /// Ctrl-C, met between two parts of long work: status 130, as the shell has it.
+    Stopped(String),
 }
 
 pub type Done<T> = Result<T, Trouble>;
@@ -22,13 +25,32 @@ impl Trouble {
         match self {
             Trouble::Refused(_) => 1,
             Trouble::Usage(_) | Trouble::File(_) => 2,
+            Trouble::Stopped(_) => 130,
         }
     }
 
     pub fn words(&self) -> &str {
         match self {
-            Trouble::Refused(words) | Trouble::Usage(words) | Trouble::File(words) => words,
+            Trouble::Refused(words) | Trouble::Usage(words) | Trouble::File(words) | Trouble::Stopped(words) => words,
         }
+    }
+}
+
+/// Whether remarks and progress are left out.
+static QUIET: AtomicBool = AtomicBool::new(false);
+
+pub fn be_quiet() {
+    QUIET.store(true, Relaxed);
+}
+
+pub fn is_quiet() -> bool {
+    QUIET.load(Relaxed)
+}
+
+/// A line for the person that is no reason for the exit status; left out where quiet is asked for.
+pub fn remark(line: &str) {
+    if !is_quiet() {
+        tell(line);
     }
 }
 

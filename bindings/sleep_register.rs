@@ -45,7 +45,7 @@ pub enum Walked {
 pub const PACKET_EXTRA: usize = 1526;
 
 /// The version that this wrapper is of, as include/sleep_register.h has it; `version` tells that of the archive that is linked.
-pub const VERSION: u64 = 3038000;
+pub const VERSION: u64 = 3042000;
 
 /// The stored entry of a chunk's leaf: its hash and its length.
 #[derive(Clone, Copy, Debug, PartialEq, Eq)]
@@ -85,7 +85,7 @@ pub struct Served<'a> {
 }
 
 /// Reads of stations 0 to 15 that wait, at most 4 of each. The numbers may be any; include/sleep_register.h says how they are read.
-#[derive(Clone, Copy, Debug, PartialEq, Eq)]
+#[derive(Clone, Debug, PartialEq, Eq)]
 pub struct Table {
     pub numbers: [u64; 161],
 }
@@ -609,134 +609,6 @@ macro_rules! reading {
     };
 }
 
-impl<'a> Register<'a> {
-    pub fn root_hash(&self) -> Result<[u8; 32], Refusal> {
-        let mut root = [0; 32];
-        let answer = reading!(sleep_flat_root_hash, self, root.as_mut_ptr());
-        answer.result(root)
-    }
-
-    /// The root hash of the first m chunks, as it was when the register had m.
-    pub fn old_root(&self, m: u64) -> Result<[u8; 32], Refusal> {
-        let mut root = [0; 32];
-        let answer = reading!(sleep_flat_old_root, self, m, root.as_mut_ptr());
-        answer.result(root)
-    }
-
-    /// The entry that is stored for a chunk's leaf, held or released. Nothing is audited.
-    pub fn stored_leaf(&self, chunk: u64) -> Result<Leaf, Refusal> {
-        let mut leaf = Leaf { hash: [0; 32], length: 0 };
-        let answer = reading!(sleep_flat_stored_leaf, self, chunk, leaf.hash.as_mut_ptr(), &mut leaf.length);
-        answer.result(leaf)
-    }
-
-    /// What an append of a chunk would give, its root hash, or its refusal; nothing is written.
-    pub fn preview(&self, chunk: &[u8]) -> Result<[u8; 32], Refusal> {
-        let mut root = [0; 32];
-        let answer = reading!(sleep_flat_preview, self, chunk.as_ptr(), chunk.len() as u64, root.as_mut_ptr());
-        answer.result(root)
-    }
-
-    pub fn audit(&self) -> Result<(), Refusal> {
-        reading!(sleep_flat_audit, self).result(())
-    }
-
-    /// Start and length of a chunk, held or not.
-    pub fn place(&self, chunk: u64) -> Result<Pair, Refusal> {
-        let mut out = [0; 2];
-        let answer = reading!(sleep_flat_place, self, chunk, out.as_mut_ptr());
-        answer.result((out[0], out[1]))
-    }
-
-    /// The chunk that has the byte at an offset, and the offset less its start; at the data size n and 0.
-    pub fn byte(&self, offset: u64) -> Result<Pair, Refusal> {
-        let mut out = [0; 2];
-        let answer = reading!(sleep_flat_byte, self, offset, out.as_mut_ptr());
-        answer.result((out[0], out[1]))
-    }
-
-    /// The bytes of a chunk that is held, where they lie, after their hash was compared.
-    pub fn read(&self, chunk: u64) -> Result<&'a [u8], Refusal> {
-        let mut out = [0; 2];
-        let answer = reading!(sleep_flat_read, self, chunk, out.as_mut_ptr());
-        answer.result(())?;
-        Ok(part(self.data, out))
-    }
-
-    /// The first chunk from a number on, below n, that is not held.
-    pub fn search(&self, from: u64) -> Result<Option<u64>, Refusal> {
-        let mut out = [0; 2];
-        let answer = reading!(sleep_flat_search, self, from, out.as_mut_ptr());
-        answer.result(())?;
-        Ok((out[0] == 1).then_some(out[1]))
-    }
-
-    /// Start and length of a chunk by the leaf lengths alone, added up from chunk 0 on. Of a register that no audit accepted they may run past the data.
-    pub fn short_place(&self, chunk: u64) -> Result<Pair, Refusal> {
-        let mut out = [0; 2];
-        let answer = reading!(sleep_flat_short_place, self, chunk, out.as_mut_ptr());
-        answer.result((out[0], out[1]))
-    }
-
-    /// The chunk that has the byte at an offset, and the offset less its start, by the leaf lengths alone; at the data size n and 0.
-    pub fn short_byte(&self, offset: u64) -> Result<Pair, Refusal> {
-        let mut out = [0; 2];
-        let answer = reading!(sleep_flat_short_byte, self, offset, out.as_mut_ptr());
-        answer.result((out[0], out[1]))
-    }
-
-    /// The first chunk from a number on, below n, whose data bit is 0.
-    pub fn short_search(&self, from: u64) -> Result<Option<u64>, Refusal> {
-        let mut out = [0; 2];
-        let answer = reading!(sleep_flat_short_search, self, from, out.as_mut_ptr());
-        answer.result(())?;
-        Ok((out[0] == 1).then_some(out[1]))
-    }
-
-    /// The packet of a chunk at the front of `out`; its length.
-    pub fn make_packet(&self, chunk: u64, out: &mut [u8]) -> Result<usize, Refusal> {
-        let mut length = 0;
-        let answer = reading!(sleep_flat_make_packet, self, chunk, out.as_mut_ptr(), out.len() as u64, &mut length);
-        answer.result(())?;
-        Ok(length as usize)
-    }
-
-    /// The bytes of a chunk that was read.
-    fn chunk(&self, chunk: u64) -> Result<&'a [u8], Refusal> {
-        self.place(chunk).map(|(start, length)| part(self.data, [start, length]))
-    }
-
-    /// The content bytes of the Header that a chunk is, as a rule chunk 0.
-    pub fn header_of(&self, chunk: u64) -> Result<&'a [u8], Refusal> {
-        let mut out = [0; 2];
-        reading!(sleep_flat_header_of, self, chunk, out.as_mut_ptr()).result(())?;
-        Ok(part(self.chunk(chunk)?, out))
-    }
-
-    /// The Node that a chunk is, with parts of the data.
-    pub fn node_of(&self, chunk: u64) -> Result<Node<'a>, Refusal> {
-        let read = reading!(sleep_flat_node_of, self, chunk);
-        read.answer.result(())?;
-        Ok(Node::of(self.chunk(chunk)?, &read.node))
-    }
-
-    /// The highest chunk number from 1 up whose record has this path.
-    pub fn find(&self, path: &[u8]) -> Result<Option<u64>, Refusal> {
-        let sought = reading!(sleep_flat_find, self, path.as_ptr(), path.len() as u64);
-        sought.answer.result(())?;
-        Ok((sought.found != 0).then_some(sought.chunk))
-    }
-
-    /// The checks of both registers, which have to hold all their chunks, and then the comparing walk.
-    pub fn compare(&self, second: &Register) -> Comparison {
-        let b = second;
-        #[rustfmt::skip]
-        let said = reading!(sleep_flat_compare, self, b.tree.as_ptr(), b.tree.len() as u64, b.signatures.as_ptr(), b.signatures.len() as u64,
-            b.bitfield.as_ptr(), b.bitfield.len() as u64, b.data.as_ptr(), b.data.len() as u64, b.n, b.s, b.size);
-        said.comparison()
-    }
-}
-
 /// A call on a copy that is only read: the three slices and the two numbers come first.
 macro_rules! reading_copy {
     ($call:ident, $c:expr $(, $other:expr)*) => {
@@ -747,116 +619,208 @@ macro_rules! reading_copy {
     };
 }
 
-/// The calls of a register on a copy. Each is refused with 20 where it would read an entry that is not known.
+/// A register or a copy, whichever is there.
+#[derive(Clone, Copy)]
+pub enum Lent<'a> {
+    Whole(Register<'a>),
+    Copy(Copied<'a>),
+}
+
+impl<'a> Register<'a> {
+    fn data_bytes(&self) -> &'a [u8] {
+        self.data
+    }
+}
+
 impl<'a> Copied<'a> {
-    pub fn audit(&self) -> Result<(), Refusal> {
-        reading_copy!(sleep_flat_copy_audit, self).result(())
+    fn data_bytes(&self) -> &'a [u8] {
+        self.data
     }
+}
 
-    pub fn root_hash(&self) -> Result<[u8; 32], Refusal> {
+impl<'a> Lent<'a> {
+    fn data_bytes(&self) -> &'a [u8] {
+        match self {
+            Lent::Whole(lent) => lent.data,
+            Lent::Copy(lent) => lent.data,
+        }
+    }
+}
+
+/// Which of two calls is made: the register's, the copy's, or that of the one which is there.
+macro_rules! of_register {
+    ($r:expr, $call:ident, $of_copy:ident $(, $other:expr)*) => { reading!($call, $r $(, $other)*) };
+}
+
+macro_rules! of_copy {
+    ($c:expr, $of_register:ident, $call:ident $(, $other:expr)*) => { reading_copy!($call, $c $(, $other)*) };
+}
+
+macro_rules! of_either {
+    ($lent:expr, $of_register:ident, $of_copy:ident $(, $other:expr)*) => {
+        match $lent {
+            Lent::Whole(r) => reading!($of_register, r $(, $other)*),
+            Lent::Copy(c) => reading_copy!($of_copy, c $(, $other)*),
+        }
+    };
+}
+
+/// The calls that a register and a copy have in common. Those on a copy are refused with 20 where they would read an entry that is not known.
+macro_rules! calls_of {
+    ($lent:ident, $call:ident) => {
+        impl<'a> $lent<'a> {
+            pub fn audit(&self) -> Result<(), Refusal> {
+                $call!(self, sleep_flat_audit, sleep_flat_copy_audit).result(())
+            }
+
+            pub fn root_hash(&self) -> Result<[u8; 32], Refusal> {
+                let mut root = [0; 32];
+                let answer = $call!(self, sleep_flat_root_hash, sleep_flat_copy_root_hash, root.as_mut_ptr());
+                answer.result(root)
+            }
+
+            /// The root hash of the first m chunks, as it was when the register had m.
+            pub fn old_root(&self, m: u64) -> Result<[u8; 32], Refusal> {
+                let mut root = [0; 32];
+                let answer = $call!(self, sleep_flat_old_root, sleep_flat_copy_old_root, m, root.as_mut_ptr());
+                answer.result(root)
+            }
+
+            /// The entry that is stored for a chunk's leaf, held or released. Nothing is audited.
+            pub fn stored_leaf(&self, chunk: u64) -> Result<Leaf, Refusal> {
+                let mut leaf = Leaf { hash: [0; 32], length: 0 };
+                let answer =
+                    $call!(self, sleep_flat_stored_leaf, sleep_flat_copy_stored_leaf, chunk, leaf.hash.as_mut_ptr(), &mut leaf.length);
+                answer.result(leaf)
+            }
+
+            /// Start and length of a chunk, held or not.
+            pub fn place(&self, chunk: u64) -> Result<Pair, Refusal> {
+                let mut out = [0; 2];
+                let answer = $call!(self, sleep_flat_place, sleep_flat_copy_place, chunk, out.as_mut_ptr());
+                answer.result((out[0], out[1]))
+            }
+
+            /// The chunk that has the byte at an offset, and the offset less its start; at the data size n and 0.
+            pub fn byte(&self, offset: u64) -> Result<Pair, Refusal> {
+                let mut out = [0; 2];
+                let answer = $call!(self, sleep_flat_byte, sleep_flat_copy_byte, offset, out.as_mut_ptr());
+                answer.result((out[0], out[1]))
+            }
+
+            /// The bytes of a chunk that is held, where they lie, after their hash was compared.
+            pub fn read(&self, chunk: u64) -> Result<&'a [u8], Refusal> {
+                let mut out = [0; 2];
+                let answer = $call!(self, sleep_flat_read, sleep_flat_copy_read, chunk, out.as_mut_ptr());
+                answer.result(())?;
+                Ok(part(self.data_bytes(), out))
+            }
+
+            /// The first chunk from a number on, below n, that is not held.
+            pub fn search(&self, from: u64) -> Result<Option<u64>, Refusal> {
+                let mut out = [0; 2];
+                let answer = $call!(self, sleep_flat_search, sleep_flat_copy_search, from, out.as_mut_ptr());
+                answer.result(())?;
+                Ok((out[0] == 1).then_some(out[1]))
+            }
+
+            /// Start and length of a chunk by the leaf lengths alone, added up from chunk 0 on. Of a register that no audit accepted they may run past the data.
+            pub fn short_place(&self, chunk: u64) -> Result<Pair, Refusal> {
+                let mut out = [0; 2];
+                let answer = $call!(self, sleep_flat_short_place, sleep_flat_copy_short_place, chunk, out.as_mut_ptr());
+                answer.result((out[0], out[1]))
+            }
+
+            /// The chunk that has the byte at an offset, and the offset less its start, by the leaf lengths alone; at the data size n and 0.
+            pub fn short_byte(&self, offset: u64) -> Result<Pair, Refusal> {
+                let mut out = [0; 2];
+                let answer = $call!(self, sleep_flat_short_byte, sleep_flat_copy_short_byte, offset, out.as_mut_ptr());
+                answer.result((out[0], out[1]))
+            }
+
+            /// The first chunk from a number on, below n, whose data bit is 0.
+            pub fn short_search(&self, from: u64) -> Result<Option<u64>, Refusal> {
+                let mut out = [0; 2];
+                let answer = $call!(self, sleep_flat_short_search, sleep_flat_copy_short_search, from, out.as_mut_ptr());
+                answer.result(())?;
+                Ok((out[0] == 1).then_some(out[1]))
+            }
+
+            /// The packet of a chunk at the front of `out`; its length.
+            pub fn make_packet(&self, chunk: u64, out: &mut [u8]) -> Result<usize, Refusal> {
+                let mut length = 0;
+                let answer = $call!(
+                    self,
+                    sleep_flat_make_packet,
+                    sleep_flat_copy_make_packet,
+                    chunk,
+                    out.as_mut_ptr(),
+                    out.len() as u64,
+                    &mut length
+                );
+                answer.result(())?;
+                Ok(length as usize)
+            }
+
+            /// The bytes of a chunk that was read.
+            fn chunk(&self, chunk: u64) -> Result<&'a [u8], Refusal> {
+                self.place(chunk).map(|(start, length)| part(self.data_bytes(), [start, length]))
+            }
+
+            /// The content bytes of the Header that a chunk is, as a rule chunk 0.
+            pub fn header_of(&self, chunk: u64) -> Result<&'a [u8], Refusal> {
+                let mut out = [0; 2];
+                $call!(self, sleep_flat_header_of, sleep_flat_copy_header_of, chunk, out.as_mut_ptr()).result(())?;
+                Ok(part(self.chunk(chunk)?, out))
+            }
+
+            /// The Node that a chunk is, with parts of the data.
+            pub fn node_of(&self, chunk: u64) -> Result<Node<'a>, Refusal> {
+                let read = $call!(self, sleep_flat_node_of, sleep_flat_copy_node_of, chunk);
+                read.answer.result(())?;
+                Ok(Node::of(self.chunk(chunk)?, &read.node))
+            }
+
+            /// The highest chunk number from 1 up whose record has this path.
+            pub fn find(&self, path: &[u8]) -> Result<Option<u64>, Refusal> {
+                let sought = $call!(self, sleep_flat_find, sleep_flat_copy_find, path.as_ptr(), path.len() as u64);
+                sought.answer.result(())?;
+                Ok((sought.found != 0).then_some(sought.chunk))
+            }
+
+            /// The audit's checks, then the tree entries of a range; of a copy the place may lie outside it.
+            pub fn audit_tree_part(&self, range: Range<u64>) -> Result<(), Refusal> {
+                $call!(self, sleep_flat_audit_tree_part, sleep_flat_copy_audit_tree_part, range.start, range.end).result(())
+            }
+
+            /// The audit's checks, then the bitfield's entries of a range.
+            pub fn audit_bitfield_part(&self, range: Range<u64>) -> Result<(), Refusal> {
+                $call!(self, sleep_flat_audit_bitfield_part, sleep_flat_copy_audit_bitfield_part, range.start, range.end).result(())
+            }
+        }
+    };
+}
+
+calls_of!(Register, of_register);
+calls_of!(Copied, of_copy);
+calls_of!(Lent, of_either);
+
+/// What a register alone has.
+impl<'a> Register<'a> {
+    /// What an append of a chunk would give, its root hash, or its refusal; nothing is written.
+    pub fn preview(&self, chunk: &[u8]) -> Result<[u8; 32], Refusal> {
         let mut root = [0; 32];
-        let answer = reading_copy!(sleep_flat_copy_root_hash, self, root.as_mut_ptr());
+        let answer = reading!(sleep_flat_preview, self, chunk.as_ptr(), chunk.len() as u64, root.as_mut_ptr());
         answer.result(root)
     }
 
-    /// The root hash of the first m chunks, as it was when the register had m.
-    pub fn old_root(&self, m: u64) -> Result<[u8; 32], Refusal> {
-        let mut root = [0; 32];
-        let answer = reading_copy!(sleep_flat_copy_old_root, self, m, root.as_mut_ptr());
-        answer.result(root)
-    }
-
-    /// The entry that is stored for a chunk's leaf, held or not, where it is known. Nothing is audited.
-    pub fn stored_leaf(&self, chunk: u64) -> Result<Leaf, Refusal> {
-        let mut leaf = Leaf { hash: [0; 32], length: 0 };
-        let answer = reading_copy!(sleep_flat_copy_stored_leaf, self, chunk, leaf.hash.as_mut_ptr(), &mut leaf.length);
-        answer.result(leaf)
-    }
-
-    /// Start and length of a chunk, held or not.
-    pub fn place(&self, chunk: u64) -> Result<Pair, Refusal> {
-        let mut out = [0; 2];
-        let answer = reading_copy!(sleep_flat_copy_place, self, chunk, out.as_mut_ptr());
-        answer.result((out[0], out[1]))
-    }
-
-    /// The chunk that has the byte at an offset, and the offset less its start; at the data size n and 0.
-    pub fn byte(&self, offset: u64) -> Result<Pair, Refusal> {
-        let mut out = [0; 2];
-        let answer = reading_copy!(sleep_flat_copy_byte, self, offset, out.as_mut_ptr());
-        answer.result((out[0], out[1]))
-    }
-
-    /// The bytes of a chunk that is held, where they lie, after their hash was compared.
-    pub fn read(&self, chunk: u64) -> Result<&'a [u8], Refusal> {
-        let mut out = [0; 2];
-        let answer = reading_copy!(sleep_flat_copy_read, self, chunk, out.as_mut_ptr());
-        answer.result(())?;
-        Ok(part(self.data, out))
-    }
-
-    /// The first chunk from a number on, below n, that is not held.
-    pub fn search(&self, from: u64) -> Result<Option<u64>, Refusal> {
-        let mut out = [0; 2];
-        let answer = reading_copy!(sleep_flat_copy_search, self, from, out.as_mut_ptr());
-        answer.result(())?;
-        Ok((out[0] == 1).then_some(out[1]))
-    }
-
-    /// Start and length of a chunk by the leaf lengths alone, added up from chunk 0 on. Of a copy that no audit accepted they may run past the data.
-    pub fn short_place(&self, chunk: u64) -> Result<Pair, Refusal> {
-        let mut out = [0; 2];
-        let answer = reading_copy!(sleep_flat_copy_short_place, self, chunk, out.as_mut_ptr());
-        answer.result((out[0], out[1]))
-    }
-
-    /// The chunk that has the byte at an offset, and the offset less its start, by the leaf lengths alone; at the data size n and 0.
-    pub fn short_byte(&self, offset: u64) -> Result<Pair, Refusal> {
-        let mut out = [0; 2];
-        let answer = reading_copy!(sleep_flat_copy_short_byte, self, offset, out.as_mut_ptr());
-        answer.result((out[0], out[1]))
-    }
-
-    /// The first chunk from a number on, below n, whose data bit is 0.
-    pub fn short_search(&self, from: u64) -> Result<Option<u64>, Refusal> {
-        let mut out = [0; 2];
-        let answer = reading_copy!(sleep_flat_copy_short_search, self, from, out.as_mut_ptr());
-        answer.result(())?;
-        Ok((out[0] == 1).then_some(out[1]))
-    }
-
-    /// The packet of a chunk that is held, at the front of `out`; its length.
-    pub fn make_packet(&self, chunk: u64, out: &mut [u8]) -> Result<usize, Refusal> {
-        let mut length = 0;
-        let answer = reading_copy!(sleep_flat_copy_make_packet, self, chunk, out.as_mut_ptr(), out.len() as u64, &mut length);
-        answer.result(())?;
-        Ok(length as usize)
-    }
-
-    /// The bytes of a chunk that was read.
-    fn chunk(&self, chunk: u64) -> Result<&'a [u8], Refusal> {
-        self.place(chunk).map(|(start, length)| part(self.data, [start, length]))
-    }
-
-    /// The content bytes of the Header that a chunk is, as a rule chunk 0.
-    pub fn header_of(&self, chunk: u64) -> Result<&'a [u8], Refusal> {
-        let mut out = [0; 2];
-        reading_copy!(sleep_flat_copy_header_of, self, chunk, out.as_mut_ptr()).result(())?;
-        Ok(part(self.chunk(chunk)?, out))
-    }
-
-    /// The Node that a chunk is, with parts of the data.
-    pub fn node_of(&self, chunk: u64) -> Result<Node<'a>, Refusal> {
-        let read = reading_copy!(sleep_flat_copy_node_of, self, chunk);
-        read.answer.result(())?;
-        Ok(Node::of(self.chunk(chunk)?, &read.node))
-    }
-
-    /// The highest chunk number from 1 up whose record has this path.
-    pub fn find(&self, path: &[u8]) -> Result<Option<u64>, Refusal> {
-        let sought = reading_copy!(sleep_flat_copy_find, self, path.as_ptr(), path.len() as u64);
-        sought.answer.result(())?;
-        Ok((sought.found != 0).then_some(sought.chunk))
+    /// The checks of both registers, which have to hold all their chunks, and then the comparing walk.
+    pub fn compare(&self, second: &Register) -> Comparison {
+        let b = second;
+        #[rustfmt::skip]
+        let said = reading!(sleep_flat_compare, self, b.tree.as_ptr(), b.tree.len() as u64, b.signatures.as_ptr(), b.signatures.len() as u64,
+            b.bitfield.as_ptr(), b.bitfield.len() as u64, b.data.as_ptr(), b.data.len() as u64, b.n, b.s, b.size);
+        said.comparison()
     }
 }
 
@@ -888,16 +852,6 @@ pub fn earlier(a: Result<(), Refusal>, b: Result<(), Refusal>) -> Result<(), Ref
 }
 
 impl Register<'_> {
-    /// The audit's checks, then the tree entries of a range.
-    pub fn audit_tree_part(&self, range: Range<u64>) -> Result<(), Refusal> {
-        reading!(sleep_flat_audit_tree_part, self, range.start, range.end).result(())
-    }
-
-    /// The audit's checks, then the bitfield's entries of a range.
-    pub fn audit_bitfield_part(&self, range: Range<u64>) -> Result<(), Refusal> {
-        reading!(sleep_flat_audit_bitfield_part, self, range.start, range.end).result(())
-    }
-
     /// The checks for a comparison that look at no tree entry.
     pub fn compare_held_part(&self) -> Result<(), Refusal> {
         reading!(sleep_flat_compare_held_part, self).result(())
@@ -920,18 +874,6 @@ impl Register<'_> {
             b.signatures.len() as u64, b.bitfield.as_ptr(), b.bitfield.len() as u64, b.data.as_ptr(), b.data.len() as u64, b.n, b.s, b.size,
             range.start, range.end);
         said.comparison()
-    }
-}
-
-impl Copied<'_> {
-    /// The checks of a copy's audit, then the tree entries of a range. The place may lie outside it.
-    pub fn audit_tree_part(&self, range: Range<u64>) -> Result<(), Refusal> {
-        reading_copy!(sleep_flat_copy_audit_tree_part, self, range.start, range.end).result(())
-    }
-
-    /// The checks of a copy's audit, then the bitfield's entries of a range.
-    pub fn audit_bitfield_part(&self, range: Range<u64>) -> Result<(), Refusal> {
-        reading_copy!(sleep_flat_copy_audit_bitfield_part, self, range.start, range.end).result(())
     }
 }
 

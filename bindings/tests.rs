@@ -395,7 +395,7 @@ fn stations_take_turns() {
     for chunk in 0..4 {
         assert_eq!(table.enter(3, Name::Content, chunk), Ok(()));
     }
-    let full = table;
+    let full = table.clone();
     assert_eq!(table.enter(3, Name::Content, 0), refused(22, Place::None));
     assert_eq!(table.enter(16, Name::Content, 0), refused(21, Place::None));
     assert_eq!(table, full);
@@ -415,7 +415,7 @@ fn stations_take_turns() {
         let direct = if name == Name::Metadata { m } else { c };
         assert_eq!(served.read, direct.read(chunk));
     }
-    let last = table;
+    let last = table.clone();
     assert_eq!((table.serve(&m, &c), table), (None, last));
     let mut spoilt = Table { numbers: [u64::MAX; 161] };
     assert_eq!((0..64).filter(|_| spoilt.serve(&m, &c).is_some()).count(), 64);

@@ -40,6 +40,8 @@ static int under(const char *path) {
 /* The path of an open file, or of a name, without symbolic links in its folder; empty where it is none of ours. */
 static void path_of(int file, char out[PATH_MAX]) {
     char link[64];
+    out[0] = 0;
+    if (!getenv("FAULTS_UNDER")) return;
     snprintf(link, sizeof link, "/proc/self/fd/%d", file);
     ssize_t length = readlink(link, out, PATH_MAX - 1);
     out[length < 0 ? 0 : length] = 0;

@@ -13,10 +13,11 @@ import random
 import shutil
 import socket
 import stat
+import struct
 import subprocess
 import sys
 
-from program import KINDS, PROGRAM, TARGET, done, environment, expect, fresh, run, under
+from program import KINDS, PROGRAM, TARGET, UNSYNCED, done, environment, expect, fresh, run, under
 import record_model as records
 import sleep_model as model
 
@@ -385,6 +386,32 @@ def several_commits(rng):
     wrong(2, '--commit-every needs --signer', 'add', path, 'in', '--commit-every', '1')
 
 
+def journals_of(*words):
+    """The lengths of the journals that a command writes, from the log of its steps."""
+    log, lengths, at = os.path.join(ROOM, 'log'), [], 0
+    done(*words, faults={'UNDER': ROOM, 'KIND': 'log', 'LOG': log})
+    with open(log, 'rb') as file:
+        steps = file.read()
+    os.remove(log)
+    while at < len(steps):
+        path, _, length, count = struct.unpack_from('=IQQI', steps, at + 1)
+        if steps[at:at + 1] == b'w' and steps[at + 25:at + 25 + path].endswith(UNSYNCED.encode()):
+            lengths.append(length)
+        at += 25 + path + count
+    return lengths
+
+
+def counted_journals(rng):
+    """--commit-every counts all that a commit's journal has: no journal is longer, of large pieces, of small ones and of empty ones, and none is far shorter but
+    the last."""
+    place = os.path.join(ROOM, 'in')
+    for size, count, split in ((300000, 8, '65536'), (300000, 8, '300'), (40, 9000, '65536'), (0, 9000, '65536')):
+        write_folder(place, {'%06d' % k: rng.randbytes(size) for k in range(count)})
+        lengths = journals_of('add', archive(), '--as', '/in', place, '--split', split, '--commit-every', '1', *SIGN)
+        expect(len(lengths) > 1 and max(lengths) <= 1 << 20, 'a longer journal', size, split, lengths)
+        expect(min(lengths[:-1]) > 600000, 'a short journal', size, split, lengths)  # runs of zeros, where nobody signed, are counted and not written
+
+
 # ---- pieces of several chunks ----
 def in_parts(rng):
     """A piece of several chunks is held, held in part or not; released and packed by its name wholly."""
@@ -572,6 +599,7 @@ def main(seed):
     own_folder()
     failing_signers(rng)
     several_commits(rng)
+    counted_journals(rng)
     in_parts(rng)
     hostile_records()
     hostile_names()

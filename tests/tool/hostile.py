@@ -9,6 +9,7 @@ import os
 import random
 import resource
 import shutil
+import signal
 import socket
 import stat
 import struct
@@ -53,7 +54,7 @@ def about(path):
 
 
 def within(*words, usual=0, most=MOST_MEMORY):
-    """Runs a command that must end by itself; its memory is held to a bound."""
+    """Runs a command that must end by itself; its memory is held to a bound, and its time is told at the end."""
     if os.path.exists(PEAK):
         os.remove(PEAK)
     before = resource.getrusage(resource.RUSAGE_CHILDREN)
@@ -379,22 +380,26 @@ def journals(state, usual):
 
 
 def dear_journals(state, usual):
-    """Right journals that belong to the archive as it is, and would cost: many ranges, ranges on many pages, 64 GiB of zeros. They are done within bounds, or
-    told; and reading changes nothing."""
+    """Right journals that belong to the archive as it is, and would cost: many ranges, ranges on many pages, 64 GiB of zeros, hundreds of MiB. They are done within
+    bounds, or told; reading changes nothing, and a large one is read as done where the reader says so."""
     states, size = states_of(state), len(state['content.data'])
     large = (1 << 36)
     fresh(OTHERS)
-    every = range(0, size, 2)
+    every, mib = range(0, size, 2), lambda count: [('content.data', 2, 0, count << 20, b'', bytes(count << 20))]
+    read, told, asked = 0, 2, 'large'
     dear = [
-        ('a witness in every page', [('content.data', 4, at, 1, b'\0', b'') for at in range(1 << 20, large, 1 << 16)], large, 2),
-        ('a byte in every page', [('content.data', 2, at, 1, b'', b'x') for at in range(1 << 20, large, 1 << 16)], large, 2),
-        ('zeros in every other page', [('content.data', 3, at, 4096, b'', b'') for at in range(1 << 20, 1 << 30, 8192)], large, 2),
-        ('more ranges than any', [('content.data', 2, at, 1, b'', b'x') for at in range(0, 2 * (1 << 18) + 2, 2)], large, 2),
-        ('64 GiB of zeros', [('content.data', 3, 0, large, b'', b'')], large, 0),
-        ('24 MiB of bytes', [('content.data', 2, 0, (24 << 20) - 1000, b'', bytes((24 << 20) - 1000))], large, 0),
-        ('16 MiB of bytes', [('content.data', 2, 0, 16 << 20, b'', bytes(16 << 20))], large, 0),
-        ('200 MiB of bytes', [('content.data', 2, 0, 200 << 20, b'', bytes(200 << 20))], large, 0),
-        ('every other byte', [('content.data', 2, at, 1, b'', b'x') for at in every], size, 0),
+        ('a witness in every page', [('content.data', 4, at, 1, b'\0', b'') for at in range(1 << 20, large, 1 << 16)], large, told),
+        ('a byte in every page', [('content.data', 2, at, 1, b'', b'x') for at in range(1 << 20, large, 1 << 16)], large, told),
+        ('zeros in every other page', [('content.data', 3, at, 4096, b'', b'') for at in range(1 << 20, 1 << 30, 8192)], large, told),
+        ('more ranges than any', [('content.data', 2, at, 1, b'', b'x') for at in range(0, 2 * (1 << 18) + 2, 2)], large, told),
+        ('64 GiB of zeros', [('content.data', 3, 0, large, b'', b'')], large, read),
+        ('16 MiB of bytes', mib(16), large, read),
+        ('60 MiB of bytes', mib(60), large, read),
+        ('60 MiB of bytes and 24 of old pages', [('content.data', 1, 1 << 20, 24 << 20, bytes(24 << 20), bytes(24 << 20)), ('content.data', 2, 25 << 20, 36 << 20, b'', bytes(36 << 20))], large, read),
+        ('62 MiB of bytes', mib(62), large, asked),
+        ('200 MiB of bytes', mib(200), large, asked),
+        ('256 MiB of bytes in as many ranges as may be', [('content.data', 2, 1000 * at, 1000, b'', bytes(1000)) for at in range(1 << 18)], large, asked),
+        ('every other byte', [('content.data', 2, at, 1, b'', b'x') for at in every], size, read),
     ]
     for what, ranges, length, status in dear:
         lay(ARCHIVE, dict(state, **{JOURNAL: encoded(dict(states, **{'content.data': (length + 1,) * 2}), ranges)}))
@@ -402,16 +407,56 @@ def dear_journals(state, usual):
         with open(os.path.join(ARCHIVE, JOURNAL), 'rb') as written:
             os.fsync(written.fileno())  # a file's count of blocks is that of its writing out, sooner or later
         folder = about(ARCHIVE)
-        # A journal may have 256 MiB, as a commit may: they are taken in once, and once more where they are read as done.
-        most = MOST_MEMORY + 2 * os.path.getsize(os.path.join(ARCHIVE, JOURNAL)) // 1024
-        for words in READING:
-            ran = within(*words, usual=usual, most=most)
+        for words in READING if status != asked or '200' in what else READING[:5]:
+            ran = within(*words, usual=usual)
             expect(about(ARCHIVE) == folder, 'changed: %s, %r' % (what, words), ran)
             if words[0] not in ('hold', 'journal'):
-                expect((ran.returncode == 2) == (status == 2), '%s: %r' % (what, words), ran)
-        ran = within('journal', ARCHIVE, '--finish', usual=usual, most=most)
+                expect((ran.returncode == 2) == (status != read), '%s: %r' % (what, words), ran)
+                expect(status != asked or (b' MiB of memory to be read as done' in ran.stderr and b'--large-journal' in ran.stderr), '%s is told otherwise: %r' % (what, words), ran)
+        if status == asked:
+            as_done(what, folder)
+        ran = within('journal', ARCHIVE, '--finish', usual=usual)
         expect((ran.returncode == 0) == (JOURNAL not in about(ARCHIVE)), 'neither finished nor told: ' + what, ran)
+        expect(ran.returncode == 0 or status == told, 'not finished: ' + what, ran)
         expect(within('list', ARCHIVE, '--without-journal', usual=usual).returncode in (0, 1), 'not read past it')
+    lay(ARCHIVE, state)
+
+
+def as_done(what, folder):
+    """A large journal is read as done where the reader says so, and nothing is touched."""
+    for words in (['list', ARCHIVE], ['get', ARCHIVE, '/sleeve'], ['audit', ARCHIVE], ['packet', 'make', ARCHIVE, '2']):
+        ran = subprocess.run([PROGRAM, *words, '--large-journal'], capture_output=True, env=environment())
+        expect(ran.returncode in (0, 1) and about(ARCHIVE) == folder, 'not read as done: %s, %r' % (what, words), ran)
+    ran = within('journal', ARCHIVE)
+    expect(ran.returncode == 0 and b'reading commands show it as done with --large-journal\n' in ran.stdout, 'told otherwise', ran)
+
+
+def changed_meanwhile(state):
+    """A long journal is read in parts, again and again. A program that knows no lock changes it after it was judged, while it is finished or read: that is told,
+    and no byte of it that was not judged comes into a file."""
+    states, size, rng = states_of(state), len(state['content.data']), random.Random(8)
+    new = rng.randbytes(3 << 20)
+    right = encoded(dict(states, **{'content.data': (size + 1, size + len(new) + 1)}), [('content.data', 2, size, len(new), b'', new)])
+    met = 0
+    for at in range(2, 16):
+        lay(ARCHIVE, dict(state, **{JOURNAL: right}))
+        finishing = subprocess.Popen([PROGRAM, 'journal', ARCHIVE, '--finish'], stderr=subprocess.PIPE, env=environment({'UNDER': ARCHIVE, 'KIND': 'stop', 'AT': at}))
+        os.waitid(os.P_PID, finishing.pid, os.WSTOPPED | os.WEXITED | os.WNOWAIT)
+        with open(os.path.join(ARCHIVE, JOURNAL), 'r+b') as file:
+            file.seek(len(right) - 50000)
+            file.write(b'other bytes')
+        finishing.send_signal(signal.SIGCONT)
+        said = finishing.communicate()[1]
+        with open(os.path.join(ARCHIVE, 'content.data'), 'rb') as file:
+            now = file.read()[size:]
+        expect(all(byte in (0, other) for byte, other in zip(now, new)), 'bytes that were not judged', at)
+        if finishing.returncode == 2:
+            met += 1
+            expect(b'sleep-archive.journal was changed by another program while it was read' in said, 'told otherwise', said)
+            expect(b'a damaged journal' in within('list', ARCHIVE).stderr, 'taken afterwards')
+        else:
+            expect(finishing.returncode == 0 and now == new, 'another end', at, said)
+    expect(met > 5, 'never met', met)
     lay(ARCHIVE, state)
 
 
@@ -615,6 +660,7 @@ def main():
     lay(ARCHIVE, state)
     wrong = journals(state, usual)
     dear_journals(state, usual)
+    changed_meanwhile(state)
     taken = beside_the_model(state, random.Random(6), 500)
     packet_files(state, usual)
     modes(state)

@@ -69,7 +69,9 @@ def wrong_words():
     wrong(2, 'no command mend', 'help', 'mend')
     wrong(2, '--wait needs a number, not soon', 'list', 'coats', '--wait', 'soon')
     wrong(2, 'no option --without-journal', 'add', 'coats', 'sleeve', '--without-journal')
-    wrong(2, '--without-journal is for reading', 'packet', 'take', 'coats', 'sleeve', '--number', '0', '--without-journal')
+    for option in ('--without-journal', '--large-journal'):
+        wrong(2, 'no option ' + option, 'sign', 'coats', option)
+        wrong(2, option + ' is for reading', 'packet', 'take', 'coats', 'sleeve', '--number', '0', option)
     wrong(2, 'no option --wait', 'group', '--wait', '1')
     wrong(2, 'an archive and a command are needed', 'hold', 'coats')
     wrong(2, '--drop or --finish, and not both', 'journal', 'coats', '--drop', '--finish')
@@ -313,6 +315,7 @@ def copies_that_follow():
             ('an archive and a file of packets are needed', 'packets', 'take', 'part', 'sent', 'sent'),
             ('just a file of packets is needed', 'packets', 'show'), ('nofile: no such file', 'packets', 'show', 'nofile'), ('a folder, and no file', 'packets', 'show', 'coats'),
             ('--without-journal is for reading', 'packets', 'take', 'part', 'sent', '--without-journal'),
+            ('--large-journal is for reading', 'packets', 'take', 'part', 'sent', '--large-journal'),
             ('--root, --of or --with, and not two of them', 'packets', 'take', 'part', 'sent', '--root', own, '--of', 'coats'),
             ('--root needs the root hashes of metadata and of content', 'packets', 'take', 'part', 'sent', '--root', roots[1]),
             ('--root needs the root hashes of metadata and of content', 'packets', 'take', 'part', 'sent', '--root', ','),

@@ -16,8 +16,9 @@ use crate::words::{counted, hex, refused, remark, usage, Done, Trouble};
 use std::path::Path;
 use std::sync::Arc;
 
-/// Unless told otherwise a change is committed at so many MiB; a journal has room for the most.
-const COMMIT_EVERY: u64 = 64;
+/// Unless told otherwise a change is committed before its journal has more MiB than these, which reading commands take on unasked where it is left; a journal
+/// has room for the most.
+const COMMIT_EVERY: u64 = 60;
 const MOST_EVERY: u64 = 192;
 
 /// The refusal of more chunks than a register has.
@@ -29,7 +30,7 @@ struct Told<'a> {
     opening: Opening,
     changed: bool,
     times: bool,
-    /// The bytes of a commit.
+    /// The bytes of a commit's journal.
     every: u64,
 }
 
@@ -103,7 +104,7 @@ fn add_all(told: &Told, sources: &Arc<Sources>, signer: &mut Option<Signer>, far
             false if far.commits == 0 => fits(&archive, sources)?,
             false => {}
         }
-        let mut batch = Batch::begin(archive, Limits { bytes: told.every, times: told.times, one_set: signer.is_none() })?;
+        let mut batch = Batch::begin(archive, Limits { journal: told.every, times: told.times, one_set: signer.is_none() })?;
         let made = work.fill(&mut batch, signer, far.files).and_then(|end| {
             batch.complete(signer)?;
             progress::note(&format!("committing {}, {end} of {} files", counted(batch.pieces(), "piece"), sources.all.len()));
@@ -161,10 +162,14 @@ impl Work<'_> {
     }
 }
 
-/// Asks beforehand whether the registers can have so many chunks more.
+/// Asks beforehand whether the registers can have so many chunks more. Of as many as any has the call, which goes over all of them, is not asked: it would
+/// be in vain, and an append that has no room is refused whatever is said here.
 fn fits(archive: &Archive, sources: &Sources) -> Done<()> {
     for (which, more) in [(Which::Content, sources.chunks()), (Which::Metadata, sources.all.len() as u64)] {
         let register = archive.register(which);
+        if register.n() + more <= MOST_CHUNKS {
+            continue;
+        }
         match needs(register.n(), register.size(), &vec![0; more.min(MOST_CHUNKS + 1) as usize]) {
             Err(reason) if reason.number == TOO_MANY => return Err(refused(&archive.named(which), reason)),
             _ => {}
@@ -185,7 +190,7 @@ fn unstored(batch: &Batch, trouble: Trouble) -> Trouble {
 }
 
 /// `--dry-run`: the files that would be added, with their chunks and bytes.
-fn dry_run(told: &Told, sources: &Sources) -> Done<()> {
+fn dry_run(told: &Told, sources: &Arc<Sources>) -> Done<()> {
     let (mut known, mut lines, mut sums) = (Known::default(), Vec::new(), [0; 3]);
     let archive = Archive::of(Folder::open(told.path, told.opening.to_read())?)?;
     BOTH.iter().try_for_each(|which| archive.register(*which).whole(&archive.named(*which)).map(|_| ()))?;
@@ -197,7 +202,7 @@ fn dry_run(told: &Told, sources: &Sources) -> Done<()> {
         counter.next();
         let (mut chunks, mut size) = (sources.cuts(source).count(source.size), source.size);
         if told.changed || sources.is_standard_input(source) {
-            let mut read = Reading::open(sources, source)?;
+            let mut read = Reading::open(sources, number)?;
             if known.of(number).map_or(Ok(false), |said| same(&archive, said, &mut read))? {
                 continue;
             }

@@ -57,6 +57,14 @@ impl Arguments {
         words.collect()
     }
 
+    /// What writes takes no option that is for reading.
+    pub fn for_writing(&self) -> Done<()> {
+        match ["--without-journal", "--large-journal"].into_iter().find(|option| self.has(option)) {
+            Some(option) => usage(format!("{option} is for reading")),
+            None => Ok(()),
+        }
+    }
+
     pub fn has(&self, name: &str) -> bool {
         self.option(name).is_some()
     }

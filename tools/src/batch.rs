@@ -17,8 +17,8 @@ use std::path::PathBuf;
 /// The most chunks of a set.
 const MOST: usize = 256;
 
-/// The most bytes of hashes, signatures and records in a commit of several pieces.
-const MOST_BESIDE: u64 = 48 << 20;
+/// The bytes that every journal has at most, whatever is added: its own, witnesses, entries of trees and bitfields that were there and change.
+const ALWAYS: u64 = 48 << 10;
 
 const SET_SIZE: u64 = 16;
 const TOO_LONG: u64 = 7;
@@ -39,7 +39,8 @@ impl Set {
 
 /// What a commit may hold.
 pub struct Limits {
-    pub bytes: u64,
+    /// The bytes of its journal, where it has several pieces.
+    pub journal: u64,
     /// Whether a record has its file's time.
     pub times: bool,
     /// Without a signer there is one set, whose signature is owed then.
@@ -68,7 +69,7 @@ impl Batch {
     /// Both registers with room for a commit, after the first checks.
     pub fn begin(archive: Archive, limits: Limits) -> Done<Batch> {
         let folder = &archive.folder;
-        let most = limits.bytes.max(LONGEST_PIECE) + 2 * LONGEST;
+        let most = limits.journal.max(LONGEST_PIECE) + 2 * LONGEST;
         let grown = |which: Which| {
             let counts = folder.count(which)?;
             let n = MOST_CHUNKS.min(counts.n + most / BESIDE).max(counts.n);
@@ -109,8 +110,13 @@ impl Batch {
 
     /// Whether a file has room in this commit, or would be alone in it. One set takes on whatever comes: a call judges it.
     pub fn has_room(&self, size: u64, cuts: &Cuts) -> bool {
-        let beside = BESIDE * (cuts.count(size) + 1) + NODE_ROOM as u64;
-        self.limits.one_set || self.pieces == 0 || (self.bytes + size <= self.limits.bytes && self.beside + beside <= MOST_BESIDE)
+        let more = size + BESIDE * (cuts.count(size) + 1) + NODE_ROOM as u64;
+        self.limits.one_set || self.pieces == 0 || self.journal() + more <= self.limits.journal
+    }
+
+    /// The bytes that the journal has at most: pieces, what stands beside them, and what it always has.
+    fn journal(&self) -> u64 {
+        self.bytes + self.beside + ALWAYS
     }
 
     /// Whether one set has more chunks than any may have, so that no more is read.
@@ -134,20 +140,20 @@ impl Batch {
             self.close(signer)?;
         }
         let (first, start) = (self.content.n + self.chunks.lengths.len() as u64, self.content.size + self.chunks.bytes.len() as u64);
-        let (mut size, mut blocks, mut chunk) = (0, 0, Vec::new());
+        let (mut size, mut blocks, mut room) = (0, 0, Vec::new());
         while let Some(length) = cuts.length(blocks) {
-            chunk.clear();
-            let got = read.next(length, &mut chunk)?;
+            let chunk = read.next(length, &mut room)?;
+            let got = chunk.len() as u64;
             if got == 0 && blocks > 0 {
                 break;
             }
             if !self.limits.one_set && self.chunks.lengths.len() == MOST {
                 self.close(signer)?;
             }
-            self.chunks.push(&chunk);
+            self.chunks.push(chunk);
             (size, blocks) = (size + got, blocks + 1);
             if got > LONGEST {
-                self.long = Some(read.name.clone());
+                self.long = Some(read.name());
             }
             if got < length || size + BESIDE * blocks > LONGEST_PIECE || self.is_over() {
                 break;
@@ -166,19 +172,15 @@ impl Batch {
 
     /// Holds that all of a file was read, and cut as it was told.
     fn whole(&self, read: &mut Reading, cuts: &Cuts, size: u64, blocks: u64) -> Done<()> {
-        let name = read.name.display().to_string();
-        let wrong = |words: String| Err(Trouble::File(format!("{name}: {words}; nothing of it is stored")));
+        let wrong = |read: &Reading, words| Err(Trouble::File(format!("{}: {words}; nothing of it is stored", read.name().display())));
         if size + BESIDE * blocks > LONGEST_PIECE {
-            return wrong(too_large());
+            return wrong(read, too_large());
         }
         if let Cuts::At(lengths) = cuts {
-            let more = read.next(1, &mut Vec::new())?;
+            let more = read.next(1, &mut Vec::new())?.len() as u64;
             if blocks != lengths.len() as u64 || size + more != lengths.iter().sum() {
-                return wrong(format!(
-                    "its cuts add up to {}, and it has {}",
-                    counted(lengths.iter().sum(), "byte"),
-                    counted(size + more, "byte")
-                ));
+                let (sum, has) = (counted(lengths.iter().sum(), "byte"), counted(size + more, "byte"));
+                return wrong(read, format!("its cuts add up to {sum}, and it has {has}"));
             }
         }
         Ok(())

@@ -22,9 +22,6 @@ const FOLDER_ALONE: i32 = 0o40000;
 const NO_LINK: i32 = 0o100000;
 const CLOSED_AT_EXEC: i32 = 0o2000000;
 
-/// How a file is opened that was found in a folder of the user's: through no link, and without waiting.
-pub const FOUND: i32 = NO_LINK | NOT_WAITING;
-
 /// In the place of a folder's number: paths are those of this process.
 const FROM_HERE: i32 = -100;
 const LINK_ITSELF: i32 = 0x100;
@@ -74,6 +71,7 @@ extern "C" {
     fn umask(mask: u32) -> u32;
     fn syncfs(file: i32) -> i32;
     fn faccessat(folder: i32, name: *const c_char, mode: i32, flags: i32) -> i32;
+    fn read(file: i32, into: *mut u8, length: usize) -> isize;
 }
 
 /// How a plain file is opened. A lock that excludes needs a file that can be written, on a network's file system.
@@ -243,6 +241,32 @@ pub fn folder_below(folder: &File, name: &[u8]) -> io::Result<File> {
         return Err(io::Error::last_os_error());
     }
     Ok(unsafe { File::from_raw_fd(handle) })
+}
+
+/// A file that was found in a folder of the user's, opened through no link, and without waiting.
+pub fn open_found(folder: &File, name: &[u8]) -> io::Result<File> {
+    let name = any_name(name)?;
+    let handle = unsafe { openat(folder.as_raw_fd(), name.as_ptr(), NO_LINK | NOT_WAITING | CLOSED_AT_EXEC) };
+    if handle < 0 {
+        return Err(io::Error::last_os_error());
+    }
+    Ok(unsafe { File::from_raw_fd(handle) })
+}
+
+/// Reads at most so many bytes behind those that are there; how many. The room for them is not cleared before.
+pub fn read_behind(file: &File, bytes: &mut Vec<u8>, most: usize) -> io::Result<usize> {
+    bytes.reserve(most);
+    loop {
+        let count = unsafe { read(file.as_raw_fd(), bytes.as_mut_ptr().add(bytes.len()), most) };
+        if let Ok(count) = usize::try_from(count) {
+            unsafe { bytes.set_len(bytes.len() + count) };
+            return Ok(count);
+        }
+        let error = io::Error::last_os_error();
+        if error.kind() != io::ErrorKind::Interrupted {
+            return Err(error);
+        }
+    }
 }
 
 pub fn make_folder(folder: &File, name: &[u8]) -> io::Result<()> {

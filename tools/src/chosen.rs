@@ -6,7 +6,7 @@ use crate::printable::shown;
 use crate::reading::Archive;
 use crate::sleep_register::Refusal;
 use crate::splice::under_roots;
-use crate::walk::{chunks_of, latest_until, not_held, Holding, Said};
+use crate::walk::{chunks_of, latest_until, not_held, Holding, Said, Walking};
 use crate::words::{usage, Done, Trouble};
 use std::cell::RefCell;
 use std::collections::{BTreeSet, HashSet};
@@ -41,15 +41,15 @@ pub fn chosen(archive: &Archive, firsts: &[Lent; 2], names: &[&[u8]]) -> Done<Ch
         }
     }
     if let Some(lowest) = all.iter().map(|said| said.record).min() {
-        chunks[0].extend([0].into_iter().chain(lowest..firsts[0].n()));
+        chunks[0].extend([0].into_iter().chain(lowest.into()..firsts[0].n()));
     }
     Ok(chunks)
 }
 
 /// What the records say that were written last of the names that are asked for. Each name must stand for a piece or a folder.
-fn found<'a>(archive: &Archive, metadata: Lent<'a>, names: &[&[u8]]) -> Done<Vec<Said<'a>>> {
+fn found<'a>(archive: &'a Archive, metadata: Lent<'a>, names: &[&[u8]]) -> Done<Vec<Said<'a>>> {
     let asked = RefCell::new(Asked::new(names));
-    let walked = latest_until(metadata, |name| asked.borrow_mut().wants(name), |_| asked.borrow().is_done());
+    let walked = latest_until(Walking::over(archive, metadata), |name| asked.borrow_mut().wants(name), |_| asked.borrow().is_done());
     if let (Some(reason), false) = (walked.ended, asked.borrow().is_done()) {
         return Err(archive.trouble(Which::Metadata, reason));
     }

@@ -1,18 +1,20 @@
 //! A change made wholly or not at all: no byte and no length of an archive's file changes before all changes of both registers stand in one journal that is
 //! synced, with its entry in the folder. Then they are made, synced, and the journal is removed. It is written under another name, and gets its own when
 //! all of it is synced. A writer that finds a journal finishes it, again if need be; a file of the other name, of which nothing was applied, is dropped.
-use crate::below::{self, Access};
+use crate::below::{self, Access, Plain};
 use crate::changes::{Change, Witnesses};
 use crate::counts::FILES;
 use crate::disk;
 use crate::folder::Folder;
 use crate::journal_calls::{self as calls, Given, Kind, Wrong};
 use crate::left_over::{Left, MOST_BYTES, MOST_RANGES, NAME};
+use crate::windows::WINDOW;
 use crate::words::{said, Done, Trouble};
 use std::collections::BTreeMap;
 use std::fs::{File, Permissions};
 use std::io;
 use std::os::unix::fs::{FileExt, PermissionsExt};
+use std::rc::Rc;
 
 /// The journal's name until all of it is synced.
 pub const UNSYNCED: &str = "sleep-archive.journal.new";
@@ -20,6 +22,9 @@ pub const UNSYNCED: &str = "sleep-archive.journal.new";
 /// An empty file with room behind it on the disk: a release on a full disk writes its journal there.
 pub const ROOM: &str = "sleep-archive.room";
 const KEPT_ROOM: u64 = 65536;
+
+/// The disk begins with a journal after so many bytes of it.
+const AT_ONCE: usize = 8 << 20;
 
 /// A file that this user alone can see, until it is given the rights that the archive's files have.
 const PRIVATE: u32 = 0o600;
@@ -61,12 +66,13 @@ pub fn commit(folder: &Folder, changes: Vec<Change>, room: Room) -> Done<()> {
         failed.told(folder, "nothing is changed")
     };
     let (bytes, mode) = (encoded(folder, changes)?, mode(folder)?);
-    reserve(folder, &bytes).map_err(not_begun)?;
+    let ranges = calls::ranges(&bytes).collect::<Vec<_>>();
+    reserve(folder, &ranges).map_err(not_begun)?;
     let journal = written_down(folder, &bytes, mode, room).map_err(not_begun)?;
     if let Err(error) = folder.handle.sync_all() {
         return Err(taken_back(folder, &numbers, &error));
     }
-    finish(folder, &bytes)?;
+    finish(folder, Down { bytes: &bytes, ranges: &ranges, in_windows: false })?;
     drop(journal);
     keep_room(folder);
     Ok(())
@@ -88,8 +94,8 @@ fn unshared(folder: &Folder, number: usize) -> Done<()> {
 }
 
 /// Room on the disk for every byte that will be written into files that are there. Their bytes and lengths stay.
-fn reserve(folder: &Folder, journal: &[u8]) -> Result<(), Failed> {
-    for range in calls::ranges(journal).filter(|range| matches!(range.kind, Kind::Replaced | Kind::Fresh)) {
+fn reserve(folder: &Folder, ranges: &[calls::Range]) -> Result<(), Failed> {
+    for range in ranges.iter().filter(|range| matches!(range.kind, Kind::Replaced | Kind::Fresh)) {
         if let Ok(Some(plain)) = folder.plain(range.file) {
             disk::reserve(&plain.file, range.offset, range.length).map_err(at(FILES[range.file]))?;
         }
@@ -180,7 +186,10 @@ fn written_down(folder: &Folder, bytes: &[u8], mode: Option<u32>, room: Room) ->
 }
 
 fn synced(folder: &Folder, file: File, bytes: &[u8], mode: Option<u32>) -> Result<File, Failed> {
-    file.write_all_at(bytes, 0).map_err(at(UNSYNCED))?;
+    for (number, part) in bytes.chunks(AT_ONCE).enumerate() {
+        file.write_all_at(part, (number * AT_ONCE) as u64).map_err(at(UNSYNCED))?;
+        disk::begin(&file, part.len() as u64);
+    }
     if let Some(mode) = mode {
         file.set_permissions(Permissions::from_mode(mode)).map_err(at(UNSYNCED))?;
     }
@@ -270,8 +279,32 @@ fn taken_back(folder: &Folder, numbers: &[usize], error: &io::Error) -> Trouble 
 
 const UNFINISHED: &str = "the change is written down in sleep-archive.journal and not yet made: the next command that writes finishes it";
 
+/// The bytes of a journal that stands on the disk. Those in windows are copied before the system is handed them: it can't read what a fault would bring.
+#[derive(Clone, Copy)]
+pub struct Down<'a> {
+    pub bytes: &'a [u8],
+    pub ranges: &'a [calls::Range],
+    pub in_windows: bool,
+}
+
+impl Down<'_> {
+    fn write(&self, file: &File, range: &calls::Range) -> io::Result<()> {
+        let bytes = range.bytes(self.bytes);
+        if !self.in_windows {
+            return file.write_all_at(bytes, range.offset);
+        }
+        let (mut copy, mut offset) = (vec![0; bytes.len().min(WINDOW)], range.offset);
+        for part in bytes.chunks(WINDOW) {
+            copy[..part.len()].copy_from_slice(part);
+            file.write_all_at(&copy[..part.len()], offset)?;
+            offset += part.len() as u64;
+        }
+        Ok(())
+    }
+}
+
 /// Applies a whole journal that is synced, and removes it.
-fn finish(folder: &Folder, journal: &[u8]) -> Done<()> {
+fn finish(folder: &Folder, journal: Down) -> Done<()> {
     apply(folder, journal).map_err(|failed| failed.told(folder, UNFINISHED))?;
     let unfinished = |error: io::Error| Failed { name: NAME, error }.told(folder, UNFINISHED);
     folder.handle.sync_all().map_err(unfinished)?;
@@ -282,30 +315,44 @@ fn finish(folder: &Folder, journal: &[u8]) -> Done<()> {
         .map_err(|error| Failed { name: NAME, error }.told(folder, "the change is made; whether it outlives a loss of power is not sure"))
 }
 
-/// Writes what a journal holds: in each file its new length and its ranges.
-fn apply(folder: &Folder, journal: &[u8]) -> Result<(), Failed> {
-    let mut ranges = calls::ranges(journal).peekable();
+/// Writes what a journal holds: in each file its new length and its ranges. All are written, and the disk begins, before the first is waited for.
+fn apply(folder: &Folder, journal: Down) -> Result<(), Failed> {
+    let (mut rest, mut written) = (journal.ranges, Vec::new());
     for (number, name) in FILES.into_iter().enumerate() {
-        let mut own = Vec::new();
-        while let Some(range) = ranges.next_if(|range| range.file == number) {
-            own.push(range);
-        }
+        let (own, others) = rest.split_at(rest.partition_point(|range| range.file <= number));
+        rest = others;
         let broken = |_| at(NAME)(io::Error::other("it can't be read again"));
-        let [old, new] = calls::lengths(journal, number).map_err(broken)?;
+        let [old, new] = calls::lengths(journal.bytes, number).map_err(broken)?;
         if let (Some(new), true) = (new, old != new || own.iter().any(|range| range.kind != Kind::Witness)) {
-            write(folder, number, new, &own, journal).map_err(at(name))?;
+            written.push((name, write(folder, number, new, own, journal).map_err(at(name))?));
         }
     }
-    Ok(())
+    written.iter().try_for_each(|(name, written)| written.file().sync_all().map_err(at(name)))
 }
 
-fn write(folder: &Folder, number: usize, length: u64, ranges: &[calls::Range], journal: &[u8]) -> io::Result<()> {
+/// A file that was written, and is to be synced: one that was there, or one that was made.
+enum Written {
+    There(Rc<Plain>),
+    Made(File),
+}
+
+impl Written {
+    fn file(&self) -> &File {
+        match self {
+            Written::There(plain) => &plain.file,
+            Written::Made(file) => file,
+        }
+    }
+}
+
+/// Writes into one file.
+fn write(folder: &Folder, number: usize, length: u64, ranges: &[calls::Range], journal: Down) -> io::Result<Written> {
     let there = folder.plain(number).map_err(|trouble| io::Error::other(trouble.words().to_string()))?;
-    let made = there.is_none().then(|| below::create(&folder.handle, FILES[number], USUAL)).transpose()?;
-    let (file, before) = match (&made, &there) {
-        (Some(made), _) => (made, 0),
-        (None, there) => there.as_ref().map(|plain| (&plain.file, plain.about.length)).expect("a file that is there"),
+    let (written, before) = match there {
+        None => (Written::Made(below::create(&folder.handle, FILES[number], USUAL)?), 0),
+        Some(plain) => (Written::There(Rc::clone(&plain)), plain.about.length),
     };
+    let file = written.file();
     if before != length {
         file.set_len(length)?;
     }
@@ -314,16 +361,17 @@ fn write(folder: &Folder, number: usize, length: u64, ranges: &[calls::Range], j
             Kind::Witness => {}
             Kind::Zeros if before <= range.offset => {}
             Kind::Zeros => disk::clear(file, range.offset, range.length)?,
-            Kind::Replaced | Kind::Fresh => file.write_all_at(range.bytes(journal), range.offset)?,
+            Kind::Replaced | Kind::Fresh => journal.write(file, range)?,
         }
     }
-    file.sync_all()
+    disk::begin(file, ranges.iter().map(|range| range.length).sum());
+    Ok(written)
 }
 
 /// Finishes a journal that another run left, whose files are all between. Its entry in the folder is synced first, since that run may have ended before it.
 pub fn settle(folder: &Folder, left: &Left) -> Done<()> {
     let mut written = [false; FILES.len()];
-    for range in calls::ranges(left.bytes()).filter(|range| range.kind != Kind::Witness) {
+    for range in left.ranges().iter().filter(|range| range.kind != Kind::Witness) {
         written[range.file] = true;
     }
     for (number, written) in written.into_iter().enumerate() {
@@ -333,5 +381,5 @@ pub fn settle(folder: &Folder, left: &Left) -> Done<()> {
         }
     }
     folder.handle.sync_all().map_err(|error| folder.trouble(NAME, error))?;
-    finish(folder, left.bytes())
+    finish(folder, left.down())
 }

@@ -8,10 +8,9 @@ use crate::printable::{printable, shown};
 use crate::progress::Counter;
 use crate::reading::{both, Archive};
 use crate::sleep_register::Refusal;
-use crate::walk::{headed, records, Said};
+use crate::walk::{headed, records, Said, KEPT_PAGES_OF};
 use crate::words::{is_quiet, refused, remark, usage, Done, Trouble};
 use std::cmp::Ordering;
-use std::collections::HashSet;
 
 /// The refusal of an entry that a copy does not know.
 const UNKNOWN: u64 = 20;
@@ -20,11 +19,24 @@ const UNKNOWN: u64 = 20;
 /// records that somebody prepared must not cost more than a moment.
 const MOST_COMPARED: u64 = 1 << 22;
 
-/// A name, the record that was written last of it, and its chunks, the first and how many, where the register has them.
+/// A name, the record that was written last of it, and its chunks, the first and how many; none where the register has not all of them.
 struct Named<'a> {
     name: &'a [u8],
-    record: u64,
-    chunks: Option<(u64, u64)>,
+    record: u32,
+    first: u32,
+    count: u32,
+}
+
+impl<'a> Named<'a> {
+    /// What a record says of its piece in a content register of so many chunks: at most 2^20.
+    fn of(said: &Said<'a>, chunks: u64) -> Named<'a> {
+        let (first, count) = said.chunks_below(chunks).unwrap_or_default();
+        Named { name: said.path, record: said.record, first: first as u32, count: count as u32 }
+    }
+
+    fn chunks(&self) -> Option<(u64, u64)> {
+        (self.count > 0).then(|| (self.first.into(), self.count.into()))
+    }
 }
 
 /// The names of an archive as it is or was, rising, and the archive that their pieces lie in.
@@ -97,26 +109,26 @@ fn sides<'a, const K: usize>(archive: &'a Archive, states: [(u64, u64); K]) -> D
     checked(archive)?;
     let (metadata, trouble) = (archive.register(Which::Metadata), |reason: Refusal| refused(&archive.named(Which::Metadata), reason));
     headed(&metadata).map_err(trouble)?;
-    let mut found = states.map(|(m, c)| (m, c, HashSet::new(), Vec::new()));
+    let mut found = states.map(|(m, c)| (m, c, Vec::new()));
     let mut counter = Counter::new("reading records", metadata.n());
-    for (record, read) in records(metadata) {
+    for (record, read) in records(archive) {
         counter.next();
         let said = Said::of(record, &read.map_err(trouble)?);
-        for (m, c, seen, names) in &mut found {
-            if record < *m && seen.insert(said.path) {
-                names.push(Named { name: said.path, record, chunks: said.chunks_below(*c) });
-            }
+        for (_, c, names) in found.iter_mut().filter(|(m, ..)| record < *m) {
+            names.push(Named::of(&said, *c));
         }
     }
-    Ok(found.map(|(_, _, _, mut names)| {
-        names.sort_unstable_by_key(|named| named.name);
+    Ok(found.map(|(_, _, mut names)| {
+        // Of a name that was written again the latest record comes first, and the others go.
+        names.sort_unstable_by(|one, other| one.name.cmp(other.name).then(other.record.cmp(&one.record)));
+        names.dedup_by_key(|named| named.name);
         Side { names, archive }
     }))
 }
 
 /// Whether two numbers are those of one state: the chunks of every name are among the first that the content had.
 fn one_state(then: &Side, (m, c): (u64, u64)) -> Done<()> {
-    match then.names.iter().find(|named| named.chunks.is_none()) {
+    match then.names.iter().find(|named| named.chunks().is_none()) {
         None => Ok(()),
         Some(named) => Err(Trouble::Refused(format!(
             "--first {m},{c}: {} stands in the first {m} records, and its chunks are not among the first {c}: the two numbers are of two states",
@@ -130,7 +142,7 @@ fn of_both(first: &Side, one: &Named, second: &Side, other: &Named, compared: &m
     if std::ptr::eq(first.archive, second.archive) && one.record == other.record {
         return None;
     }
-    let (Some((chunk, count)), Some((others_chunk, others_count))) = (one.chunks, other.chunks) else { return Some(Differs::Unknown) };
+    let (Some((chunk, count)), Some((others_chunk, others_count))) = (one.chunks(), other.chunks()) else { return Some(Differs::Unknown) };
     if count != others_count {
         return Some(Differs::Changed);
     }
@@ -166,6 +178,9 @@ fn differences<'a>(first: &'a Side, second: &'a Side) -> Done<Vec<(&'a [u8], Dif
         };
         (at, others_at) = (at + usize::from(order.is_le()), others_at + usize::from(order.is_ge()));
         counter.add(1 + u64::from(order.is_eq()));
+        if (at + others_at) as u64 % KEPT_PAGES_OF < 2 {
+            [first, second].iter().for_each(|side| side.archive.give_up_pages());
+        }
         let differs = match (order, one, other) {
             (Ordering::Equal, Some(one), Some(other)) => of_both(first, one, second, other, &mut compared),
             (Ordering::Less, ..) => Some(Differs::Missing),

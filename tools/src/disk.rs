@@ -10,8 +10,22 @@ const PUNCH_HOLE: i32 = 2;
 /// Zeros that are written at once where the file system has no holes.
 const ZEROS: usize = 65536;
 
+const BEGIN: u32 = 2;
+
+/// Bytes for which the disk is asked to begin.
+const WORTH: u64 = 1 << 20;
+
 extern "C" {
     fn fallocate(file: i32, mode: i32, offset: i64, length: i64) -> i32;
+    fn sync_file_range(file: i32, offset: i64, length: i64, flags: u32) -> i32;
+}
+
+/// Lets the disk begin with what was written to a file, so that less is left for the sync, which alone is waited for and relied on. For a few bytes it is
+/// not worth asking.
+pub fn begin(file: &File, bytes: u64) {
+    if bytes >= WORTH {
+        unsafe { sync_file_range(file.as_raw_fd(), 0, 0, BEGIN) };
+    }
 }
 
 /// The same again as long as a signal interrupts it.

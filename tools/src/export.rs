@@ -8,7 +8,8 @@ use crate::paths::{folders_of, parts, Asked};
 use crate::printable::shown;
 use crate::progress::Counter;
 use crate::reading::Archive;
-use crate::walk::{chunks_of, latest, latest_until, not_held, Chunks, Holding, Said, Walked};
+use crate::sleep_register::Refusal;
+use crate::walk::{chunks_of, latest, latest_until, not_held, Chunks, Holding, Said, KEPT_PAGES_OF};
 use crate::words::{refusal, tell, usage, Done, Trouble};
 use std::cell::RefCell;
 use std::collections::HashSet;
@@ -67,8 +68,11 @@ pub fn export(arguments: &Arguments) -> Done<()> {
     }
     let mut laying = Laying::begin(Path::new(folder), &archive.folder, arguments.has("--overwrite"))?;
     let mut counter = Counter::new("writing files", pieces.len() as u64);
-    for piece in pieces {
+    for (written, piece) in (1..).zip(pieces) {
         counter.next();
+        if written % KEPT_PAGES_OF == 0 {
+            archive.give_up_pages();
+        }
         write(&mut laying, &mut archive, &piece).or_else(|trouble| match trouble {
             Unwritable::Here(words) => {
                 unwritten.tell(&shown(&piece.name), &words);
@@ -90,17 +94,18 @@ pub enum Unwritable {
 
 /// The pieces that are asked for and can be written, in the order of their chunks.
 fn chosen(archive: &Archive, names: &[&[u8]], unwritten: &mut Unwritten) -> Done<Vec<Piece>> {
-    let metadata = archive.register(Which::Metadata);
     let asked = RefCell::new(Asked::new(names));
     let walked = match names.is_empty() {
-        true => latest(metadata, |_| true),
-        false => latest_until(metadata, |name| asked.borrow_mut().wants(name), |_| asked.borrow().is_done()),
+        true => latest(archive, |_| true),
+        false => latest_until(archive, |name| asked.borrow_mut().wants(name), |_| asked.borrow().is_done()),
     };
+    let ended = walked.ended;
+    let unmet = names.iter().copied().filter(|name| walked.of(name).is_err()).collect::<HashSet<_>>();
     let mut all = walked.all();
     if !names.is_empty() {
         all.retain(|said| asked.borrow().has(said.path));
-        unfound(archive, names, &all, &walked, unwritten);
-    } else if let Some(reason) = walked.ended {
+        unfound(archive, names, &all, ended.map(|reason| (reason, unmet)), unwritten);
+    } else if let Some(reason) = ended {
         unwritten.tell(&archive.named(Which::Metadata), &format!("{}; names that stand below that record are not known", refusal(reason)));
     }
     let (n, missing) = (archive.register(Which::Content).n(), not_held(archive, Which::Content)?);
@@ -108,7 +113,7 @@ fn chosen(archive: &Archive, names: &[&[u8]], unwritten: &mut Unwritten) -> Done
     let mut pieces = Vec::new();
     for said in &all {
         match judged(archive, said, folders.contains(said.path), Holding::of(said, n, &missing)) {
-            Ok(chunks) => pieces.push(Piece { name: said.path.to_vec(), chunks, mode: said.mode, mtime: said.mtime }),
+            Ok(chunks) => pieces.push(Piece { name: said.path.to_vec(), chunks, mode: said.mode(), mtime: said.mtime() }),
             Err(words) => unwritten.tell(&shown(said.path), &words),
         }
     }
@@ -116,14 +121,14 @@ fn chosen(archive: &Archive, names: &[&[u8]], unwritten: &mut Unwritten) -> Done
     Ok(pieces)
 }
 
-/// Names that stand for no piece and no folder, as far as that is known.
-fn unfound(archive: &Archive, names: &[&[u8]], all: &[Said], walked: &Walked, unwritten: &mut Unwritten) {
+/// Names that stand for no piece and no folder, as far as that is known: where a refusal ended the walk it is told for those that were not met before.
+fn unfound(archive: &Archive, names: &[&[u8]], all: &[Said], ended: Option<(Refusal, HashSet<&[u8]>)>, unwritten: &mut Unwritten) {
     let known = all.iter().flat_map(|said| folders_of(said.path).chain([said.path])).collect::<HashSet<_>>();
     for name in names {
         let is_there = known.contains(name.strip_suffix(b"/").unwrap_or(name)) || (*name == b"/" && !all.is_empty());
-        match walked.ended {
-            Some(reason) if walked.of(name).is_err() => {
-                unwritten.tell(&shown(name), &format!("{}: {}", archive.named(Which::Metadata), refusal(reason)))
+        match &ended {
+            Some((reason, unmet)) if unmet.contains(name) => {
+                unwritten.tell(&shown(name), &format!("{}: {}", archive.named(Which::Metadata), refusal(*reason)))
             }
             None if !is_there => unwritten.tell(&shown(name), "there is no such name, and no folder of it"),
             _ => {}

@@ -26,15 +26,18 @@ pub struct Opening {
     pub wait: Option<Duration>,
     /// A journal is not looked at.
     past_journal: bool,
+    /// One that is read as done may take as much memory as it needs.
+    large_journal: bool,
 }
 
 impl Opening {
     pub fn reading(arguments: &Arguments) -> Done<Opening> {
-        Ok(Opening { purpose: Use::Reading, wait: waits(arguments)?, past_journal: arguments.has("--without-journal") })
+        let (past_journal, large_journal) = (arguments.has("--without-journal"), arguments.has("--large-journal"));
+        Ok(Opening { purpose: Use::Reading, wait: waits(arguments)?, past_journal, large_journal })
     }
 
     pub fn writing(arguments: &Arguments) -> Done<Opening> {
-        Ok(Opening { purpose: Use::Writing, wait: waits(arguments)?, past_journal: false })
+        Ok(Opening { purpose: Use::Writing, wait: waits(arguments)?, past_journal: false, large_journal: false })
     }
 
     /// The same, with whatever journal there is left to the caller.
@@ -108,7 +111,7 @@ impl Folder {
             commit::settle(self, &left)?;
             return Ok(false);
         }
-        left.bear()?;
+        left.bear(opening.large_journal)?;
         self.left = Some(left);
         Ok(true)
     }
@@ -245,6 +248,17 @@ impl Images {
         };
         data.give_up(before.start as usize, (before.end - before.start) as usize);
         data.own(part.start as usize, (part.end - part.start) as usize)
+    }
+}
+
+impl Images {
+    /// Gives up the pages that were come to, those of the data where that is told.
+    pub fn give_up_pages(&self, of_data: bool) {
+        let (images, signatures, data) = match &self.0 {
+            Kept::Whole(store) => ([&store.tree, &store.bitfield], Some(&store.signatures), &store.data),
+            Kept::Copy(store) => ([&store.tree, &store.bitfield], None, &store.data),
+        };
+        images.into_iter().chain(signatures).chain(of_data.then_some(data)).for_each(Image::give_up_all);
     }
 }
 

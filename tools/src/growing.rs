@@ -12,11 +12,13 @@ use crate::kept::{Kept, Lent};
 use crate::outputs::report;
 use crate::packet_file::About;
 use crate::parcels::{committed, each, Opened};
-use crate::progress::{self, Counter};
+use crate::parts::{self, Ended};
+use crate::progress::Counter;
 use crate::reading::{both, Archive};
 use crate::sleep_register::{CopyStore, PACKET_EXTRA};
 use crate::splice::{spliced, under_roots};
 use crate::trusted::{given, needed};
+use crate::walk::KEPT_PAGES_OF;
 use crate::words::{at_file, counted, refused, usage, Done, Trouble};
 use std::collections::BTreeSet;
 use std::ffi::OsStr;
@@ -43,6 +45,7 @@ struct Growing<'a> {
     which: Which,
     /// How it is named in messages.
     named: String,
+    archive: &'a Archive,
     old: Lent<'a>,
     new: CopyStore<Image>,
     root: [u8; 32],
@@ -68,7 +71,7 @@ impl<'a> Growing<'a> {
         new.make().map_err(|reason| refused(&named, reason))?;
         new.data = folder.image_to_write(which.first_file() + DATA, size)?;
         let under = under_roots(old.n()).into_iter().map(|under| (under, None)).collect();
-        Ok(Growing { which, named, old, new, root, under, taken: BTreeSet::new() })
+        Ok(Growing { which, named, archive, old, new, root, under, taken: BTreeSet::new() })
     }
 
     /// Takes in a packet of the archive as it is now.
@@ -106,8 +109,11 @@ impl<'a> Growing<'a> {
         let mut out = vec![0; inputs::LONGEST + PACKET_EXTRA];
         let held = held(&self.old).map_err(|reason| refused(&self.named, reason))?;
         let (mut counter, mut from) = (Counter::new("keeping chunks", held.len() as u64), 0);
-        for chunk in held {
+        for (kept, chunk) in (1..).zip(held) {
             counter.next();
+            if kept % KEPT_PAGES_OF == 0 {
+                self.archive.give_up_pages();
+            }
             if self.taken.contains(&chunk) {
                 continue;
             }
@@ -126,7 +132,10 @@ impl<'a> Growing<'a> {
     }
 
     fn no_bridge(&self, chunk: u64) -> Trouble {
-        Trouble::Refused(format!("{}: no packet leads from chunk {chunk}, which is held, to the new root hash; nothing is changed", self.named))
+        Trouble::Refused(format!(
+            "{}: no packet leads from chunk {chunk}, which is held, to the new root hash; nothing is changed",
+            self.named
+        ))
     }
 
     /// Releases chunks that were taken in for their packets alone.
@@ -136,10 +145,14 @@ impl<'a> Growing<'a> {
     }
 
     /// The copy as it is to be, over the files that there are: it was audited.
-    fn grown(self, folder: &Folder) -> Done<Kept> {
-        let bytes = Lent::Copy(self.new.copied()).bytes();
-        let audited = progress::during("audit of the grown copy", bytes, || self.new.copied().audit());
-        audited.map_err(|reason| refused(&format!("{}, as it would be; nothing is changed", self.named), reason))?;
+    fn grown(self, arguments: &Arguments, folder: &Folder) -> Done<Kept> {
+        let threads = parts::threads(arguments)?;
+        match parts::audit("audit of the grown copy", &Lent::Copy(self.new.copied()), threads, 0) {
+            Ended::Whole(audited) => {
+                audited.map_err(|reason| refused(&format!("{}, as it would be; nothing is changed", self.named), reason))?
+            }
+            Ended::Stopped(_) => return Err(Trouble::Stopped("stopped; nothing is changed".into())),
+        }
         let CopyStore { tree, bitfield, data, n, size } = self.new;
         let lengths = used_sizes(n, 0, size);
         let over = |kind: usize, image: Image| over(folder, self.which.first_file() + kind, &image, lengths[kind]);
@@ -203,7 +216,8 @@ fn by_archive(arguments: &Arguments, copy: &OsStr, other: &OsStr) -> Done<()> {
         growing.follows()?;
         growing.keep()?;
         growing.let_go(&surplus)?;
-        kept[which as usize] = Some(growing.grown(&archive.folder)?);
+        [&archive, &other].iter().for_each(|archive| archive.give_up_pages());
+        kept[which as usize] = Some(growing.grown(arguments, &archive.folder)?);
     }
     ended(&archive, &kept)
 }
@@ -256,7 +270,7 @@ fn by_file(arguments: &Arguments, copy: &OsStr, file: &OsStr) -> Done<()> {
         growing.follows()?;
         growing.keep()?;
         let which = growing.which;
-        kept[which as usize] = Some(growing.grown(&archive.folder)?);
+        kept[which as usize] = Some(growing.grown(arguments, &archive.folder)?);
     }
     ended(&archive, &kept)
 }

@@ -8,6 +8,7 @@
 use crate::below::Plain;
 use crate::memory::{self, Bytes};
 use crate::signals;
+use crate::windows;
 use std::cell::OnceCell;
 use std::io;
 use std::rc::Rc;
@@ -20,6 +21,9 @@ const WATCHED: usize = 8;
 /// The pages of the first blocks; after each `BLOCKS` of them blocks have four times as many.
 const BLOCK: usize = 16;
 const BLOCKS: usize = 2048;
+
+/// Bytes of a file whose pages are given up.
+const MANY: usize = 1 << 20;
 
 /// How many pages the block of the next fault has, behind so many others.
 fn block(others: usize) -> usize {
@@ -40,6 +44,9 @@ static WATCHES: [Watch; WATCHED] = [const {
 
 extern "C" fn first_write(signal: i32, information: *const u8, _: *const u8) {
     let met = unsafe { signals::address_met(information) };
+    if windows::met(met) {
+        return;
+    }
     let Some(watch) = WATCHES.iter().find(|watch| (watch.from.load(SeqCst)..watch.to.load(SeqCst)).contains(&met)) else {
         signals::by_default(signal); // no page of ours: the same fault again ends the program
         return;
@@ -220,6 +227,13 @@ impl Image {
             }
         }
         Ok(())
+    }
+
+    /// Gives up all pages of a file that is only read, where they are many; they are mapped again where they are needed.
+    pub fn give_up_all(&self) {
+        if self.watch.is_none() && !self.altered && self.old >= MANY {
+            memory::give_up(self.start, memory::whole_pages(self.old));
+        }
     }
 
     /// Gives up what `own` made this process's own, so that reading much of a file takes little memory: the file's bytes stand there again.

@@ -3,7 +3,7 @@ use crate::arguments::Arguments;
 use crate::below;
 use crate::counts::FILES;
 use crate::folder::{Folder, Opening};
-use crate::journal_calls::{ranges, Kind};
+use crate::journal_calls::Kind;
 use crate::left_over::{Found, Left, NAME};
 use crate::lock::{Patience, Use};
 use crate::outputs::{self, say};
@@ -60,7 +60,9 @@ fn tell_of(folder: &Folder, mut patience: Patience) -> Done<()> {
     let left = Left::checked(&folder.path, journal)?;
     outputs::give(None, described(&left).as_bytes())?;
     left.belongs(folder)?;
-    say("every file is as before the change, as after, or between: the next command that writes finishes it, and reading commands show it as done")
+    let reading =
+        if left.is_large() { "reading commands show it as done with --large-journal" } else { "reading commands show it as done" };
+    say(&format!("every file is as before the change, as after, or between: the next command that writes finishes it, and {reading}"))
 }
 
 fn described(left: &Left) -> String {
@@ -72,7 +74,7 @@ fn described(left: &Left) -> String {
             writeln!(lines, "{name}: from {} to {}", length(old), length(new)).unwrap();
         }
     }
-    for range in ranges(left.bytes()) {
+    for range in left.ranges() {
         let what = match range.kind {
             Kind::Replaced => "replaced",
             Kind::Fresh => "written",

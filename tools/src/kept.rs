@@ -1,25 +1,9 @@
 //! A register as a folder has it: whole, or, without a signatures file, a partial copy. Each has calls of its own, and most of them go by the same name.
 use crate::counts::{root_entries, used_sizes, BITFIELD, DATA, SIGNATURES, TREE};
 use crate::image::Image;
-use crate::sleep_register::{Copied, CopyStore, Leaf, Node, Pair, Place, Refusal, Register, Store};
+pub use crate::sleep_register::Lent;
+use crate::sleep_register::{Copied, CopyStore, Place, Refusal, Register, Store};
 use crate::words::{Done, Trouble};
-use std::ops::Range;
-
-/// Images to be read.
-#[derive(Clone, Copy)]
-pub enum Lent<'a> {
-    Whole(Register<'a>),
-    Copy(Copied<'a>),
-}
-
-macro_rules! asked {
-    ($lent:expr, $call:ident $words:tt) => {
-        match $lent {
-            Lent::Whole(lent) => lent.$call $words,
-            Lent::Copy(lent) => lent.$call $words,
-        }
-    };
-}
 
 impl<'a> Lent<'a> {
     pub fn n(&self) -> u64 {
@@ -65,55 +49,6 @@ impl<'a> Lent<'a> {
             Lent::Whole(lent) => Lent::Whole(Register { n: m, s: m, size, ..lent }),
             Lent::Copy(lent) => Lent::Copy(Copied { n: m, size, ..lent }),
         })
-    }
-
-    pub fn audit_tree_part(&self, range: Range<u64>) -> Result<(), Refusal> {
-        asked!(self, audit_tree_part(range))
-    }
-
-    pub fn audit_bitfield_part(&self, range: Range<u64>) -> Result<(), Refusal> {
-        asked!(self, audit_bitfield_part(range))
-    }
-
-    pub fn root_hash(&self) -> Result<[u8; 32], Refusal> {
-        asked!(self, root_hash())
-    }
-
-    pub fn old_root(&self, m: u64) -> Result<[u8; 32], Refusal> {
-        asked!(self, old_root(m))
-    }
-
-    pub fn place(&self, chunk: u64) -> Result<Pair, Refusal> {
-        asked!(self, place(chunk))
-    }
-
-    pub fn read(&self, chunk: u64) -> Result<&'a [u8], Refusal> {
-        asked!(self, read(chunk))
-    }
-
-    pub fn search(&self, from: u64) -> Result<Option<u64>, Refusal> {
-        asked!(self, search(from))
-    }
-
-    pub fn make_packet(&self, chunk: u64, out: &mut [u8]) -> Result<usize, Refusal> {
-        asked!(self, make_packet(chunk, out))
-    }
-
-    pub fn header_of(&self, chunk: u64) -> Result<&'a [u8], Refusal> {
-        asked!(self, header_of(chunk))
-    }
-
-    pub fn node_of(&self, chunk: u64) -> Result<Node<'a>, Refusal> {
-        asked!(self, node_of(chunk))
-    }
-
-    pub fn find(&self, path: &[u8]) -> Result<Option<u64>, Refusal> {
-        asked!(self, find(path))
-    }
-
-    /// The stored entry of a chunk's leaf, held or not.
-    pub fn stored_leaf(&self, chunk: u64) -> Result<Leaf, Refusal> {
-        asked!(self, stored_leaf(chunk))
     }
 
     /// Bytes that a call may look at.

@@ -2,12 +2,14 @@
 //! it is a journal and whether every file of this archive is between before and after its change; else nothing is touched, and the words say which file and
 //! where. Reading commands apply it to their private images.
 use crate::below::{self, Access, Plain};
+use crate::commit::Down;
 use crate::counts::FILES;
 use crate::folder::Folder;
 use crate::image::{set_handlers, Image};
-use crate::journal_calls::{self as calls, Kind, Wrong};
+use crate::journal_calls::{self as calls, Kind, Range, Wrong};
 use crate::lock::{Patience, Use};
 use crate::memory::{self, Bytes};
+use crate::windows::{Windows, SHORT};
 use crate::words::{in_file, Done, Trouble};
 use std::fs::File;
 use std::io;
@@ -20,11 +22,13 @@ pub const NAME: &str = "sleep-archive.journal";
 const OLD: &[u8] = b"sleep-archive 1\n";
 
 /// What this program takes on, so that no journal costs more than a moment and some memory: bytes, ranges, bytes in pages of the files that the judge looks
-/// at, and what reading takes: bytes in pages, and mappings for parts that lie apart. What it writes itself stays below the first three.
+/// at, and what reading takes: bytes of memory, unless it is told to take on as many as a journal can bring, and mappings for parts that lie apart. What it
+/// writes itself stays below the first three.
 pub const MOST_BYTES: u64 = calls::MOST;
 pub const MOST_RANGES: usize = 1 << 18;
 const MOST_IN_PAGES: u64 = 24 << 20;
-const MOST_BORNE: u64 = MOST_BYTES + MOST_IN_PAGES;
+const MOST_BORNE: u64 = 61 << 20;
+const MOST_BORNE_IF_TOLD: u64 = MOST_BYTES + MOST_IN_PAGES;
 const MOST_APART: u64 = 6000;
 
 /// Where a journal tells its own length.
@@ -41,11 +45,16 @@ pub enum Found {
     Journal(Journal),
 }
 
-/// The bytes of a journal's file, which is locked: a copy, so that those that are judged are those that are applied.
+/// The bytes of a journal's file, which is locked: a copy, or windows that are copies, so that those that are judged are those that are applied.
 pub struct Journal {
-    bytes: Vec<u8>,
+    bytes: Taken,
     /// Keeps the lock.
     _plain: Plain,
+}
+
+enum Taken {
+    Whole(Vec<u8>),
+    Windows(Windows),
 }
 
 impl Found {
@@ -73,19 +82,25 @@ impl Found {
 }
 
 /// The bytes of a journal's file; of one that tells of another length than it has the first alone, which are refused for that.
-fn taken(file: &File, length: usize) -> io::Result<Vec<u8>> {
+fn taken(file: &File, length: usize) -> io::Result<Taken> {
     let mut bytes = vec![0; length.min(calls::BESIDE as usize)];
     file.read_exact_at(&mut bytes, 0)?;
     if bytes.get(OWN_LENGTH).is_some_and(|own| own == (length as u64).to_be_bytes()) {
+        if length > SHORT {
+            return Windows::of(file, length).map(Taken::Windows);
+        }
         bytes.resize(length, 0);
         file.read_exact_at(&mut bytes, 0)?;
     }
-    Ok(bytes)
+    Ok(Taken::Whole(bytes))
 }
 
 impl AsRef<[u8]> for Journal {
     fn as_ref(&self) -> &[u8] {
-        &self.bytes
+        match &self.bytes {
+            Taken::Whole(bytes) => bytes,
+            Taken::Windows(windows) => windows.as_ref(),
+        }
     }
 }
 
@@ -133,6 +148,7 @@ pub struct Left {
     journal: Journal,
     path: PathBuf,
     lengths: [[Option<u64>; 2]; 10],
+    ranges: Vec<Range>,
 }
 
 impl Left {
@@ -164,7 +180,7 @@ impl Left {
         if self.lengths[number][0].is_some() || bytes.len() > MOST_MADE {
             return Ok(());
         }
-        for range in calls::ranges(self.bytes()).filter(|range| range.file == number) {
+        for range in self.ranges.iter().filter(|range| range.file == number) {
             let (from, new) = (range.offset as usize, range.bytes(self.bytes()));
             let there = bytes.iter().enumerate().skip(from).take(range.length as usize);
             if let Some((place, _)) = there.into_iter().find(|(place, byte)| **byte != 0 && new.get(place - from) != Some(byte)) {
@@ -182,9 +198,10 @@ impl Left {
         for (number, lengths) in lengths.iter_mut().enumerate() {
             *lengths = calls::lengths(bytes, number).map_err(|wrong| not_taken(path, &no_journal(wrong, bytes)))?;
         }
-        let left = Left { journal, path: path.to_owned(), lengths };
+        let ranges = calls::ranges(bytes).take(MOST_RANGES + 1).collect();
+        let left = Left { journal, path: path.to_owned(), lengths, ranges };
         let (looked_at, _) = left.in_pages(|kind| matches!(kind, Kind::Replaced | Kind::Witness));
-        if calls::ranges(left.bytes()).take(MOST_RANGES + 1).count() > MOST_RANGES || looked_at > MOST_IN_PAGES {
+        if left.ranges.len() > MOST_RANGES || looked_at > MOST_IN_PAGES {
             return Err(not_taken(path, "it has more ranges than any journal that this program writes"));
         }
         Ok(left)
@@ -193,7 +210,7 @@ impl Left {
     /// The bytes of the pages that ranges of these kinds lie on, each once, and how many parts that lie apart; of zeros what their two ends take, and a mapping.
     fn in_pages(&self, counted: impl Fn(Kind) -> bool) -> (u64, u64) {
         let (page, mut all, mut parts, mut last) = (memory::page() as u64, 0, 0, (FILES.len(), 0));
-        for range in calls::ranges(self.bytes()).take(MOST_RANGES).filter(|range| counted(range.kind)) {
+        for range in self.ranges.iter().filter(|range| counted(range.kind)) {
             let (first, end) = (range.offset / page, (range.offset + range.length).div_ceil(page));
             let begun = range.file == last.0 && first < last.1;
             let pages = end - if begun { last.1 } else { first };
@@ -204,22 +221,48 @@ impl Left {
         (all * page, parts)
     }
 
-    /// Whether its change can be borne in memory.
-    pub fn bear(&self) -> Done<()> {
-        let (bytes, parts) = self.in_pages(|_| true);
-        if bytes > MOST_BORNE || parts > MOST_APART {
-            let words = "the change that it holds is unfinished, and has too many parts to be read as done";
-            let path = self.path.display();
-            return Err(Trouble::File(format!(
-                "{}: {words}; `sleep-archive journal {path} --finish` finishes it",
-                self.path.join(NAME).display()
-            )));
+    /// The memory that reading its change as done takes: the pages that it writes, and the list of its ranges.
+    fn borne(&self) -> u64 {
+        self.in_pages(|_| true).0 + size_of_val(&self.ranges[..]) as u64
+    }
+
+    /// Whether reading commands take it on without being told to.
+    pub fn is_large(&self) -> bool {
+        self.borne() > MOST_BORNE
+    }
+
+    /// Whether its change can be borne in memory, as much as it needs where a reader says so.
+    pub fn bear(&self, large: bool) -> Done<()> {
+        let path = self.path.display();
+        let unfinished = |words: String| {
+            let name = self.path.join(NAME);
+            Err(Trouble::File(format!("{}: the change that it holds is unfinished, and {words}", name.display())))
+        };
+        let finish = format!("`sleep-archive journal {path} --finish` finishes it");
+        if self.borne() > MOST_BORNE_IF_TOLD || self.in_pages(|_| true).1 > MOST_APART {
+            return unfinished(format!("has too many parts to be read as done; {finish}"));
+        }
+        if self.is_large() && !large {
+            let (mib, most) = (self.borne().div_ceil(1 << 20), MOST_BORNE >> 20);
+            return unfinished(format!(
+                "would take {mib} MiB of memory to be read as done, where reading commands take {most} unasked; nothing is touched. {finish}, as any \
+                 command that writes; reading commands show it as done with --large-journal, and pass over it with --without-journal"
+            ));
         }
         Ok(())
     }
 
     pub fn bytes(&self) -> &[u8] {
         self.journal.as_ref()
+    }
+
+    pub fn ranges(&self) -> &[Range] {
+        &self.ranges
+    }
+
+    /// The bytes, and whether the system can be handed them: what lies in windows is copied first.
+    pub fn down(&self) -> Down<'_> {
+        Down { bytes: self.bytes(), ranges: &self.ranges, in_windows: matches!(self.journal.bytes, Taken::Windows(_)) }
     }
 
     /// A file's length before and after the change.
@@ -229,7 +272,7 @@ impl Left {
 
     /// An image with the change in it.
     pub fn applied(&self, number: usize, mut image: Image) -> io::Result<Image> {
-        for range in calls::ranges(self.bytes()).filter(|range| range.file == number) {
+        for range in self.ranges.iter().filter(|range| range.file == number) {
             match range.kind {
                 Kind::Witness => {}
                 Kind::Zeros => image.cleared(range.offset as usize, range.length as usize)?,

@@ -116,7 +116,7 @@ fn listed<'a>(archive: &'a Archive, wanted: &Wanted) -> Done<Listed<'a>> {
     let header = (metadata.n() > 0).then(|| (0, metadata.header_of(0).map(|_| Node::default())));
     let mut counter = Counter::new("reading records", metadata.n());
     let meant = |path: &[u8]| wanted.patterns.is_empty() || wanted.patterns.iter().any(|pattern| pattern.takes(path));
-    for (record, read) in records(metadata).chain(header) {
+    for (record, read) in records(archive).chain(header) {
         counter.next();
         match read {
             Ok(node) if record > 0 && meant(node.path) && (wanted.all || seen.insert(node.path)) => {
@@ -172,10 +172,10 @@ fn shown(number: Option<u64>) -> String {
 }
 
 fn in_columns(said: &Said, holding: Holding, form: Form) -> Vec<u8> {
-    let mut columns = format!("{:>7} {:>7} {:<4} ", shown(said.offset), shown(said.size), holding.word());
+    let mut columns = format!("{:>7} {:>7} {:<4} ", shown(said.offset()), shown(said.size()), holding.word());
     if form == Form::Long {
-        let (mode, time) = (said.mode.map_or("-".into(), |mode| format!("{mode:o}")), said.mtime.map_or("-".into(), dates::time_of));
-        columns = format!("{:>6} {mode:>6} {:>5} {columns}{time:<20} ", said.record, shown(said.blocks));
+        let (mode, time) = (said.mode().map_or("-".into(), |mode| format!("{mode:o}")), said.mtime().map_or("-".into(), dates::time_of));
+        columns = format!("{:>6} {mode:>6} {:>5} {columns}{time:<20} ", said.record, shown(said.blocks()));
     }
     [columns.as_bytes(), &printable(said.path), b"\n"].concat()
 }
@@ -200,13 +200,13 @@ fn in_json(said: &Said, holding: Holding) -> String {
         ("record", said.record.to_string()),
         ("name", json::string_of(said.path)),
         ("name_hex", json::string(&hex(said.path))),
-        ("chunk", json::number(said.offset)),
-        ("chunks", json::number(said.blocks)),
-        ("size", json::number(said.size)),
+        ("chunk", json::number(said.offset())),
+        ("chunks", json::number(said.blocks())),
+        ("size", json::number(said.size())),
         ("held", held),
-        ("mode", json::number(said.mode)),
-        ("mtime", json::number(said.mtime)),
-        ("time", said.mtime.map_or("null".into(), |time| json::string(&dates::exact_time_of(time)))),
+        ("mode", json::number(said.mode())),
+        ("mtime", json::number(said.mtime())),
+        ("time", said.mtime().map_or("null".into(), |time| json::string(&dates::exact_time_of(time)))),
     ])
 }
 

@@ -60,6 +60,7 @@ mod trusted;
 mod unchanged;
 mod verify;
 mod walk;
+mod windows;
 mod words;
 mod writing;
 
@@ -86,7 +87,7 @@ enum Opens {
 
 const HELPS: &[Rule] = &[flag("--help"), flag("-h"), flag("-q")];
 const WAITS: &[Rule] = &[word("--wait")];
-const READS: &[Rule] = &[flag("--without-journal")];
+const READS: &[Rule] = &[flag("--without-journal"), flag("--large-journal")];
 const ADDS: &[Rule] = &[
     word("--as"),
     word("--in"),

@@ -1,8 +1,8 @@
 //! The commands that make an archive: an empty one, or partial copies of another.
 use crate::arguments::Arguments;
 use crate::changes::{changes, Change};
-use crate::commit::{commit, Room};
 use crate::chosen;
+use crate::commit::{commit, Room};
 use crate::counts::{Which, BOTH, CONTENT_KEY, FILES, LONGEST, METADATA_KEY, MOST_CHUNKS};
 use crate::folder::{unmade, unmade_copy, Folder, Opening};
 use crate::image::Image;

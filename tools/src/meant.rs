@@ -49,7 +49,7 @@ pub fn all_meant(archive: &Archive, words: &[&OsStr]) -> Done<Vec<Meant>> {
     if names.len() < 2 {
         return words.iter().map(|word| meant(archive, word)).collect();
     }
-    let walked = find_all(archive.register(Which::Metadata), &names);
+    let walked = find_all(archive, &names);
     let one = |word: &&OsStr| match is_name(word) {
         true => piece_found(archive, word.as_encoded_bytes(), walked.of(word.as_encoded_bytes())).map(Meant::Piece),
         false => numbered(word).map(Meant::Chunk),

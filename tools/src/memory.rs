@@ -13,8 +13,11 @@ const PRIVATE: i32 = 0x02;
 const FIXED: i32 = 0x10;
 const ANONYMOUS: i32 = 0x20;
 const NO_RESERVE: i32 = 0x4000;
+/// All pages are there when the mapping is made.
+const AT_ONCE: i32 = 0x8000;
 
 const NOT_NEEDED: i32 = 4;
+const CLOSED_AT_EXEC: u32 = 1;
 
 const PAGE_SIZE: i32 = 30;
 
@@ -61,6 +64,17 @@ pub fn place_room(address: *mut u8, length: usize) -> io::Result<()> {
     mapping(address, length, READ | WRITE, PRIVATE | ANONYMOUS | FIXED | NO_RESERVE, -1).map(|_| ())
 }
 
+/// Zeros in memory that a file's handle stands for.
+fn memory_file(length: usize) -> io::Result<File> {
+    let handle = unsafe { memfd_create(c"sleep-archive".as_ptr(), CLOSED_AT_EXEC) };
+    if handle < 0 {
+        return Err(io::Error::last_os_error());
+    }
+    let memory = unsafe { File::from_raw_fd(handle) };
+    memory.set_len(length as u64)?;
+    Ok(memory)
+}
+
 /// The memory that all of many zeros share.
 const ZEROS_SHARED: usize = 1 << 24;
 
@@ -69,12 +83,7 @@ pub fn place_zeros(address: *mut u8, length: usize) -> io::Result<()> {
     if length <= ZEROS_SHARED {
         return Ok(());
     }
-    let handle = unsafe { memfd_create(c"zeros".as_ptr(), 0) };
-    if handle < 0 {
-        return Err(io::Error::last_os_error());
-    }
-    let memory = unsafe { File::from_raw_fd(handle) };
-    memory.set_len(ZEROS_SHARED as u64)?;
+    let memory = memory_file(ZEROS_SHARED)?;
     for from in (0..length).step_by(ZEROS_SHARED) {
         mapping(address.wrapping_add(from), ZEROS_SHARED.min(length - from), READ | WRITE, SHARED | FIXED, memory.as_raw_fd())?;
     }
@@ -88,6 +97,27 @@ pub fn give_back(address: *mut u8, length: usize) {
 /// Gives the memory of private pages of a file back, whose bytes stand there again. Where that fails they stay.
 pub fn give_up(address: *mut u8, length: usize) {
     unsafe { madvise(address, length, NOT_NEEDED) };
+}
+
+/// Addresses of ours that can't be read any more, with no memory behind them.
+pub fn shut(address: *mut u8, length: usize) -> io::Result<()> {
+    mapping(address, length, NO_ACCESS, PRIVATE | ANONYMOUS | FIXED | NO_RESERVE, -1).map(|_| ())
+}
+
+/// Memory that can be placed at several addresses, and one of them, where it can be written.
+pub fn shared(length: usize) -> io::Result<(File, *mut u8)> {
+    let memory = memory_file(length)?;
+    let start = mapping(std::ptr::null_mut(), length, READ | WRITE, SHARED, memory.as_raw_fd())?;
+    Ok((memory, start))
+}
+
+/// A part of shared memory at addresses of ours, to be read.
+pub fn place_shared(address: *mut u8, length: usize, memory: &File, offset: usize) -> io::Result<()> {
+    let given = unsafe { mmap(address, length, READ, SHARED | FIXED | AT_ONCE, memory.as_raw_fd(), offset as i64) };
+    if given as isize == -1 {
+        return Err(io::Error::last_os_error());
+    }
+    Ok(())
 }
 
 /// Lets pages of ours be written, and makes what is written private. Called by the handler of a signal too: it allocates nothing.

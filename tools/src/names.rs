@@ -2,7 +2,7 @@
 use crate::arguments::{number, Arguments};
 use crate::batch::Set;
 use crate::counts::Which;
-use crate::files::Reading;
+use crate::files::Ahead;
 use crate::folder::Opening;
 use crate::printable::shown;
 use crate::reading::{needs_of, only, Archive};
@@ -11,6 +11,7 @@ use crate::sources::{self, Sources};
 use crate::words::{refused, Done};
 use std::ffi::OsStr;
 use std::path::Path;
+use std::sync::Arc;
 
 /// `needs`: what both registers will need for files under their names, or the content register for pieces of these lengths.
 pub fn needs(arguments: &Arguments) -> Done<()> {
@@ -21,7 +22,7 @@ pub fn needs(arguments: &Arguments) -> Done<()> {
         return needs_of(&archive, Which::Content, &lengths);
     }
     let (path, operands) = sources::typed(arguments)?;
-    let sources = sources::all(operands, Path::new(path), false)?;
+    let sources = Arc::new(sources::all(operands, Path::new(path), false)?);
     let archive = Archive::open(path, Opening::reading(arguments)?)?;
     let (records, lengths) = of_files(&archive, &sources)?;
     needs_of(&archive, Which::Metadata, &records)?;
@@ -29,15 +30,16 @@ pub fn needs(arguments: &Arguments) -> Done<()> {
 }
 
 /// The lengths of the records and of the chunks that files would have, behind a Header where there is none.
-fn of_files(archive: &Archive, sources: &Sources) -> Done<(Vec<u64>, Vec<u64>)> {
+fn of_files(archive: &Archive, sources: &Arc<Sources>) -> Done<(Vec<u64>, Vec<u64>)> {
     let (content, mut record, mut records) = (archive.register(Which::Content), [0; NODE_ROOM], Set::default());
     if archive.register(Which::Metadata).n() == 0 {
         let length = write_header(&[0; 32], &mut record).map_err(|reason| refused("the Header", reason))?;
         records.push(&record[..length]);
     }
     let (mut lengths, mut start) = (Vec::new(), content.size());
+    let mut files = Ahead::start(sources);
     for source in &sources.all {
-        let read = Reading::open(sources, source)?;
+        let read = files.next()?;
         let chunks = sources.cuts(source).lengths(read.size);
         let stat = Stat {
             offset: Some(content.n() + lengths.len() as u64),

@@ -107,9 +107,7 @@ fn take_packet(arguments: &Arguments, words: &[&OsStr]) -> Done<()> {
     };
     let packet = packet_in(file)?;
     let which = if arguments.has("--metadata") { Which::Metadata } else { Which::Content };
-    if arguments.has("--without-journal") {
-        return usage("--without-journal is for reading");
-    }
+    arguments.for_writing()?;
     let archive = Archive::of(Folder::open(Path::new(path), Opening::writing(arguments)?)?)?;
     let folder = &archive.folder;
     let mut register = folder.to_write(which)?;

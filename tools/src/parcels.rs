@@ -15,6 +15,7 @@ use crate::reading::{only, Archive};
 use crate::sleep_register::PACKET_EXTRA;
 use crate::trusted::{given, needed, Roots};
 use crate::verify::stored;
+use crate::walk::KEPT_PAGES_OF;
 use crate::words::{at_file, counted, hex, refused, usage, Done, Trouble};
 use std::ffi::OsStr;
 use std::fs::File;
@@ -95,7 +96,10 @@ pub fn each(
     put: &mut dyn FnMut(u64, &[u8]) -> Done<()>,
 ) -> Done<()> {
     let mut out = vec![0; inputs::LONGEST + PACKET_EXTRA];
-    for chunk in chunks {
+    for (made, chunk) in (1..).zip(chunks) {
+        if made % KEPT_PAGES_OF == 0 {
+            archive.give_up_pages();
+        }
         let made = register.make_packet(chunk, &mut out);
         let length = made.map_err(|reason| refused(&format!("{}: chunk {chunk}", archive.named(which)), reason))?;
         put(chunk, &out[..length])?;
@@ -185,9 +189,7 @@ fn in_ranges(chunks: &[u64]) -> String {
 /// `packets take`: all of a file, or nothing.
 fn take(arguments: &Arguments, words: &[&OsStr]) -> Done<()> {
     let [path, file] = words else { return usage("an archive and a file of packets are needed") };
-    if arguments.has("--without-journal") {
-        return usage("--without-journal is for reading");
-    }
+    arguments.for_writing()?;
     let mut file = Opened::of(file)?;
     let given = given(arguments, file.registers())?;
     let folder = Folder::open(Path::new(path), Opening::writing(arguments)?)?;

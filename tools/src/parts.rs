@@ -36,12 +36,29 @@ pub fn stop_at_once(what: &str) -> Done<()> {
     }
 }
 
-/// As many threads as are asked for, or as there are processors.
-pub fn threads(arguments: &Arguments) -> Done<usize> {
+/// As many threads as are asked for, or as there are processors and as the work is worth.
+#[derive(Clone, Copy)]
+pub struct Threads(Option<usize>);
+
+/// The bytes of a register that a thread is begun for.
+const WORTH: u64 = 1 << 20;
+
+pub fn threads(arguments: &Arguments) -> Done<Threads> {
     match arguments.number("--threads")? {
-        None => Ok(std::thread::available_parallelism().map_or(1, usize::from)),
-        Some(count @ 1..=1024) => Ok(count as usize),
+        None => Ok(Threads(None)),
+        Some(count @ 1..=1024) => Ok(Threads(Some(count as usize))),
         Some(_) => usage("--threads needs a number from 1 to 1024"),
+    }
+}
+
+impl Threads {
+    fn over(self, register: &Lent) -> usize {
+        let worth = usize::try_from(register.bytes() / WORTH).unwrap_or(usize::MAX);
+        match self.0 {
+            Some(count) => count,
+            None if worth < 2 => 1, // what processors there are takes some files to know
+            None => std::thread::available_parallelism().map_or(1, usize::from).min(worth),
+        }
     }
 }
 
@@ -52,9 +69,14 @@ pub enum Ended<T> {
     Stopped(u64),
 }
 
-/// Ranges that follow each other, from `from` on and before `count`.
-fn cut(from: u64, count: u64) -> Vec<Range<u64>> {
-    let width = count.saturating_sub(from).div_ceil(PARTS).max(1);
+/// How many parts work over so many bytes is cut into: each makes the checks and adds up the lengths before it anew, so a short audit is one.
+fn parts_of(bytes: u64) -> u64 {
+    (bytes / WORTH).clamp(1, PARTS)
+}
+
+/// Ranges that follow each other, from `from` on and before `count`, so many of them at most.
+fn cut(from: u64, count: u64, parts: u64) -> Vec<Range<u64>> {
+    let width = count.saturating_sub(from).div_ceil(parts).max(1);
     (from..count).step_by(usize::try_from(width).unwrap_or(usize::MAX)).map(|a| a..(a + width).min(count)).collect()
 }
 
@@ -164,12 +186,12 @@ fn stopped_behind(answers: &[Option<Result<(), Refusal>>], ends: impl Fn(Result<
 
 /// The audit of a register or a copy, its tree entries from `from` on; of a register no part is begun behind one that refuses, since what it names lies in
 /// its range.
-pub fn audit(what: &str, register: &Lent, threads: usize, from: u64) -> Ended<Result<(), Refusal>> {
+pub fn audit(what: &str, register: &Lent, threads: Threads, from: u64) -> Ended<Result<(), Refusal>> {
     let count = tree_entries(register.n());
-    let ranges = cut(from, count);
+    let ranges = cut(from, count, parts_of(register.bytes()));
     let progress = Progress::begun(what, from, count);
     let ends = |answer: Result<(), Refusal>| answer.is_err() && matches!(register, Lent::Whole(_));
-    let answers = progress.shown(|| run(&ranges, threads, &progress, |range| register.audit_tree_part(range), ends));
+    let answers = progress.shown(|| run(&ranges, threads.over(register), &progress, |range| register.audit_tree_part(range), ends));
     if let Some(passed) = stopped_behind(&answers, ends) {
         return Ended::Stopped(ranges[passed].start);
     }
@@ -179,7 +201,7 @@ pub fn audit(what: &str, register: &Lent, threads: usize, from: u64) -> Ended<Re
 
 /// The comparison of two registers: the checks and the parts of the first, then of the second, then the roots, then the parts of the walk. Where it is
 /// stopped no entry is told: it begins anew.
-pub fn compare(what: &str, first: &Register, second: &Register, threads: usize) -> Ended<Comparison> {
+pub fn compare(what: &str, first: &Register, second: &Register, threads: Threads) -> Ended<Comparison> {
     for (register, which, refused) in [
         (first, "the first", Comparison::FirstRefused as fn(Refusal) -> Comparison),
         (second, "the second", Comparison::SecondRefused as fn(Refusal) -> Comparison),
@@ -199,11 +221,12 @@ pub fn compare(what: &str, first: &Register, second: &Register, threads: usize) 
     }
 }
 
-fn walk(what: &str, first: &Register, second: &Register, threads: usize) -> Ended<Comparison> {
+fn walk(what: &str, first: &Register, second: &Register, threads: Threads) -> Ended<Comparison> {
     let count = tree_entries(first.n);
-    let ranges = cut(0, count);
+    let ranges = cut(0, count, parts_of(Lent::Whole(*first).bytes()));
     let progress = Progress::begun(&format!("{what}, both"), 0, count);
     let ends = |answer| answer != Comparison::Equal;
+    let threads = threads.over(&Lent::Whole(*first));
     let answers = progress.shown(|| run(&ranges, threads, &progress, |range| first.compare_walk_part(second, range), ends));
     let told = answers.iter().position(|answer| answer.is_some_and(ends));
     let judged = answers.iter().take_while(|answer| answer.is_some()).count();
@@ -244,7 +267,7 @@ mod tests {
     #[test]
     fn ranges_follow_each_other_and_cover() {
         for (from, count) in [(0, 0), (0, 1), (3, 3), (7, 2), (5, 300), (0, 256), (0, 257), (1, 2_097_151)] {
-            let ranges = cut(from, count);
+            let ranges = cut(from, count, PARTS);
             let end = ranges.iter().fold(from, |at, range| {
                 assert!(range.start == at && at < range.end);
                 range.end
@@ -256,7 +279,7 @@ mod tests {
     #[test]
     fn every_range_is_judged_once_on_any_number_of_threads() {
         for threads in [1, 2, 7, 1024] {
-            let ranges = cut(0, 1000);
+            let ranges = cut(0, 1000, PARTS);
             let answers = run(&ranges, threads, &Progress::begun("", 0, 1000), |range| range.start, |_| false);
             assert!(answers.iter().zip(&ranges).all(|(answer, range)| *answer == Some(range.start)));
         }
@@ -265,7 +288,7 @@ mod tests {
     #[test]
     fn behind_a_part_that_ends_the_work_none_is_needed() {
         for threads in [1, 2, 7] {
-            let ranges = cut(0, 1000);
+            let ranges = cut(0, 1000, PARTS);
             let answers = run(&ranges, threads, &Progress::begun("", 0, 1000), |range| range.contains(&500), |ends| ends);
             let at = answers.iter().position(|answer| *answer == Some(true)).unwrap();
             assert!(ranges[at].contains(&500) && answers[..at].iter().all(|answer| *answer == Some(false)));

@@ -8,6 +8,9 @@ use std::time::{Duration, Instant};
 const FIRST: Duration = Duration::from_millis(300);
 const NEXT: Duration = Duration::from_millis(200);
 
+/// Bytes that a call has come to before the first line would be shown: for fewer nothing is asked of the system.
+const SHORT: u64 = 1 << 24;
+
 /// Bytes of files that this process has mapped and come to; nothing where the system doesn't tell.
 fn touched() -> Option<u64> {
     let numbers = std::fs::read_to_string("/proc/self/statm").ok()?;
@@ -43,6 +46,9 @@ pub fn telling<T>(mut told: impl FnMut() -> String + Send, work: impl FnOnce() -
 
 /// The same for one proved call: how far it came is told from how much of `bytes` was looked at.
 pub fn during<T>(what: &str, bytes: u64, work: impl FnOnce() -> T) -> T {
+    if bytes < SHORT {
+        return work();
+    }
     let (before, mut most) = (touched(), 0);
     let told = move || {
         let share = match (before, touched()) {

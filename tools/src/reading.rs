@@ -10,12 +10,14 @@ use crate::meant::{meant, Meant};
 use crate::outputs::{self, report, say};
 use crate::page;
 use crate::paper::Paper;
-use crate::parts::{self, Ended, Mark};
+use crate::parts::{self, Ended, Mark, Threads};
 use crate::printable::printable;
+use crate::progress::Counter;
 use crate::sleep_register::{self as proved, Comparison, Needs, Refusal, Register};
-use crate::walk::{latest, not_held, Holding};
+use crate::walk::{headed, not_held, records, Holding, Said};
 use crate::words::{at_file, counted, hex, refusal, refused, usage, Done, Trouble};
 use std::cmp::Ordering;
+use std::collections::HashSet;
 use std::ffi::OsStr;
 use std::fmt::Write;
 use std::ops::Range;
@@ -67,6 +69,12 @@ impl Archive {
             return Err(Trouble::File(format!("{named}: another program changed it while it was read")));
         }
         Ok(bytes)
+    }
+
+    /// Gives up the pages of both registers' files that were come to, but for data that are this process's own: a walk over many records takes little memory.
+    pub fn give_up_pages(&self) {
+        self.metadata.give_up_pages(self.own.0 != Which::Metadata || self.own.1.is_empty());
+        self.content.give_up_pages(self.own.0 != Which::Content || self.own.1.is_empty());
     }
 
     /// A refusal of a register's, with what to do where it is a copy that knows nothing yet.
@@ -170,9 +178,11 @@ fn root_words(register: &Lent) -> String {
 }
 
 /// Audits a register on several threads, its tree entries from `from` on. Ctrl-C ends the command, with the words that say how an audit goes on.
-pub fn judged(archive: &Archive, which: Which, threads: usize, from: u64) -> Done<Result<(), Refusal>> {
+pub fn judged(archive: &Archive, which: Which, threads: Threads, from: u64) -> Done<Result<(), Refusal>> {
     let (register, name) = (archive.register(which), which.name());
-    match parts::audit(&format!("audit of {name}"), &register, threads, from) {
+    let ended = parts::audit(&format!("audit of {name}"), &register, threads, from);
+    archive.give_up_pages();
+    match ended {
         Ended::Whole(answer) => Ok(answer),
         Ended::Stopped(entry) => {
             let so_far = format!("stopped: {name}, {}{}", counts(&register), root_words(&register));
@@ -182,7 +192,7 @@ pub fn judged(archive: &Archive, which: Which, threads: usize, from: u64) -> Don
 }
 
 /// The same, from where a mark stands: says what the register is, or gives the words of its refusal.
-pub fn audited(archive: &Archive, which: Which, threads: usize, mark: Option<&Mark>) -> Done<Result<(), String>> {
+pub fn audited(archive: &Archive, which: Which, threads: Threads, mark: Option<&Mark>) -> Done<Result<(), String>> {
     let register = archive.register(which);
     let from = mark.map_or(Ok(0), |mark| mark.entry_in(&register, &archive.named(which)))?;
     let part = mark.map_or(String::new(), |_| format!(" from tree entry {from} on"));
@@ -229,6 +239,7 @@ pub fn compare(arguments: &Arguments) -> Done<()> {
             return Err(Trouble::Stopped(format!("stopped while comparing {}: a comparison begins anew", which.name())));
         };
         equal &= outcome == Comparison::Equal;
+        [&first, second].iter().for_each(|archive| archive.give_up_pages());
         report(&format!("{}: {}", which.name(), outcome_words(outcome)))?;
     }
     if equal {
@@ -342,15 +353,31 @@ pub fn missing(arguments: &Arguments) -> Done<()> {
     outputs::give(None, lines.as_bytes())
 }
 
+/// Of each name the record counts that was written last, so the walk remembers every name, and of those that are missing their order.
 fn missing_names(archive: &Archive) -> Done<()> {
     let (missing, n) = (not_held(archive, Which::Content)?, archive.register(Which::Content).n());
-    let walked = latest(archive.register(Which::Metadata), |_| true);
+    let (mut seen, mut names, mut ended) = (HashSet::new(), Vec::new(), headed(&archive.register(Which::Metadata)).err());
+    let mut counter = Counter::new("reading records", archive.register(Which::Metadata).n());
+    for (record, read) in ended.is_none().then(|| records(archive)).into_iter().flatten() {
+        counter.next();
+        match read {
+            Ok(node) if seen.insert(node.path) && Holding::of(&Said::of(record, &node), n, &missing) != Holding::Held => {
+                names.push(node.path)
+            }
+            Ok(_) => {}
+            Err(reason) => {
+                ended = Some(reason);
+                break;
+            }
+        }
+    }
+    drop(counter);
     let mut lines = Vec::new();
-    for said in walked.all().iter().filter(|said| Holding::of(said, n, &missing) != Holding::Held) {
-        lines.extend([&printable(said.path), &b"\n"[..]].concat());
+    for name in names.iter().rev() {
+        lines.extend([&printable(name), &b"\n"[..]].concat());
     }
     outputs::give(None, &lines)?;
-    walked.ended.map_or(Ok(()), |reason| Err(archive.trouble(Which::Metadata, reason)))
+    ended.map_or(Ok(()), |reason| Err(archive.trouble(Which::Metadata, reason)))
 }
 
 /// Prints what a register will need for chunks of these lengths.

@@ -8,16 +8,16 @@ use crate::sleep_register::{needs, write_node, Node, NODE_ROOM};
 use crate::words::{at_file, counted, refusal, remark, said, tell, usage, Done, Trouble};
 use std::collections::HashSet;
 use std::ffi::{OsStr, OsString};
-use std::fs::{DirEntry, FileType, Metadata};
-use std::os::unix::ffi::{OsStrExt, OsStringExt};
+use std::fs::{FileType, Metadata};
+use std::os::unix::ffi::OsStrExt;
 use std::os::unix::fs::{FileTypeExt, MetadataExt};
 use std::path::{Component, Path, PathBuf};
 
 /// The longest piece: a change that is made wholly or not at all holds all its chunks.
 pub const LONGEST_PIECE: u64 = 240 << 20;
 
-/// What a chunk takes beside its bytes, in tree and signatures.
-pub const BESIDE: u64 = 80 + 64;
+/// What a chunk takes in a journal beside its bytes, at most: in tree, signatures and bitfield.
+pub const BESIDE: u64 = 80 + 64 + 2;
 
 /// The words for a file that is longer.
 pub fn too_large() -> String {
@@ -26,6 +26,9 @@ pub fn too_large() -> String {
 
 /// So many files that can't be added are told one by one.
 const TOLD: usize = 20;
+
+/// For fewer files another thread costs more than it brings.
+const LEAST_SHARE: usize = 1000;
 
 /// A file or a folder as it was typed, with what was said of it.
 pub struct Operand {
@@ -67,6 +70,13 @@ impl Sources {
             0 => operand.to_owned(),
             below => operand.join(OsStr::from_bytes(&source.name[source.name.len() - below as usize..])),
         }
+    }
+
+    /// Of a file that was found in a folder: the operand and the path of its folder below it, and its name there.
+    pub fn place<'a>(&self, source: &'a Source) -> ((u32, &'a [u8]), &'a [u8]) {
+        let below = &source.name[source.name.len() - source.below as usize..];
+        let at = below.iter().rposition(|byte| *byte == b'/').map_or(0, |at| at + 1);
+        ((source.operand, &below[..at]), &below[at..])
     }
 
     /// Whether it was found in a folder, and not typed: then no link is followed to it.
@@ -201,10 +211,12 @@ pub fn all(operands: Vec<Operand>, archive: &Path, times: bool) -> Done<Sources>
             return usage(format!("{}: a folder: --cuts is for one file", path.display()));
         }
         let before = found.len();
-        let mut folder = Looking { path, name, own, times, refused: &mut refused, counter: &mut counter, found: Vec::new() };
+        let mut folder =
+            Looking { path, name, own, operand: number as u32, refused: &mut refused, counter: &mut counter, found: &mut found };
         folder.look(b"")?;
-        found.extend(folder.found.into_iter().map(|(name, below, size)| source(name, below, size)));
-        found[before..].sort_unstable_by(|one, other| one.name.cmp(&other.name));
+        // Each folder's files are in order by themselves, and folders among each other: a sort that looks for such runs has little to do.
+        found[before..].sort_by(|one, other| one.name.cmp(&other.name));
+        about_all(path, &mut found[before..], times, &mut refused);
     }
     let sources = Sources { operands, all: found };
     judge(&sources, &mut refused);
@@ -220,15 +232,14 @@ struct Looking<'a> {
     path: &'a Path,
     name: Vec<u8>,
     own: Option<(u32, u32, u64)>,
-    times: bool,
+    operand: u32,
     refused: &'a mut Refused,
     counter: &'a mut Counter,
-    /// Name, how many of its last bytes are below the folder, and size.
-    found: Vec<(Vec<u8>, u32, u64)>,
+    found: &'a mut Vec<Source>,
 }
 
 impl Looking<'_> {
-    /// Looks at all that lies in a folder below, which is named by its path from there. Links are not followed.
+    /// Looks at all that lies in a folder below, which is named by its path from there: first its files, then its folders. Links are not followed.
     fn look(&mut self, below: &[u8]) -> Done<()> {
         let path = self.path.join(OsStr::from_bytes(below));
         if self.own.is_some() && below::at_path(&path).ok().map(|about| about.identity) == self.own {
@@ -242,36 +253,57 @@ impl Looking<'_> {
                 return Ok(());
             }
         };
+        let slash: &[u8] = if below.is_empty() { b"" } else { b"/" };
+        let (mut folders, before, front) = (Vec::new(), self.found.len(), [&self.name[..], b"/", below, slash].concat());
         for entry in entries {
             let entry = entry.map_err(|error| at_file(&path, error))?;
-            let name = entry.file_name().into_vec();
-            let below = if below.is_empty() { name } else { [below, b"/", &name].concat() };
-            self.entry(&entry, below)?;
+            let kind = entry.file_type().map_err(|error| at_file(&entry.path(), error))?;
+            match strange(kind) {
+                _ if kind.is_dir() => folders.push([below, slash, entry.file_name().as_bytes()].concat()),
+                Some(what) => {
+                    self.refused.push(&entry.path(), &format!("{what}, and no plain file; a folder's links are not followed"), false)
+                }
+                None => {
+                    let name = [&front, entry.file_name().as_bytes()].concat();
+                    let below = name.len() - self.name.len() - 1;
+                    self.found.push(Source { name, operand: self.operand, below: below as u32, size: 0 });
+                    self.counter.next();
+                }
+            }
         }
-        Ok(())
+        self.found[before..].sort_unstable_by(|one, other| one.name.cmp(&other.name));
+        folders.sort_unstable();
+        folders.iter().try_for_each(|folder| self.look(folder))
     }
+}
 
-    fn entry(&mut self, entry: &DirEntry, below: Vec<u8>) -> Done<()> {
-        let kind = entry.file_type().map_err(|error| at_file(&entry.path(), error))?;
-        if kind.is_dir() {
-            return self.look(&below);
-        }
-        if let Some(what) = strange(kind) {
-            self.refused.push(&entry.path(), &format!("{what}, and no plain file; a folder's links are not followed"), false);
-            return Ok(());
-        }
-        let path = entry.path();
+/// Asks the system about files of a folder, whose sizes are not known yet, in as many threads as there are processors. What can't be read is told.
+fn about_all(folder: &Path, found: &mut [Source], times: bool, refused: &mut Refused) {
+    let wrong = if found.len() < 2 * LEAST_SHARE {
+        about_some(folder, found, times)
+    } else {
+        let share = found.len().div_ceil(std::thread::available_parallelism().map_or(1, usize::from)).max(LEAST_SHARE);
+        std::thread::scope(|scope| {
+            let shares = found.chunks_mut(share).map(|share| scope.spawn(move || about_some(folder, share, times))).collect::<Vec<_>>();
+            shares.into_iter().flat_map(|share| share.join().expect("a thread that ends")).collect()
+        })
+    };
+    wrong.iter().for_each(|(path, words)| refused.push(path, words, false));
+}
+
+fn about_some(folder: &Path, found: &mut [Source], times: bool) -> Vec<(PathBuf, String)> {
+    let mut wrong = Vec::new();
+    for source in found {
+        let path = folder.join(OsStr::from_bytes(&source.name[source.name.len() - source.below as usize..]));
         // Where all may read it the system is not asked again.
         let readable = |about: &Metadata| if about.mode() & 0o444 == 0o444 { Ok(()) } else { below::can_be_read(&path) };
-        let read = entry.metadata().and_then(|about| readable(&about).map(|()| about));
-        match read {
-            Ok(about) if self.times && modified(&about).is_none() => self.refused.push(&path, &no_time(&about), false),
-            Ok(about) => self.found.push(([&self.name[..], b"/", &below].concat(), below.len() as u32, about.len())),
-            Err(error) => self.refused.push(&path, &said(&error), false),
+        match std::fs::symlink_metadata(&path).and_then(|about| readable(&about).map(|()| about)) {
+            Ok(about) if times && modified(&about).is_none() => wrong.push((path, no_time(&about))),
+            Ok(about) => source.size = about.len(),
+            Err(error) => wrong.push((path, said(&error))),
         }
-        self.counter.next();
-        Ok(())
     }
+    wrong
 }
 
 fn strange(kind: FileType) -> Option<&'static str> {
@@ -288,22 +320,23 @@ fn strange(kind: FileType) -> Option<&'static str> {
 fn judge(sources: &Sources, refused: &mut Refused) {
     let (mut names, mut room) = (HashSet::new(), [0; NODE_ROOM]);
     for source in &sources.all {
-        let path = sources.path(source);
+        let path = || sources.path(source);
         if let Err(reason) = write_node(&Node { path: &source.name, ..Node::default() }, &mut room) {
-            refused.push(&path, &format!("{}: {}", shown(&source.name), refusal(reason)), true);
+            refused.push(&path(), &format!("{}: {}", shown(&source.name), refusal(reason)), true);
         }
-        if !names.insert(&source.name[..]) {
-            refused.push(&path, &format!("{}: the name of two files; name one by --as", shown(&source.name)), false);
+        // The names of one folder's files are all different.
+        if sources.operands.len() > 1 && !names.insert(&source.name[..]) {
+            refused.push(&path(), &format!("{}: the name of two files; name one by --as", shown(&source.name)), false);
         }
         let cuts = sources.cuts(source);
         if let Err(words) = cuts.fit(source.size).or_else(|words| if sources.is_standard_input(source) { Ok(()) } else { Err(words) }) {
-            refused.push(&path, &words, false);
+            refused.push(&path(), &words, false);
         }
         let one = if *cuts == Cuts::None { too_long(source.size) } else { None };
         if let Some(words) = one {
-            refused.push(&path, &words, true);
+            refused.push(&path(), &words, true);
         } else if source.size.saturating_add(BESIDE * cuts.count(source.size)) > LONGEST_PIECE {
-            refused.push(&path, &too_large(), false);
+            refused.push(&path(), &too_large(), false);
         }
     }
     if sources.operands.iter().filter(|operand| operand.file == "-").count() > 1 {

@@ -2,11 +2,13 @@
 use crate::counts::{Which, ENTRY, HEADER};
 use crate::files::Reading;
 use crate::kept::Lent;
+use crate::progress::Counter;
 use crate::reading::Archive;
 use crate::sleep_register::{hash_parts, Copied, Refusal, Register};
 use crate::sources::Sources;
-use crate::walk::{chunks_of, find_all, Said};
+use crate::walk::{chunks_of, headed, records, Said};
 use crate::words::{refused, Done};
+use std::collections::HashMap;
 
 const NOT_HELD: u64 = 18;
 
@@ -25,11 +27,22 @@ impl Known {
         if self.records == Some(metadata.n()) {
             return Ok(());
         }
-        let names = sources.all.iter().map(|source| &source.name[..]).collect::<Vec<_>>();
-        let walked = find_all(metadata, &names);
-        let said = |name: &&[u8]| Ok(walked.of(name)?.map(|said| Said { path: b"", ..said }));
-        let said = names.iter().map(said).collect::<Result<Vec<_>, _>>();
-        self.said = said.map_err(|reason| refused(&archive.named(Which::Metadata), reason))?;
+        let trouble = |reason| refused(&archive.named(Which::Metadata), reason);
+        let numbers = sources.all.iter().zip(0u32..).map(|(source, number)| (&source.name[..], number)).collect::<HashMap<_, _>>();
+        let (mut left, mut counter) = (numbers.len(), Counter::new("reading records", metadata.n()));
+        self.said = vec![None; sources.all.len()];
+        headed(&metadata).map_err(trouble)?;
+        for (record, read) in records(archive) {
+            counter.next();
+            let node = read.map_err(trouble)?;
+            let said = numbers.get(node.path).map(|number| &mut self.said[*number as usize]);
+            if let Some(said) = said.filter(|said| said.is_none()) {
+                (*said, left) = (Some(Said::of(record, &node).unnamed()), left - 1);
+            }
+            if left == 0 {
+                break;
+            }
+        }
         self.records = Some(metadata.n());
         Ok(())
     }
@@ -47,15 +60,15 @@ impl Known {
 pub fn same(archive: &Archive, said: &Said, read: &mut Reading) -> Done<bool> {
     let content = archive.register(Which::Content);
     let trouble = |reason| refused(&archive.named(Which::Content), reason);
-    let (Some(_), Ok(chunks)) = (said.size.filter(|size| *size == read.size), chunks_of(archive, said)) else { return Ok(false) };
-    let (mut part, mut same) = (Vec::new(), true);
+    let (Some(_), Ok(chunks)) = (said.size().filter(|size| *size == read.size), chunks_of(archive, said)) else { return Ok(false) };
+    let (mut room, mut same) = (Vec::new(), true);
     for chunk in chunks.numbers() {
         let (_, length) = content.place(chunk).map_err(trouble)?;
-        part.clear();
-        same = read.next(length, &mut part)? == length
+        let part = read.next(length, &mut room)?;
+        same = part.len() as u64 == length
             && match content.read(chunk) {
                 Ok(bytes) => bytes == part,
-                Err(reason) if reason.number == NOT_HELD => leaf_hash(&content, chunk) == hashed(&part).map_err(trouble)?,
+                Err(reason) if reason.number == NOT_HELD => leaf_hash(&content, chunk) == hashed(part).map_err(trouble)?,
                 Err(reason) => return Err(trouble(reason)),
             };
         if !same {

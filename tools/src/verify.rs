@@ -4,7 +4,7 @@ use crate::counts::{Which, HEADER, SIGNATURE};
 use crate::folder::Opening;
 use crate::kept::Lent;
 use crate::outputs::{self, report};
-use crate::parts;
+use crate::parts::{self, Threads};
 use crate::progress;
 use crate::reading::{archive_and_registers, audited, only_register, Archive};
 use crate::sleep_register::Register;
@@ -71,7 +71,7 @@ struct ToCheck {
 }
 
 /// Audits a register, and takes out its signatures, so that the archive needs not stand still while they are checked.
-fn taken_out(archive: &Archive, which: Which, threads: usize) -> Done<ToCheck> {
+fn taken_out(archive: &Archive, which: Which, threads: Threads) -> Done<ToCheck> {
     let nothing = |why: String| Ok(ToCheck { which, n: 0, s: 0, all: Err(why) });
     if let Err(why) = audited(archive, which, threads, None)? {
         return nothing(why);

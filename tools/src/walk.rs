@@ -7,31 +7,64 @@ use crate::progress::Counter;
 use crate::reading::Archive;
 use crate::sleep_register::{Node, Refusal, Stat};
 use crate::words::{refused, Done, Trouble};
+use std::collections::hash_map::Entry;
 use std::collections::{HashMap, HashSet};
 
-/// What a record says of a piece, as it stands there: nothing of it is held to the content register yet.
+/// What a record says of a piece, as it stands there: nothing of it is held to the content register yet. There may be as many of them as a register has
+/// chunks, so numbers that are not there take no room of their own: a bit for each says whether it is.
 #[derive(Clone, Copy, Debug, PartialEq, Eq)]
 pub struct Said<'a> {
     /// The record's chunk number.
-    pub record: u64,
+    pub record: u32,
+    known: u8,
     pub path: &'a [u8],
-    pub mode: Option<u64>,
-    pub size: Option<u64>,
-    pub blocks: Option<u64>,
-    pub offset: Option<u64>,
-    pub byte_offset: Option<u64>,
-    pub mtime: Option<u64>,
+    numbers: [u64; 6],
 }
 
 impl<'a> Said<'a> {
     pub fn of(record: u64, node: &Node<'a>) -> Said<'a> {
         let Stat { mode, size, blocks, offset, byte_offset, mtime, .. } = node.stat.unwrap_or_default();
-        Said { record, path: node.path, mode, size, blocks, offset, byte_offset, mtime }
+        let all = [mode, size, blocks, offset, byte_offset, mtime];
+        let known = all.iter().enumerate().fold(0, |known, (at, number)| known | u8::from(number.is_some()) << at);
+        Said { record: record as u32, known, path: node.path, numbers: all.map(Option::unwrap_or_default) }
+    }
+
+    fn number(&self, at: usize) -> Option<u64> {
+        (self.known >> at & 1 == 1).then_some(self.numbers[at])
+    }
+
+    pub fn mode(&self) -> Option<u64> {
+        self.number(0)
+    }
+
+    pub fn size(&self) -> Option<u64> {
+        self.number(1)
+    }
+
+    pub fn blocks(&self) -> Option<u64> {
+        self.number(2)
+    }
+
+    pub fn offset(&self) -> Option<u64> {
+        self.number(3)
+    }
+
+    fn byte_offset(&self) -> Option<u64> {
+        self.number(4)
+    }
+
+    pub fn mtime(&self) -> Option<u64> {
+        self.number(5)
+    }
+
+    /// The same, without its name, which lies in the archive's files.
+    pub fn unnamed(&self) -> Said<'static> {
+        Said { path: b"", ..*self }
     }
 
     /// The first chunk and how many, where a register of n chunks has all of them. A record without `blocks` means one.
     pub fn chunks_below(&self, n: u64) -> Option<(u64, u64)> {
-        let (first, count) = (self.offset?, self.blocks.unwrap_or(1));
+        let (first, count) = (self.offset()?, self.blocks().unwrap_or(1));
         let end = first.checked_add(count)?;
         (count > 0 && end <= n).then_some((first, count))
     }
@@ -57,15 +90,15 @@ impl Chunks {
 pub fn chunks_of(archive: &Archive, said: &Said) -> Done<Chunks> {
     let (content, name) = (archive.register(Which::Content), shown(said.path));
     let wrong = |words: String| Err(Trouble::Refused(format!("{name}: {words}")));
-    let Some(offset) = said.offset else { return wrong("its record names no chunk".into()) };
+    let Some(offset) = said.offset() else { return wrong("its record names no chunk".into()) };
     let Some((first, count)) = said.chunks_below(content.n()) else {
-        let (blocks, n) = (said.blocks.unwrap_or(1), content.n());
+        let (blocks, n) = (said.blocks().unwrap_or(1), content.n());
         return wrong(format!("its record tells of chunk {offset} and {blocks} in all, which the content register, of {n}, has not"));
     };
     let place = |chunk| content.place(chunk).map_err(|reason| refused(&archive.named(Which::Content), reason));
     let ((start, length), (last, last_length)) = (place(first)?, place(first + count - 1)?);
     let size = if count == 1 { length } else { (last + last_length).saturating_sub(start) };
-    if (said.byte_offset, said.size) != (Some(start), Some(size)) {
+    if (said.byte_offset(), said.size()) != (Some(start), Some(size)) {
         let chunks = if count == 1 { format!("chunk {first} has") } else { format!("the chunks {first} to {} have", first + count - 1) };
         return wrong(format!("its record tells another start or size than {chunks}"));
     }
@@ -80,50 +113,95 @@ pub fn headed(register: &Lent) -> Result<(), Refusal> {
     }
 }
 
-/// The records from the latest down to the first, each with its number, read and judged. The Header is no record.
-pub fn records<'a>(register: Lent<'a>) -> impl Iterator<Item = (u64, Result<Node<'a>, Refusal>)> {
-    (1..register.n()).rev().map(move |record| (record, register.node_of(record)))
+/// After so many records, or pieces, the pages of the files that were come to are given up.
+pub const KEPT_PAGES_OF: u64 = 1 << 16;
+
+/// Records that are walked over, and the archive that they are of, which gives up pages that were looked at.
+#[derive(Clone, Copy)]
+pub struct Walking<'a> {
+    register: Lent<'a>,
+    archive: Option<&'a Archive>,
 }
 
-/// What a walk found: of each name the record that was written last, and the refusal that ended it before its end.
+impl<'a> Walking<'a> {
+    /// Of an archive's metadata register, or of its first chunks.
+    pub fn over(archive: &'a Archive, register: Lent<'a>) -> Walking<'a> {
+        Walking { register, archive: Some(archive) }
+    }
+}
+
+impl<'a> From<&'a Archive> for Walking<'a> {
+    fn from(archive: &'a Archive) -> Walking<'a> {
+        Walking::over(archive, archive.register(Which::Metadata))
+    }
+}
+
+#[cfg(test)]
+impl<'a> From<Lent<'a>> for Walking<'a> {
+    fn from(register: Lent<'a>) -> Walking<'a> {
+        Walking { register, archive: None }
+    }
+}
+
+/// The records from the latest down to the first, each with its number, read and judged. The Header is no record.
+pub fn records<'a>(walking: impl Into<Walking<'a>>) -> impl Iterator<Item = (u64, Result<Node<'a>, Refusal>)> {
+    let Walking { register, archive } = walking.into();
+    (1..register.n()).rev().map(move |record| {
+        if let (0, Some(archive)) = (record % KEPT_PAGES_OF, archive) {
+            archive.give_up_pages();
+        }
+        (record, register.node_of(record))
+    })
+}
+
+/// What a walk found: of each name the record that was written last, from the latest down, and the refusal that ended it before its end.
 #[derive(Default)]
 pub struct Walked<'a> {
-    found: HashMap<&'a [u8], Said<'a>>,
+    found: Vec<Said<'a>>,
+    /// Where the record of each name stands among them.
+    places: HashMap<&'a [u8], u32>,
     pub ended: Option<Refusal>,
 }
 
 impl<'a> Walked<'a> {
     /// What finding a name answers, of the names that were walked for.
     pub fn of(&self, name: &[u8]) -> Result<Option<Said<'a>>, Refusal> {
-        match (self.found.get(name), self.ended) {
-            (Some(said), _) => Ok(Some(*said)),
+        match (self.places.get(name), self.ended) {
+            (Some(place), _) => Ok(Some(self.found[*place as usize])),
             (None, Some(reason)) => Err(reason),
             (None, None) => Ok(None),
         }
     }
 
     /// All that were found, in the order of their records.
-    pub fn all(&self) -> Vec<Said<'a>> {
-        let mut all = self.found.values().copied().collect::<Vec<_>>();
-        all.sort_unstable_by_key(|said| said.record);
+    pub fn all(self) -> Vec<Said<'a>> {
+        let mut all = self.found;
+        all.reverse();
         all
     }
 }
 
 /// Walks for the names that are wanted, until enough of them are found.
-pub fn latest_until<'a>(register: Lent<'a>, mut wanted: impl FnMut(&[u8]) -> bool, enough: impl Fn(usize) -> bool) -> Walked<'a> {
-    let mut walked = Walked { ended: headed(&register).err(), ..Walked::default() };
+pub fn latest_until<'a>(
+    walking: impl Into<Walking<'a>>,
+    mut wanted: impl FnMut(&[u8]) -> bool,
+    enough: impl Fn(usize) -> bool,
+) -> Walked<'a> {
+    let walking = walking.into();
+    let mut walked = Walked { ended: headed(&walking.register).err(), ..Walked::default() };
     if walked.ended.is_some() {
         return walked;
     }
-    let mut counter = Counter::new("reading records", register.n());
-    let mut records = records(register);
+    let (mut counter, mut records) = (Counter::new("reading records", walking.register.n()), records(walking));
     while !enough(walked.found.len()) {
         let Some((record, read)) = records.next() else { break };
         counter.next();
         match read {
             Ok(node) if wanted(node.path) => {
-                walked.found.entry(node.path).or_insert_with(|| Said::of(record, &node));
+                if let Entry::Vacant(place) = walked.places.entry(node.path) {
+                    place.insert(walked.found.len() as u32);
+                    walked.found.push(Said::of(record, &node));
+                }
             }
             Ok(_) => {}
             Err(reason) => {
@@ -136,14 +214,14 @@ pub fn latest_until<'a>(register: Lent<'a>, mut wanted: impl FnMut(&[u8]) -> boo
 }
 
 /// One walk for many names, as far down as finding each of them goes.
-pub fn find_all<'a>(register: Lent<'a>, names: &[&[u8]]) -> Walked<'a> {
+pub fn find_all<'a>(walking: impl Into<Walking<'a>>, names: &[&[u8]]) -> Walked<'a> {
     let sought = names.iter().copied().collect::<HashSet<_>>();
-    latest_until(register, |path| sought.contains(path), |found| found == sought.len())
+    latest_until(walking, |path| sought.contains(path), |found| found == sought.len())
 }
 
 /// One walk for all names that there are, or those that a rule wants: for each the record that was written last.
-pub fn latest<'a>(register: Lent<'a>, wanted: impl FnMut(&[u8]) -> bool) -> Walked<'a> {
-    latest_until(register, wanted, |_| false)
+pub fn latest<'a>(walking: impl Into<Walking<'a>>, wanted: impl FnMut(&[u8]) -> bool) -> Walked<'a> {
+    latest_until(walking, wanted, |_| false)
 }
 
 /// The chunks of a register that are not held, rising.
@@ -216,7 +294,7 @@ mod tests {
     fn held_to_find(store: &Store, choices: &[usize]) {
         let lent = Lent::Whole(store.register());
         let names: [&[u8]; 6] = [b"/a", b"/b", b"/c", b"/d", b"/none", b"a"];
-        let of = |walked: &Walked, name: &[u8]| walked.of(name).map(|said| said.map(|said| said.record));
+        let of = |walked: &Walked, name: &[u8]| walked.of(name).map(|said| said.map(|said| u64::from(said.record)));
         for several in choices {
             let sought = names.iter().enumerate().filter(|(at, _)| several >> at & 1 == 1).map(|(_, name)| *name).collect::<Vec<_>>();
             let walked = find_all(lent, &sought);
@@ -261,7 +339,8 @@ mod tests {
 
     #[test]
     fn chunks_are_below_n() {
-        let said = |offset, blocks| Said { record: 1, path: b"/a", mode: None, size: None, blocks, offset, byte_offset: None, mtime: None };
+        let stat = |offset, blocks| Some(Stat { blocks, offset, ..Stat::default() });
+        let said = |offset, blocks| Said::of(1, &Node { path: b"/a", stat: stat(offset, blocks), ..Node::default() });
         assert_eq!(said(Some(2), Some(3)).chunks_below(5), Some((2, 3)));
         assert_eq!(said(Some(4), None).chunks_below(5), Some((4, 1)));
         for (offset, blocks) in

@@ -17,6 +17,7 @@ pub fn release(arguments: &Arguments) -> Done<()> {
     };
     let archive = Archive::of(Folder::open(Path::new(path), Opening::writing(arguments)?)?)?;
     let chunks = all_meant(&archive, chunks)?;
+    archive.give_up_pages();
     let folder = &archive.folder;
     let mut content = folder.to_write(Which::Content)?;
     for chunk in chunks.iter().flat_map(Meant::numbers) {

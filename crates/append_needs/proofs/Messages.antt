@@ -4,8 +4,8 @@ use mathlib.Core.Path.{_≡_, refl, sym, ap, _∙_}
 use mathlib.Core.Bool.{true}
 use mathlib.Core.List.{List, [], _∷_, _++_, map}
 use native.Mathlib.Omega.{arith}
-use lib.ListN.{length, getD, length-append, length-replicate}
-use Rattle.byte_strings.specs.Lists.{joined, zeros}
+use lib.ListN.{length, getD, length-append}
+use Rattle.byte_strings.specs.Lists.{joined}
 use Rattle.byte_strings.specs.Numbers.{be}
 use Rattle.byte_strings.proofs.Lists.{length-part}
 use Rattle.byte_strings.proofs.Numbers.{length-be}
@@ -36,7 +36,7 @@ leaf-runs c =
 
 pub leafRuns-blocks : (l : ℕ) → leafRuns l ≡ blocks (9 + l)
 unfolding leafRuns
-leafRuns-blocks l = leaf-runs (zeros l) ∙ ap (λ (k : ℕ). blocks (9 + k)) (length-replicate {A = ℕ} l 0)
+leafRuns-blocks l = refl
 
 pub leafRuns-of : (c : List ℕ) → leafRuns (length c) ≡ runs [] (leafMessage c)
 leafRuns-of c = leafRuns-blocks (length c) ∙ sym (leaf-runs c)
@@ -54,8 +54,8 @@ parent-runs sum l r e f =
     (ap suc (length-append (be 8 sum) (l ++ r)) ∙ omega (arith, length-append l r, length-be 8 sum))
 
 pub parentRuns-one : parentRuns ≡ 1
-unfolding parentRuns
-parentRuns-one = parent-runs 0 (zeros 32) (zeros 32) (length-replicate {A = ℕ} 32 0) (length-replicate {A = ℕ} 32 0)
+unfolding parentRuns blocks
+parentRuns-one = refl
 
 -- ---- the root hash
 
@@ -75,7 +75,7 @@ root-runs f g n h =
 
 pub rootRuns-blocks : (n : ℕ) → rootRuns n ≡ blocks (1 + 48 * length (roots n))
 unfolding rootRuns
-rootRuns-blocks n = root-runs (λ i. zeros 32) (λ i. 0) n (λ j l. length-replicate {A = ℕ} 32 0)
+rootRuns-blocks n = refl
 
 -- a hash stored at a filled index has 32 bytes
 pub stored-long : (tree : List ℕ) (n i : ℕ) → usedTree n ≤ length tree → filled n i ≡ true → length (storedHash tree i) ≡ 32

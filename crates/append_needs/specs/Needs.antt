@@ -5,11 +5,10 @@ use mathlib.Core.List.{List, [], _∷_, map}
 use lib.ListN.{length}
 use lib.Dec.{leb}
 use Rattle.refusals.specs.Verdict.{Verdict, done, unlessRefused}
-use Rattle.byte_strings.specs.Lists.{run, total, zeros}
+use Rattle.byte_strings.specs.Lists.{run, total}
 use Rattle.tree_index.specs.Tree.{completed, roots}
-use Rattle.blake2b.specs.Runs.{runs}
+use Rattle.blake2b.specs.Hash.{blocks}
 use Rattle.file_format.specs.Sizes.{mostChunks, longestChunk, usedTree, usedSignatures, usedBitfield}
-use Rattle.file_format.specs.Messages.{leafMessage, parentMessage, rootItem, rootMessage}
 use Rattle.checks.specs.Checks.{Check, judged}
 use Rattle.checks.specs.Lengths.{mostListed, allShort}
 
@@ -23,20 +22,19 @@ pub record Need : Type 0 where
   pub parents : ℕ
   pub root : ℕ
 
--- The runs of a message follow from its length, so zeros stand here for the bytes and hashes that nobody has yet. That the messages which the
--- appends hash take as many runs is said in Appends.
+-- The runs of a message are the blocks of its length. That the messages which the appends hash take as many is said in Theorems.
 
--- of the leaf of a chunk of l bytes
+-- of the leaf of a chunk of l bytes: the type byte, 8 bytes of the length, the chunk
 unfoldable pub leafRuns : ℕ → ℕ
-leafRuns l = runs [] (leafMessage (zeros l))
+leafRuns l = blocks (9 + l)
 
--- of a parent
+-- of a parent: the type byte, 8 bytes of the sum, two hashes
 unfoldable pub parentRuns : ℕ
-parentRuns = runs [] (parentMessage 0 (zeros 32) (zeros 32))
+parentRuns = blocks 73
 
--- of the root hash of n chunks
+-- of the root hash of n chunks: the type byte, and for each root a hash, its index and its length
 unfoldable pub rootRuns : ℕ → ℕ
-rootRuns n = runs [] (rootMessage (map (λ i. rootItem (zeros 32) i 0) (roots n)))
+rootRuns n = blocks (1 + 48 * length (roots n))
 
 -- what chunks of the lengths ls behind n others need
 unfoldable pub needOf : ℕ → ℕ → List ℕ → Need

@@ -1,7 +1,7 @@
 -- "Sizes and counts equal those that the definitions have when the chunks are appended singly and the root hash is made once at the end."
 --
--- The notions in it: `HashFunction` and `leafMessage` (files, Messages), `Slot` and `Within` (files, Slots), `Register` and `Belongs` (files, Belongs), the used sizes
--- (files, Sizes), `storedRootMessage` (files, Stored), `Accepted` (audit, Audit), what an append, a stored signature and the root hash answer and leave (writing, Append, Sign
+-- The notions in it: `HashFunction` and `leafMessage` (file_format, Messages), `Slot` and `Within` (file_format, Slots), `Register` and `Belongs` (file_format, Belongs), the used sizes
+-- (file_format, Sizes), `storedRootMessage` (file_format, Stored), `Accepted` (audit, Audit), what an append, a stored signature and the root hash answer and leave (writing, Append, Sign
 -- and RootHash), `made`, the entries that an append makes (writing, Inner), `runs` (blake2b, Runs), `needOf` and `needVerdict` (Needs).
 use Prim.Native.Nat.{ℕ, _+_, _*_, _≤_}
 use mathlib.Core.Path.{_≡_}

@@ -15,14 +15,13 @@ use Rattle.byte_strings.proofs.Lists.{length-joined, bytes-zeros}
 use Rattle.tree_index.specs.Tree.{index, filled, entries}
 use Rattle.tree_index.proofs.Index.{by-coordinates}
 use Rattle.tree_index.proofs.Filled.{filled-end, filled-left, filled-right}
-use Rattle.bitfield.specs.Image.{entriesOf}
 use Rattle.bitfield.specs.Release.{storedHeld}
 use Rattle.file_format.specs.Headers.{treeHeader, signaturesHeader, bitfieldHeader}
 use Rattle.file_format.specs.Sizes.{mostChunks, longestChunk, usedTree, usedSignatures, usedBitfield}
 use Rattle.file_format.specs.Messages.{HashFunction, leafMessage}
 use Rattle.file_format.specs.Entries.{Entry, hole, entryBytes, leaf, parentOf, node, treeEntries}
 use Rattle.file_format.specs.Slots.{Slot, held, released, isHeld, slotBytes, contents, heldIn, Within}
-use Rattle.file_format.specs.Images.{dataSize, dataImage, bitfieldImage, signaturesImage, treeImage, leaves}
+use Rattle.file_format.specs.Images.{dataSize, dataImage, signaturesImage, treeImage, leaves, bitfieldImage, bitfieldOf}
 use Rattle.file_format.specs.Stored.{storedHash, storedSize, storedChunk}
 use Rattle.file_format.specs.Belongs.{Register, Lent, Belongs}
 use Rattle.file_format.proofs.Spans.{span, chunk-inside, joined-length}
@@ -38,6 +37,7 @@ use Rattle.checks.specs.Checks.{signedRight}
 use Rattle.checks.proofs.Passed.{Passed}
 use Rattle.audit.specs.Audit.{entryRight, heldBits, Accepted}
 use Rattle.audit.proofs.Audited.{LeafRight, ParentRight, zeros-zero, audited-accepted, says-leaf, says-parent, says-hole}
+use Rattle.bitfield.specs.Image.{entriesOf}
 
 -- what 3, 4 and 5 ask of the signatures
 pub record Signed (r : Register) : Type 0 where
@@ -126,7 +126,7 @@ module _ (F : List ℕ → List ℕ) (hf : HashFunction F) (ss : List Slot) (w :
   -- ---- the numbers 2 to 6
 
   passed-is : Signed r → Passed r
-  unfolding treeImage bitfieldImage usedTree usedBitfield
+  unfolding treeImage bitfieldOf usedTree usedBitfield
   passed-is s =
       record {
         count = subst (λ (n : ℕ). n ≤ mostChunks) (sym (b .count)) (w .count);

@@ -19,13 +19,13 @@ use Rattle.bitfield.specs.Release.{storedHeld}
 use Rattle.bitfield.proofs.Bits.{cases}
 use Rattle.file_format.specs.Sizes.{longestChunk, entryPlace, usedBitfield}
 use Rattle.file_format.specs.Messages.{leafMessage, parentMessage}
-use Rattle.file_format.specs.Images.{bitfieldImage}
 use Rattle.file_format.specs.Stored.{storedHash, storedSize, storedStart, storedChunk}
 use Rattle.file_format.specs.Belongs.{Register}
 use Rattle.file_format.proofs.Nodes.{byDepth}
 use Rattle.checks.proofs.Passed.{Passed, passes, passed, same-of}
-use Rattle.audit.specs.Audit.{Lowest, nowhere, first, lowest, leafRight, parentRight, holeRight, entryRight, wrongEntry, heldBits, byteRight, wrongByte}
-use Rattle.audit.specs.Audit.{refusedAt, imagesVerdict, audit, Accepted}
+use Rattle.audit.specs.Audit.{Lowest, nowhere, first, lowest, parentRight, holeRight, entryRight, wrongEntry, heldBits, wrongByte, byteRight, byteRightBy}
+use Rattle.audit.specs.Audit.{refusedAt, imagesVerdict, audit, Accepted, leafFrom, leafRight}
+use Rattle.file_format.specs.Images.{bitfieldImage}
 
 -- ---- the lowest wrong number
 
@@ -81,7 +81,7 @@ module _ (F : List ℕ → List ℕ) (t content : List ℕ) where
   lastTest held k = cond held (sameList (storedHash t (2 * k)) (F (leafMessage (storedChunk t content k)))) (allZero (storedChunk t content k))
 
   pub leaf-right : (size : ℕ) (held : Bool) (k : ℕ) → leafRight F t content size held k ≡ true → LeafRight size held k
-  unfolding leafRight
+  unfolding leafFrom storedChunk
   leaf-right size held k e =
       let a = and-true (leb (storedSize t (2 * k)) longestChunk) (leb (storedStart t k + storedSize t (2 * k)) size && lastTest held k) e in
       let b = and-true (leb (storedStart t k + storedSize t (2 * k)) size) (lastTest held k) (a .1) in
@@ -93,7 +93,7 @@ module _ (F : List ℕ → List ℕ) (t content : List ℕ) where
       }
 
   pub right-leaf : (size : ℕ) (held : Bool) (k : ℕ) → LeafRight size held k → leafRight F t content size held k ≡ true
-  unfolding leafRight
+  unfolding leafFrom storedChunk
   right-leaf size held k p =
       ap₂ _&&_ (le-leb (storedSize t (2 * k)) longestChunk (p .short))
       (ap₂ _&&_ (le-leb (storedStart t k + storedSize t (2 * k)) size (p .inside)) (last (cases held)))
@@ -185,7 +185,7 @@ module _ (F : List ℕ → List ℕ) where
     pub byte : (b : ℕ) → 32 ≤ b → b < usedBitfield (r .n) → getD (r .bitfield) b 0 ≡ getD (bitfieldImage (heldBits (r .bitfield) (r .n)) (r .n)) b 0
 
   pub accepted-audited : (r : Register) → Accepted F r → Audited r
-  unfolding audit imagesVerdict wrongEntry wrongByte byteRight
+  unfolding audit imagesVerdict wrongEntry wrongByte byteRightBy
   accepted-audited r e =
       let a = passed r (imagesVerdict F r) e in
       let b = at-must 10 tree (wrongEntry F r) (refusedAt 11 bitfield (wrongByte r) done) (a .1) in
@@ -202,7 +202,7 @@ module _ (F : List ℕ → List ℕ) where
       }
 
   pub audited-accepted : (r : Register) → Audited r → Accepted F r
-  unfolding audit imagesVerdict wrongEntry wrongByte byteRight refusedAt
+  unfolding audit imagesVerdict wrongEntry wrongByte byteRightBy refusedAt
   audited-accepted r a =
       passes r (imagesVerdict F r) (a .checked)
       ∙ ap (λ (l : Lowest). refusedAt 10 tree l (refusedAt 11 bitfield (wrongByte r) done))

@@ -12,7 +12,7 @@ use lib.ListN.{length, getD, take, drop, List·getD-append}
 use lib.Seq.{ext-getD}
 use lib.Dec.{eqb}
 use Rattle.refusals.specs.Verdict.{Verdict, bitfield, done, refused}
-use Rattle.byte_strings.specs.Lists.{part, run, joined}
+use Rattle.byte_strings.specs.Lists.{part, joined}
 use Rattle.byte_strings.proofs.Lists.{getD-behind, getD-part, length-part, part-joined}
 use Rattle.tree_index.specs.Tree.{filled, entries}
 use Rattle.tree_index.proofs.Filled.{filled-below}
@@ -20,16 +20,16 @@ use Rattle.bitfield.specs.Bits.{byteOf}
 use Rattle.bitfield.specs.Append.{bitsPlace}
 use Rattle.bitfield.specs.Index.{indexBytes}
 use Rattle.bitfield.specs.Known.{storedKnown}
-use Rattle.bitfield.specs.Image.{dataBytes, treeBytes, entry, entryCount, entriesOf}
+use Rattle.bitfield.specs.Image.{dataBytes, treeBytes, entry, entryCount, entriesFor}
 use Rattle.bitfield.proofs.Bits.{getD-bytesOf}
 use Rattle.bitfield.proofs.Image.{length-data, length-tree, length-entry}
 use Rattle.file_format.specs.Sizes.{usedBitfield}
 use Rattle.file_format.specs.Headers.{bitfieldHeader}
-use Rattle.file_format.specs.Images.{bitfieldImage}
 use Rattle.file_format.proofs.OfImage.{bitfieldHeader-length}
-use Rattle.audit.specs.Audit.{Lowest, lowest, heldBits, byteRight, refusedAt}
-use Rattle.audit.specs.BitfieldEntries.{treeBits, entryWith, byteRightBy, BitsIn, AtBits}
+use Rattle.audit.specs.Audit.{Lowest, lowest, heldBits, refusedAt, byteRight, byteRightBy}
+use Rattle.audit.specs.BitfieldEntries.{treeBits, entryWith, BitsIn, AtBits}
 use Rattle.audit.proofs.Search.{lowest-on, lowest-off, lowest-end, lowest-agree, andThen, search-parts}
+use Rattle.file_format.specs.Images.{bitfieldOf}
 
 -- ---- the bytes of an entry
 
@@ -69,28 +69,21 @@ with-before held known e ix iy j h = elim (decLt j 1024) [
 
 -- ---- the image's bytes
 
--- the entries of a bitfield, and the image that the tests say
-abbrev rows : (ℕ → Bool) → (ℕ → Bool) → ℕ → List ℕ
-rows held known n = joined (run (entry held known) 0 (entryCount n))
-
-abbrev imageBy : (ℕ → Bool) → (ℕ → Bool) → ℕ → List ℕ
-imageBy held known n = bitfieldHeader ++ rows held known n
-
 image-byte : (held known : ℕ → Bool) (n e j : ℕ) → e < entryCount n → j < 3328
-    → getD (imageBy held known n) (32 + 3328 * e + j) 0 ≡ getD (entryWith held known e (indexBytes (dataBytes held e))) j 0
-unfolding entry entryWith
+    → getD (bitfieldOf held known n) (32 + 3328 * e + j) 0 ≡ getD (entryWith held known e (indexBytes (dataBytes held e))) j 0
+unfolding entry entryWith bitfieldOf entriesFor
 image-byte held known n e j h g =
     let q : 32 + 3328 * e + j ≡ 32 + (e * 3328 + j) = omega arith in
-    ap (λ (x : ℕ). getD (imageBy held known n) x 0) q
-    ∙ getD-behind bitfieldHeader (rows held known n) 32 (e * 3328 + j) 0 bitfieldHeader-length
-    ∙ sym (getD-part (rows held known n) (e * 3328) 3328 j 0 g)
+    ap (λ (x : ℕ). getD (bitfieldOf held known n) x 0) q
+    ∙ getD-behind bitfieldHeader (entriesFor held known n) 32 (e * 3328 + j) 0 bitfieldHeader-length
+    ∙ sym (getD-part (entriesFor held known n) (e * 3328) 3328 j 0 g)
     ∙ ap (λ (xs : List ℕ). getD xs j 0)
     (part-joined (entry held known) 3328 (length-entry held known) 0 (entryCount n) e h
     ∙ ap (entry held known) (zero-add e))
 
 -- a register's tree bits are those of its filled entries
 pub whole-right : (xs : List ℕ) (n : ℕ) → byteRightBy (treeBits false xs n) xs n ≡ byteRight xs n
-unfolding byteRightBy byteRight bitfieldImage entriesOf treeBits
+unfolding byteRightBy bitfieldOf entriesFor treeBits
 whole-right xs n = refl
 
 -- ---- which tree bits are to be 1
@@ -150,7 +143,7 @@ module _ (known : ℕ → Bool) (xs : List ℕ) (n e : ℕ) (w : AtBits xs n e) 
       let long : length (part xs at 1024) ≡ 1024 = length-part xs at 1024 (omega (arith, entry-room xs n e w .1)) in
       ext-getD 0 (part xs at 1024) (dataBytes (heldBits xs n) e) (long ∙ sym (length-data (heldBits xs n) e))
       (λ j l. getD-part xs at 1024 j 0 (omega (arith, long))
-      ∙ eqb-true (getD xs (at + j) 0) (getD (imageBy (heldBits xs n) known n) (at + j) 0) (h (at + j) (omega arith) (omega (arith, long)))
+      ∙ eqb-true (getD xs (at + j) 0) (getD (bitfieldOf (heldBits xs n) known n) (at + j) 0) (h (at + j) (omega arith) (omega (arith, long)))
       ∙ image-byte (heldBits xs n) known n e j (w .entry) (omega (arith, long))
       ∙ List·getD-append (dataBytes (heldBits xs n) e) (treeBytes known e ++ indexBytes (dataBytes (heldBits xs n) e)) 0 j
       (omega (arith, long, length-data (heldBits xs n) e)))
@@ -161,8 +154,8 @@ module _ (known : ℕ → Bool) (xs : List ℕ) (n e : ℕ) (w : AtBits xs n e) 
   agree b l h before =
       let j : ℕ = b - at in
       let q : at + j ≡ b = omega arith in
-      let own : getD (imageBy (heldBits xs n) known n) b 0 ≡ getD (entryWith (heldBits xs n) known e (indexBytes (dataBytes (heldBits xs n) e))) j 0 =
-      ap (λ (x : ℕ). getD (imageBy (heldBits xs n) known n) x 0) (sym q) ∙ image-byte (heldBits xs n) known n e j (w .entry) (omega arith) in
+      let own : getD (bitfieldOf (heldBits xs n) known n) b 0 ≡ getD (entryWith (heldBits xs n) known e (indexBytes (dataBytes (heldBits xs n) e))) j 0 =
+      ap (λ (x : ℕ). getD (bitfieldOf (heldBits xs n) known n) x 0) (sym q) ∙ image-byte (heldBits xs n) known n e j (w .entry) (omega arith) in
       ap (λ (y : ℕ). eqb (getD xs b 0) y)
       (elim (decLt j 3072) [
         | yes f ↦ with-before (heldBits xs n) known e (indexBytes (part xs at 1024)) (indexBytes (dataBytes (heldBits xs n) e)) j f

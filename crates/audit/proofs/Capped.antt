@@ -14,11 +14,11 @@ use Rattle.file_format.specs.Stored.{storedHash, storedSize}
 use Rattle.checks.proofs.Steps.{and-stop}
 use Rattle.checks.specs.Capped.{most, capped}
 use Rattle.checks.proofs.Capped.{capped-either}
-use Rattle.audit.specs.TreeWalk.{leafFrom}
+use Rattle.audit.specs.Audit.{leafFrom}
 
 module _ (F : List ℕ → List ℕ) (t d : List ℕ) (size : ℕ) (held : Bool) (k : ℕ) where
   -- a leaf whose data would begin past the data
-  pub start-past : (start : ℕ) → size < start → false ≡ leafFrom F t d size held k start
+  pub start-past : (start : ℕ) → size < start → false ≡ leafFrom F t d size held (2 * k) start
   unfolding leafFrom
   start-past start h = go (leb (storedSize t (2 * k)) longestChunk)
     where
@@ -30,7 +30,7 @@ module _ (F : List ℕ → List ℕ) (t d : List ℕ) (size : ℕ) (held : Bool)
       go false = refl
 
   -- a start that is told as the largest number is past the data, and so is the start itself
-  pub capped-leaf : (start : ℕ) → size < most → leafFrom F t d size held k (capped start) ≡ leafFrom F t d size held k start
+  pub capped-leaf : (start : ℕ) → size < most → leafFrom F t d size held (2 * k) (capped start) ≡ leafFrom F t d size held (2 * k) start
   capped-leaf start h =
-      capped-either (λ x. leafFrom F t d size held k x ≡ leafFrom F t d size held k start) start (λ l. refl)
+      capped-either (λ x. leafFrom F t d size held (2 * k) x ≡ leafFrom F t d size held (2 * k) start) start (λ l. refl)
       (λ l. sym (start-past most h) ∙ start-past start (omega arith))

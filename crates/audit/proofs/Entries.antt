@@ -25,10 +25,10 @@ use Rattle.file_format.specs.Inner.{EntryIn, RootsIn}
 use Rattle.file_format.proofs.Spans.{total-run-add}
 use Rattle.file_format.proofs.OfImage.{entry-inside}
 use Rattle.checks.proofs.Steps.{and-stop, and-pass}
-use Rattle.audit.specs.Audit.{Lowest, lowest, leafRight, parentRight, holeRight, entryRight, refusedAt}
+use Rattle.audit.specs.Audit.{Lowest, lowest, parentRight, holeRight, entryRight, refusedAt, leafFrom, leafRight}
 use Rattle.checks.specs.Capped.{most, capped}
 use Rattle.checks.proofs.Capped.{capped-low, capped-before}
-use Rattle.audit.specs.TreeWalk.{leavesBefore, leafFrom, FilesIn, AtEntry, AtLeaf, AtParent}
+use Rattle.audit.specs.TreeWalk.{leavesBefore, FilesIn, AtEntry, AtLeaf, AtParent}
 use Rattle.audit.proofs.Capped.{capped-leaf}
 use Rattle.audit.proofs.Audited.{zero-same, even-entry, odd-entry, entryRight-hole}
 use Rattle.audit.proofs.Search.{lowest-on, lowest-off, lowest-end}
@@ -122,17 +122,17 @@ before-leaf t n i c p h l = entry-as t (index-leaf c) (entry-in t n (2 * c) p (o
 
 -- a leaf judged from the sum of the leaf lengths before it
 pub leaf-from : (F : List ℕ → List ℕ) (t d : List ℕ) (size : ℕ) (held : Bool) (k start : ℕ) → size < most → start ≡ capped (storedStart t k)
-    → leafFrom F t d size held k start ≡ leafRight F t d size held k
-unfolding leafFrom leafRight storedChunk
-leaf-from F t d size held k start s e = ap (leafFrom F t d size held k) e ∙ capped-leaf F t d size held k (storedStart t k) s
+    → leafFrom F t d size held (2 * k) start ≡ leafRight F t d size held k
+unfolding leafFrom storedChunk
+leaf-from F t d size held k start s e = ap (leafFrom F t d size held (2 * k)) e ∙ capped-leaf F t d size held k (storedStart t k) s
 
 module _ (F : List ℕ → List ℕ) (t d : List ℕ) (size : ℕ) (held : Bool) (k start : ℕ) where
-  pub leaf-long : (len : ℕ) → len ≡ storedSize t (2 * k) → longestChunk < len → false ≡ leafFrom F t d size held k start
+  pub leaf-long : (len : ℕ) → len ≡ storedSize t (2 * k) → longestChunk < len → false ≡ leafFrom F t d size held (2 * k) start
   unfolding leafFrom
   leaf-long len e h = and-stop _ _ (lt-leb (storedSize t (2 * k)) longestChunk (omega (arith, e)))
 
   module _ (len : ℕ) (q : len ≡ storedSize t (2 * k)) (s : len ≤ longestChunk) where
-    pub leaf-past : size < start + len → false ≡ leafFrom F t d size held k start
+    pub leaf-past : size < start + len → false ≡ leafFrom F t d size held (2 * k) start
     unfolding leafFrom
     leaf-past h =
         and-pass _ _ false (le-leb (storedSize t (2 * k)) longestChunk (omega arith))
@@ -146,7 +146,7 @@ module _ (F : List ℕ → List ℕ) (t d : List ℕ) (size : ℕ) (held : Bool)
       abbrev lastTest : Bool → Bool
       lastTest x = cond x (sameList (storedHash t (2 * k)) (F (leafMessage chunk))) (allZero chunk)
 
-      last-test : r ≡ lastTest held → r ≡ leafFrom F t d size held k start
+      last-test : r ≡ lastTest held → r ≡ leafFrom F t d size held (2 * k) start
       unfolding leafFrom
       last-test l =
           and-pass _ _ r (le-leb (storedSize t (2 * k)) longestChunk (omega arith))
@@ -156,11 +156,11 @@ module _ (F : List ℕ → List ℕ) (t d : List ℕ) (size : ℕ) (held : Bool)
       unfolding part
       chunk-is = ap (λ (a : ℕ). take a (drop start d)) (me ∙ q)
 
-      pub leaf-zero : held ≡ false → r ≡ allZero (take m (drop start d)) → r ≡ leafFrom F t d size held k start
+      pub leaf-zero : held ≡ false → r ≡ allZero (take m (drop start d)) → r ≡ leafFrom F t d size held (2 * k) start
       leaf-zero f rr = last-test (rr ∙ ap allZero chunk-is ∙ ap lastTest (sym f))
 
       pub leaf-same : held ≡ true → (stored expected : List ℕ) → stored ≡ storedHash t (2 * k) → expected ≡ F (leafMessage (take m (drop start d)))
-          → r ≡ sameList stored expected → r ≡ leafFrom F t d size held k start
+          → r ≡ sameList stored expected → r ≡ leafFrom F t d size held (2 * k) start
       leaf-same f stored expected st ex rr =
           last-test (rr ∙ ap₂ sameList st (ex ∙ ap (λ (c : List ℕ). F (leafMessage c)) chunk-is) ∙ ap lastTest (sym f))
 
@@ -216,7 +216,7 @@ module _ (F : List ℕ → List ℕ) (t bits d : List ℕ) (n size i start : ℕ
       omega (arith, p .entry, p .files .field .inside)
 
   pub leaf-entry : size < most → (k : ℕ) (held r : Bool) → i % 2 ≡ 0 → filled n i ≡ true → k ≡ block i → held ≡ storedHeld bits k
-      → r ≡ leafFrom F t d size held k start → r ≡ entryRight F t bits d n size i
+      → r ≡ leafFrom F t d size held (2 * k) start → r ≡ entryRight F t bits d n size i
   leaf-entry s k held r h f e b rr =
       let q : k ≡ i / 2 = e ∙ sym (leaf-block i h) in
       let a : (i + 1) / 2 ≡ k = omega arith in

@@ -18,14 +18,13 @@ use Rattle.byte_strings.proofs.Numbers.{be-number}
 use Rattle.tree_index.specs.Tree.{index, filled, entries}
 use Rattle.tree_index.proofs.Index.{by-coordinates}
 use Rattle.tree_index.proofs.Filled.{filled-below, filled-end, end-filled, filled-left, filled-right}
-use Rattle.bitfield.specs.Image.{entriesOf}
 use Rattle.bitfield.specs.Release.{storedHeld}
 use Rattle.file_format.specs.Headers.{bitfieldHeader}
 use Rattle.file_format.specs.Sizes.{mostChunks, longestChunk, entryPlace, usedTree, usedBitfield}
 use Rattle.file_format.specs.Messages.{HashFunction}
 use Rattle.file_format.specs.Entries.{Entry, hole, entryBytes, leaf, parentOf, node, nodeAt, entryAt}
 use Rattle.file_format.specs.Slots.{Slot, held, released, isHeld, slotBytes, slotEntry, contents, heldIn, Handed, Within}
-use Rattle.file_format.specs.Images.{dataSize, dataImage, bitfieldImage, treeImage, leaves}
+use Rattle.file_format.specs.Images.{dataSize, dataImage, treeImage, leaves, bitfieldImage, bitfieldOf}
 use Rattle.file_format.specs.Stored.{storedRootSizes, storedHash, storedSize, storedStart, storedChunk}
 use Rattle.file_format.specs.Belongs.{Register, Lent, Belongs}
 use Rattle.file_format.proofs.Spans.{span, span-all, total-append, cover}
@@ -36,6 +35,7 @@ use Rattle.file_format.proofs.ToImage.{hole-zeros, tree-of-entries}
 use Rattle.audit.specs.Audit.{heldBits, Accepted}
 use Rattle.audit.proofs.Audited.{LeafRight, Audited, all-zero, accepted-audited, leaf-says, parent-says, hole-says}
 use Rattle.audit.proofs.Accepts.{Signed, image-ext, held-bits}
+use Rattle.bitfield.specs.Image.{entriesOf}
 
 -- the chunks that the stored lengths cut out lie one behind the other, from the start of the data on
 pub start-suc : (t : List ℕ) (k : ℕ) → storedStart t (suc k) ≡ storedStart t k + storedSize t (2 * k)
@@ -266,7 +266,7 @@ module _ (F : List ℕ → List ℕ) (hf : HashFunction F) (r : Register) (l : L
   own = heldBits (r .bitfield) (r .n)
 
   bitfield-same : take (usedBitfield (r .n)) (r .bitfield) ≡ bitfieldImage (heldIn (cut r)) (r .n)
-  unfolding bitfieldImage
+  unfolding bitfieldOf
   bitfield-same =
       ext-getD 0 (take (usedBitfield (r .n)) (r .bitfield)) (bitfieldImage own (r .n)) (long ∙ sym (bitfieldImage-length own (r .n)))
       (λ i h. getD-take (usedBitfield (r .n)) (r .bitfield) i 0 (subst (λ (z : ℕ). i < z) long h) ∙ split i (ltb i 32) refl (subst (λ (z : ℕ). i < z) long h))

@@ -14,7 +14,7 @@ use Rattle.file_format.specs.Belongs.{Register}
 use Rattle.checks.specs.Checks.{judged, registerChecks}
 use Rattle.checks.specs.Lent.{registerOf}
 use Rattle.checks.proofs.Passed.{Passed, passed}
-use Rattle.audit.specs.Audit.{lowest, entryRight, wrongEntry, byteRight, wrongByte, refusedAt, imagesVerdict}
+use Rattle.audit.specs.Audit.{lowest, entryRight, wrongEntry, wrongByte, refusedAt, imagesVerdict, byteRight}
 use Rattle.audit.specs.TreeWalk.{FilesIn}
 use Rattle.audit.proofs.Search.{andThen, stops, judged-then, refused-then}
 

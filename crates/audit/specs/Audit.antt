@@ -13,19 +13,23 @@ use Rattle.tree_index.specs.Tree.{depth, block, leftChild, rightChild, filled, 
 use Rattle.bitfield.specs.Release.{storedHeld}
 use Rattle.file_format.specs.Sizes.{longestChunk, entryPlace, usedBitfield}
 use Rattle.file_format.specs.Messages.{leafMessage, parentMessage}
-use Rattle.file_format.specs.Images.{bitfieldImage}
-use Rattle.file_format.specs.Stored.{storedHash, storedSize, storedStart, storedChunk}
+use Rattle.file_format.specs.Stored.{storedHash, storedSize, storedStart}
 use Rattle.file_format.specs.Belongs.{Register}
 use Rattle.checks.specs.Checks.{judged, registerChecks}
+use Rattle.file_format.specs.Images.{bitfieldOf}
 
 module _ (F : List ℕ → List ℕ) where
-  -- "a leaf starts at the sum of the leaf lengths before it, and is wrong if it is over 65,536, runs past the data or has another hash"; the audit
-  -- "takes the leaf entry of a released chunk as right if its length is at most 65,536, it doesn't run past the data and its data bytes are zero"
-  unfoldable pub leafRight : List ℕ → List ℕ → ℕ → Bool → ℕ → Bool
-  leafRight t content size held k =
-      leb (storedSize t (2 * k)) longestChunk
-      && (leb (storedStart t k + storedSize t (2 * k)) size
-      && cond held (sameList (storedHash t (2 * k)) (F (leafMessage (storedChunk t content k)))) (allZero (storedChunk t content k)))
+  -- the leaf at i, whose data begin at `start`, "is wrong if it is over 65,536, runs past the data or has another hash"; the audit "takes the leaf entry of a
+  -- released chunk as right if its length is at most 65,536, it doesn't run past the data and its data bytes are zero"
+  unfoldable pub leafFrom : List ℕ → List ℕ → ℕ → Bool → ℕ → ℕ → Bool
+  leafFrom t content size held i start =
+      leb (storedSize t i) longestChunk
+      && (leb (start + storedSize t i) size
+      && cond held (sameList (storedHash t i) (F (leafMessage (part content start (storedSize t i))))) (allZero (part content start (storedSize t i))))
+
+  -- "a leaf starts at the sum of the leaf lengths before it"
+  abbrev pub leafRight : List ℕ → List ℕ → ℕ → Bool → ℕ → Bool
+  leafRight t content size held k = leafFrom t content size held (2 * k) (storedStart t k)
 
   -- "a parent if it doesn't follow from its stored children, sums taken in whole numbers"
   unfoldable pub parentRight : List ℕ → ℕ → Bool
@@ -54,9 +58,14 @@ module _ (F : List ℕ → List ℕ) where
 unfoldable pub heldBits : List ℕ → ℕ → ℕ → Bool
 heldBits xs n k = ltb k n && storedHeld xs k
 
--- whether the byte b of the bitfield file of n chunks is right: all its other bits, and the Index, follow from those
-unfoldable pub byteRight : List ℕ → ℕ → ℕ → Bool
-byteRight xs n b = eqb (getD xs b 0) (getD (bitfieldImage (heldBits xs n) n) b 0)
+-- whether the byte b of the bitfield file of n chunks is right, where those tree entries are known that a test says: all its other bits, and the
+-- Index, follow from those
+unfoldable pub byteRightBy : (ℕ → Bool) → List ℕ → ℕ → ℕ → Bool
+byteRightBy known xs n b = eqb (getD xs b 0) (getD (bitfieldOf (heldBits xs n) known n) b 0)
+
+-- of a register, which knows every entry that is no hole
+abbrev pub byteRight : List ℕ → ℕ → ℕ → Bool
+byteRight xs n = byteRightBy (filled n) xs n
 
 -- "11. The audit finds a wrong bitfield byte; the place is the lowest." The header's 32 bytes are judged by 5
 unfoldable pub wrongByte : Register → Lowest

@@ -3,16 +3,12 @@
 use Prim.Native.Nat.{ℕ, _+_, _*_, _≤_, _<_}
 use mathlib.Core.Bool.{Bool, cond, _&&_}
 use mathlib.Core.List.{List, _++_}
-use lib.Dec.{eqb}
-use lib.ListN.{length, getD}
-use Rattle.byte_strings.specs.Lists.{run, joined}
+use lib.ListN.{length}
 use Rattle.tree_index.specs.Tree.{filled}
 use Rattle.bitfield.specs.Bits.{bit}
-use Rattle.bitfield.specs.Image.{dataBytes, treeBytes, entry, entryCount}
+use Rattle.bitfield.specs.Image.{dataBytes, treeBytes, entryCount}
 use Rattle.bitfield.specs.Known.{storedKnown}
-use Rattle.file_format.specs.Headers.{bitfieldHeader}
 use Rattle.file_format.specs.Sizes.{mostChunks, usedBitfield}
-use Rattle.audit.specs.Audit.{heldBits}
 
 -- eight bits in a byte, the first the highest
 abbrev pub eight : (a b c d e f g h : Bool) → ℕ
@@ -26,11 +22,6 @@ treeBits partly xs n i = cond partly (filled n i && storedKnown xs i) (filled n 
 -- entry e of a bitfield in which those chunks are held and those tree bits are 1 that two tests say, with these Index bytes
 unfoldable pub entryWith : (ℕ → Bool) → (ℕ → Bool) → ℕ → List ℕ → List ℕ
 entryWith held known e index = dataBytes held e ++ (treeBytes known e ++ index)
-
--- whether the byte b of the bitfield file of n chunks is right, where those tree bits are to be 1 that a test says
-unfoldable pub byteRightBy : (ℕ → Bool) → List ℕ → ℕ → ℕ → Bool
-byteRightBy known xs n b =
-    eqb (getD xs b 0) (getD (bitfieldHeader ++ joined (run (entry (heldBits xs n) known) 0 (entryCount n))) b 0)
 
 -- a bitfield file that holds the entries of n chunks
 pub record BitsIn (xs : List ℕ) (n : ℕ) : Type 0 where

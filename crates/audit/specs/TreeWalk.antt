@@ -1,15 +1,10 @@
 -- What the inner functions of the audit require: where a walk over the tree entries from the left has come to.
 use Prim.Native.Nat.{ℕ, _+_, _*_, _/_, _≤_, _<_}
 use mathlib.Core.Path.{_≡_}
-use mathlib.Core.Bool.{Bool, cond, _&&_}
 use mathlib.Core.List.{List}
 use lib.ListN.{length}
-use lib.Dec.{leb}
-use Rattle.byte_strings.specs.Lists.{part, sameList, allZero}
 use Rattle.tree_index.specs.Tree.{depth, leftChild, rightChild, entries}
-use Rattle.file_format.specs.Sizes.{longestChunk}
-use Rattle.file_format.specs.Messages.{leafMessage}
-use Rattle.file_format.specs.Stored.{storedHash, storedSize, storedStart}
+use Rattle.file_format.specs.Stored.{storedStart}
 use Rattle.file_format.specs.Inner.{EntryIn, RootsIn}
 use Rattle.checks.specs.Capped.{capped}
 use Rattle.audit.specs.BitfieldEntries.{BitsIn}
@@ -17,14 +12,6 @@ use Rattle.audit.specs.BitfieldEntries.{BitsIn}
 -- how many leaves stand before the tree index i
 abbrev pub leavesBefore : ℕ → ℕ
 leavesBefore i = (i + 1) / 2
-
--- whether a leaf is right whose data begin at `start`, wherever that was found
-unfoldable pub leafFrom : (List ℕ → List ℕ) → List ℕ → List ℕ → ℕ → Bool → ℕ → ℕ → Bool
-leafFrom F t content size held k start =
-    leb (storedSize t (2 * k)) longestChunk
-    && (leb (start + storedSize t (2 * k)) size
-    && cond held (sameList (storedHash t (2 * k)) (F (leafMessage (part content start (storedSize t (2 * k))))))
-    (allZero (part content start (storedSize t (2 * k)))))
 
 -- what the checks 2 to 6 give of the lent bytes: they hold the files of n chunks and of a data size
 pub record FilesIn (tree bits content : List ℕ) (n size : ℕ) : Type 0 where

@@ -11,8 +11,8 @@ ghost use Rattle.refusals.specs.Meaning.{said};
 ghost use Rattle.bitfield.specs.Bits.{bit, byteOf};
 ghost use Rattle.bitfield.specs.Image.{entryCount};
 ghost use Rattle.file_format.specs.Sizes.{usedBitfield};
-ghost use Rattle.audit.specs.Audit.{lowest, heldBits, refusedAt};
-ghost use Rattle.audit.specs.BitfieldEntries.{eight, treeBits, entryWith, byteRightBy, BitsIn, AtBits};
+ghost use Rattle.audit.specs.Audit.{lowest, heldBits, refusedAt, byteRightBy};
+ghost use Rattle.audit.specs.BitfieldEntries.{eight, treeBits, entryWith, BitsIn, AtBits};
 
 fn bit_of(b: bool) -> u8
     ensures { λ r. ⌜ (r ≡ bit b) × (r ≤ 1) ⌝ }

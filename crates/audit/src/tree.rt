@@ -6,7 +6,7 @@ use number_types::ChunkNumber;
 use number_types::TreeIndex;
 use refusals::Answer;
 ghost use mathlib.Core.Path.{_≡_};
-ghost use Prim.Native.Nat.{_+_, _-_, _≤_, _<_};
+ghost use Prim.Native.Nat.{_+_, _-_, _*_, _≤_, _<_};
 ghost use Rattle.refusals.specs.Verdict.{tree as atTree, done};
 ghost use Rattle.refusals.specs.Meaning.{said};
 ghost use Rattle.tree_index.specs.Tree.{entries as entriesOf};
@@ -14,8 +14,8 @@ ghost use Rattle.blake2b.specs.Hash.{nodeHash};
 ghost use Rattle.file_format.specs.Stored.{storedStart};
 ghost use Rattle.file_format.specs.Inner.{EntryIn, RootsIn};
 ghost use Rattle.checks.specs.Capped.{capped};
-ghost use Rattle.audit.specs.Audit.{lowest, parentRight, holeRight, entryRight, refusedAt};
-ghost use Rattle.audit.specs.TreeWalk.{leavesBefore, leafFrom, FilesIn, Started, AtEntry, AtLeaf, AtParent};
+ghost use Rattle.audit.specs.Audit.{lowest, parentRight, holeRight, entryRight, refusedAt, leafFrom};
+ghost use Rattle.audit.specs.TreeWalk.{leavesBefore, FilesIn, Started, AtEntry, AtLeaf, AtParent};
 
 // Inner: how many entries the tree file of n chunks has.
 pub fn entry_count(n: u64) -> u64
@@ -75,7 +75,7 @@ pub fn leaf_right(
     start: ByteOffset,
 ) -> bool
     requires { ⌜ AtLeaf (now tree) (now content) size (c .0) ⌝ }
-    ensures { λ r. ⌜ r ≡ leafFrom nodeHash (now (tree .entry)) (now (content .entry)) size held (c .0) (start .0) ⌝ }
+    ensures { λ r. ⌜ r ≡ leafFrom nodeHash (now (tree .entry)) (now (content .entry)) size held (2 * c .0) (start .0) ⌝ }
 {
     let i = tree_index::leaf_index(c);
     let length = file_format::entries::stored_size(tree, i);
@@ -193,7 +193,7 @@ pub fn wrong_between(
     Answer::Done
 }
 
-// The lowest wrong entry of all.
+// Inner: the lowest wrong entry of all.
 pub fn wrong_entry(tree: &[u8], bitfield: &[u8], content: &[u8], n: u64, size: u64) -> Answer
     requires { ⌜ FilesIn (now tree) (now bitfield) (now content) n size ⌝ }
     ensures { λ r.

@@ -19,7 +19,7 @@ use Rattle.tree_index.specs.Tree.{index, completed, filledBy, filled}
 use Rattle.tree_index.proofs.Appended.{filled-suc}
 use Rattle.bitfield.specs.Bits.{withDigit, setBit}
 use Rattle.bitfield.specs.Index.{indexBytes}
-use Rattle.bitfield.specs.Image.{dataBytes, treeBytes, entry, entryCount, heldBelow, entriesOf}
+use Rattle.bitfield.specs.Image.{dataBytes, treeBytes, entry, entryCount, heldBelow, entriesFor, entriesOf}
 use Rattle.bitfield.specs.Append.{bitsPlace, zeroedIfNew, setDataBit, setTreeBit, setTreeBits, regenerated, withBits, appended}
 use Rattle.bitfield.proofs.Bits.{cases, with-one, sets}
 use Rattle.bitfield.proofs.Levels.{same-or, length-index}
@@ -161,12 +161,12 @@ entries-after n = omega arith
 
 -- the entries of n chunks, of which there are c
 pub entries-run : (held : ℕ → Bool) (n c : ℕ) → entryCount n ≡ c → entriesOf held n ≡ joined (run (entry held (filled n)) 0 c)
-unfolding entriesOf
+unfolding entriesFor
 entries-run held n c e = ap (λ (t : ℕ). joined (run (entry held (filled n)) 0 t)) e
 
 -- of tests that agree
 pub entries-ext : (p q : ℕ → Bool) (n : ℕ) → ((j : ℕ) → p j ≡ q j) → entriesOf p n ≡ entriesOf q n
-unfolding entriesOf
+unfolding entriesFor
 entries-ext p q n h =
     ap joined (run-ext (entry p (filled n)) (entry q (filled n)) 0 (entryCount n) (λ e a b. entry-ext p q (filled n) (filled n) h (λ j. refl) e))
 

@@ -12,7 +12,7 @@ use Rattle.byte_strings.proofs.Lists.{take-behind, drop-behind, joined-run-add,
 use Rattle.tree_index.specs.Tree.{filled, depth, block, trailingOnes}
 use Rattle.bitfield.specs.Bits.{bytesOf, byteOf, changeBit}
 use Rattle.bitfield.specs.Index.{indexBytes, indexByte, node, tuples, tuple, combined, combine, four}
-use Rattle.bitfield.specs.Image.{dataBytes, treeBytes, entry, entryCount, entriesOf}
+use Rattle.bitfield.specs.Image.{dataBytes, treeBytes, entry, entryCount, entriesFor, entriesOf}
 use Rattle.bitfield.proofs.Bits.{Changes, bytesOf-ext, length-bytesOf, bytes-bytesOf, change-bytesOf, change-behind, change-within}
 use Rattle.bitfield.proofs.Levels.{length-index, bytes-index}
 
@@ -105,13 +105,16 @@ length-entry held known e =
     ap length (entry-is held known e)
     ∙ length-entryWith held known (λ j. indexBytes (dataBytes held j)) (λ j. length-index (dataBytes held j)) e
 
+pub length-for : (held known : ℕ → Bool) (n : ℕ) → length (entriesFor held known n) ≡ 3328 * entryCount n
+unfolding entriesFor
+length-for held known n = length-joined (entry held known) 3328 (length-entry held known) 0 (entryCount n) ∙ mul-comm (entryCount n) 3328
+
 pub length-entries : (held : ℕ → Bool) (n : ℕ) → length (entriesOf held n) ≡ 3328 * entryCount n
-unfolding entriesOf
-length-entries held n = length-joined (entry held (filled n)) 3328 (length-entry held (filled n)) 0 (entryCount n) ∙ mul-comm (entryCount n) 3328
+length-entries held n = length-for held (filled n) n
 
 -- every byte of the entries is below 256
 pub bytes-entries : (held : ℕ → Bool) (n : ℕ) → Bytes (entriesOf held n)
-unfolding entriesOf entry dataBytes treeBytes
+unfolding entriesFor entry dataBytes treeBytes
 bytes-entries held n =
     bytes-joined (entry held (filled n)) 0 (entryCount n)
     (λ e. bytes-append (bytesOf held (8192 * e) 1024) (bytesOf (filled n) (16384 * e) 2048 ++ indexBytes (bytesOf held (8192 * e) 1024))

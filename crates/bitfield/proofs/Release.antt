@@ -12,7 +12,7 @@ use Rattle.byte_strings.proofs.Lists.{around, run-ext}
 use Rattle.tree_index.specs.Tree.{filled}
 use Rattle.bitfield.specs.Bits.{bitAt, withoutDigit, clearBit}
 use Rattle.bitfield.specs.Index.{indexBytes}
-use Rattle.bitfield.specs.Image.{dataBytes, entry, entryCount, entriesOf}
+use Rattle.bitfield.specs.Image.{dataBytes, entry, entryCount, entriesFor, entriesOf}
 use Rattle.bitfield.specs.Append.{bitsPlace, regenerated}
 use Rattle.bitfield.specs.Release.{storedHeld, clearDataBit, releasedBits}
 use Rattle.bitfield.proofs.Bits.{without-one, clears, bit-bytesOf, bit-part}
@@ -48,7 +48,7 @@ module _ (xs : List ℕ) (held : ℕ → Bool) (n : ℕ) (room : 32 + 3328 * ent
 
   -- the file, entry by entry
   opened : xs ≡ take 32 xs ++ (joined (run (entryWith held (filled n) ix) 0 c) ++ tail)
-  unfolding entriesOf
+  unfolding entriesFor
   opened =
       sym (around xs 32 (3328 * c)) ∙ ap (λ (r : List ℕ). take 32 xs ++ (r ++ tail)) image
       ∙ ap (λ (r : List (List ℕ)). take 32 xs ++ (joined r ++ tail)) (run-ext (entry held (filled n)) (entryWith held (filled n) ix) 0 c (λ j a b. entry-is held (filled n) j))
@@ -86,7 +86,7 @@ module _ (xs : List ℕ) (held : ℕ → Bool) (n : ℕ) (room : 32 + 3328 * ent
 
     -- the file after the release: what it was, with the entries in which chunk k is not held behind its header
     pub released-image : releasedBits xs k ≡ put xs 32 (entriesOf (without-one held k) n)
-    unfolding releasedBits put entriesOf
+    unfolding releasedBits put entriesFor
     released-image =
         ap (λ (l : List ℕ). regenerated l e) cleared ∙ again
         ∙ ap (λ (t : ℕ). take 32 xs ++ (joined (run (entry left (filled n)) 0 c) ++ drop (32 + t) xs)) (sym (length-entries left n))

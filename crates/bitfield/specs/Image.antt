@@ -28,7 +28,11 @@ entryCount n = (n + 8191) / 8192
 abbrev pub heldBelow : ℕ → ℕ → Bool
 heldBelow n k = ltb k n
 
--- the entries of a register of n chunks, of which those are held that a test says. "a tree bit for each entry that is no hole; others are 0":
--- among the entries from 0 to 2n − 2 those that are no hole are the filled ones, and no entry behind them is filled
-unfoldable pub entriesOf : (ℕ → Bool) → ℕ → List ℕ
-entriesOf held n = joined (run (entry held (filled n)) 0 (entryCount n))
+-- the entries of n chunks, of which those are held and those tree entries known that two tests say
+unfoldable pub entriesFor : (ℕ → Bool) → (ℕ → Bool) → ℕ → List ℕ
+entriesFor held known n = joined (run (entry held known) 0 (entryCount n))
+
+-- of a register. "a tree bit for each entry that is no hole; others are 0": among the entries from 0 to 2n − 2 those that are no hole are the
+-- filled ones, and no entry behind them is filled
+abbrev pub entriesOf : (ℕ → Bool) → ℕ → List ℕ
+entriesOf held n = entriesFor held (filled n) n

@@ -1,4 +1,5 @@
--- Laws of parts, places, runs and big-endian numbers.
+-- Laws of truth values, parts, places, runs and big-endian numbers.
+pub mod Bools
 pub mod Lists
 pub mod Numbers
 pub mod Lowest

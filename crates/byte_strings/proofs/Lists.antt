@@ -3,7 +3,7 @@ use mathlib.Core.Path.{_≡_, refl, sym, ap, ap₂, _∙_, subst}
 use Prim.Native.Nat.{ℕ, zero, suc, _+_, _-_, _*_, _<_, _≤_}
 use native.Mathlib.Nat.{add-zero, zero-add, add-suc, suc-add, add-assoc, le-refl, le-of-suc-le-suc, not-suc-le-zero, suc-mul, zero-mul, mul-zero, mul-suc}
 use native.Mathlib.Omega.{arith}
-use mathlib.Core.Bool.{Bool, true, false, _&&_}
+use mathlib.Core.Bool.{true, false}
 use mathlib.Core.List.{List, [], _∷_, _++_, append-assoc, append-nil}
 use lib.ListN.{length, getD, set, take, drop, length-append, length-drop, length-replicate, take-append-drop, drop-of-length-le}
 use lib.Seq.{length-take-le, take-at, drop-at, take-append-le, drop-append-le, getD-take, getD-drop, getD-append-add, drop-append-add, take-append-add}
@@ -11,6 +11,7 @@ use lib.Seq.{take-take, drop-drop, take-add, set-split, ext-getD, take-nil, take
 use native.Mathlib.Numerals.{add-one}
 use lib.Dec.{eqb}
 use borrow.Author.Tests.{eqb-true, eq-eqb, ne-eqb}
+use Rattle.byte_strings.proofs.Bools.{both-true, and-false}
 use Rattle.byte_strings.specs.Lists.{part, put, run, joined, total, Bytes, zeros, sameList, allZero}
 
 module _ {A : Type 0} where
@@ -317,6 +318,43 @@ put-zeros xs at i h =
     ap (λ (k : ℕ). set (put xs at (zeros i)) (at + k) 0) (sym e) ∙ put-snoc xs at (zeros i) 0 (omega (arith, e))
     ∙ ap (put xs at) (zeros-suc i ∙ ap zeros (sym (add-one i)))
 
+pub getD-zeros : (k j : ℕ) → getD (zeros k) j 0 ≡ 0
+getD-zeros zero j = refl
+getD-zeros (suc k) zero = refl
+getD-zeros (suc k) (suc j) = getD-zeros k j
+
+pub part-zeros : (m a k : ℕ) → a + k ≤ m → part (zeros m) a k ≡ zeros k
+part-zeros m a k h =
+    let l : length (part (zeros m) a k) ≡ k = length-part (zeros m) a k (subst (λ (x : ℕ). a + k ≤ x) (sym (length-replicate {A = ℕ} m 0)) h) in
+    ext-getD 0 (part (zeros m) a k) (zeros k) (l ∙ sym (length-replicate {A = ℕ} k 0))
+    (λ j b. getD-part (zeros m) a k j 0 (omega arith) ∙ getD-zeros m (a + j) ∙ sym (getD-zeros k j))
+
+-- ---- parts and what is put, of lists of numbers
+
+pub part-take : (xs : List ℕ) (m a k : ℕ) → a + k ≤ m → part (take m xs) a k ≡ part xs a k
+unfolding part
+part-take xs m a k h = part-part xs 0 m a k h ∙ ap (λ (x : ℕ). take k (drop x xs)) (zero-add a)
+
+-- a part as code lends it, from a place to an end
+pub as-part : (xs : List ℕ) (at k : ℕ) → take (at + k - at) (drop at xs) ≡ part xs at k
+unfolding part
+as-part xs at k = let e : at + k - at ≡ k = omega arith in ap (λ (x : ℕ). take x (drop at xs)) e
+
+pub put-front : (xs ys : List ℕ) → put xs 0 ys ≡ ys ++ drop (length ys) xs
+unfolding put
+put-front xs ys = ap (λ (m : ℕ). ys ++ drop m xs) (zero-add (length ys))
+
+pub put-whole : (xs ys : List ℕ) → length xs ≡ length ys → put xs 0 ys ≡ ys
+unfolding put
+put-whole xs ys e = ap (λ (r : List ℕ). ys ++ r) (drop-of-length-le xs {i = 0 + length ys} (omega arith)) ∙ append-nil ys
+
+-- what stands before a place and what is put there
+pub take-put-end : (xs : List ℕ) (at m : ℕ) (ys : List ℕ) → length ys ≡ m → at ≤ length xs → take (at + m) (put xs at ys) ≡ take at xs ++ ys
+unfolding put
+take-put-end xs at m ys e l =
+    take-behind (take at xs) (ys ++ drop (at + length ys) xs) at m (length-take-le at xs l)
+    ∙ ap (λ (r : List ℕ). take at xs ++ r) (take-at ys (drop (at + length ys) xs) m e)
+
 -- ---- the same list, and all zeros
 
 pub same-refl : (xs : List ℕ) → sameList xs xs ≡ true
@@ -324,12 +362,8 @@ unfolding sameList
 same-refl [] = refl
 same-refl (x ∷ xs) = rw (eq-eqb x x refl) (same-refl xs)
 
-both-true : (a b : Bool) → a && b ≡ true → (a ≡ true) × (b ≡ true)
-both-true true b e = (refl, e)
-both-true false b e = (e, absurd (false-true e))
-  where
-    false-true : false ≡ true → ⊥
-    false-true p = let z : _≡_ {A = ℕ} 0 1 = cc in omega arith
+pub same-of : (xs ys : List ℕ) → xs ≡ ys → sameList xs ys ≡ true
+same-of xs ys e = ap (sameList xs) (sym e) ∙ same-refl xs
 
 pub same-eq : (xs ys : List ℕ) → sameList xs ys ≡ true → xs ≡ ys
 unfolding sameList
@@ -346,10 +380,6 @@ same-length [] [] h = absurd (h refl)
 same-length [] (y ∷ ys) h = refl
 same-length (x ∷ xs) [] h = refl
 same-length (x ∷ xs) (y ∷ ys) h = rw (same-length xs ys (λ e. h (ap suc e))) (and-false (eqb x y))
-  where
-    and-false : (b : Bool) → b && false ≡ false
-    and-false true = refl
-    and-false false = refl
 
 -- a turn of the loop that compares: what is left decides
 same-step : (x y : ℕ) (xs ys : List ℕ) → x ≡ y → sameList (x ∷ xs) (y ∷ ys) ≡ sameList xs ys

@@ -4,10 +4,11 @@ use Prim.Native.Nat.{ℕ, zero, suc, _+_, _-_, _≤_, _<_}
 use mathlib.Core.Path.{_≡_, refl, sym, ap, _∙_, subst}
 use mathlib.Core.Logic.{_⊎_, inl, inr}
 use mathlib.Core.Bool.{Bool, true, false}
-use native.Mathlib.Nat.{le-refl}
+use native.Mathlib.Nat.{le-refl, add-zero, add-suc, suc-add}
 use native.Mathlib.Numerals.{add-one}
 use native.Mathlib.Decide.{decLt}
 use native.Mathlib.Omega.{arith}
+use Rattle.byte_strings.proofs.Bools.{cases, clash}
 use Rattle.byte_strings.specs.Lowest.{Lowest, nowhere, first, lowest, IsLowest, LowestForAll}
 
 -- one step of the search
@@ -58,12 +59,8 @@ lowest-agree f g i (suc k) h =
 
 -- ---- what the search finds
 
-tested : (b : Bool) → (b ≡ true) ⊎ (b ≡ false)
-tested true = inl refl
-tested false = inr refl
-
-clash : {A : Type 0} (b : Bool) → b ≡ true → b ≡ false → A
-clash b p q = absurd (let z : _≡_ {A = ℕ} 0 1 = cc in omega arith)
+pub never-first : {A : Type 0} (i : ℕ) → first i ≡ nowhere → A
+never-first i e = let z : _≡_ {A = ℕ} 0 1 = cc in absurd (omega arith)
 
 module _ (right : ℕ → Bool) where
   -- all is right, or the first wrong number with all right before it
@@ -74,7 +71,7 @@ module _ (right : ℕ → Bool) where
   pub found-lowest : (i k : ℕ) → Found i k (lowest right i k)
   unfolding lowest
   found-lowest i zero = all refl (λ j h g. absurd (omega arith))
-  found-lowest i (suc k) = go (tested (right i)) (found-lowest (suc i) k)
+  found-lowest i (suc k) = go (cases (right i)) (found-lowest (suc i) k)
     where
       go : (right i ≡ true) ⊎ (right i ≡ false) → Found (suc i) k (lowest right (suc i) k) → Found i (suc k) (lowest right i (suc k))
       go (inr e) f = one i (ap (λ (b : Bool). step b i (lowest right (suc i) k)) e) (le-refl i) (omega arith) e (λ m h g. absurd (omega arith))
@@ -112,3 +109,33 @@ module _ (right : ℕ → Bool) where
 
 pub lowest-for-all : LowestForAll
 lowest-for-all right i k = is-lowest right i k (lowest right i k) (found-lowest right i k)
+
+-- ---- none is found wrong
+
+-- where none is found all are right
+pub nowhere-right : (right : ℕ → Bool) (i k : ℕ) → lowest right i k ≡ nowhere → (j : ℕ) → j < k → right (i + j) ≡ true
+unfolding lowest
+nowhere-right right i zero e j h = absurd (omega arith)
+nowhere-right right i (suc k) e j h = go (passed (right i) refl e) (λ d m l. nowhere-right right (suc i) k d m l) j h
+  where
+    passed : (b : Bool) → right i ≡ b → step b i (lowest right (suc i) k) ≡ nowhere → (right i ≡ true) × (lowest right (suc i) k ≡ nowhere)
+    passed true t d = (t, d)
+    passed false t d = never-first i d
+
+    go : (right i ≡ true) × (lowest right (suc i) k ≡ nowhere)
+        → (lowest right (suc i) k ≡ nowhere → (m : ℕ) → m < k → right (suc i + m) ≡ true) → (j : ℕ) → j < suc k → right (i + j) ≡ true
+    go d f zero l = ap right (add-zero i) ∙ d .0
+    go d f (suc m) l = ap right (add-suc i m ∙ sym (suc-add i m)) ∙ f (d .1) m (omega arith)
+
+-- and where all are right none is found
+pub lowest-none : (right : ℕ → Bool) (i k : ℕ) → ((j : ℕ) → i ≤ j → j < i + k → right j ≡ true) → lowest right i k ≡ nowhere
+unfolding lowest
+lowest-none right i zero h = refl
+lowest-none right i (suc k) h =
+    ap (λ (b : Bool). step b i (lowest right (suc i) k)) (h i (le-refl i) (omega arith))
+    ∙ lowest-none right (suc i) k (λ j p q. h j (omega arith) (omega arith))
+
+pub right-nowhere : (right : ℕ → Bool) (i k : ℕ) → ((j : ℕ) → j < k → right (i + j) ≡ true) → lowest right i k ≡ nowhere
+right-nowhere right i k h =
+    lowest-none right i k
+    (λ j p q. let e : i + (j - i) ≡ j = omega arith in ap right (sym e) ∙ h (j - i) (omega arith))

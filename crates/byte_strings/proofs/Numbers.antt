@@ -20,7 +20,7 @@ length-be zero x = refl
 length-be (suc k) x =
     length-append (be k (x / 256)) (x % 256 ∷ []) ∙ ap (λ (n : ℕ). n + 1) (length-be k (x / 256)) ∙ omega arith
 
-bytes-one : (b : ℕ) → b < 256 → Bytes (b ∷ [])
+pub bytes-one : (b : ℕ) → b < 256 → Bytes (b ∷ [])
 bytes-one b h zero = h
 bytes-one b h (suc i) = omega arith
 

@@ -35,7 +35,9 @@ pub extern "C" fn sleep_flat_hash_parts(
     out: &mut [u8; 32],
 ) -> u64
     ensures { λ r. ⌜ r ≡ numberOf (verdict 32 (List·length (now (key .entry)))) ⌝ }
-    ensures { λ _. ⌜ now (out .exit) ≡ unlessRefused (verdict 32 (List·length (now (key .entry)))) (Hash·blake2b 32 (now (key .entry)) (now (prefix .entry) ++ now (body .entry))) (now (out .entry)) ⌝ }
+    ensures { λ _.
+        ⌜ now (out .exit) ≡ unlessRefused (verdict 32 (List·length (now (key .entry))))
+        (Hash·blake2b 32 (now (key .entry)) (now (prefix .entry) ++ now (body .entry))) (now (out .entry)) ⌝ }
 {
     if 64 < key.len() {
         return 17;

@@ -24,7 +24,9 @@ pub extern "C" fn sleep_flat_make_copy(
     answer: &mut [u64; 3],
 )
     ensures answers { λ _. ⌜ now (answer .exit) ≡ encoded (makeVerdict (copyOf (now (tree .entry)) (now (bitfield .entry)) (now (content .entry)) n size)) ⌝ }
-    ensures buffers { λ _. ⌜ filesLent (now (tree .exit)) (now (bitfield .exit)) (now (content .exit)) ≡ afterMaking (copyOf (now (tree .entry)) (now (bitfield .entry)) (now (content .entry)) n size) ⌝ }
+    ensures buffers { λ _.
+        ⌜ filesLent (now (tree .exit)) (now (bitfield .exit)) (now (content .exit)) ≡ afterMaking
+        (copyOf (now (tree .entry)) (now (bitfield .entry)) (now (content .entry)) n size) ⌝ }
 {
     *answer = c_encoding::encode(copy_make::make_copy(tree, bitfield, content, n, size));
 }
@@ -42,8 +44,12 @@ pub extern "C" fn sleep_flat_take_in(
     root: &[u8; 32],
     answer: &mut [u64; 3],
 )
-    ensures answers { λ _. ⌜ now (answer .exit) ≡ encoded (takeVerdict nodeHash (copyOf (now (tree .entry)) (now (bitfield .entry)) (now (content .entry)) n size) (now (packet .entry)) chunk (now (root .entry))) ⌝ }
-    ensures buffers { λ _. ⌜ filesLent (now (tree .exit)) (now (bitfield .exit)) (now (content .exit)) ≡ afterTaking nodeHash (copyOf (now (tree .entry)) (now (bitfield .entry)) (now (content .entry)) n size) (now (packet .entry)) chunk (now (root .entry)) ⌝ }
+    ensures answers { λ _.
+        ⌜ now (answer .exit) ≡ encoded (takeVerdict nodeHash (copyOf (now (tree .entry)) (now (bitfield .entry)) (now (content .entry)) n size)
+        (now (packet .entry)) chunk (now (root .entry))) ⌝ }
+    ensures buffers { λ _.
+        ⌜ filesLent (now (tree .exit)) (now (bitfield .exit)) (now (content .exit)) ≡ afterTaking nodeHash
+        (copyOf (now (tree .entry)) (now (bitfield .entry)) (now (content .entry)) n size) (now (packet .entry)) chunk (now (root .entry)) ⌝ }
 {
     *answer = c_encoding::encode(copy_take_in::take_in(
         tree,
@@ -84,7 +90,9 @@ pub extern "C" fn sleep_flat_copy_release(
     answer: &mut [u64; 3],
 )
     ensures answers { λ _. ⌜ now (answer .exit) ≡ encoded (copyReleaseVerdict (copyOf (now (tree .entry)) (now (bitfield .entry)) (now (content .entry)) n size) chunk) ⌝ }
-    ensures buffers { λ _. ⌜ filesLent (now (tree .exit)) (now (bitfield .exit)) (now (content .exit)) ≡ copyAfterRelease (copyOf (now (tree .entry)) (now (bitfield .entry)) (now (content .entry)) n size) chunk ⌝ }
+    ensures buffers { λ _.
+        ⌜ filesLent (now (tree .exit)) (now (bitfield .exit)) (now (content .exit)) ≡ copyAfterRelease
+        (copyOf (now (tree .entry)) (now (bitfield .entry)) (now (content .entry)) n size) chunk ⌝ }
 {
     *answer = c_encoding::encode(copy_release::release(
         tree,
@@ -108,7 +116,9 @@ pub extern "C" fn sleep_flat_copy_root_hash(
     answer: &mut [u64; 3],
 )
     ensures answers { λ _. ⌜ now (answer .exit) ≡ encoded (copyRootVerdict (copyOf (now (tree .entry)) (now (bitfield .entry)) (now (content .entry)) n size)) ⌝ }
-    ensures gives { λ _. ⌜ now (root .exit) ≡ unlessRefused (copyRootVerdict (copyOf (now (tree .entry)) (now (bitfield .entry)) (now (content .entry)) n size)) (copyRootAnswer nodeHash (copyOf (now (tree .entry)) (now (bitfield .entry)) (now (content .entry)) n size)) (now (root .entry)) ⌝ }
+    ensures gives { λ _.
+        ⌜ now (root .exit) ≡ unlessRefused (copyRootVerdict (copyOf (now (tree .entry)) (now (bitfield .entry)) (now (content .entry)) n size))
+        (copyRootAnswer nodeHash (copyOf (now (tree .entry)) (now (bitfield .entry)) (now (content .entry)) n size)) (now (root .entry)) ⌝ }
 {
     let rooted = copy_roots::root_hash(tree, bitfield, content, n, size);
     let hash = rooted.root;
@@ -129,7 +139,9 @@ pub extern "C" fn sleep_flat_copy_old_root(
     answer: &mut [u64; 3],
 )
     ensures answers { λ _. ⌜ now (answer .exit) ≡ encoded (copyPrefixVerdict (copyOf (now (tree .entry)) (now (bitfield .entry)) (now (content .entry)) n size) m) ⌝ }
-    ensures gives { λ _. ⌜ now (root .exit) ≡ unlessRefused (copyPrefixVerdict (copyOf (now (tree .entry)) (now (bitfield .entry)) (now (content .entry)) n size) m) (copyPrefixRoot nodeHash (copyOf (now (tree .entry)) (now (bitfield .entry)) (now (content .entry)) n size) m) (now (root .entry)) ⌝ }
+    ensures gives { λ _.
+        ⌜ now (root .exit) ≡ unlessRefused (copyPrefixVerdict (copyOf (now (tree .entry)) (now (bitfield .entry)) (now (content .entry)) n size) m)
+        (copyPrefixRoot nodeHash (copyOf (now (tree .entry)) (now (bitfield .entry)) (now (content .entry)) n size) m) (now (root .entry)) ⌝ }
 {
     let rooted = copy_roots::prefix_root_hash(tree, bitfield, content, n, size, m);
     let hash = rooted.root;

@@ -26,7 +26,9 @@ pub extern "C" fn sleep_flat_start(
     answer: &mut [u64; 3],
 )
     ensures answers { λ _. ⌜ now (answer .exit) ≡ encoded (startVerdict (lent (now (tree .entry)) (now (signatures .entry)) (now (bitfield .entry)) (now (content .entry)))) ⌝ }
-    ensures buffers { λ _. ⌜ lent (now (tree .exit)) (now (signatures .exit)) (now (bitfield .exit)) (now (content .exit)) ≡ afterStart (lent (now (tree .entry)) (now (signatures .entry)) (now (bitfield .entry)) (now (content .entry))) ⌝ }
+    ensures buffers { λ _.
+        ⌜ lent (now (tree .exit)) (now (signatures .exit)) (now (bitfield .exit)) (now (content .exit)) ≡ afterStart
+        (lent (now (tree .entry)) (now (signatures .entry)) (now (bitfield .entry)) (now (content .entry))) ⌝ }
 {
     *answer = c_encoding::encode(writing::start(tree, signatures, bitfield, content));
 }
@@ -45,9 +47,18 @@ pub extern "C" fn sleep_flat_append(
     root: &mut [u8; 32],
     answer: &mut [u64; 3],
 )
-    ensures answers { λ _. ⌜ now (answer .exit) ≡ encoded (appendVerdict (registerOf (now (tree .entry)) (now (signatures .entry)) (now (bitfield .entry)) (now (content .entry)) n s size) (now (chunk .entry))) ⌝ }
-    ensures gives { λ _. ⌜ now (root .exit) ≡ unlessRefused (appendVerdict (registerOf (now (tree .entry)) (now (signatures .entry)) (now (bitfield .entry)) (now (content .entry)) n s size) (now (chunk .entry))) (appendRoot nodeHash (registerOf (now (tree .entry)) (now (signatures .entry)) (now (bitfield .entry)) (now (content .entry)) n s size) (now (chunk .entry))) (now (root .entry)) ⌝ }
-    ensures buffers { λ _. ⌜ lent (now (tree .exit)) (now (signatures .exit)) (now (bitfield .exit)) (now (content .exit)) ≡ afterAppend nodeHash (registerOf (now (tree .entry)) (now (signatures .entry)) (now (bitfield .entry)) (now (content .entry)) n s size) (now (chunk .entry)) ⌝ }
+    ensures answers { λ _.
+        ⌜ now (answer .exit) ≡ encoded (appendVerdict
+        (registerOf (now (tree .entry)) (now (signatures .entry)) (now (bitfield .entry)) (now (content .entry)) n s size) (now (chunk .entry))) ⌝ }
+    ensures gives { λ _.
+        ⌜ now (root .exit) ≡ unlessRefused
+        (appendVerdict (registerOf (now (tree .entry)) (now (signatures .entry)) (now (bitfield .entry)) (now (content .entry)) n s size)
+        (now (chunk .entry))) (appendRoot nodeHash
+        (registerOf (now (tree .entry)) (now (signatures .entry)) (now (bitfield .entry)) (now (content .entry)) n s size) (now (chunk .entry)))
+        (now (root .entry)) ⌝ }
+    ensures buffers { λ _.
+        ⌜ lent (now (tree .exit)) (now (signatures .exit)) (now (bitfield .exit)) (now (content .exit)) ≡ afterAppend nodeHash
+        (registerOf (now (tree .entry)) (now (signatures .entry)) (now (bitfield .entry)) (now (content .entry)) n s size) (now (chunk .entry)) ⌝ }
 {
     let appended = writing::append(tree, signatures, bitfield, content, n, s, size, chunk);
     let hash = appended.root;
@@ -70,9 +81,20 @@ pub extern "C" fn sleep_flat_append_list(
     root: &mut [u8; 32],
     answer: &mut [u64; 3],
 )
-    ensures answers { λ _. ⌜ now (answer .exit) ≡ encoded (listVerdict (registerOf (now (tree .entry)) (now (signatures .entry)) (now (bitfield .entry)) (now (content .entry)) n s size) (now (lengths .entry)) (now (bytes .entry))) ⌝ }
-    ensures gives { λ _. ⌜ now (root .exit) ≡ unlessRefused (listVerdict (registerOf (now (tree .entry)) (now (signatures .entry)) (now (bitfield .entry)) (now (content .entry)) n s size) (now (lengths .entry)) (now (bytes .entry))) (listRoot nodeHash (registerOf (now (tree .entry)) (now (signatures .entry)) (now (bitfield .entry)) (now (content .entry)) n s size) (now (lengths .entry)) (now (bytes .entry))) (now (root .entry)) ⌝ }
-    ensures buffers { λ _. ⌜ lent (now (tree .exit)) (now (signatures .exit)) (now (bitfield .exit)) (now (content .exit)) ≡ afterList nodeHash (registerOf (now (tree .entry)) (now (signatures .entry)) (now (bitfield .entry)) (now (content .entry)) n s size) (now (lengths .entry)) (now (bytes .entry)) ⌝ }
+    ensures answers { λ _.
+        ⌜ now (answer .exit) ≡ encoded (listVerdict
+        (registerOf (now (tree .entry)) (now (signatures .entry)) (now (bitfield .entry)) (now (content .entry)) n s size) (now (lengths .entry))
+        (now (bytes .entry))) ⌝ }
+    ensures gives { λ _.
+        ⌜ now (root .exit) ≡ unlessRefused
+        (listVerdict (registerOf (now (tree .entry)) (now (signatures .entry)) (now (bitfield .entry)) (now (content .entry)) n s size)
+        (now (lengths .entry)) (now (bytes .entry)))
+        (listRoot nodeHash (registerOf (now (tree .entry)) (now (signatures .entry)) (now (bitfield .entry)) (now (content .entry)) n s size)
+        (now (lengths .entry)) (now (bytes .entry))) (now (root .entry)) ⌝ }
+    ensures buffers { λ _.
+        ⌜ lent (now (tree .exit)) (now (signatures .exit)) (now (bitfield .exit)) (now (content .exit)) ≡ afterList nodeHash
+        (registerOf (now (tree .entry)) (now (signatures .entry)) (now (bitfield .entry)) (now (content .entry)) n s size) (now (lengths .entry))
+        (now (bytes .entry)) ⌝ }
 {
     let appended = append_list::append_list(
         tree,
@@ -104,8 +126,15 @@ pub extern "C" fn sleep_flat_preview(
     root: &mut [u8; 32],
     answer: &mut [u64; 3],
 )
-    ensures answers { λ _. ⌜ now (answer .exit) ≡ encoded (appendVerdict (registerOf (now (tree .entry)) (now (signatures .entry)) (now (bitfield .entry)) (now (content .entry)) n s size) (now (chunk .entry))) ⌝ }
-    ensures gives { λ _. ⌜ now (root .exit) ≡ unlessRefused (appendVerdict (registerOf (now (tree .entry)) (now (signatures .entry)) (now (bitfield .entry)) (now (content .entry)) n s size) (now (chunk .entry))) (appendRoot nodeHash (registerOf (now (tree .entry)) (now (signatures .entry)) (now (bitfield .entry)) (now (content .entry)) n s size) (now (chunk .entry))) (now (root .entry)) ⌝ }
+    ensures answers { λ _.
+        ⌜ now (answer .exit) ≡ encoded (appendVerdict
+        (registerOf (now (tree .entry)) (now (signatures .entry)) (now (bitfield .entry)) (now (content .entry)) n s size) (now (chunk .entry))) ⌝ }
+    ensures gives { λ _.
+        ⌜ now (root .exit) ≡ unlessRefused
+        (appendVerdict (registerOf (now (tree .entry)) (now (signatures .entry)) (now (bitfield .entry)) (now (content .entry)) n s size)
+        (now (chunk .entry))) (appendRoot nodeHash
+        (registerOf (now (tree .entry)) (now (signatures .entry)) (now (bitfield .entry)) (now (content .entry)) n s size) (now (chunk .entry)))
+        (now (root .entry)) ⌝ }
 {
     let previewed = append_preview::preview(tree, signatures, bitfield, content, n, s, size, chunk);
     let hash = previewed.root;
@@ -127,7 +156,9 @@ pub extern "C" fn sleep_flat_store_signature(
     answer: &mut [u64; 3],
 )
     ensures answers { λ _. ⌜ now (answer .exit) ≡ encoded (signVerdict (registerOf (now (tree .entry)) (now (signatures .entry)) (now (bitfield .entry)) (now (content .entry)) n s size)) ⌝ }
-    ensures buffers { λ _. ⌜ lent (now (tree .exit)) (now (signatures .exit)) (now (bitfield .exit)) (now (content .exit)) ≡ afterSign (registerOf (now (tree .entry)) (now (signatures .entry)) (now (bitfield .entry)) (now (content .entry)) n s size) (now (signature .entry)) ⌝ }
+    ensures buffers { λ _.
+        ⌜ lent (now (tree .exit)) (now (signatures .exit)) (now (bitfield .exit)) (now (content .exit)) ≡ afterSign
+        (registerOf (now (tree .entry)) (now (signatures .entry)) (now (bitfield .entry)) (now (content .entry)) n s size) (now (signature .entry)) ⌝ }
 {
     *answer = c_encoding::encode(writing::store_signature(
         tree,
@@ -155,7 +186,9 @@ pub extern "C" fn sleep_flat_release(
     answer: &mut [u64; 3],
 )
     ensures answers { λ _. ⌜ now (answer .exit) ≡ encoded (releaseVerdict (registerOf (now (tree .entry)) (now (signatures .entry)) (now (bitfield .entry)) (now (content .entry)) n s size) chunk) ⌝ }
-    ensures buffers { λ _. ⌜ lent (now (tree .exit)) (now (signatures .exit)) (now (bitfield .exit)) (now (content .exit)) ≡ afterRelease (registerOf (now (tree .entry)) (now (signatures .entry)) (now (bitfield .entry)) (now (content .entry)) n s size) chunk ⌝ }
+    ensures buffers { λ _.
+        ⌜ lent (now (tree .exit)) (now (signatures .exit)) (now (bitfield .exit)) (now (content .exit)) ≡ afterRelease
+        (registerOf (now (tree .entry)) (now (signatures .entry)) (now (bitfield .entry)) (now (content .entry)) n s size) chunk ⌝ }
 {
     *answer = c_encoding::encode(release::release(
         tree,
@@ -183,7 +216,11 @@ pub extern "C" fn sleep_flat_root_hash(
     answer: &mut [u64; 3],
 )
     ensures answers { λ _. ⌜ now (answer .exit) ≡ encoded (rootVerdict (registerOf (now (tree .entry)) (now (signatures .entry)) (now (bitfield .entry)) (now (content .entry)) n s size)) ⌝ }
-    ensures gives { λ _. ⌜ now (root .exit) ≡ unlessRefused (rootVerdict (registerOf (now (tree .entry)) (now (signatures .entry)) (now (bitfield .entry)) (now (content .entry)) n s size)) (rootAnswer nodeHash (registerOf (now (tree .entry)) (now (signatures .entry)) (now (bitfield .entry)) (now (content .entry)) n s size)) (now (root .entry)) ⌝ }
+    ensures gives { λ _.
+        ⌜ now (root .exit) ≡ unlessRefused
+        (rootVerdict (registerOf (now (tree .entry)) (now (signatures .entry)) (now (bitfield .entry)) (now (content .entry)) n s size))
+        (rootAnswer nodeHash (registerOf (now (tree .entry)) (now (signatures .entry)) (now (bitfield .entry)) (now (content .entry)) n s size))
+        (now (root .entry)) ⌝ }
 {
     let rooted = writing::root_hash(tree, signatures, bitfield, content, n, s, size);
     let hash = rooted.root;
@@ -206,7 +243,11 @@ pub extern "C" fn sleep_flat_old_root(
     answer: &mut [u64; 3],
 )
     ensures answers { λ _. ⌜ now (answer .exit) ≡ encoded (prefixVerdict (registerOf (now (tree .entry)) (now (signatures .entry)) (now (bitfield .entry)) (now (content .entry)) n s size) m) ⌝ }
-    ensures gives { λ _. ⌜ now (root .exit) ≡ unlessRefused (prefixVerdict (registerOf (now (tree .entry)) (now (signatures .entry)) (now (bitfield .entry)) (now (content .entry)) n s size) m) (prefixRoot nodeHash (registerOf (now (tree .entry)) (now (signatures .entry)) (now (bitfield .entry)) (now (content .entry)) n s size) m) (now (root .entry)) ⌝ }
+    ensures gives { λ _.
+        ⌜ now (root .exit) ≡ unlessRefused
+        (prefixVerdict (registerOf (now (tree .entry)) (now (signatures .entry)) (now (bitfield .entry)) (now (content .entry)) n s size) m)
+        (prefixRoot nodeHash (registerOf (now (tree .entry)) (now (signatures .entry)) (now (bitfield .entry)) (now (content .entry)) n s size) m)
+        (now (root .entry)) ⌝ }
 {
     let rooted = prefix_root::prefix_root(tree, signatures, bitfield, content, n, s, size, m);
     let hash = rooted.root;

@@ -16,7 +16,7 @@ pub fn encode(said: Said) -> [u64; 2]
         Said::Range(place) => [5, place as u64],
         Said::Gap(file) => [6, file as u64],
         Said::Hash => [7, 0],
-        Said::Met(file) => [8, file],
+        Said::NotBetween(file) => [8, file],
         Said::Byte(offset) => [9, offset as u64],
         Said::Unfit => [10, 0],
     }

@@ -12,8 +12,8 @@ use Rattle.refusals.specs.declared.Answer.{Answer}
 use Rattle.refusals.specs.declared.Answer.the-variants.{Done, Refused}
 use Rattle.byte_strings.specs.Lists.{sameList}
 use Rattle.byte_strings.proofs.Lists.{same-eq}
-use Rattle.tree_index.specs.Tree.{filled, entries}
-use Rattle.file_format.specs.Stored.{storedHash, storedStart, storedMessage, storedRootMessage}
+use Rattle.tree_index.specs.Tree.{entries}
+use Rattle.file_format.specs.Stored.{storedStart, storedRootMessage}
 use Rattle.file_format.specs.Belongs.{Register}
 use Rattle.file_format.specs.Inner.{RootsIn}
 use Rattle.audit.specs.Audit.{first, lowest, Accepted}
@@ -21,7 +21,7 @@ use Rattle.checks.specs.Capped.{capped}
 use Rattle.audit.specs.TreeWalk.{leavesBefore}
 use Rattle.audit.proofs.Audited.{accepted-audited}
 use Rattle.audit.proofs.Search.{lowest-on, lowest-off, lowest-end}
-use Rattle.compare.specs.Walk.{Comparison, firstRefused, secondRefused, rootsDiffer, atRoots, atIndex, equal, found, atTop, unlessTold, walk, unlessRefused, wholeVerdict, compare}
+use Rattle.compare.specs.Walk.{Comparison, firstRefused, secondRefused, rootsDiffer, atRoots, atIndex, equal, found, storedSide, atTop, unlessTold, walk, unlessRefused, wholeVerdict, compare}
 use Rattle.compare.specs.Inner.{ReadAt, collidesAt}
 use Rattle.compare.proofs.RootMessages.{same-count}
 use Rattle.compare.proofs.Whole.{whole-accepted}
@@ -86,7 +86,7 @@ top-same false r e = let z : _≡_ {A = ℕ} 0 1 = cc in absurd (omega arith)
 
 module _ (F : List ℕ → List ℕ) (t u : List ℕ) (n m : ℕ) where
   abbrev pub top : Comparison → Comparison
-  top = atTop (F (storedRootMessage t n)) (F (storedRootMessage u m)) (storedRootMessage t n) (storedRootMessage u m)
+  top = atTop F (storedRootMessage t n) (storedRootMessage u m)
 
   module _ (x y : List ℕ) (h : Bool) (p : x ≡ F (storedRootMessage t n)) (q : y ≡ F (storedRootMessage u m)) (s : h ≡ sameList x y) where
     hashes : sameList (F (storedRootMessage t n)) (F (storedRootMessage u m)) ≡ h
@@ -114,9 +114,7 @@ module _ (F : List ℕ → List ℕ) (t u : List ℕ) (n m : ℕ) where
 
 module _ (F : List ℕ → List ℕ) (t d u e : List ℕ) (n m : ℕ) where
   abbrev pub walked : Comparison
-  walked =
-      walk (F (storedRootMessage t n)) (F (storedRootMessage u m)) (storedRootMessage t n) (storedRootMessage u m) (storedMessage t d)
-      (storedMessage u e) (storedHash t) (storedHash u) (filled n) (entries n)
+  walked = walk F (storedSide t d n) (storedSide u e m) n
 
   pub walk-parts : walked ≡ unlessTold (top F t u n m equal) (found (lowest (free t d u e n) 0 (entries n)))
   unfolding walk collidesAt

@@ -1,6 +1,6 @@
 -- "Two archives are compared .. only when each holds all its pieces": which registers pass the checks of a comparison, and where it refuses with 18.
 --
--- The notions in it: `lowest` (sequences, Lowest), `storedHeld` (bitfield, Release), `Slot` and `heldIn` (files, Slots), `Register` and `Belongs` (files,
+-- The notions in it: `lowest` (byte_strings, Lowest), `storedHeld` (bitfield, Release), `Slot` and `heldIn` (file_format, Slots), `Register` and `Belongs` (file_format,
 -- Belongs), `judged` and `registerChecks` (checks, Checks), `Accepted` (audit, Audit), `wholeVerdict` (Walk).
 use Prim.Native.Nat.{ℕ, _<_}
 use mathlib.Core.Path.{_≡_}

@@ -29,9 +29,15 @@ abbrev pub found : Lowest → Comparison
 found nowhere = equal
 found (first i) = atIndex i
 
--- "roots differ" if the root hashes do; or the collision, as "at the roots" if the root messages differ, else what comes next
-abbrev pub atTop : (rh₁ rh₂ rm₁ rm₂ : List ℕ) → Comparison → Comparison
-atTop rh₁ rh₂ rm₁ rm₂ next = cond (sameList rh₁ rh₂) (cond (sameList rm₁ rm₂) next atRoots) rootsDiffer
+-- what the walk looks at of one register: the root message, and the message and the hash at each tree index
+pub record Side : Type 0 where
+  pub top : List ℕ
+  pub message : ℕ → List ℕ
+  pub hash : ℕ → List ℕ
+
+-- of a register of n chunks what its tree file and its data say
+abbrev pub storedSide : List ℕ → List ℕ → ℕ → Side
+storedSide t content n = record { top = storedRootMessage t n; message = storedMessage t content; hash = storedHash t }
 
 -- a comparison, and what comes next where it is "equal"
 abbrev pub unlessTold : Comparison → Comparison → Comparison
@@ -42,10 +48,16 @@ unlessTold rootsDiffer next = rootsDiffer
 unlessTold atRoots next = atRoots
 unlessTold (atIndex i) next = atIndex i
 
--- the walk over messages and hashes, wherever these come from: the roots, then the lowest of the k tree indexes from 0 on
-unfoldable pub walk : (rh₁ rh₂ rm₁ rm₂ : List ℕ) (m₁ m₂ h₁ h₂ : ℕ → List ℕ) (is : ℕ → Bool) (k : ℕ) → Comparison
-walk rh₁ rh₂ rm₁ rm₂ m₁ m₂ h₁ h₂ is k =
-    atTop rh₁ rh₂ rm₁ rm₂ (found (lowest (λ i. not (is i && collides (m₁ i) (m₂ i) (h₁ i) (h₂ i))) 0 k))
+module _ (F : List ℕ → List ℕ) where
+  -- "roots differ" if the root hashes do; or the collision, as "at the roots" if the root messages differ, else what comes next
+  abbrev pub atTop : List ℕ → List ℕ → Comparison → Comparison
+  atTop m₁ m₂ next = cond (sameList (F m₁) (F m₂)) (cond (sameList m₁ m₂) next atRoots) rootsDiffer
+
+  -- the walk over two sides of n chunks: the roots, then the lowest of the filled tree indexes
+  unfoldable pub walk : Side → Side → ℕ → Comparison
+  walk a b n =
+      atTop (a .top) (b .top)
+      (found (lowest (λ i. not (filled n i && collides (a .message i) (b .message i) (a .hash i) (b .hash i))) 0 (entries n)))
 
 -- a refusal of the first register, then of the second, then what comes next
 abbrev pub unlessRefused : Verdict → Verdict → Comparison → Comparison
@@ -72,6 +84,4 @@ module _ (F : List ℕ → List ℕ) where
   unfoldable pub compare : Register → Register → Comparison
   compare a b =
       unlessRefused (wholeVerdict a) (wholeVerdict b)
-      (walk (F (storedRootMessage (a .tree) (a .n))) (F (storedRootMessage (b .tree) (b .n)))
-      (storedRootMessage (a .tree) (a .n)) (storedRootMessage (b .tree) (b .n)) (storedMessage (a .tree) (a .content))
-      (storedMessage (b .tree) (b .content)) (storedHash (a .tree)) (storedHash (b .tree)) (filled (a .n)) (entries (a .n)))
+      (walk F (storedSide (a .tree) (a .content) (a .n)) (storedSide (b .tree) (b .content) (b .n)) (a .n))

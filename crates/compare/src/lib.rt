@@ -11,9 +11,9 @@ ghost use mathlib.Core.Bool.{not};
 ghost use Prim.Native.Nat.{_-_, _≤_};
 ghost use Rattle.refusals.specs.Verdict.{done};
 ghost use Rattle.refusals.specs.Meaning.{said};
-ghost use Rattle.tree_index.specs.Tree.{filled, entries};
+ghost use Rattle.tree_index.specs.Tree.{entries};
 ghost use Rattle.blake2b.specs.Hash.{nodeHash};
-ghost use Rattle.file_format.specs.Stored.{storedHash, storedMessage, storedRootMessage};
+ghost use Rattle.file_format.specs.Stored.{storedRootMessage};
 ghost use Rattle.file_format.specs.Inner.{RootsIn};
 ghost use Rattle.checks.specs.Lent.{registerOf};
 ghost use Rattle.audit.specs.Audit.{lowest};
@@ -85,12 +85,7 @@ pub fn compare_roots(tree: &[u8], n: u64, tree2: &[u8], n2: u64) -> Roots
     ensures { λ r.
         ⌜
         rootsTold r ≡
-        spec.atTop
-        (nodeHash (storedRootMessage (now (tree .entry)) n))
-        (nodeHash (storedRootMessage (now (tree2 .entry)) n2))
-        (storedRootMessage (now (tree .entry)) n)
-        (storedRootMessage (now (tree2 .entry)) n2)
-        spec.equal
+        spec.atTop nodeHash (storedRootMessage (now (tree .entry)) n) (storedRootMessage (now (tree2 .entry)) n2) spec.equal
         ⌝ }
 {
     let hash = file_format::roots::stored_root_hash(tree, n);
@@ -110,17 +105,8 @@ fn walk(tree: &[u8], content: &[u8], n: u64, tree2: &[u8], content2: &[u8], n2: 
     ensures { λ r.
         ⌜
         compared r ≡
-        spec.walk
-        (nodeHash (storedRootMessage (now (tree .entry)) n))
-        (nodeHash (storedRootMessage (now (tree2 .entry)) n2))
-        (storedRootMessage (now (tree .entry)) n)
-        (storedRootMessage (now (tree2 .entry)) n2)
-        (storedMessage (now (tree .entry)) (now (content .entry)))
-        (storedMessage (now (tree2 .entry)) (now (content2 .entry)))
-        (storedHash (now (tree .entry)))
-        (storedHash (now (tree2 .entry)))
-        (filled n)
-        (entries n)
+        spec.walk nodeHash (spec.storedSide (now (tree .entry)) (now (content .entry)) n)
+        (spec.storedSide (now (tree2 .entry)) (now (content2 .entry)) n2) n
         ⌝ }
 {
     match compare_roots(tree, n, tree2, n2) {

@@ -1,6 +1,6 @@
 -- "Each undoes the other for every length up to 65,536."
 --
--- The notions in it: `grouped` and `ungrouped` (Grouping), `verdict` and `after` (Calls), `Bytes` and `put` (sequences, Lists).
+-- The notions in it: `grouped` and `ungrouped` (Grouping), `verdict` and `after` (Calls), `Bytes` and `put` (byte_strings, Lists).
 use Prim.Native.Nat.{ℕ, _≤_}
 use mathlib.Core.Path.{_≡_}
 use mathlib.Core.List.{List}

@@ -4,9 +4,8 @@ use mathlib.Core.Path.{_≡_, refl, sym, ap, ap₂, _∙_, subst, subst₂}
 use mathlib.Core.Bool.{Bool, true, false, cond, not, _&&_, _||_}
 use mathlib.Core.List.{List}
 use native.Mathlib.Omega.{arith}
-use lib.Dec.{leb}
 use lib.ListN.{length, getD}
-use Rattle.byte_strings.specs.Lists.{part, run, sameList, allZero}
+use Rattle.byte_strings.specs.Lists.{run}
 use Rattle.byte_strings.proofs.Lists.{length-run, getD-run}
 use Rattle.byte_strings.specs.Lowest.{Lowest, nowhere, first}
 use Rattle.tree_index.specs.Tree.{index, depth, block, leftChild, rightChild, filled, entries}
@@ -17,14 +16,12 @@ use Rattle.bitfield.specs.Image.{entryCount}
 use Rattle.bitfield.specs.Append.{bitsPlace}
 use Rattle.bitfield.specs.Release.{storedHeld}
 use Rattle.bitfield.specs.Known.{storedKnown}
-use Rattle.file_format.specs.Sizes.{longestChunk, usedBitfield}
-use Rattle.file_format.specs.Messages.{leafMessage}
-use Rattle.file_format.specs.Stored.{storedHash, storedSize}
+use Rattle.file_format.specs.Sizes.{usedBitfield}
 use Rattle.file_format.proofs.Nodes.{byDepth}
 use Rattle.checks.specs.Capped.{most, capped}
-use Rattle.audit.specs.Audit.{parentRight, holeRight}
+use Rattle.audit.specs.Audit.{parentRight, holeRight, leafFrom}
 use Rattle.audit.specs.BitfieldEntries.{BitsIn}
-use Rattle.audit.specs.TreeWalk.{leafFrom, FilesIn, AtLeaf}
+use Rattle.audit.specs.TreeWalk.{FilesIn, AtLeaf}
 use Rattle.audit.proofs.Bytes.{tree-bit}
 use Rattle.audit.proofs.Capped.{capped-leaf}
 use Rattle.audit.proofs.Entries.{entry-in, even-depth, odd-depth, parent-in}
@@ -34,8 +31,9 @@ use Rattle.copy_checks.specs.Copy.{Copy}
 use Rattle.copy_checks.specs.Descents.{copyToChunk}
 use Rattle.copy_checks.specs.Least.{lowerOf, leastOf}
 use Rattle.copy_checks.proofs.Least.{Lowering, lowering-none, lowering-next, lowering-all}
-use Rattle.copy_audit.specs.Audit.{wrongUnless, heldLeaf, bothKnown, leafRightFrom, wrongFrom, wrongByLeaf, wrongByParent, wrongByKnown, wrongByUnknown, wrongBy, wrongEntryOfCopy}
+use Rattle.copy_audit.specs.Audit.{wrongUnless, heldLeaf, bothKnown, wrongFrom, wrongByLeaf, wrongByParent, wrongByKnown, wrongByUnknown, wrongBy, wrongEntryOfCopy}
 use Rattle.copy_audit.specs.Inner.{heldAt, AtNode, AtFamily}
+use Rattle.copy_audit.specs.Audit.{leafRightFrom}
 
 -- ---- where things lie
 
@@ -97,15 +95,10 @@ both-known true false r s e f q = let z : _≡_ {A = ℕ} 0 1 = cc in absurd (om
 module _ (F : List ℕ → List ℕ) (c : Copy) (k : ℕ) where
   -- the test of a leaf at the index i
   abbrev leafBy : ℕ → ℕ → Bool
-  leafBy start i =
-      leb (storedSize (c .tree) i) longestChunk
-      && (leb (start + storedSize (c .tree) i) (c .size)
-      && cond (storedHeld (c .bitfield) k) (sameList (storedHash (c .tree) i) (F (leafMessage (part (c .content) start (storedSize (c .tree) i)))))
-      (allZero (part (c .content) start (storedSize (c .tree) i))))
+  leafBy start i = leafFrom F (c .tree) (c .content) (c .size) (storedHeld (c .bitfield) k) i start
 
   -- as the copy's definition and the register's say it
-  own-test : (start : ℕ) → leafRightFrom F c k start ≡ leafFrom F (c .tree) (c .content) (c .size) (storedHeld (c .bitfield) k) k start
-  unfolding leafRightFrom leafFrom
+  own-test : (start : ℕ) → leafRightFrom F c k start ≡ leafBy start (2 * k)
   own-test start = ap (leafBy start) (index-leaf k)
 
   -- what is found wrong by an ending told with a capped start
@@ -130,7 +123,7 @@ module _ (F : List ℕ → List ℕ) (c : Copy) (k : ℕ) where
   leaf-stopped h i = by-ending h (stopped i)
 
   pub leaf-reached : c .size < most → (j s i : ℕ) (r : Bool) → reached j s ≡ cappedEnding (copyToChunk c k) → i ≡ index 0 k
-      → r ≡ leafFrom F (c .tree) (c .content) (c .size) (storedHeld (c .bitfield) k) k s → wrongUnless r i ≡ wrongByLeaf F c k
+      → r ≡ leafFrom F (c .tree) (c .content) (c .size) (storedHeld (c .bitfield) k) (2 * k) s → wrongUnless r i ≡ wrongByLeaf F c k
   unfolding wrongFrom
   leaf-reached h j s i r q qi qr = ap₂ wrongUnless (qr ∙ sym (own-test s)) qi ∙ by-ending h (reached j s) q
 

@@ -6,17 +6,19 @@ use mathlib.Core.List.{List}
 use Rattle.refusals.specs.Verdict.{Spot, Verdict, tree, bitfield, done, refused}
 use Rattle.byte_strings.specs.Lowest.{Lowest, nowhere, first, lowest}
 use Rattle.file_format.specs.Sizes.{usedBitfield}
-use Rattle.audit.specs.Audit.{refusedAt}
-use Rattle.audit.specs.BitfieldEntries.{treeBits, byteRightBy}
+use Rattle.audit.specs.Audit.{refusedAt, byteRightBy}
+use Rattle.audit.specs.BitfieldEntries.{treeBits}
 use Rattle.audit.specs.TreeWalk.{FilesIn}
 use Rattle.copy_checks.specs.Copy.{Copy}
 use Rattle.copy_checks.specs.Checks.{partlyJudged}
 use Rattle.copy_checks.proofs.Steps.{bits-in, roots-in, partly-passed, partly-passes, partly-refused-by}
-use Rattle.copy_audit.specs.Audit.{wrongEntryOfCopy, knownBits, copyBitfieldImage, copyByteRight, wrongByteOfCopy, auditCopy}
+use Rattle.copy_audit.specs.Audit.{wrongEntryOfCopy, knownBits, wrongByteOfCopy, auditCopy, copyByteRight}
+use Rattle.file_format.specs.Images.{bitfieldOf}
+use Rattle.bitfield.specs.Image.{entriesFor}
 
 -- the bytes of the bitfield file, judged by the register's function
 pub partly-right : (xs : List ℕ) (n : ℕ) → byteRightBy (treeBits true xs n) xs n ≡ copyByteRight xs n
-unfolding byteRightBy treeBits copyByteRight copyBitfieldImage knownBits
+unfolding byteRightBy treeBits bitfieldOf entriesFor knownBits
 partly-right xs n = refl
 
 module _ (F : List ℕ → List ℕ) (c : Copy) where

@@ -1,23 +1,17 @@
 -- The audit of a copy: 2, 4, 5, 6, which is passed over while a root is unknown, then 10 at the lowest wrong tree index, then 11 at the lowest wrong byte of
 -- the bitfield file.
-use Prim.Native.Nat.{ℕ, zero, suc, _+_, _-_}
+use Prim.Native.Nat.{ℕ, zero, suc, _-_}
 use mathlib.Core.Path.{_≡_}
 use mathlib.Core.Bool.{Bool, true, false, cond, not, _&&_, _||_}
-use mathlib.Core.List.{List, _++_}
-use lib.ListN.{getD}
-use lib.Dec.{leb, eqb}
+use mathlib.Core.List.{List}
 use Rattle.refusals.specs.Verdict.{Verdict, tree, bitfield, done}
-use Rattle.byte_strings.specs.Lists.{part, run, joined, sameList, allZero}
+use Rattle.byte_strings.specs.Lists.{run}
 use Rattle.byte_strings.specs.Lowest.{Lowest, nowhere, first, lowest}
 use Rattle.tree_index.specs.Tree.{index, depth, block, leftChild, rightChild, filled, entries}
 use Rattle.bitfield.specs.Release.{storedHeld}
 use Rattle.bitfield.specs.Known.{storedKnown}
-use Rattle.bitfield.specs.Image.{entry, entryCount}
-use Rattle.file_format.specs.Headers.{bitfieldHeader}
-use Rattle.file_format.specs.Sizes.{longestChunk, usedBitfield}
-use Rattle.file_format.specs.Messages.{leafMessage}
-use Rattle.file_format.specs.Stored.{storedHash, storedSize}
-use Rattle.audit.specs.Audit.{parentRight, holeRight, heldBits, refusedAt}
+use Rattle.file_format.specs.Sizes.{usedBitfield}
+use Rattle.audit.specs.Audit.{parentRight, holeRight, refusedAt, byteRightBy, leafFrom}
 use Rattle.lookup.specs.Descent.{Ending, stopped, reached, unknown}
 use Rattle.copy_checks.specs.Copy.{Copy, known}
 use Rattle.copy_checks.specs.Descents.{copyToChunk}
@@ -38,13 +32,8 @@ bothKnown c i = known c (leftChild i) && known c (rightChild i)
 
 module _ (F : List ℕ → List ℕ) where
   -- a leaf whose data begin at `start`, by document 01's rule where its chunk is held and by that of released chunks where it is not
-  unfoldable pub leafRightFrom : Copy → ℕ → ℕ → Bool
-  leafRightFrom c k start =
-      leb (storedSize (c .tree) (index 0 k)) longestChunk
-      && (leb (start + storedSize (c .tree) (index 0 k)) (c .size)
-      && cond (storedHeld (c .bitfield) k)
-      (sameList (storedHash (c .tree) (index 0 k)) (F (leafMessage (part (c .content) start (storedSize (c .tree) (index 0 k))))))
-      (allZero (part (c .content) start (storedSize (c .tree) (index 0 k)))))
+  abbrev pub leafRightFrom : Copy → ℕ → ℕ → Bool
+  leafRightFrom c k start = leafFrom F (c .tree) (c .content) (c .size) (storedHeld (c .bitfield) k) (index 0 k) start
 
   -- "It finds a known leaf's data by the place lookup's descent: a stop counts as a wrong entry at the stop, and a leaf whose descent, the roots to its left
   -- first, meets an unknown entry before a stop is itself wrong"
@@ -82,11 +71,8 @@ unfoldable pub knownBits : List ℕ → ℕ → ℕ → Bool
 knownBits xs n i = filled n i && storedKnown xs i
 
 -- all other bits are 0, and the Index follows from the data bits
-unfoldable pub copyBitfieldImage : (ℕ → Bool) → (ℕ → Bool) → ℕ → List ℕ
-copyBitfieldImage held known n = bitfieldHeader ++ joined (run (entry held known) 0 (entryCount n))
-
-unfoldable pub copyByteRight : List ℕ → ℕ → ℕ → Bool
-copyByteRight xs n b = eqb (getD xs b 0) (getD (copyBitfieldImage (heldBits xs n) (knownBits xs n) n) b 0)
+abbrev pub copyByteRight : List ℕ → ℕ → ℕ → Bool
+copyByteRight xs n = byteRightBy (knownBits xs n) xs n
 
 -- "11 .. the place is the lowest"
 unfoldable pub wrongByteOfCopy : Copy → Lowest

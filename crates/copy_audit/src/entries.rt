@@ -7,15 +7,15 @@ use number_types::ChunkNumber;
 use number_types::TreeIndex;
 ghost use mathlib.Core.Path.{_≡_};
 ghost use mathlib.Core.Bool.{_&&_, _||_, not};
-ghost use Prim.Native.Nat.{_-_, _≤_, _<_};
+ghost use Prim.Native.Nat.{_-_, _*_, _≤_, _<_};
 ghost use Rattle.byte_strings.specs.Lists.{run};
 ghost use Rattle.bitfield.specs.Known.{storedKnown};
 ghost use Rattle.bitfield.specs.Release.{storedHeld};
 ghost use Rattle.tree_index.specs.Tree.{leftChild, rightChild, entries as entriesOf};
 ghost use Rattle.blake2b.specs.Hash.{nodeHash};
 ghost use Rattle.file_format.specs.Inner.{EntryIn};
-ghost use Rattle.audit.specs.Audit.{parentRight, holeRight};
-ghost use Rattle.audit.specs.TreeWalk.{leafFrom, FilesIn};
+ghost use Rattle.audit.specs.Audit.{parentRight, holeRight, leafFrom};
+ghost use Rattle.audit.specs.TreeWalk.{FilesIn};
 ghost use Rattle.copy_checks.specs.Copy.{copyOf};
 ghost use Rattle.copy_checks.specs.Least.{leastOf};
 ghost use Rattle.copy_checks.specs.Meaning.{foundOf};
@@ -89,7 +89,7 @@ fn leaf_right(
     ensures { λ r.
         ⌜
         r ≡
-        leafFrom nodeHash (now (tree .entry)) (now (content .entry)) size (storedHeld (now (bitfield .entry)) (c .0)) (c .0) (start .0)
+        leafFrom nodeHash (now (tree .entry)) (now (content .entry)) size (storedHeld (now (bitfield .entry)) (c .0)) (2 * c .0) (start .0)
         ⌝ }
 {
     let held = bitfield::is_held(bitfield, c);
@@ -176,7 +176,7 @@ pub fn wrong_between(
     found
 }
 
-// The lowest of all.
+// Inner: the lowest of all.
 pub fn wrong_entry(tree: &[u8], bitfield: &[u8], content: &[u8], n: u64, size: u64) -> Found
     requires { ⌜ FilesIn (now tree) (now bitfield) (now content) n size ⌝ }
     ensures { λ r.

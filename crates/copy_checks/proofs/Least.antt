@@ -1,14 +1,16 @@
 -- Laws of the first and of the lowest that a test finds. Assumes nothing.
-use Prim.Native.Nat.{ℕ, suc, _+_, _≤_, _<_}
-use mathlib.Core.Path.{_≡_, refl, sym, ap, _∙_}
+use Prim.Native.Nat.{ℕ, zero, suc, _+_, _≤_, _<_}
+use mathlib.Core.Path.{_≡_, refl, sym, ap, ap₂, _∙_}
 use mathlib.Core.Bool.{Bool, true, false, cond}
 use mathlib.Core.List.{List}
+use native.Mathlib.Nat.{add-zero, add-suc, suc-add}
 use native.Mathlib.Numerals.{add-one}
 use native.Mathlib.Omega.{arith}
 use borrow.Author.Tests.{ltb-true, ltb-false}
 use lib.Dec.{ltb}
 use lib.ListN.{length, getD, drop, drop-of-length-le}
 use lib.Seq.{drop-cons}
+use Rattle.byte_strings.specs.Lists.{run}
 use Rattle.byte_strings.specs.Lowest.{Lowest, nowhere, first}
 use Rattle.lookup.specs.Unknown.{firstUnknown}
 use Rattle.copy_checks.specs.Least.{lowerOf, leastOf}
@@ -99,3 +101,18 @@ module _ (xs : List Lowest) (x₀ : Lowest) where
   unfolding leastOf
   lowering-all j x w h =
       sym (lower-nowhere x) ∙ sym (ap (λ (l : List Lowest). lowerOf x (leastOf l)) (drop-of-length-le xs h)) ∙ w .same
+
+-- ---- none of a row
+
+pub least-each : (f : ℕ → Lowest) (i m : ℕ) → leastOf (run f i m) ≡ nowhere → (j : ℕ) → j < m → f (i + j) ≡ nowhere
+unfolding run leastOf
+least-each f i zero e j h = absurd (omega arith)
+least-each f i (suc m) e zero h = ap f (add-zero i) ∙ lower-none (f i) (leastOf (run f (suc i) m)) e .0
+least-each f i (suc m) e (suc j) h =
+    ap f (add-suc i j ∙ sym (suc-add i j)) ∙ least-each f (suc i) m (lower-none (f i) (leastOf (run f (suc i) m)) e .1) j (omega arith)
+
+pub each-least : (f : ℕ → Lowest) (i m : ℕ) → ((j : ℕ) → i ≤ j → j < i + m → f j ≡ nowhere) → leastOf (run f i m) ≡ nowhere
+unfolding leastOf run lowerOf
+each-least f i zero h = refl
+each-least f i (suc m) h =
+    ap₂ lowerOf (h i (omega arith) (omega arith)) (each-least f (suc i) m (λ j a b. h j (omega arith) (omega arith)))

@@ -3,14 +3,14 @@ use Prim.Native.Nat.{ℕ, _-_}
 use mathlib.Core.Path.{_≡_, sym, ap, _∙_}
 use mathlib.Core.List.{List}
 use lib.ListN.{length, take, drop}
-use Rattle.refusals.specs.Verdict.{Verdict, done}
+use Rattle.refusals.specs.Verdict.{Verdict, done, unlessRefused}
 use Rattle.refusals.specs.Meaning.{refusalOf}
 use Rattle.refusals.specs.declared.Refusal.{Refusal}
 use Rattle.checks.specs.Checks.{holds}
 use Rattle.lookup.specs.Lookup.{found, toChunk}
 use Rattle.lookup.specs.Read.{chunkBytes, andThen}
 use Rattle.lookup.proofs.Calls.{Lying, lying}
-use Rattle.packet.specs.Packet.{packetOf, roomOr14, outUnless, lengthUnless, makeVerdict, madeLength, afterMake}
+use Rattle.packet.specs.Packet.{packetOf, roomOr14, makeVerdict, madeLength, afterMake, packetWith}
 use Rattle.packet.specs.Post.{MadeOf}
 use Rattle.packet.specs.declared.making.Made.{Made}
 use Rattle.packet.specs.declared.making.Made.the-variants.{Refused}
@@ -21,6 +21,7 @@ use Rattle.copy_checks.proofs.Signed.{signed}
 use Rattle.copy_lookup.specs.Reading.{copyReadVerdict, copyReadFound}
 use Rattle.copy_lookup.proofs.AsRegister.{read-as, read-found-as}
 use Rattle.copy_packet.specs.Making.{copyMakeVerdict, copyAfterMake, copyMadeLength}
+use Rattle.byte_strings.specs.Lists.{put}
 use Rattle.copy_packet.specs.Post.{CopyMadeAs}
 
 -- ---- what the read finds
@@ -47,20 +48,20 @@ module _ (F : List ℕ → List ℕ) (c : Copy) (i : ℕ) (out : List ℕ) where
       let v : refusalOf f ≡ copyMakeVerdict F c i out = ap (λ (x : Verdict). andThen x room) e in
       record {
         verdict = v;
-        long = ap (λ (x : Verdict). lengthUnless x (packetOf (unsigned c) i)) v;
-        written = ap (λ (x : Verdict). outUnless x (packetOf (unsigned c) i) out) v;
+        long = ap (λ (x : Verdict). unlessRefused x (length (packetOf (unsigned c) i)) 0) v;
+        written = ap (λ (x : Verdict). unlessRefused x (put out 0 (packetOf (unsigned c) i)) out) v;
       }
 
   -- where the read is done, the packet is the one of the copy as a register
   pub made-from : copyReadVerdict F c i ≡ done → (bytes : List ℕ) → bytes ≡ chunkBytes (signed c) i → (answer : Made) (after : List ℕ)
       → MadeOf (c .tree) (c .n) i bytes out answer after → CopyMadeAs F c i out answer after
-  unfolding copyMakeVerdict copyMadeLength copyAfterMake makeVerdict madeLength afterMake packetOf chunkBytes toChunk
+  unfolding copyMakeVerdict copyMadeLength copyAfterMake makeVerdict madeLength afterMake packetOf packetWith chunkBytes toChunk
   made-from e bytes f answer after w =
       let r = read-as F c i e in
       let m = register-made F (signed c) i out (sym r) bytes f answer after w in
       let v : makeVerdict F (signed c) i out ≡ copyMakeVerdict F c i out = ap (λ (x : Verdict). andThen x room) (r ∙ sym e) in
       record {
         verdict = m .verdict ∙ v;
-        long = m .long ∙ ap (λ (x : Verdict). lengthUnless x (packetOf (unsigned c) i)) v;
-        written = m .written ∙ ap (λ (x : Verdict). outUnless x (packetOf (unsigned c) i) out) v;
+        long = m .long ∙ ap (λ (x : Verdict). unlessRefused x (length (packetOf (unsigned c) i)) 0) v;
+        written = m .written ∙ ap (λ (x : Verdict). unlessRefused x (put out 0 (packetOf (unsigned c) i)) out) v;
       }

@@ -2,11 +2,12 @@
 use Prim.Native.Nat.{ℕ}
 use mathlib.Core.List.{List}
 use lib.ListN.{length}
-use Rattle.refusals.specs.Verdict.{Verdict}
+use Rattle.refusals.specs.Verdict.{Verdict, unlessRefused}
 use Rattle.checks.specs.Checks.{holds}
 use Rattle.lookup.specs.Read.{andThen}
-use Rattle.packet.specs.Packet.{packetOf, roomOr14, outUnless, lengthUnless}
+use Rattle.packet.specs.Packet.{packetOf, roomOr14}
 use Rattle.copy_checks.specs.Copy.{Copy, unsigned}
+use Rattle.byte_strings.specs.Lists.{put}
 use Rattle.copy_lookup.specs.Reading.{copyReadVerdict}
 
 module _ (F : List ℕ → List ℕ) where
@@ -16,7 +17,7 @@ module _ (F : List ℕ → List ℕ) where
   copyMakeVerdict c i out = andThen (copyReadVerdict F c i) (roomOr14 (holds out (length (packetOf (unsigned c) i))))
 
   unfoldable pub copyAfterMake : Copy → ℕ → List ℕ → List ℕ
-  copyAfterMake c i out = outUnless (copyMakeVerdict c i out) (packetOf (unsigned c) i) out
+  copyAfterMake c i out = unlessRefused (copyMakeVerdict c i out) (put out 0 (packetOf (unsigned c) i)) out
 
   unfoldable pub copyMadeLength : Copy → ℕ → List ℕ → ℕ
-  copyMadeLength c i out = lengthUnless (copyMakeVerdict c i out) (packetOf (unsigned c) i)
+  copyMadeLength c i out = unlessRefused (copyMakeVerdict c i out) (length (packetOf (unsigned c) i)) 0

@@ -1,4 +1,4 @@
--- What finding gives on a copy whose chunks are such records: from the statement that registers have theirs of (paths, `FindsHighest`).
+-- What finding gives on a copy whose chunks are such records: from the statement that registers have theirs of (record_find, `FindsHighest`).
 use Prim.Native.Nat.{ℕ, suc}
 use mathlib.Core.Path.{_≡_}
 use mathlib.Core.List.{List}

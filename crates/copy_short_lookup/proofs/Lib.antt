@@ -1,4 +1,2 @@
 -- Laws of the short lookups on a copy.
-pub mod Leaves
-pub mod Told
 pub mod Calls

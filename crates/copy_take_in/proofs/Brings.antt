@@ -5,9 +5,9 @@ use mathlib.Core.List.{List, [], _∷_, _++_, map}
 use native.Mathlib.Nat.{zero-add, add-zero, add-suc, suc-add, le-of-suc-le-suc, not-suc-le-zero, div-one}
 use native.Mathlib.Numerals.{add-one}
 use native.Mathlib.Omega.{arith}
-use lib.ListN.{length, getD, take, drop, replicate, List·getD-append}
-use Rattle.byte_strings.specs.Lists.{part, run, joined, total, Bytes}
-use Rattle.byte_strings.proofs.Lists.{part-part, part-front, part-behind, length-run, run-ext, run-getD}
+use lib.ListN.{length, getD, drop, replicate, length-append, List·getD-append}
+use Rattle.byte_strings.specs.Lists.{part, put, run, joined, total, Bytes, zeros}
+use Rattle.byte_strings.proofs.Lists.{part-left, part-front, part-behind, length-run, run-ext, run-getD}
 use Rattle.tree_index.specs.Tree.{index}
 use Rattle.blake2b.specs.Hash.{nodeHash}
 use Rattle.blake2b.proofs.Laws.{node-length, node-byte}
@@ -15,7 +15,7 @@ use Rattle.file_format.specs.Entries.{Entry, hole, entryBytes, parentOf}
 use Rattle.file_format.specs.RootsByValue.{padded}
 use Rattle.file_format.proofs.Nodes.{Proper, entryBytes-length}
 use Rattle.packet.specs.Check.{entryIn, entriesIn, ordered, Step, stepsAbove, steps}
-use Rattle.packet.specs.Inner.{PathRow}
+use Rattle.packet.specs.Inner.{stepBytes, pathRow}
 use Rattle.packet.proofs.Climb.{ordered-size, left-first, right-first, odd}
 use Rattle.packet.proofs.Pieces.{entry-in}
 use Rattle.packet.proofs.Rows.{half}
@@ -108,6 +108,15 @@ joined-at (e ∷ es) l (suc j) h =
     ∙ part-behind (entryBytes e) (joined (map entryBytes es)) 40 (40 * j) 40 (l 0 (omega arith))
     ∙ joined-at es (λ k g. l (suc k) (omega arith)) j (le-of-suc-le-suc h)
 
+joined-long : (es : List Entry) → ((j : ℕ) → j < length es → length (entryBytes (getD es j hole)) ≡ 40)
+    → length (joined (map entryBytes es)) ≡ 40 * length es
+unfolding joined
+joined-long [] l = refl
+joined-long (e ∷ es) l =
+    let a : length (entryBytes e) ≡ 40 = l 0 (omega arith) in
+    let b : length (joined (map entryBytes es)) ≡ 40 * length es = joined-long es (λ k g. l (suc k) (omega arith)) in
+    length-append (entryBytes e) (joined (map entryBytes es)) ∙ omega (arith, a, b)
+
 map-bytes : (ss : List Step) → map (λ (s : Step). entryBytes (s .entry)) ss ≡ map entryBytes (map (λ (s : Step). s .entry) ss)
 map-bytes [] = refl
 map-bytes (s ∷ ss) = ap (λ (r : List (List ℕ)). entryBytes (s .entry) ∷ r) (map-bytes ss)
@@ -116,11 +125,7 @@ map-many : (f : Step → Entry) (zs : List Step) → length (map f zs) ≡ lengt
 map-many f [] = refl
 map-many f (z ∷ zs) = ap suc (map-many f zs)
 
-part-take : (xs : List ℕ) (m a k : ℕ) → a + k ≤ m → part (take m xs) a k ≡ part xs a k
-unfolding part
-part-take xs m a k h = part-part xs 0 m a k h ∙ ap (λ (x : ℕ). take k (drop x xs)) (zero-add a)
-
-module _ (c : ℕ) (e : Entry) (ss : List Entry) (path is : List ℕ) (k : ℕ) (w : PathRow (stepsAbove nodeHash 0 c e ss) path) (u : k ≡ length ss)
+module _ (c : ℕ) (e : Entry) (ss : List Entry) (path is : List ℕ) (k : ℕ) (w : path ≡ pathRow (stepsAbove nodeHash 0 c e ss)) (u : k ≡ length ss)
     (x : is ≡ padded 0 (length ss) (aboveRow c (length ss))) (small : e .size + total (map (λ (y : Entry). y .size) ss) ≤ 68719476736) where
   ups : List Entry
   ups = map (λ (s : Step). s .entry) (stepsAbove nodeHash 0 c e ss)
@@ -135,17 +140,27 @@ module _ (c : ℕ) (e : Entry) (ss : List Entry) (path is : List ℕ) (k : ℕ) 
       let l = steps-long 0 c e ss j h in
       record { long = l .0; bytes = l .1; fits = omega (arith, steps-small nodeHash 0 c e ss j h) }
 
+  up-long : (j : ℕ) → j < length ups → length (entryBytes (getD ups j hole)) ≡ 40
+  up-long j h = entryBytes-length (getD ups j hole) (up-proper j (subst (λ (m : ℕ). j < m) ups-many h) .long)
+
+  -- the parents' bytes, and zeros behind them
+  path-is : path ≡ joined (map entryBytes ups) ++ drop (0 + length (joined (map entryBytes ups))) (zeros 800)
+  unfolding ups pathRow stepBytes put
+  path-is = w ∙ ap (λ (bs : List (List ℕ)). joined bs ++ drop (0 + length (joined bs)) (zeros 800)) (map-bytes (stepsAbove nodeHash 0 c e ss))
+
+  pub path-long : 40 * length ss ≤ length path
+  path-long =
+      let front = joined (map entryBytes ups) in
+      omega (arith, joined-long ups up-long, ups-many, ap length path-is ∙ length-append front (drop (0 + length front) (zeros 800)))
+
   up-at : (j : ℕ) → j < length ss → entryIn path (0 + 40 * j) ≡ getD ups j hole
-  unfolding ups
   up-at j h =
-      let many : length ups ≡ length ss = ups-many in
-      let front : take (40 * length ss) path ≡ joined (map entryBytes ups) =
-      ap (λ (m : ℕ). take (40 * m) path) (sym (steps-many nodeHash 0 c e ss)) ∙ w .front ∙ ap joined (map-bytes (stepsAbove nodeHash 0 c e ss)) in
+      let front = joined (map entryBytes ups) in
       ap (entryIn path) (zero-add (40 * j))
       ∙ entry-in path (40 * j) (getD ups j hole) (up-proper j h)
-      (sym (part-take path (40 * length ss) (40 * j) 40 (omega arith)) ∙ ap (λ (l : List ℕ). part l (40 * j) 40) front
-      ∙ joined-at ups (λ i g. entryBytes-length (getD ups i hole) (up-proper i (subst (λ (m : ℕ). i < m) many g) .long)) j
-      (subst (λ (m : ℕ). j < m) (sym many) h))
+      (ap (λ (l : List ℕ). part l (40 * j) 40) path-is
+      ∙ part-left front (drop (0 + length front) (zeros 800)) (40 * j) 40 (omega (arith, joined-long ups up-long, ups-many))
+      ∙ joined-at ups up-long j (subst (λ (m : ℕ). j < m) (sym ups-many) h))
 
   above-many : length (aboveRow c (length ss)) ≡ length ss
   unfolding aboveRow

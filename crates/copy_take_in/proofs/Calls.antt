@@ -35,10 +35,10 @@ use Rattle.checks.proofs.Judged.{both-right, judged-done, judged-right, judged-
 use Rattle.audit.specs.Audit.{refusedAt}
 use Rattle.lookup.specs.Read.{andThen}
 use Rattle.lookup.proofs.Visits.{filled-entry}
-use Rattle.packet.specs.Packet.{rootAbove, siblings, otherRoots}
+use Rattle.packet.specs.Packet.{rootAbove, siblings, otherRoots, placeAbove}
 use Rattle.packet.specs.Check.{chunkLength, siblingsPlace, othersPlace, shapeRight, packetChunk, entryIn, entriesIn, siblingEntries, otherEntries, packetTotal}
 use Rattle.packet.specs.Check.{stepsAbove, steps, rootRight, packetRootMessage, packetVerdict}
-use Rattle.packet.specs.Inner.{ChunkOf, placeAbove, sizesIn, RowIn, Shaped, Summed, LedTo}
+use Rattle.packet.specs.Inner.{ChunkOf, sizesIn, RowIn, Shaped, Summed, Handed, handedOn}
 use Rattle.packet.proofs.Above.{place-root, place-below, few-siblings, few-others, root-spans}
 use Rattle.packet.proofs.Pieces.{entry-in}
 use Rattle.packet.proofs.Right.{map-run}
@@ -56,7 +56,7 @@ use Rattle.copy_take_in.specs.Inner.{lies, rowGiven, KnowableIn, RowFor,
 use Rattle.copy_take_in.specs.Post.{TakePost, totalVerdict, sizeVerdict, ownVerdict, OwnPost}
 use Rattle.copy_take_in.specs.declared.way.Way.{Way}
 use Rattle.copy_take_in.proofs.Entries.{left-le, left-whole}
-use Rattle.copy_take_in.proofs.Brings.{row-given, path-given}
+use Rattle.copy_take_in.proofs.Brings.{row-given, path-given, path-long}
 
 -- ---- the packet's places
 
@@ -207,12 +207,6 @@ module _ (t bits content p : List ℕ) (n c : ℕ) (w : Way) (start : ℕ) (row 
   unfolding aboveRow
   above-many = length-run _ 0 (length (siblings n c))
 
-  -- the parents' row holds as many as the siblings'
-  pub path-in : RowIn path 0 (w .up)
-  path-in =
-      let z = placed p n c shaped in
-      record { few = omega (arith, r .way .up); inside = omega (arith, r .way .up, r .led .upward .long) }
-
   pub own-row : entryIn row 0 ≡ leaf nodeHash (packetChunk p)
   own-row =
       let z = placed p n c shaped in
@@ -227,6 +221,22 @@ module _ (t bits content p : List ℕ) (n c : ℕ) (w : Way) (start : ℕ) (row 
   siblings-many : length (siblingEntries p n c) ≡ length (siblings n c)
   unfolding siblingEntries entriesIn
   siblings-many = length-run _ 0 (length (siblings n c))
+
+  -- the parents' row holds as many as the siblings'
+  pub path-in : RowIn path 0 (w .up)
+  path-in =
+      let z = placed p n c shaped in
+      record {
+        few = omega (arith, r .way .up);
+        inside =
+            omega (
+              arith,
+              r .way .up,
+              siblings-many,
+              path-long c (leaf nodeHash (packetChunk p)) (siblingEntries p n c) path (numbers (w .above)) (w .up) (r .led .upward) (r .way .up ∙ sym siblings-many)
+                  (r .way .above ∙ ap (λ (k : ℕ). padded 0 k (aboveRow c k)) (sym siblings-many)) way-small,
+            );
+      }
 
   module _ (first : ℕ) (e : first ≡ siblingsPlace p + 1) where
     abbrev rows : List Given
@@ -377,8 +387,10 @@ module _ (p : List ℕ) (n c : ℕ) (f : Fits p n c) (w : Way) (way : WayOf n c 
 -- ---- what the packet leads to
 
 -- the leaf as a row, and the parents as the check left them
-pub led-rows : {p : List ℕ} {n c : ℕ} {l : Entry} {row path : List ℕ} → LedTo nodeHash p n c l path → row ≡ entryBytes l → LedRows p n c row path
-led-rows led e = record { own = e ∙ ap entryBytes (led .leaves); upward = led .upward }
+pub led-rows : (p : List ℕ) (n c : ℕ) {l : Entry} {row path : List ℕ} → record { own = l; row = path } ≡ handedOn nodeHash p n c → row ≡ entryBytes l
+    → LedRows p n c row path
+unfolding handedOn
+led-rows p n c led e = record { own = e ∙ ap (λ (h : Handed). entryBytes (h .own)) led; upward = ap (λ (h : Handed). h .row) led }
 
 -- ---- the chunk lies within the data
 
@@ -434,10 +446,6 @@ lent-bytes content start k = let e : start + k - start ≡ k = omega arith in ap
 
 abbrev pub totalCheck : Copy → List ℕ → ℕ → List Check
 totalCheck c p i = record { number = 6; right = eqb (packetTotal p (c .n) i) (c .size) } ∷ []
-
--- a refusal is not done
-pub never : {A : Type 0} {v : Verdict} {m : ℕ} {at : Spot} → v ≡ refused m at → v ≡ done → A
-never e f = let z : _≡_ {A = ℕ} 0 1 = cc in absurd (omega arith)
 
 -- what the code of `judge_packet` says
 module _ (F : List ℕ → List ℕ) (p : List ℕ) (n size i : ℕ) (root : List ℕ) where

@@ -8,8 +8,8 @@ use Rattle.byte_strings.specs.Lists.{put}
 use Rattle.tree_index.specs.Tree.{roots}
 use Rattle.tree_index.specs.Numbers.{numbers}
 use Rattle.file_format.specs.RootsByValue.{padded}
-use Rattle.packet.specs.Packet.{siblings, otherRoots}
-use Rattle.packet.specs.Inner.{ChunkOf, placeAbove, siblingRow, otherRow}
+use Rattle.packet.specs.Packet.{siblings, otherRoots, placeAbove}
+use Rattle.packet.specs.Inner.{ChunkOf, siblingRow, otherRow}
 use Rattle.packet.proofs.Above.{other-count}
 use Rattle.packet.proofs.Rows.{siblings-row, others-row}
 use Rattle.copy_take_in.specs.Inner.{aboveRow, WayOf}

@@ -14,7 +14,7 @@ use Rattle.file_format.specs.Inner.{EntryIn}
 use Rattle.file_format.specs.RootsByValue.{padded}
 use Rattle.packet.specs.Packet.{siblings, otherRoots}
 use Rattle.packet.specs.Check.{packetChunk, entryIn, siblingEntries, packetTotal, stepsAbove}
-use Rattle.packet.specs.Inner.{RowIn, sizesIn, PathRow, Shaped}
+use Rattle.packet.specs.Inner.{RowIn, sizesIn, pathRow, Shaped}
 use Rattle.copy_take_in.specs.TakeIn.{Given, packetStart, withGiven, withKnown}
 use Rattle.copy_take_in.specs.declared.way.Way.{Way}
 
@@ -79,7 +79,7 @@ pub record Held (bits content : List ℕ) (c start : ℕ) (bytes : List ℕ) : T
 -- what the packet of chunk c leads to: a row of the leaf, and a row of the parents on the way
 pub record LedRows (p : List ℕ) (n c : ℕ) (row path : List ℕ) : Type 0 where
   pub own : row ≡ entryBytes (leaf nodeHash (packetChunk p))
-  pub upward : PathRow (stepsAbove nodeHash 0 c (leaf nodeHash (packetChunk p)) (siblingEntries p n c)) path
+  pub upward : path ≡ pathRow (stepsAbove nodeHash 0 c (leaf nodeHash (packetChunk p)) (siblingEntries p n c))
 
 -- all that is known when a packet is compared and written
 pub record Ready (t bits content p : List ℕ) (n c : ℕ) (w : Way) (start : ℕ) (row path : List ℕ) : Type 0 where

@@ -13,11 +13,11 @@ ghost use mathlib.Core.Path.{_≡_};
 ghost use Prim.Native.Nat.{_+_, _≤_};
 ghost use lib.Dec.{eqb};
 ghost use lib.ListN.{length};
-ghost use Rattle.refusals.specs.Verdict.{done};
+ghost use Rattle.refusals.specs.Verdict.{unlessRefused};
 ghost use Rattle.refusals.specs.Meaning.{said};
 ghost use Rattle.blake2b.specs.Hash.{nodeHash};
 ghost use Rattle.packet.specs.Check.{packetTotal, siblingsPlace};
-ghost use Rattle.packet.specs.Inner.{entryOf, LedTo};
+ghost use Rattle.packet.specs.Inner.{handed, unhanded, handedOn};
 ghost use Rattle.copy_checks.specs.Copy.{copyOf, filesOf, filesLent};
 ghost use Rattle.copy_checks.specs.Meaning.{foundOf};
 ghost use Rattle.copy_take_in.specs.TakeIn.{brought, packetStart, contradictsBytes, contradiction, takenIn};
@@ -52,7 +52,11 @@ fn judge_packet(packet: &[u8], n: u64, size: u64, chunk: ChunkNumber, root: &[u8
     ensures judged { λ r.
         ⌜ said (r .answer) ≡ totalVerdict nodeHash (now (packet .entry)) n size (chunk .0) (now (root .entry)) ⌝ }
     ensures led { λ r.
-        ⌜ (said (r .answer) ≡ done → LedTo nodeHash (now (packet .entry)) n (chunk .0) (entryOf (r .leaf)) (r .row)) ⌝ }
+        ⌜
+        handed (r .leaf) (r .row) ≡
+        unlessRefused (totalVerdict nodeHash (now (packet .entry)) n size (chunk .0) (now (root .entry)))
+        (handedOn nodeHash (now (packet .entry)) n (chunk .0)) unhanded
+        ⌝ }
 {
     let checked = packet::check_hashing(packet, n, chunk, root);
     let answer = checked.answer;
@@ -86,7 +90,13 @@ fn judge(
         (chunk .0) (now (root .entry))
         ⌝ }
     ensures led { λ r.
-        ⌜ (said (r .answer) ≡ done → LedTo nodeHash (now (packet .entry)) n (chunk .0) (entryOf (r .leaf)) (r .row)) ⌝ }
+        ⌜
+        handed (r .leaf) (r .row) ≡
+        unlessRefused
+        (sizeVerdict nodeHash (copyOf (now (tree .entry)) (now (bitfield .entry)) (now (content .entry)) n size) (now (packet .entry))
+        (chunk .0) (now (root .entry)))
+        (handedOn nodeHash (now (packet .entry)) n (chunk .0)) unhanded
+        ⌝ }
 {
     match copy_checks::judge_partly(tree, bitfield, content, n, size) {
         Answer::Refused(refusal) => packet::unhashed(Answer::Refused(refusal)),
@@ -255,7 +265,7 @@ fn take_checked(
     path: &[u8],
 ) -> Answer
     requires room { ⌜ Room (now tree) (now bitfield) (now content) (now packet) n (chunk .0) ⌝ }
-    requires led { ⌜ LedTo nodeHash (now packet) n (chunk .0) (entryOf leaf) (now path) ⌝ }
+    requires led { ⌜ handed leaf (now path) ≡ handedOn nodeHash (now packet) n (chunk .0) ⌝ }
     ensures { λ r.
         ⌜
         OwnPost nodeHash (copyOf (now (tree .entry)) (now (bitfield .entry)) (now (content .entry)) n 0) (now (packet .entry)) (chunk .0)

@@ -12,10 +12,10 @@ use Rattle.bitfield.proofs.Release.{held-image}
 use Rattle.file_format.specs.Headers.{bitfieldHeader}
 use Rattle.file_format.specs.Sizes.{usedBitfield}
 use Rattle.file_format.specs.Slots.{Slot, heldIn}
-use Rattle.file_format.specs.Images.{bitfieldImage}
 use Rattle.file_format.specs.Belongs.{Register, Belongs}
 use Rattle.file_format.proofs.OfImage.{bitfieldHeader-length, bitfieldImage-length}
 use Rattle.file_format.proofs.ToImage.{header-cut}
+use Rattle.file_format.specs.Images.{bitfieldImage, bitfieldOf}
 
 -- a list is as long as its front
 pub front-long : (xs ys : List ℕ) (m : ℕ) → take m xs ≡ ys → length ys ≡ m → m ≤ length xs
@@ -26,7 +26,7 @@ module _ (F : List ℕ → List ℕ) (ss : List Slot) (r : Register) (b : Belong
   bits-room = front-long (r .bitfield) (bitfieldImage (heldIn ss) (r .n)) (usedBitfield (r .n)) (b .bitfield) (bitfieldImage-length (heldIn ss) (r .n))
 
   pub bits-cut : (take 32 (r .bitfield) ≡ bitfieldHeader) × (part (r .bitfield) 32 (3328 * entryCount (r .n)) ≡ entriesOf (heldIn ss) (r .n))
-  unfolding usedBitfield bitfieldImage
+  unfolding usedBitfield bitfieldOf
   bits-cut =
       header-cut (r .bitfield) bitfieldHeader (entriesOf (heldIn ss) (r .n)) 32 (3328 * entryCount (r .n)) bitfieldHeader-length (omega (arith, bits-room)) (b .bitfield)
 

@@ -10,14 +10,14 @@ use Rattle.byte_strings.specs.Numbers.{be}
 use Rattle.byte_strings.proofs.Lists.{bytes-append, bytes-zeros, bytes-joined}
 use Rattle.byte_strings.proofs.Numbers.{bytes-be}
 use Rattle.tree_index.specs.Tree.{entries}
-use Rattle.bitfield.specs.Image.{entriesOf}
 use Rattle.bitfield.proofs.Image.{bytes-entries}
 use Rattle.file_format.specs.Headers.{front, header, treeHeader, signaturesHeader, bitfieldHeader}
 use Rattle.file_format.specs.Messages.{HashFunction}
 use Rattle.file_format.specs.Entries.{Entry, entryBytes, entryAt, treeEntries}
-use Rattle.file_format.specs.Images.{leaves, dataImage, bitfieldImage, signaturesImage, treeImage}
+use Rattle.file_format.specs.Images.{leaves, dataImage, signaturesImage, treeImage, bitfieldImage, bitfieldOf}
 use Rattle.file_format.specs.Slots.{Slot, contents, Within}
 use Rattle.file_format.proofs.Nodes.{bytes-cons, entryAt-proper}
+use Rattle.bitfield.specs.Image.{entriesOf}
 
 bytes-none : Bytes []
 bytes-none i = omega arith
@@ -69,7 +69,7 @@ bytes-all [] h = bytes-none
 bytes-all (x ∷ xs) h = bytes-append x (joined xs) (h 0) (bytes-all xs (λ k. h (suc k)))
 
 pub bitfieldImage-bytes : (held : ℕ → Bool) (n : ℕ) → Bytes (bitfieldImage held n)
-unfolding bitfieldImage
+unfolding bitfieldOf
 bitfieldImage-bytes held n = bytes-append bitfieldHeader (entriesOf held n) bitfieldHeader-bytes (bytes-entries held n)
 
 pub signaturesImage-bytes : (sigs : List (List ℕ)) → ((k : ℕ) → Bytes (getD sigs k [])) → Bytes (signaturesImage sigs)

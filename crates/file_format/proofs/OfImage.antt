@@ -16,19 +16,19 @@ use Rattle.tree_index.specs.Tree.{index, block, filled, leftChild, rightChild, 
 use Rattle.tree_index.proofs.Index.{depth-index, block-index, by-coordinates, leftChild-index, rightChild-index}
 use Rattle.tree_index.proofs.Filled.{filled-below, filled-end, end-filled, filled-left, filled-right}
 use Rattle.tree_index.proofs.Roots.{root-filled}
-use Rattle.bitfield.specs.Image.{entriesOf}
 use Rattle.bitfield.proofs.Image.{length-entries}
 use Rattle.file_format.specs.Headers.{front, header, treeHeader, signaturesHeader, bitfieldHeader}
 use Rattle.file_format.specs.Sizes.{entryPlace, usedTree, usedBitfield}
 use Rattle.file_format.specs.Messages.{HashFunction, leafMessage, parentMessage, rootItem, rootMessage}
 use Rattle.file_format.specs.Entries.{Entry, entryBytes, node, nodeAt, entryAt, treeEntries, rootMessageOf}
-use Rattle.file_format.specs.Images.{dataImage, bitfieldImage, treeImage, leaves, messageFor, rootMessageFor}
+use Rattle.file_format.specs.Images.{dataImage, treeImage, leaves, messageFor, rootMessageFor, bitfieldImage, bitfieldOf}
 use Rattle.file_format.specs.Stored.{storedHash, storedSize, storedRootSizes, storedRootMessage, storedStart, storedChunk, storedMessage}
 use Rattle.file_format.specs.Slots.{Slot, contents, Within}
 use Rattle.file_format.specs.Belongs.{Register, Belongs}
 use Rattle.file_format.proofs.Spans.{span, map-ext, chunk-inside, span-all, span-one, part-chunk, cover}
 use Rattle.file_format.proofs.Slots.{contents-length, leaves-length}
 use Rattle.file_format.proofs.Nodes.{Proper, byDepth, nodeAt-index, entryAt-filled, entryAt-proper, entry-length, node-size, message-leaf, message-parent}
+use Rattle.bitfield.specs.Image.{entriesOf}
 
 -- ---- lengths
 
@@ -45,7 +45,7 @@ unfolding bitfieldHeader header front be
 bitfieldHeader-length = refl
 
 pub bitfieldImage-length : (held : ℕ → Bool) (n : ℕ) → length (bitfieldImage held n) ≡ usedBitfield n
-unfolding bitfieldImage usedBitfield
+unfolding bitfieldOf usedBitfield
 bitfieldImage-length held n = length-append bitfieldHeader (entriesOf held n) ∙ ap₂ _+_ bitfieldHeader-length (length-entries held n)
 
 -- a part that lies within the front of a list

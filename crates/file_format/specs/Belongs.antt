@@ -6,7 +6,7 @@ use lib.ListN.{length, take}
 use Rattle.byte_strings.specs.Lists.{Bytes}
 use Rattle.file_format.specs.Sizes.{usedTree, usedBitfield}
 use Rattle.file_format.specs.Slots.{Slot, contents, heldIn}
-use Rattle.file_format.specs.Images.{dataSize, dataImage, bitfieldImage, treeImage}
+use Rattle.file_format.specs.Images.{dataSize, dataImage, treeImage, bitfieldImage}
 
 -- "A call on a register is lent its four images and told n, the signature count s and the data size."
 pub record Register : Type 0 where

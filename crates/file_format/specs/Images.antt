@@ -4,12 +4,12 @@ use mathlib.Core.Bool.{Bool}
 use mathlib.Core.List.{List, [], _++_, map}
 use lib.ListN.{length, getD}
 use Rattle.byte_strings.specs.Lists.{joined, total}
-use Rattle.tree_index.specs.Tree.{depth, block, leftChild, rightChild}
-use Rattle.bitfield.specs.Image.{entriesOf}
+use Rattle.tree_index.specs.Tree.{depth, block, leftChild, rightChild, filled}
 use Rattle.file_format.specs.Headers.{treeHeader, signaturesHeader, bitfieldHeader}
 use Rattle.file_format.specs.Messages.{leafMessage, parentMessage}
 use Rattle.file_format.specs.Entries.{Entry, nodeAt, rootMessageOf, treeEntries}
 use Rattle.file_format.specs.Slots.{Slot, slotEntry, contents}
+use Rattle.bitfield.specs.Image.{entriesFor}
 
 -- the data size of byte strings: the sum of their lengths
 unfoldable pub dataSize : List (List ℕ) → ℕ
@@ -19,9 +19,13 @@ dataSize cs = total (map length cs)
 unfoldable pub dataImage : List (List ℕ) → List ℕ
 dataImage cs = joined cs
 
--- of n chunks, of which those are held that a test says
-unfoldable pub bitfieldImage : (ℕ → Bool) → ℕ → List ℕ
-bitfieldImage held n = bitfieldHeader ++ entriesOf held n
+-- of n chunks, of which those are held and those tree entries known that two tests say
+unfoldable pub bitfieldOf : (ℕ → Bool) → (ℕ → Bool) → ℕ → List ℕ
+bitfieldOf held known n = bitfieldHeader ++ entriesFor held known n
+
+-- of a register, which knows every entry that is no hole
+abbrev pub bitfieldImage : (ℕ → Bool) → ℕ → List ℕ
+bitfieldImage held n = bitfieldOf held (filled n) n
 
 -- the signatures handed in, 64 bytes each
 unfoldable pub signaturesImage : List (List ℕ) → List ℕ

@@ -7,29 +7,29 @@ use mathlib.Core.Bool.{Bool, true, false, _&&_}
 use mathlib.Core.List.{List}
 use lib.Dec.{eqb, leb}
 use borrow.Author.Tests.{eq-eqb, ne-eqb, le-leb, lt-leb, leb-true}
-use Rattle.journal.specs.Places.{kindAt, sizeAt, copies, behind, whole, bytesEnd, placeBehind}
+use Rattle.journal.specs.Places.{kindAt, sizeAt, timesLong, behind, whole, bytesEnd, placeBehind}
 
 pub both : (a b : Bool) → a && b ≡ true → (a ≡ true) × (b ≡ true)
 both true b e = (refl, e)
 both false b e = let z : _≡_ {A = ℕ} 0 1 = cc in absurd (omega arith)
 
 module _ (kind size from : ℕ) where
-  pub end-twice : kind ≡ 1 → from + copies kind * size ≡ from + size + size
-  unfolding copies
-  end-twice e = rw (eq-eqb kind 1 e, copies) (omega arith)
+  pub end-twice : kind ≡ 1 → from + timesLong kind * size ≡ from + size + size
+  unfolding timesLong
+  end-twice e = rw (eq-eqb kind 1 e, timesLong) (omega arith)
 
-  pub end-bare : (kind ≡ 1 → ⊥) → kind ≡ 3 → from + copies kind * size ≡ from
-  unfolding copies
-  end-bare n e = rw (ne-eqb kind 1 n, eq-eqb kind 3 e, copies) (omega arith)
+  pub end-bare : (kind ≡ 1 → ⊥) → kind ≡ 3 → from + timesLong kind * size ≡ from
+  unfolding timesLong
+  end-bare n e = rw (ne-eqb kind 1 n, eq-eqb kind 3 e, timesLong) (omega arith)
 
-  pub end-once : (kind ≡ 1 → ⊥) → (kind ≡ 3 → ⊥) → from + copies kind * size ≡ from + size
-  unfolding copies
-  end-once n e = rw (ne-eqb kind 1 n, ne-eqb kind 3 e, copies) (omega arith)
+  pub end-once : (kind ≡ 1 → ⊥) → (kind ≡ 3 → ⊥) → from + timesLong kind * size ≡ from + size
+  unfolding timesLong
+  end-once n e = rw (ne-eqb kind 1 n, ne-eqb kind 3 e, timesLong) (omega arith)
 
 abbrev endOr : Bool → ℕ → ℕ
 endOr b x = elim b as (λ y. ℕ) [ true ↦ x | false ↦ 0 ]
 
-module _ (kind size from m x : ℕ) (e : from + copies kind * size ≡ x) where
+module _ (kind size from m x : ℕ) (e : from + timesLong kind * size ≡ x) where
   ended : bytesEnd kind size from m ≡ endOr (leb x m) x
   unfolding bytesEnd
   ended = ap (λ (y : ℕ). endOr (leb y m) y) e

@@ -10,8 +10,8 @@ use Rattle.journal.specs.Ranges.{Range, replaced, fresh, blank, witness,
 
 -- ---- states
 
--- a file's state is one number: 0 where it is absent, its length and one where it is there. So "no file becomes absent" and "files only grow" are one
--- rule: states grow
+-- a file's state is one number: 0 where it is absent, its length and one where it is there. That no file becomes absent and that
+-- files only grow is one rule: states grow
 abbrev pub stateOf : Bool → ℕ → ℕ
 stateOf false long = 0
 stateOf true long = long + 1

@@ -30,12 +30,12 @@ abbrev pub sizeAt : List ℕ → ℕ → ℕ
 sizeAt j q = number (part j (q + 10) 8)
 
 -- a kind's bytes are so many times the range's length: old and new ones, new ones, none, those that stay
-unfoldable pub copies : ℕ → ℕ
-copies k = elim (eqb k 1) [ true ↦ 2 | false ↦ elim (eqb k 3) [ true ↦ 0 | false ↦ 1 ] ]
+unfoldable pub timesLong : ℕ → ℕ
+timesLong k = elim (eqb k 1) [ true ↦ 2 | false ↦ elim (eqb k 3) [ true ↦ 0 | false ↦ 1 ] ]
 
 -- the place behind the range at q
 unfoldable pub behind : List ℕ → ℕ → ℕ
-behind j q = q + 18 + copies (kindAt j q) * sizeAt j q
+behind j q = q + 18 + timesLong (kindAt j q) * sizeAt j q
 
 -- the first m bytes have a whole range at q, of one of the four kinds
 unfoldable pub whole : List ℕ → ℕ → ℕ → Bool
@@ -43,7 +43,7 @@ whole j m q = leb (q + 18) m && ((leb 1 (kindAt j q) && leb (kindAt j q) 4) && l
 
 -- the end of a range's bytes that begin at a place, or 0 where they do not end by m
 unfoldable pub bytesEnd : ℕ → ℕ → ℕ → ℕ → ℕ
-bytesEnd kind size from m = elim (leb (from + copies kind * size) m) [ true ↦ from + copies kind * size | false ↦ 0 ]
+bytesEnd kind size from m = elim (leb (from + timesLong kind * size) m) [ true ↦ from + timesLong kind * size | false ↦ 0 ]
 
 -- the place behind the range at q, or 0 where there is no whole one
 unfoldable pub placeBehind : List ℕ → ℕ → ℕ → ℕ

@@ -1,5 +1,5 @@
 -- Reading a journal: the checks 1 to 7 of FORMAT.md, "The journal", in their order.
-use Prim.Native.Nat.{ℕ, zero, suc, _+_, _-_, max}
+use Prim.Native.Nat.{ℕ, zero, suc, _+_, max}
 use mathlib.Core.Bool.{Bool, true, false, _&&_, _||_}
 use mathlib.Core.List.{List}
 use lib.ListN.{length, getD, take, drop, set}
@@ -12,7 +12,7 @@ use Rattle.journal.specs.Places.{oldAt, newAt, fileAt, kindAt, startAt, 
 use Rattle.journal.specs.declared.Place.{Place}
 use Rattle.journal.specs.declared.Place.the-variants.{At, Nowhere}
 use Rattle.journal.specs.declared.Said.{Said}
-use Rattle.journal.specs.declared.Said.the-variants.{Done, Length, First, OwnLength, State, Range, Gap, Hash, Met, Byte, Unfit}
+use Rattle.journal.specs.declared.Said.the-variants.{Done, Length, First, OwnLength, State, Range, Gap, Hash, NotBetween, Byte, Unfit}
 
 -- what the code's answer stands for
 abbrev pub placeOf : Place → Lowest
@@ -46,8 +46,8 @@ numbersRight kind at size old new a p = leb a at && (leb (at + size) new && elim
 unfoldable pub reachOf : ℕ → ℕ → ℕ → ℕ
 reachOf file last reach = elim (eqb file last) [ true ↦ reach | false ↦ 0 ]
 
--- a range of one of ten files, behind one of the file `last` that ended at `reach`, not empty; `covered` says of each file up to where kinds 2 and 3
--- cover it
+-- a range of one of ten files, behind one of the file `last` that ended at `reach`, not empty; `covered` says of each file up to where it
+-- is covered: its old length, or the furthest end of its ranges so far if that lies behind
 unfoldable pub follows : List ℕ → ℕ → ℕ → List ℕ → ℕ → Bool
 follows j last reach covered q =
     ltb (fileAt j q) 10
@@ -107,7 +107,7 @@ isDone (State i) = false
 isDone (Range q) = false
 isDone (Gap i) = false
 isDone Hash = false
-isDone (Met s) = false
+isDone (NotBetween s) = false
 isDone (Byte o) = false
 isDone Unfit = false
 

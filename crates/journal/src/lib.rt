@@ -31,7 +31,7 @@ pub enum Said {
     // The hash is wrong.
     Hash,
     // The state of this file as it is, is none between.
-    Met(u64),
+    NotBetween(u64),
     // In a file as it is, the byte at this offset is none between.
     Byte(usize),
     // No such file or kind, or not as many bytes as kind and length ask.

@@ -245,7 +245,7 @@ pub fn is_done(said: Said) -> bool
         Said::Range(_) => false,
         Said::Gap(_) => false,
         Said::Hash => false,
-        Said::Met(_) => false,
+        Said::NotBetween(_) => false,
         Said::Byte(_) => false,
         Said::Unfit => false,
     }

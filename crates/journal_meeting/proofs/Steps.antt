@@ -14,7 +14,7 @@ use Rattle.journal.specs.Reading.{placeOf, whether}
 use Rattle.journal.specs.declared.Place.{Place}
 use Rattle.journal.specs.declared.Place.the-variants.{At, Nowhere}
 use Rattle.journal.specs.declared.Said.{Said}
-use Rattle.journal.specs.declared.Said.the-variants.{Done, Length, Met, Byte, Unfit}
+use Rattle.journal.specs.declared.Said.the-variants.{Done, Length, NotBetween, Byte, Unfit}
 use Rattle.journal.proofs.Behind.{Whole}
 use Rattle.journal_meeting.specs.Between.{metRange, orByte, isOf, met, stateMet, between}
 
@@ -88,7 +88,7 @@ module _ (j : List ℕ) (i q : ℕ) (there : Bool) (f : List ℕ) where
     unfolding between whether
     between-unfit h = rw (l, le-ltb i 10 h)
 
-    pub between-state : i < 10 → stateMet j i (stateOf there (length f)) ≡ false → Met i ≡ between j i q there f
+    pub between-state : i < 10 → stateMet j i (stateOf there (length f)) ≡ false → NotBetween i ≡ between j i q there f
     unfolding between whether
     between-state h e = rw (l, lt-ltb i 10 h, e)
 

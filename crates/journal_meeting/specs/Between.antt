@@ -1,5 +1,5 @@
 -- What lies between before and after, as a call can see it.
-use Prim.Native.Nat.{ℕ, zero, suc, _+_, _-_}
+use Prim.Native.Nat.{ℕ, zero, suc, _+_}
 use mathlib.Core.Bool.{Bool, true, false, _&&_, _||_}
 use mathlib.Core.List.{List}
 use lib.ListN.{length, getD}
@@ -10,7 +10,7 @@ use Rattle.journal.specs.Form.{stateOf}
 use Rattle.journal.specs.Places.{oldAt, newAt, fileAt, whole, behind, rangeAt, lengthRight, bodyLength}
 use Rattle.journal.specs.Reading.{whether}
 use Rattle.journal.specs.declared.Said.{Said}
-use Rattle.journal.specs.declared.Said.the-variants.{Done, Length, Met, Byte, Unfit}
+use Rattle.journal.specs.declared.Said.the-variants.{Done, Length, NotBetween, Byte, Unfit}
 
 -- byte i behind the offset is the old one or the new one
 unfoldable pub rightAt : List ℕ → List ℕ → List ℕ → ℕ → ℕ → Bool
@@ -63,6 +63,6 @@ unfoldable pub between : List ℕ → ℕ → ℕ → Bool → List ℕ → Said
 between j i q there f =
     whether (lengthRight (length j))
     (whether (ltb i 10)
-    (whether (stateMet j i (stateOf there (length f))) (met j (bodyLength j) i f (suc (length j)) q) (Met i))
+    (whether (stateMet j i (stateOf there (length f))) (met j (bodyLength j) i f (suc (length j)) q) (NotBetween i))
     Unfit)
     Length

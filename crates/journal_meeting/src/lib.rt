@@ -119,7 +119,7 @@ pub fn between(journal: &[u8], file: u64, at: usize, there: bool, bytes: &[u8]) 
         return Said::Unfit;
     }
     if !state_met(journal, file as usize, there, bytes.len()) {
-        return Said::Met(file);
+        return Said::NotBetween(file);
     }
     met(journal, journal.len() - 32, file, at, bytes)
 }

@@ -1,6 +1,6 @@
 -- Demand 2, of reads and lookups: "reading gives back the very chunks", and lookups answer as the scope defines them.
 --
--- The notions in it: `HashFunction` (files, Messages), `Slot` and `Within` (files, Slots), `Register` and `Belongs` (files, Belongs), `dataSize` (files, Images),
+-- The notions in it: `HashFunction` (file_format, Messages), `Slot` and `Within` (file_format, Slots), `Register` and `Belongs` (file_format, Belongs), `dataSize` (file_format, Images),
 -- `judged` and `registerChecks` (checks, Checks), `placeOf` and `byteAt` (Lookup), `readVerdict` and `readPart` (Read).
 use Prim.Native.Nat.{ℕ, zero, suc, _+_, _-_, _*_, _/_, _^_, _≤_, _<_}
 use mathlib.Core.Path.{_≡_}

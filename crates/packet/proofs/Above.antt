@@ -23,8 +23,8 @@ use Rattle.file_format.specs.Sizes.{mostChunks}
 use Rattle.tree_index.proofs.Index.{depth-index, block-index, pow-twice}
 use Rattle.tree_index.proofs.Filled.{end-filled, end-hole}
 use Rattle.tree_index.proofs.Roots.{bit, no-root, one-root, root-at, root-below, length-roots-le}
-use Rattle.packet.specs.Packet.{rootAbove, siblings, without, otherRoots}
-use Rattle.packet.specs.Inner.{placeAbove, ChunkOf, skipped}
+use Rattle.packet.specs.Packet.{rootAbove, siblings, without, otherRoots, placeAbove}
+use Rattle.packet.specs.Inner.{ChunkOf, skipped}
 
 -- ---- the place of the root above a chunk
 

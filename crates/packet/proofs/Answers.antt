@@ -33,14 +33,14 @@ use Rattle.checks.proofs.Judged.{right-both}
 use Rattle.lookup.specs.Read.{andThen, chunkBytes, readVerdict}
 use Rattle.lookup.specs.Theorems.{Answers}
 use Rattle.lookup.proofs.Answers.{answers}
-use Rattle.packet.specs.Packet.{rootAbove, beside, siblings, otherRoots, packetOf, roomOr14, makeVerdict}
+use Rattle.packet.specs.Packet.{rootAbove, beside, siblings, otherRoots, packetOf, roomOr14, makeVerdict, packetWith, placeAbove}
 use Rattle.packet.specs.Check.{chunkLength, siblingsPlace, othersPlace, shapeRight, packetChunk, entryIn, entriesIn, siblingEntries, otherEntries}
 use Rattle.packet.specs.Check.{packetTotal, ordered, inTurn, items, steps, lastEntry, packetRoot, packetRootMessage, rootRight, packetVerdict}
-use Rattle.packet.specs.Inner.{placeAbove, skipped, otherRow, turned, turnEntry, packetWith, Readable, climbed}
+use Rattle.packet.specs.Inner.{skipped, otherRow, turned, turnEntry, Readable, climbed}
 use Rattle.packet.specs.Theorems.{PacketAnswers, PacketAnswersForAll}
 use Rattle.packet.proofs.Above.{place-root, place-below, root-spans, other-count}
 use Rattle.packet.proofs.Climb.{left-first, right-first, ordered-size, steps-climb, turned-before, turned-here, turned-behind}
-use Rattle.packet.proofs.InTurn.{all, whole, length-all, entry-at}
+use Rattle.packet.proofs.InTurn.{all, length-all, entry-at}
 use Rattle.packet.proofs.Right.{checked-by, verdict-done}
 use Rattle.packet.proofs.Rows.{beside-even, beside-odd, half, siblings-filled, others-filled, others-row, packet-long}
 use Rattle.packet.proofs.Makes.{readable, read-bytes}
@@ -256,11 +256,11 @@ module _ (F : List ℕ → List ℕ) (hf : HashFunction F) (ss : List Slot) (w :
   others-place = ap (λ (l : ℕ). 4 + l + 1 + 40 * length (siblings (r .n) c) + 1) size-back
 
   pub the-message : packetRootMessage F p (r .n) c ≡ rootMessageFor F ss
-  unfolding packetRootMessage otherEntries rootMessageFor rootMessageOf
+  unfolding packetRootMessage otherEntries inTurn rootMessageFor rootMessageOf
   the-message =
-      ap₂ (λ (x : Entry) (a : ℕ). rootMessage (items (roots (r .n)) (inTurn (rootAbove (roots (r .n)) c) x (roots (r .n)) (entriesIn p a (length (otherRoots (r .n) c))))))
+      ap₂ (λ (x : Entry) (a : ℕ). rootMessage (items (roots (r .n)) (inTurn (placeAbove (roots (r .n)) c) x (entriesIn p a (length (otherRoots (r .n) c))))))
       the-root others-place
-      ∙ ap (λ (l : List Entry). rootMessage (items (roots (r .n)) l)) (whole p at (r .n) c top (read .chunk) ∙ all-roots)
+      ∙ ap (λ (l : List Entry). rootMessage (items (roots (r .n)) l)) all-roots
       ∙ ap rootMessage (items-map (nodeAt F es) (roots (r .n)))
       ∙ ap (λ (m : ℕ). rootMessage (map (λ i. rootItem (nodeAt F es i .hash) i (nodeAt F es i .size)) (roots m))) (b .count ∙ sym (leaves-length F ss))
 

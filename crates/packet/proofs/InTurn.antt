@@ -18,43 +18,48 @@ use Rattle.tree_index.proofs.Roots.{length-roots-le}
 use Rattle.file_format.specs.Messages.{rootItem, rootMessage}
 use Rattle.file_format.specs.Entries.{Entry, hole}
 use Rattle.file_format.specs.RootsByValue.{padded, itemsOf}
-use Rattle.packet.specs.Packet.{rootAbove, otherRoots}
+use Rattle.packet.specs.Packet.{rootAbove, otherRoots, placeAbove}
 use Rattle.packet.specs.Check.{entryIn, entriesIn, inTurn, items}
-use Rattle.packet.specs.Inner.{placeAbove, ChunkOf, turned, turnEntry, hashRow, sizeRow, messageWith, TurnsIn, OthersIn}
+use Rattle.packet.specs.Inner.{ChunkOf, turned, turnEntry, hashRow, sizeRow, messageWith, TurnsIn, OthersIn}
 use Rattle.packet.proofs.Above.{Apart, Distinct, roots-distinct, place-root, place-below, other-count}
 use Rattle.packet.proofs.Climb.{turned-before, turned-here, turned-behind}
 
 abbrev chosen : Bool → List Entry → List Entry → List Entry
 chosen b x y = elim b [ true ↦ x | false ↦ y ]
 
--- ---- the definition's turn, by places
+-- ---- the turn by roots: x stands for the root r of the roots is
 
-turn-none : (r : ℕ) (x : Entry) (is : List ℕ) (es : List Entry) → Apart r is → length es ≡ length is → inTurn r x is es ≡ es
-unfolding inTurn
+unfoldable pub turning : ℕ → Entry → List ℕ → List Entry → List Entry
+turning r x [] es = []
+turning r x (i ∷ is) [] = elim (eqb i r) [ true ↦ x ∷ turning r x is [] | false ↦ turning r x is [] ]
+turning r x (i ∷ is) (e ∷ es) = elim (eqb i r) [ true ↦ x ∷ turning r x is (e ∷ es) | false ↦ e ∷ turning r x is es ]
+
+turn-none : (r : ℕ) (x : Entry) (is : List ℕ) (es : List Entry) → Apart r is → length es ≡ length is → turning r x is es ≡ es
+unfolding turning
 turn-none r x [] [] a l = refl
 turn-none r x [] (e ∷ es) a l = absurd (omega (arith, l))
 turn-none r x (i ∷ is) [] a l = absurd (omega (arith, l))
 turn-none r x (i ∷ is) (e ∷ es) a l =
-    ap (λ (b : Bool). chosen b (x ∷ inTurn r x is (e ∷ es)) (e ∷ inTurn r x is es)) (ne-eqb i r (a 0 (zero-lt-suc (length is))))
+    ap (λ (b : Bool). chosen b (x ∷ turning r x is (e ∷ es)) (e ∷ turning r x is es)) (ne-eqb i r (a 0 (zero-lt-suc (length is))))
     ∙ ap (λ (ys : List Entry). e ∷ ys) (turn-none r x is es (λ j h. a (suc j) (omega arith)) (suc-inj l))
 
-turn-first : (i : ℕ) (x : Entry) (is : List ℕ) (es : List Entry) → Apart i is → length es ≡ length is → inTurn i x (i ∷ is) es ≡ x ∷ es
-unfolding inTurn
+turn-first : (i : ℕ) (x : Entry) (is : List ℕ) (es : List Entry) → Apart i is → length es ≡ length is → turning i x (i ∷ is) es ≡ x ∷ es
+unfolding turning
 turn-first i x is [] a l =
-    ap (λ (b : Bool). chosen b (x ∷ inTurn i x is []) (inTurn i x is [])) (eq-eqb i i refl)
+    ap (λ (b : Bool). chosen b (x ∷ turning i x is []) (turning i x is [])) (eq-eqb i i refl)
     ∙ ap (λ (ys : List Entry). x ∷ ys) (turn-none i x is [] a l)
 turn-first i x is (e ∷ es) a l =
-    ap (λ (b : Bool). chosen b (x ∷ inTurn i x is (e ∷ es)) (e ∷ inTurn i x is es)) (eq-eqb i i refl)
+    ap (λ (b : Bool). chosen b (x ∷ turning i x is (e ∷ es)) (e ∷ turning i x is es)) (eq-eqb i i refl)
     ∙ ap (λ (ys : List Entry). x ∷ ys) (turn-none i x is (e ∷ es) a l)
 
 pub turn-cut : (x : Entry) (is : List ℕ) (es : List Entry) (k : ℕ) → Distinct is → k < length is → suc (length es) ≡ length is
-    → inTurn (getD is k 0) x is es ≡ take k es ++ (x ∷ drop k es)
-unfolding inTurn Distinct
+    → turning (getD is k 0) x is es ≡ take k es ++ (x ∷ drop k es)
+unfolding turning Distinct
 turn-cut x [] es k u h l = absurd (not-suc-le-zero h)
 turn-cut x (i ∷ is) es zero u h l = turn-first i x is es (u .0) (suc-inj l)
 turn-cut x (i ∷ is) [] (suc k) u h l = absurd (omega (arith, l, h))
 turn-cut x (i ∷ is) (e ∷ es) (suc k) u h l =
-    ap (λ (b : Bool). chosen b (x ∷ inTurn (getD is k 0) x is (e ∷ es)) (e ∷ inTurn (getD is k 0) x is es))
+    ap (λ (b : Bool). chosen b (x ∷ turning (getD is k 0) x is (e ∷ es)) (e ∷ turning (getD is k 0) x is es))
     (ne-eqb i (getD is k 0) (λ f. u .0 k (le-of-suc-le-suc h) (sym f)))
     ∙ ap (λ (ys : List Entry). e ∷ ys) (turn-cut x is es k (u .1) (le-of-suc-le-suc h) (suc-inj l))
 
@@ -131,9 +136,10 @@ module _ (p : List ℕ) (at n c : ℕ) (x : Entry) (h : ChunkOf n c) where
   abbrev pub all : List Entry
   all = take k es ++ (x ∷ drop k es)
 
-  pub whole : inTurn (rootAbove (roots n) c) x (roots n) es ≡ all
+  -- it is the turn by places
+  pub whole : turning (rootAbove (roots n) c) x (roots n) es ≡ all
   whole =
-      ap (λ (r : ℕ). inTurn r x (roots n) es) (place-root (roots n) c)
+      ap (λ (r : ℕ). turning r x (roots n) es) (place-root (roots n) c)
       ∙ turn-cut x (roots n) es k (roots-distinct n) (place-below n c h) count-es
 
   inside : k ≤ length es
@@ -175,12 +181,12 @@ module _ (p : List ℕ) (at n c : ℕ) (x : Entry) (h : ChunkOf n c) where
         ap (λ (y : List ℕ). rootItem y (getD is j 0) (getD sizes j 0)) h ∙ ap₂ (λ (i m : ℕ). rootItem (getD all j hole .hash) i m) r z
 
     gathered : rootMessage (itemsOf hashes is sizes (length (roots n))) ≡ messageWith p at n c x
-    unfolding messageWith itemsOf
+    unfolding messageWith itemsOf inTurn
     gathered =
         ap rootMessage
         (run-ext (λ j. rootItem (getD hashes j []) (getD is j 0) (getD sizes j 0))
         (λ j. rootItem (getD all j hole .hash) (getD (roots n) j 0) (getD all j hole .size)) 0 (length (roots n)) (λ j a b. item-at j (omega arith))
-        ∙ sym (ap (items (roots n)) whole ∙ items-run (roots n) all length-all))
+        ∙ sym (items-run (roots n) all length-all))
 
   -- the message of the code's arrays
   pub gathered-message : (hashes : List (List ℕ)) (is sizes : List ℕ) (count place : ℕ) → count ≡ length (roots n) → place ≡ k

@@ -8,7 +8,7 @@ use native.Mathlib.Omega.{arith}
 use lib.Dec.{leb, ltb}
 use lib.ListN.{length}
 use borrow.Author.Tests.{le-leb, lt-leb, ltb-true}
-use Rattle.refusals.specs.Verdict.{Verdict, none, done}
+use Rattle.refusals.specs.Verdict.{Verdict, none, done, unlessRefused}
 use Rattle.refusals.specs.Meaning.{refusalOf}
 use Rattle.refusals.specs.declared.Refusal.{Refusal}
 use Rattle.refusals.specs.declared.Place.the-variants.{Nowhere}
@@ -24,8 +24,8 @@ use Rattle.lookup.specs.Lookup.{stopRefused, toChunk, placeVerdict, heldVerdict
 use Rattle.lookup.specs.Read.{andThen, chunkBytes, readVerdict, readPart, partUnless}
 use Rattle.lookup.proofs.Answers.{stays-inside}
 use Rattle.lookup.proofs.Calls.{done-reached, done-first, held-done}
-use Rattle.packet.specs.Packet.{packetOf, roomOr14, outUnless, lengthUnless, makeVerdict, madeLength, afterMake}
-use Rattle.packet.specs.Inner.{packetWith, Readable}
+use Rattle.packet.specs.Packet.{packetOf, roomOr14, makeVerdict, madeLength, afterMake, packetWith}
+use Rattle.packet.specs.Inner.{Readable}
 use Rattle.packet.specs.Post.{roomFor, MadeAs, MadeOf}
 use Rattle.packet.specs.declared.making.Made.{Made}
 use Rattle.packet.specs.declared.making.Made.the-variants.{Refused, Length}
@@ -66,8 +66,8 @@ module _ (t : List ℕ) (n c : ℕ) (bytes out : List ℕ) (needed : ℕ) (e : n
       let f : holds out (length (packetWith t n c bytes)) ≡ false = lt-leb (length (packetWith t n c bytes)) (length out) (omega arith) in
       record {
         verdict = sym (ap roomOr14 f);
-        long = sym (ap (λ (b : Bool). lengthUnless (roomOr14 b) (packetWith t n c bytes)) f);
-        written = sym (ap (λ (b : Bool). outUnless (roomOr14 b) (packetWith t n c bytes) out) f);
+        long = sym (ap (λ (b : Bool). unlessRefused (roomOr14 b) (length (packetWith t n c bytes)) 0) f);
+        written = sym (ap (λ (b : Bool). unlessRefused (roomOr14 b) (put out 0 (packetWith t n c bytes)) out) f);
       }
 
   pub made-whole : needed ≤ length out → (after : List ℕ) → after ≡ put out 0 (packetWith t n c bytes) → MadeOf t n c bytes out (Length needed) after
@@ -75,8 +75,8 @@ module _ (t : List ℕ) (n c : ℕ) (bytes out : List ℕ) (needed : ℕ) (e : n
       let f : holds out (length (packetWith t n c bytes)) ≡ true = le-leb (length (packetWith t n c bytes)) (length out) (omega arith) in
       record {
         verdict = sym (ap roomOr14 f);
-        long = e ∙ sym (ap (λ (b : Bool). lengthUnless (roomOr14 b) (packetWith t n c bytes)) f);
-        written = g ∙ sym (ap (λ (b : Bool). outUnless (roomOr14 b) (packetWith t n c bytes) out) f);
+        long = e ∙ sym (ap (λ (b : Bool). unlessRefused (roomOr14 b) (length (packetWith t n c bytes)) 0) f);
+        written = g ∙ sym (ap (λ (b : Bool). unlessRefused (roomOr14 b) (put out 0 (packetWith t n c bytes)) out) f);
       }
 
 module _ (F : List ℕ → List ℕ) (r : Register) (c : ℕ) (out : List ℕ) where
@@ -91,8 +91,8 @@ module _ (F : List ℕ → List ℕ) (r : Register) (c : ℕ) (out : List ℕ) w
       let v : refusalOf f ≡ makeVerdict F r c out = verdict-by (refusalOf f) e in
       record {
         verdict = v;
-        long = ap (λ (x : Verdict). lengthUnless x (packetOf r c)) v;
-        written = ap (λ (x : Verdict). outUnless x (packetOf r c) out) v;
+        long = ap (λ (x : Verdict). unlessRefused x (length (packetOf r c)) 0) v;
+        written = ap (λ (x : Verdict). unlessRefused x (put out 0 (packetOf r c)) out) v;
       }
 
   pub made-from : done ≡ readVerdict F r c → (bytes : List ℕ) → bytes ≡ chunkBytes r c → (answer : Made) (after : List ℕ)
@@ -104,6 +104,6 @@ module _ (F : List ℕ → List ℕ) (r : Register) (c : ℕ) (out : List ℕ) w
       let w : roomFor (r .tree) (r .n) c bytes out ≡ makeVerdict F r c out = ap (λ (p : List ℕ). roomOr14 (holds out (length p))) g ∙ v in
       record {
         verdict = m .verdict ∙ w;
-        long = m .long ∙ ap₂ lengthUnless w g;
-        written = m .written ∙ ap₂ (λ (x : Verdict) (p : List ℕ). outUnless x p out) w g;
+        long = m .long ∙ ap₂ (λ (v : Verdict) (q : List ℕ). unlessRefused v (length q) 0) w g;
+        written = m .written ∙ ap₂ (λ (x : Verdict) (p : List ℕ). unlessRefused x (put out 0 p) out) w g;
       }

@@ -17,9 +17,9 @@ use Rattle.file_format.specs.Sizes.{entryPlace}
 use Rattle.file_format.specs.Entries.{Entry, entryBytes}
 use Rattle.file_format.proofs.Nodes.{Proper}
 use Rattle.lookup.proofs.Visits.{filled-entry}
-use Rattle.packet.specs.Packet.{siblings, otherRoots, section}
+use Rattle.packet.specs.Packet.{siblings, otherRoots, section, packetWith}
 use Rattle.packet.specs.Check.{chunkLength, shapeRight, packetChunk, entryIn}
-use Rattle.packet.specs.Inner.{packetWith, Readable}
+use Rattle.packet.specs.Inner.{Readable}
 use Rattle.packet.proofs.Shape.{all-tests}
 use Rattle.packet.proofs.Climb.{entry}
 use Rattle.packet.proofs.Rows.{Filled, siblings-filled, others-filled, section-long, packet-long}

@@ -3,12 +3,12 @@
 use Prim.Native.Nat.{ℕ, zero, suc, _+_, _-_, _*_, _≤_, _<_}
 use mathlib.Core.Path.{_≡_, refl, sym, ap, ap₂, _∙_, subst}
 use mathlib.Core.Bool.{Bool, true, false, cond}
-use mathlib.Core.List.{List, _∷_, map}
+use mathlib.Core.List.{List, _∷_, map, []}
 use native.Mathlib.Omega.{arith}
 use lib.Dec.{leb, ltb}
 use lib.ListN.{length}
 use borrow.Author.Tests.{leb-true, leb-false, le-leb, lt-leb, lt-ltb, le-ltb}
-use Rattle.refusals.specs.Verdict.{Verdict, none, done, refused}
+use Rattle.refusals.specs.Verdict.{Verdict, none, done, refused, unlessRefused}
 use Rattle.byte_strings.specs.Lists.{part, run, total, sameList}
 use Rattle.byte_strings.proofs.Lists.{length-part}
 use Rattle.file_format.specs.Sizes.{mostChunks}
@@ -17,9 +17,9 @@ use Rattle.checks.specs.Checks.{Check, judged, countRight}
 use Rattle.checks.proofs.Steps.{and-stop, and-pass}
 use Rattle.packet.specs.Packet.{siblings, otherRoots}
 use Rattle.packet.specs.Check.{chunkLength, siblingsPlace, othersPlace, shapeRight, packetChunk, entryIn, entriesIn, siblingEntries, otherEntries}
-use Rattle.packet.specs.Check.{packetTotal, Step, stepsAbove, steps, lastEntry, packetRoot, packetRootMessage, rootRight, packetVerdict, chunkUnless}
+use Rattle.packet.specs.Check.{packetTotal, stepsAbove, steps, lastEntry, packetRoot, packetRootMessage, rootRight, packetVerdict}
 use Rattle.packet.specs.Check.{checkedChunk}
-use Rattle.packet.specs.Inner.{sizesIn, Summed, RowIn, OthersIn, Climbable, climbed, messageWith, PathRow, LedTo, Shaped}
+use Rattle.packet.specs.Inner.{sizesIn, Summed, RowIn, OthersIn, Climbable, climbed, messageWith, pathRow, Handed, unhanded, handedOn, Shaped}
 use Rattle.packet.proofs.Above.{few-siblings, few-others}
 use Rattle.packet.proofs.Shape.{Sized, sized}
 use Rattle.packet.proofs.Climb.{steps-climb}
@@ -140,20 +140,20 @@ module _ (p : List ℕ) (n c : ℕ) (s : Shaped p n c) (l u o : ℕ) (a : l ≡ 
             ∙ ap (λ (x : Entry). F (messageWith p (4 + chunkLength p + 1 + 40 * length (siblings n c) + 1) n c x)) (root-is r j)))
 
         -- what the climb from the leaf leads to
-        pub led-to : (row : List ℕ) → PathRow (stepsAbove F 0 c e (entriesIn p (4 + l + 1) u)) row → LedTo F p n c e row
-        unfolding siblingEntries siblingsPlace
+        pub led-to : (row : List ℕ) → row ≡ pathRow (stepsAbove F 0 c e (entriesIn p (4 + l + 1) u)) → record { own = e; row = row } ≡ handedOn F p n c
+        unfolding handedOn siblingEntries siblingsPlace
         led-to row q =
             let own : e ≡ leaf F (packetChunk p) = i ∙ ap (leaf F) chunk-is in
-            record {
-              leaves = own;
-              upward =
-                  subst (λ (ss : List Step). PathRow ss row)
-                  (ap₂ (λ (x : Entry) (y : ℕ). stepsAbove F 0 c x (entriesIn p (4 + y + 1) u)) own a
-                  ∙ ap (λ (y : ℕ). stepsAbove F 0 c (leaf F (packetChunk p)) (entriesIn p (4 + chunkLength p + 1) y)) b)
-                  q;
-            }
+            ap₂ (λ (x : Entry) (y : List ℕ). record { own = x; row = y }) own
+            (q ∙ ap₂ (λ (x : Entry) (y : ℕ). pathRow (stepsAbove F 0 c x (entriesIn p (4 + y + 1) u))) own a
+            ∙ ap (λ (y : ℕ). pathRow (stepsAbove F 0 c (leaf F (packetChunk p)) (entriesIn p (4 + chunkLength p + 1) y))) b)
 
 -- ---- the verdict
+
+-- what is handed on, by the verdict
+pub handed-by : (F : List ℕ → List ℕ) (p : List ℕ) (n c : ℕ) {v w : Verdict} {h : Handed} → v ≡ w → h ≡ unlessRefused v (handedOn F p n c) unhanded
+    → h ≡ unlessRefused w (handedOn F p n c) unhanded
+handed-by F p n c e f = f ∙ ap (λ (x : Verdict). unlessRefused x (handedOn F p n c) unhanded) e
 
 -- the four numbers in turn
 abbrev ladder : Bool → Bool → Bool → Bool → Verdict
@@ -188,9 +188,9 @@ module _ (F : List ℕ → List ℕ) (p : List ℕ) (n c : ℕ) (root : List ℕ
         verdict-done m e = by-number true true true true (le-leb n mostChunks h) (lt-ltb c n g) k m e
 
 module _ (F : List ℕ → List ℕ) (p : List ℕ) (n c : ℕ) (root : List ℕ) where
-  pub checked-by : (v : Verdict) → v ≡ packetVerdict F p n c root → chunkUnless v (packetChunk p) ≡ checkedChunk F p n c root
+  pub checked-by : (v : Verdict) → v ≡ packetVerdict F p n c root → unlessRefused v (packetChunk p) [] ≡ checkedChunk F p n c root
   unfolding checkedChunk
-  checked-by v e = ap (λ (x : Verdict). chunkUnless x (packetChunk p)) e
+  checked-by v e = ap (λ (x : Verdict). unlessRefused x (packetChunk p) []) e
 
   pub checked-part : (l : ℕ) → l ≡ chunkLength p → done ≡ packetVerdict F p n c root → part p 4 (4 + l - 4) ≡ checkedChunk F p n c root
   unfolding packetChunk

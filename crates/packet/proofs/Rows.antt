@@ -26,8 +26,8 @@ use Rattle.file_format.specs.RootsByValue.{padded}
 use Rattle.file_format.proofs.ByValue.{gathered}
 use Rattle.file_format.proofs.Places.{put-next}
 use Rattle.lookup.proofs.Visits.{filled-entry}
-use Rattle.packet.specs.Packet.{rootAbove, beside, siblings, otherRoots, section}
-use Rattle.packet.specs.Inner.{placeAbove, ChunkOf, skipped, siblingRow, otherRow, entriesAt, packetWith, Readable}
+use Rattle.packet.specs.Packet.{rootAbove, beside, siblings, otherRoots, section, packetWith, placeAbove}
+use Rattle.packet.specs.Inner.{ChunkOf, skipped, siblingRow, otherRow, entriesAt, Readable}
 use Rattle.packet.proofs.Above.{place-root, place-below, root-spans, others-cut, cut-run, other-count, few-siblings, few-others}
 
 -- ---- the siblings are filled

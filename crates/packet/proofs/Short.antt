@@ -18,8 +18,8 @@ use Rattle.tree_index.proofs.Roots.{root-at}
 use Rattle.file_format.specs.Sizes.{entryPlace}
 use Rattle.file_format.specs.Belongs.{Register}
 use Rattle.lookup.specs.Read.{andThen, chunkBytes, readVerdict}
-use Rattle.packet.specs.Packet.{siblings, otherRoots, section, packetOf, packetExtra, roomOr14, makeVerdict}
-use Rattle.packet.specs.Inner.{placeAbove, ChunkOf}
+use Rattle.packet.specs.Packet.{siblings, otherRoots, section, packetOf, packetExtra, roomOr14, makeVerdict, packetWith, placeAbove}
+use Rattle.packet.specs.Inner.{ChunkOf}
 use Rattle.packet.specs.Theorems.{PacketStaysShortForAll}
 use Rattle.packet.proofs.Above.{place-below, sibling-count, other-count, few-siblings, few-others}
 
@@ -71,7 +71,7 @@ unfolding section
 section-short t is = omega (arith, joined-short (λ i. part t (entryPlace i) 40) 40 (λ i. part-short t (entryPlace i) 40) is)
 
 packet-short : (r : Register) (i : ℕ) → ChunkOf (r .n) i → length (packetOf r i) ≤ length (chunkBytes r i) + packetExtra
-unfolding packetOf packetExtra
+unfolding packetOf packetWith packetExtra
 packet-short r i h =
     let x = chunkBytes r i in
     let a = section (r .tree) (siblings (r .n) i) in

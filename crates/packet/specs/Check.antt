@@ -1,10 +1,10 @@
 -- The check of a packet: "takes packet, n, i and root hash; it answers the chunk's part of the packet unless 2, 9, 12 or 13 holds".
 use Prim.Native.Nat.{ℕ, zero, suc, _+_, _*_, _/_, _%_}
-use mathlib.Core.Bool.{Bool, true, false, _&&_}
-use mathlib.Core.List.{List, [], _∷_, map}
-use lib.ListN.{length, getD}
+use mathlib.Core.Bool.{Bool, _&&_}
+use mathlib.Core.List.{List, [], _∷_, _++_, map}
+use lib.ListN.{length, getD, take, drop}
 use lib.Dec.{leb, ltb, eqb}
-use Rattle.refusals.specs.Verdict.{Verdict, done, refused}
+use Rattle.refusals.specs.Verdict.{Verdict, done, unlessRefused}
 use Rattle.byte_strings.specs.Lists.{part, run, total, sameList}
 use Rattle.byte_strings.specs.Numbers.{number}
 use Rattle.tree_index.specs.Tree.{index, roots}
@@ -12,7 +12,7 @@ use Rattle.file_format.specs.Sizes.{longestChunk}
 use Rattle.file_format.specs.Messages.{leafMessage, parentMessage, rootItem, rootMessage}
 use Rattle.file_format.specs.Entries.{Entry, leaf, parentOf}
 use Rattle.checks.specs.Checks.{judged, countRight}
-use Rattle.packet.specs.Packet.{rootAbove, siblings, otherRoots}
+use Rattle.packet.specs.Packet.{placeAbove, siblings, otherRoots}
 
 -- the chunk's length as the packet gives it, and where its parts begin
 unfoldable pub chunkLength : List ℕ → ℕ
@@ -63,11 +63,9 @@ packetTotal p n c =
 unfoldable pub ordered : {A : Type 0} → ℕ → (Entry → Entry → A) → Entry → Entry → A
 ordered k f e s = elim (k % 2) [ zero ↦ f e s | suc b ↦ f s e ]
 
--- the entry x in its turn among the others: it stands for the root r of the roots is
-unfoldable pub inTurn : ℕ → Entry → List ℕ → List Entry → List Entry
-inTurn r x [] es = []
-inTurn r x (i ∷ is) [] = elim (eqb i r) [ true ↦ x ∷ inTurn r x is [] | false ↦ inTurn r x is [] ]
-inTurn r x (i ∷ is) (e ∷ es) = elim (eqb i r) [ true ↦ x ∷ inTurn r x is (e ∷ es) | false ↦ e ∷ inTurn r x is es ]
+-- the entry x in its turn among the others: at place k
+unfoldable pub inTurn : ℕ → Entry → List Entry → List Entry
+inTurn k x es = take k es ++ (x ∷ drop k es)
 
 -- the root items of roots and their entries
 unfoldable pub items : List ℕ → List Entry → List (List ℕ)
@@ -89,10 +87,6 @@ parentMessageOf l r = parentMessage (l .size + r .size) (l .hash) (r .hash)
 unfoldable pub lastEntry : Entry → List Step → Entry
 lastEntry e [] = e
 lastEntry e (s ∷ ss) = lastEntry (s .entry) ss
-
-abbrev pub chunkUnless : Verdict → List ℕ → List ℕ
-chunkUnless done chunk = chunk
-chunkUnless (refused m at) chunk = []
 
 module _ (F : List ℕ → List ℕ) where
   -- the steps above the block k of 2^d chunks, whose entry is e, by its siblings
@@ -118,7 +112,7 @@ module _ (F : List ℕ → List ℕ) where
   -- the root message that the packet gives
   unfoldable pub packetRootMessage : List ℕ → ℕ → ℕ → List ℕ
   packetRootMessage p n c =
-      rootMessage (items (roots n) (inTurn (rootAbove (roots n) c) (packetRoot p n c) (roots n) (otherEntries p n c)))
+      rootMessage (items (roots n) (inTurn (placeAbove (roots n) c) (packetRoot p n c) (otherEntries p n c)))
 
   -- "13. The packet's lengths add up to over 68,719,476,736, or its root hash is another."
   unfoldable pub rootRight : List ℕ → ℕ → ℕ → List ℕ → Bool
@@ -135,4 +129,4 @@ module _ (F : List ℕ → List ℕ) where
 
   -- the chunk's part of the packet; nothing after a refusal
   unfoldable pub checkedChunk : List ℕ → ℕ → ℕ → List ℕ → List ℕ
-  checkedChunk p n c root = chunkUnless (packetVerdict p n c root) (packetChunk p)
+  checkedChunk p n c root = unlessRefused (packetVerdict p n c root) (packetChunk p) []

@@ -1,24 +1,18 @@
 -- Making and checking in the steps that the code takes, and what its inner functions require.
-use Prim.Native.Nat.{ℕ, suc, _+_, _-_, _*_, _/_, _^_, _≤_, _<_}
+use Prim.Native.Nat.{ℕ, _+_, _-_, _*_, _/_, _^_, _≤_, _<_}
 use mathlib.Core.Path.{_≡_}
-use mathlib.Core.Bool.{true, false, cond}
-use mathlib.Core.List.{List, [], _∷_, _++_, map}
-use lib.ListN.{length, getD, take}
+use mathlib.Core.Bool.{true, cond}
+use mathlib.Core.List.{List, [], _∷_, map}
+use lib.ListN.{length, getD}
 use lib.Dec.{ltb, eqb}
-use Rattle.byte_strings.specs.Lists.{part, run, joined, total}
-use Rattle.byte_strings.specs.Numbers.{be}
-use Rattle.tree_index.specs.Tree.{index, depth, block, roots}
+use Rattle.byte_strings.specs.Lists.{part, put, run, joined, total, zeros}
+use Rattle.tree_index.specs.Tree.{index, roots}
 use Rattle.file_format.specs.Sizes.{mostChunks, longestChunk, entryPlace, usedTree}
 use Rattle.file_format.specs.Messages.{rootMessage}
-use Rattle.file_format.specs.Entries.{Entry, entryBytes, leaf, parentOf}
-use Rattle.packet.specs.Packet.{rootAbove, beside, siblings, otherRoots, section}
+use Rattle.file_format.specs.Entries.{Entry, hole, entryBytes, leaf, parentOf}
+use Rattle.packet.specs.Packet.{beside, otherRoots, packetWith, placeAbove}
 use Rattle.packet.specs.Check.{shapeRight, packetChunk, entryIn, entriesIn, siblingEntries, ordered, inTurn, items, Step, stepsAbove}
 use Rattle.packet.specs.declared.checking.Node.{Node}
-
--- which of the roots is, counted from the left, is the first whose block ends behind chunk c; their count where none does
-unfoldable pub placeAbove : List ℕ → ℕ → ℕ
-placeAbove [] c = 0
-placeAbove (i ∷ is) c = elim (ltb c ((block i + 1) * 2 ^ depth i)) [ true ↦ 0 | false ↦ suc (placeAbove is c) ]
 
 -- a chunk of a register that passes check 2
 pub record ChunkOf (n c : ℕ) : Type 0 where
@@ -47,7 +41,7 @@ sizeRow p at k e count = run (λ j. turnEntry p at k e j .size) 0 count
 -- the root message that e gives for the root above chunk c, with the others from a place on
 unfoldable pub messageWith : List ℕ → ℕ → ℕ → ℕ → Entry → List ℕ
 messageWith p at n c e =
-    rootMessage (items (roots n) (inTurn (rootAbove (roots n) c) e (roots n) (entriesIn p at (length (otherRoots n c)))))
+    rootMessage (items (roots n) (inTurn (placeAbove (roots n) c) e (entriesIn p at (length (otherRoots n c)))))
 
 -- the lengths of k entries from a place on
 unfoldable pub sizesIn : List ℕ → ℕ → ℕ → List ℕ
@@ -102,10 +96,6 @@ otherRow is k m = run (λ j. getD is (skipped k j) 0) 0 m
 unfoldable pub entriesAt : List ℕ → List ℕ → ℕ → List ℕ
 entriesAt t is k = joined (run (λ j. part t (entryPlace (getD is j 0)) 40) 0 k)
 
--- the packet of chunk c whose bytes are given
-unfoldable pub packetWith : List ℕ → ℕ → ℕ → List ℕ → List ℕ
-packetWith t n c bytes = be 4 (length bytes) ++ (bytes ++ (section t (siblings n c) ++ section t (otherRoots n c)))
-
 -- a register has the entries of its chunks, chunk c among them, and the chunk is no longer than it may be
 pub record Readable (t : List ℕ) (n c : ℕ) (bytes : List ℕ) : Type 0 where
   pub chunk : ChunkOf n c
@@ -128,13 +118,32 @@ pub record Shaped (p : List ℕ) (n c : ℕ) : Type 0 where
   pub chunk : ChunkOf n c
   pub shape : shapeRight p n c ≡ true
 
--- a row of the entries that steps give, one behind the other
-pub record PathRow (ss : List Step) (row : List ℕ) : Type 0 where
-  pub long : length row ≡ 800
-  pub front : take (40 * length ss) row ≡ joined (map (λ (s : Step). entryBytes (s .entry)) ss)
+-- the entries that steps give, one behind the other
+unfoldable pub stepBytes : List Step → List ℕ
+stepBytes ss = joined (map (λ (s : Step). entryBytes (s .entry)) ss)
+
+-- these at the front of a row that has room for 20, and zeros behind them
+unfoldable pub pathRow : List Step → List ℕ
+pathRow ss = put (zeros 800) 0 (stepBytes ss)
+
+-- what a check hands on: a leaf, and a row of the parents on the way
+pub record Handed : Type 0 where
+  pub own : Entry
+  pub row : List ℕ
+
+-- the same as the code holds it
+abbrev pub handed : Node → List ℕ → Handed
+handed e row = record { own = entryOf e; row = row }
+
+-- nothing: zeros
+unfoldable pub unhanded : Handed
+unhanded = record { own = hole; row = zeros 800 }
 
 module _ (F : List ℕ → List ℕ) where
-  -- what the packet of chunk c leads to: its leaf, and a row of the parents on the way
-  pub record LedTo (p : List ℕ) (n c : ℕ) (own : Entry) (row : List ℕ) : Type 0 where
-    pub leaves : own ≡ leaf F (packetChunk p)
-    pub upward : PathRow (stepsAbove F 0 c (leaf F (packetChunk p)) (siblingEntries p n c)) row
+  -- the leaf of the packet's chunk c, and the parents that it leads to by its siblings
+  unfoldable pub handedOn : List ℕ → ℕ → ℕ → Handed
+  handedOn p n c =
+      record {
+        own = leaf F (packetChunk p);
+        row = pathRow (stepsAbove F 0 c (leaf F (packetChunk p)) (siblingEntries p n c));
+      }

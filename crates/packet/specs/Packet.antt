@@ -5,7 +5,7 @@ use mathlib.Core.Bool.{Bool, true, false}
 use mathlib.Core.List.{List, [], _∷_, _++_, map}
 use lib.ListN.{length}
 use lib.Dec.{ltb, eqb}
-use Rattle.refusals.specs.Verdict.{Verdict, none, done, refused}
+use Rattle.refusals.specs.Verdict.{Verdict, none, done, refused, unlessRefused}
 use Rattle.byte_strings.specs.Lists.{part, put, run, joined}
 use Rattle.byte_strings.specs.Numbers.{be}
 use Rattle.tree_index.specs.Tree.{index, depth, block, roots}
@@ -18,6 +18,11 @@ use Rattle.lookup.specs.Read.{chunkBytes, andThen, readVerdict}
 unfoldable pub rootAbove : List ℕ → ℕ → ℕ
 rootAbove [] c = 0
 rootAbove (i ∷ is) c = elim (ltb c ((block i + 1) * 2 ^ depth i)) [ true ↦ i | false ↦ rootAbove is c ]
+
+-- which of the roots is, counted from the left, is the first whose block ends behind chunk c; their count where none does
+unfoldable pub placeAbove : List ℕ → ℕ → ℕ
+placeAbove [] c = 0
+placeAbove (i ∷ is) c = elim (ltb c ((block i + 1) * 2 ^ depth i)) [ true ↦ 0 | false ↦ suc (placeAbove is c) ]
 
 -- the block beside the block k under one parent
 unfoldable pub beside : ℕ → ℕ
@@ -40,11 +45,13 @@ otherRoots n c = without (rootAbove (roots n) c) (roots n)
 unfoldable pub section : List ℕ → List ℕ → List ℕ
 section t is = length is ∷ joined (map (λ i. part t (entryPlace i) 40) is)
 
--- the packet of chunk c
+-- the packet of chunk c whose bytes are given
+unfoldable pub packetWith : List ℕ → ℕ → ℕ → List ℕ → List ℕ
+packetWith t n c bytes = be 4 (length bytes) ++ (bytes ++ (section t (siblings n c) ++ section t (otherRoots n c)))
+
+-- the packet of chunk c of a register
 unfoldable pub packetOf : Register → ℕ → List ℕ
-packetOf r c =
-    be 4 (length (chunkBytes r c))
-    ++ (chunkBytes r c ++ (section (r .tree) (siblings (r .n) c) ++ section (r .tree) (otherRoots (r .n) c)))
+packetOf r c = packetWith (r .tree) (r .n) c (chunkBytes r c)
 
 -- what a packet has beside its chunk's bytes, at most: the 4-byte length, the two 1-byte counts, and 38 entries
 unfoldable pub packetExtra : ℕ
@@ -54,14 +61,6 @@ abbrev pub roomOr14 : Bool → Verdict
 roomOr14 true = done
 roomOr14 false = refused 14 none
 
-abbrev pub outUnless : Verdict → List ℕ → List ℕ → List ℕ
-outUnless done packet out = put out 0 packet
-outUnless (refused m at) packet out = out
-
-abbrev pub lengthUnless : Verdict → List ℕ → ℕ
-lengthUnless done packet = length packet
-lengthUnless (refused m at) packet = 0
-
 module _ (F : List ℕ → List ℕ) where
   -- "Making one does the read of chunk i first, with its refusals", and then 14
   unfoldable pub makeVerdict : Register → ℕ → List ℕ → Verdict
@@ -69,8 +68,8 @@ module _ (F : List ℕ → List ℕ) where
 
   -- the packet stands at the front of the lent buffer, the rest as it was
   unfoldable pub afterMake : Register → ℕ → List ℕ → List ℕ
-  afterMake r c out = outUnless (makeVerdict r c out) (packetOf r c) out
+  afterMake r c out = unlessRefused (makeVerdict r c out) (put out 0 (packetOf r c)) out
 
   -- its length is the answer
   unfoldable pub madeLength : Register → ℕ → List ℕ → ℕ
-  madeLength r c out = lengthUnless (makeVerdict r c out) (packetOf r c)
+  madeLength r c out = unlessRefused (makeVerdict r c out) (length (packetOf r c)) 0

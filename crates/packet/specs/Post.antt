@@ -3,13 +3,13 @@ use Prim.Native.Nat.{ℕ}
 use mathlib.Core.Path.{_≡_}
 use mathlib.Core.List.{List}
 use lib.ListN.{length}
-use Rattle.refusals.specs.Verdict.{Verdict, done}
+use Rattle.refusals.specs.Verdict.{Verdict, done, unlessRefused}
 use Rattle.refusals.specs.Meaning.{refusalOf}
 use Rattle.file_format.specs.Belongs.{Register}
 use Rattle.checks.specs.Checks.{holds}
-use Rattle.packet.specs.Packet.{roomOr14, outUnless, lengthUnless, makeVerdict, madeLength, afterMake}
-use Rattle.packet.specs.Inner.{packetWith}
+use Rattle.packet.specs.Packet.{roomOr14, makeVerdict, madeLength, afterMake, packetWith}
 use Rattle.packet.specs.declared.making.Made.{Made}
+use Rattle.byte_strings.specs.Lists.{put}
 use Rattle.packet.specs.declared.making.Made.the-variants.{Refused, Length}
 
 -- the verdict and the length that each case of the answer stands for
@@ -33,5 +33,5 @@ roomFor t n c bytes out = roomOr14 (holds out (length (packetWith t n c bytes)))
 
 pub record MadeOf (t : List ℕ) (n c : ℕ) (bytes out : List ℕ) (answer : Made) (after : List ℕ) : Type 0 where
   pub verdict : madeVerdict answer ≡ roomFor t n c bytes out
-  pub long : madeBytes answer ≡ lengthUnless (roomFor t n c bytes out) (packetWith t n c bytes)
-  pub written : after ≡ outUnless (roomFor t n c bytes out) (packetWith t n c bytes) out
+  pub long : madeBytes answer ≡ unlessRefused (roomFor t n c bytes out) (length (packetWith t n c bytes)) 0
+  pub written : after ≡ unlessRefused (roomFor t n c bytes out) (put out 0 (packetWith t n c bytes)) out

@@ -1,7 +1,7 @@
 -- Demand 2, of packets: "Lookups and packets answer as document 01 defines them." On a register that belongs to chunks, held or released, the packet made of a
 -- chunk that is held passes the check under their root hash, whatever else is released, and the check gives the very chunk back.
 --
--- The notions in it: `HashFunction` (files, Messages), `Slot` and `Within` (files, Slots), `Register` and `Belongs` (files, Belongs), `rootHashFor` (files, Images),
+-- The notions in it: `HashFunction` (file_format, Messages), `Slot` and `Within` (file_format, Slots), `Register` and `Belongs` (file_format, Belongs), `rootHashFor` (file_format, Images),
 -- `judged` and `registerChecks` (checks, Checks), `chunkBytes` and `readVerdict` (lookup, Read), `packetOf`, `packetExtra` and `makeVerdict`
 -- (Packet), `packetVerdict` and `checkedChunk` (Check).
 use Prim.Native.Nat.{ℕ, _+_, _*_, _≤_, _<_}

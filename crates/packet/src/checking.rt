@@ -8,15 +8,16 @@ ghost use mathlib.Core.List.{_++_};
 ghost use mathlib.Core.Bool.{true};
 ghost use Prim.Native.Nat.{_+_, _-_, _*_, _≤_, _<_};
 ghost use lib.ListN.{length};
-ghost use Rattle.refusals.specs.Verdict.{done};
+ghost use Rattle.refusals.specs.Verdict.{unlessRefused};
 ghost use Rattle.refusals.specs.Meaning.{said};
 ghost use Rattle.byte_strings.specs.Lists.{put, total, zeros};
 ghost use Rattle.byte_strings.specs.Numbers.{be};
 ghost use Rattle.blake2b.specs.Hash.{nodeHash};
-ghost use Rattle.file_format.specs.Entries.{leaf, parentOf};
+ghost use Rattle.file_format.specs.Entries.{hole, leaf, parentOf};
 ghost use Rattle.file_format.specs.RootsByValue.{padded};
 ghost use Rattle.packet.specs.Check.{shapeRight, entryIn, entriesIn, ordered, stepsAbove, rootRight, packetVerdict, checkedChunk};
-ghost use Rattle.packet.specs.Inner.{ChunkOf, turnEntry, hashRow, sizeRow, messageWith, sizesIn, Summed, entryOf, RowIn, TurnIn, TurnsIn, OthersIn, Climbable, climbed, PathRow, LedTo, Shaped};
+ghost use Rattle.packet.specs.Inner.{ChunkOf, turnEntry, hashRow, sizeRow, messageWith, sizesIn, Summed, entryOf, RowIn, TurnIn, TurnsIn, OthersIn, Climbable, climbed, Shaped};
+ghost use Rattle.packet.specs.Inner.{pathRow, handed, unhanded, handedOn};
 
 // An entry by value.
 pub struct Node {
@@ -124,8 +125,10 @@ pub fn entry_node(packet: &[u8], at: usize) -> Node
     Node { hash, size }
 }
 
-// An entry where there is none: nothing is said of it.
-fn no_node() -> Node {
+// An entry where there is none: zeros.
+fn no_node() -> Node
+    ensures { λ r. ⌜ entryOf r ≡ hole ⌝ }
+{
     Node {
         hash: [0u8; 32],
         size: 0,
@@ -172,7 +175,7 @@ pub fn put_entry(row: &mut [u8], at: usize, hash: &[u8; 32], size: u64)
 fn climb(packet: &[u8], at: usize, count: usize, chunk: ChunkNumber, leaf: Node) -> Ascent
     requires { ⌜ Climbable (now packet) at count (leaf .size) ⌝ }
     ensures above { λ r. ⌜ entryOf (r .top) ≡ climbed nodeHash (chunk .0) (entryOf leaf) (entriesIn (now (packet .entry)) at count) ⌝ }
-    ensures passed { λ r. ⌜ PathRow (stepsAbove nodeHash 0 (chunk .0) (entryOf leaf) (entriesIn (now (packet .entry)) at count)) (r .row) ⌝ }
+    ensures passed { λ r. ⌜ r .row ≡ pathRow (stepsAbove nodeHash 0 (chunk .0) (entryOf leaf) (entriesIn (now (packet .entry)) at count)) ⌝ }
 {
     let mut row = [0u8; 800];
     let mut node = leaf;
@@ -264,7 +267,7 @@ fn root_hash_with(packet: &[u8], at: usize, n: u64, chunk: ChunkNumber, node: No
 fn root_right(packet: &[u8], n: u64, chunk: ChunkNumber, root: &[u8; 32]) -> Hashed
     requires { ⌜ Shaped (now packet) n (chunk .0) ⌝ }
     ensures judged { λ r. ⌜ r .right ≡ rootRight nodeHash (now (packet .entry)) n (chunk .0) (now (root .entry)) ⌝ }
-    ensures led { λ r. ⌜ (r .right ≡ true → LedTo nodeHash (now (packet .entry)) n (chunk .0) (entryOf (r .leaf)) (r .row)) ⌝ }
+    ensures led { λ r. ⌜ (r .right ≡ true → handed (r .leaf) (r .row) ≡ handedOn nodeHash (now (packet .entry)) n (chunk .0)) ⌝ }
 {
     let up = super::path::sibling_count(n, chunk) as usize;
     let others = super::path::other_count(n, chunk);
@@ -289,9 +292,10 @@ fn root_right(packet: &[u8], n: u64, chunk: ChunkNumber, root: &[u8; 32]) -> Has
     Hashed { right, leaf, row }
 }
 
-// An answer before anything is hashed.
+// An answer that hands on nothing.
 pub fn unhashed(answer: Answer) -> Checked
-    ensures { λ r. ⌜ r .answer ≡ answer ⌝ }
+    ensures same { λ r. ⌜ r .answer ≡ answer ⌝ }
+    ensures empty { λ r. ⌜ handed (r .leaf) (r .row) ≡ unhanded ⌝ }
 {
     Checked {
         answer,
@@ -300,10 +304,16 @@ pub fn unhashed(answer: Answer) -> Checked
     }
 }
 
-// Whether a packet passes the check, or its refusal, with what was hashed for it, so that whoever goes on need not hash it again.
+// Whether a packet passes the check, or its refusal, with what was hashed for it, so that whoever goes on need not hash it again; zeros
+// after a refusal.
 pub fn check_hashing(packet: &[u8], n: u64, chunk: ChunkNumber, root: &[u8; 32]) -> Checked
     ensures judged { λ r. ⌜ said (r .answer) ≡ packetVerdict nodeHash (now (packet .entry)) n (chunk .0) (now (root .entry)) ⌝ }
-    ensures led { λ r. ⌜ (said (r .answer) ≡ done → LedTo nodeHash (now (packet .entry)) n (chunk .0) (entryOf (r .leaf)) (r .row)) ⌝ }
+    ensures led { λ r.
+        ⌜
+        handed (r .leaf) (r .row) ≡
+        unlessRefused (packetVerdict nodeHash (now (packet .entry)) n (chunk .0) (now (root .entry)))
+        (handedOn nodeHash (now (packet .entry)) n (chunk .0)) unhanded
+        ⌝ }
 {
     if 1048576 < n {
         return unhashed(refusals::refuse(2));

@@ -14,7 +14,8 @@ ghost use Rattle.tree_index.specs.Numbers.{numbers};
 ghost use Rattle.blake2b.specs.Hash.{nodeHash};
 ghost use Rattle.file_format.specs.Inner.{EntriesIn};
 ghost use Rattle.checks.specs.Lent.{registerOf};
-ghost use Rattle.packet.specs.Inner.{entriesAt, packetWith, Readable, Roomy};
+ghost use Rattle.packet.specs.Inner.{entriesAt, Readable, Roomy};
+ghost use Rattle.packet.specs.Packet.{packetWith};
 ghost use Rattle.packet.specs.Post.{MadeAs, MadeOf};
 
 // What making a packet answers: a refusal, or the packet's length.

@@ -8,8 +8,8 @@ ghost use Rattle.tree_index.specs.Tree.{roots};
 ghost use Rattle.tree_index.specs.Numbers.{numbers};
 ghost use Rattle.file_format.specs.RootsByValue.{padded};
 ghost use Rattle.packet.specs.Packet as packets;
-ghost use Rattle.packet.specs.Packet.{siblings, otherRoots};
-ghost use Rattle.packet.specs.Inner.{placeAbove, ChunkOf, skipped, siblingRow, otherRow};
+ghost use Rattle.packet.specs.Packet.{siblings, otherRoots, placeAbove};
+ghost use Rattle.packet.specs.Inner.{ChunkOf, skipped, siblingRow, otherRow};
 
 // Inner: which of the roots, counted from the left, stands above a chunk; their count where none does.
 pub fn root_place(n: u64, chunk: ChunkNumber) -> usize

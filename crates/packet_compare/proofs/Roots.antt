@@ -17,12 +17,12 @@ use Rattle.file_format.specs.Messages.{rootItem, rootMessage}
 use Rattle.file_format.specs.Entries.{Entry, hole}
 use Rattle.compare.proofs.Local.{split-append}
 use Rattle.compare.proofs.Apart.{item-injective, length-item}
-use Rattle.packet.specs.Packet.{rootAbove, siblings, otherRoots}
+use Rattle.packet.specs.Packet.{siblings, otherRoots, placeAbove}
 use Rattle.packet.specs.Check.{chunkLength, siblingsPlace, othersPlace, entryIn, entriesIn, siblingEntries, otherEntries, inTurn, items, packetRoot, packetRootMessage}
-use Rattle.packet.specs.Inner.{placeAbove, ChunkOf, turned, turnEntry}
+use Rattle.packet.specs.Inner.{ChunkOf, turned, turnEntry}
 use Rattle.packet.proofs.Above.{place-below, other-count}
 use Rattle.packet.proofs.Climb.{turned-before, turned-here, turned-behind}
-use Rattle.packet.proofs.InTurn.{all, whole, length-all, entry-at}
+use Rattle.packet.proofs.InTurn.{all, length-all, entry-at}
 use Rattle.packet.proofs.Shape.{Sized}
 use Rattle.packet_compare.specs.Inner.{Whole}
 use Rattle.packet_compare.proofs.Up.{Wholes, wholes-run}
@@ -75,10 +75,10 @@ module _ (p : List ℕ) (n c : ℕ) (h : ChunkOf n c) (x : Entry) where
   abbrev k : ℕ
   k = placeAbove (roots n) c
 
-  message-all : rootMessage (items (roots n) (inTurn (rootAbove (roots n) c) x (roots n) (otherEntries p n c)))
+  message-all : rootMessage (items (roots n) (inTurn (placeAbove (roots n) c) x (otherEntries p n c)))
       ≡ rootMessage (items (roots n) (all p at n c x h))
-  unfolding otherEntries
-  message-all = ap (λ (es : List Entry). rootMessage (items (roots n) es)) (whole p at n c x h)
+  unfolding otherEntries inTurn
+  message-all = refl
 
   top-there : getD (all p at n c x h) k hole ≡ x
   unfolding turnEntry

@@ -17,9 +17,9 @@ use Rattle.tree_index.proofs.Filled.{filled-left, filled-right}
 use Rattle.tree_index.proofs.Roots.{bit, root-filled}
 use Rattle.file_format.specs.Messages.{leafMessage}
 use Rattle.file_format.specs.Entries.{Entry, hole, leaf, parentOf}
-use Rattle.packet.specs.Packet.{rootAbove, beside, siblings}
+use Rattle.packet.specs.Packet.{rootAbove, beside, siblings, placeAbove}
 use Rattle.packet.specs.Check.{Step, ordered, parentMessageOf, packetChunk, entriesIn, siblingEntries, stepsAbove, steps}
-use Rattle.packet.specs.Inner.{placeAbove, ChunkOf}
+use Rattle.packet.specs.Inner.{ChunkOf}
 use Rattle.packet.proofs.Above.{place-root, place-below, root-spans}
 use Rattle.packet.proofs.Rows.{beside-even, beside-odd, half}
 use Rattle.packet_compare.specs.Theorems.{stepAt, StandsForAll}

@@ -1,7 +1,7 @@
 -- What is claimed of the walk along two packets, for every function F in the check of both.
 --
--- The notions in it: `HashFunction` (files, Messages), `messageFor` and `rootMessageFor` (files, Images), `Register` and `Belongs` (files, Belongs),
--- `Within` (files, Slots), `judged` and `registerChecks` (checks, Checks), `index`, `leftChild`, `rightChild`, `filled` (tree_index, Tree), `siblings` and `packetOf`
+-- The notions in it: `HashFunction` (file_format, Messages), `messageFor` and `rootMessageFor` (file_format, Images), `Register` and `Belongs` (file_format, Belongs),
+-- `Within` (file_format, Slots), `judged` and `registerChecks` (checks, Checks), `index`, `leftChild`, `rightChild`, `filled` (tree_index, Tree), `siblings` and `packetOf`
 -- (packet, Packet), `steps`, `siblingEntries`, `packetRootMessage` and `packetVerdict` (packet, Check), `comparePackets` (Walk).
 use Prim.Native.Nat.{ℕ, suc, _/_, _%_, _^_, _<_}
 use mathlib.Core.Path.{_≡_}

@@ -15,8 +15,8 @@ use Rattle.tree_index.specs.Tree.{entries}
 use Rattle.bitfield.specs.Image.{entryCount}
 use Rattle.file_format.specs.Belongs.{Register}
 use Rattle.checks.specs.Checks.{judged, registerChecks}
-use Rattle.audit.specs.Audit.{lowest, entryRight, byteRight, refusedAt}
-use Rattle.audit.specs.BitfieldEntries.{treeBits, byteRightBy}
+use Rattle.audit.specs.Audit.{lowest, entryRight, refusedAt, byteRight, byteRightBy}
+use Rattle.audit.specs.BitfieldEntries.{treeBits}
 use Rattle.audit.proofs.Bytes.{whole-right}
 use Rattle.audit.proofs.Whole.{checks-refuse, checks-pass}
 use Rattle.parts_audit.specs.Range.{lesser, within}

@@ -7,7 +7,7 @@ use Rattle.tree_index.specs.Tree.{entries}
 use Rattle.bitfield.specs.Image.{entryCount}
 use Rattle.file_format.specs.Belongs.{Register}
 use Rattle.checks.specs.Checks.{judged, registerChecks}
-use Rattle.audit.specs.Audit.{lowest, entryRight, byteRight, refusedAt}
+use Rattle.audit.specs.Audit.{lowest, entryRight, refusedAt, byteRight}
 use Rattle.parts_audit.specs.Range.{within}
 
 -- 10 at the lowest wrong one of the tree entries from a on and before b

@@ -23,8 +23,7 @@ bothChecked a b = unlessRefused (judged (registerChecks a) done) (judged (regist
 unfoldable pub rootsPart : (List ℕ → List ℕ) → Register → Register → Comparison
 rootsPart F a b =
     bothChecked a b
-    (atTop (F (storedRootMessage (a .tree) (a .n))) (F (storedRootMessage (b .tree) (b .n))) (storedRootMessage (a .tree) (a .n))
-    (storedRootMessage (b .tree) (b .n)) equal)
+    (atTop F (storedRootMessage (a .tree) (a .n)) (storedRootMessage (b .tree) (b .n)) equal)
 
 -- the entries that two registers have in common: registers with different numbers of chunks have different root messages, and are not walked
 abbrev pub walkedEntries : Register → Register → ℕ

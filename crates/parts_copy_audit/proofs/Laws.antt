@@ -13,8 +13,8 @@ use Rattle.byte_strings.specs.Lowest.{Lowest, nowhere, first, lowest}
 use Rattle.tree_index.specs.Tree.{entries}
 use Rattle.bitfield.specs.Image.{entryCount}
 use Rattle.checks.specs.Checks.{judged, addsUp}
-use Rattle.audit.specs.Audit.{refusedAt, andThen}
-use Rattle.audit.specs.BitfieldEntries.{treeBits, byteRightBy}
+use Rattle.audit.specs.Audit.{refusedAt, andThen, byteRightBy}
+use Rattle.audit.specs.BitfieldEntries.{treeBits}
 use Rattle.audit.proofs.Search.{then-assoc, stops, judged-then}
 use Rattle.copy_checks.specs.Copy.{Copy}
 use Rattle.copy_checks.specs.Least.{leastOf}

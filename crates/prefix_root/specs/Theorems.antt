@@ -1,8 +1,8 @@
 -- "On each accepted register that holds all its pieces it equals document 01's root hash of its first m chunks; 9 is given for m above n."
 --
--- The notions in it: `storedHeld` (bitfield, Release), `HashFunction` (files, Messages), `Slot`, `allHeld` and `Within` (files, Slots), `Register`, `Lent` and `Belongs` (files, Belongs),
--- `rootHashFor` (files, Images),
--- `Accepted` (audit, Audit), `rootVerdict` and `rootAnswer` (writing, RootHash), `prefixVerdict` and `prefixRoot` (PrefixRoot).
+-- The notions in it: `storedHeld` (bitfield, Release), `HashFunction` (file_format, Messages), `Slot`, `allHeld` and `Within` (file_format, Slots), `Register`, `Lent` and
+-- `Belongs` (file_format, Belongs), `rootHashFor` (file_format, Images), `Accepted` (audit, Audit), `rootVerdict` and `rootAnswer` (writing, RootHash), `prefixVerdict` and
+-- `prefixRoot` (PrefixRoot).
 use Prim.Native.Nat.{ℕ, _≤_, _<_}
 use mathlib.Core.Path.{_≡_}
 use mathlib.Core.Bool.{true}

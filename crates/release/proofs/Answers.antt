@@ -22,7 +22,7 @@ use Rattle.bitfield.proofs.Release.{released-image}
 use Rattle.file_format.specs.Sizes.{usedBitfield}
 use Rattle.file_format.specs.Messages.{HashFunction}
 use Rattle.file_format.specs.Entries.{Entry, hole, node}
-use Rattle.file_format.specs.Images.{leaves, dataSize, dataImage, bitfieldImage, treeImage}
+use Rattle.file_format.specs.Images.{leaves, dataSize, dataImage, treeImage, bitfieldImage, bitfieldOf}
 use Rattle.file_format.specs.Stored.{storedSize}
 use Rattle.file_format.specs.Slots.{Slot, released, contents, heldIn, Within}
 use Rattle.file_format.specs.Belongs.{Register, Belongs}
@@ -162,7 +162,7 @@ module _ (F : List ℕ → List ℕ) (hf : HashFunction F) (ss : List Slot) (w :
     says = held-done-at F hf ss w r b p c h
 
     bits : take (usedBitfield (r .n)) (releasedBits (r .bitfield) c) ≡ bitfieldImage (heldIn (releasedIn r ss c)) (r .n)
-    unfolding usedBitfield bitfieldImage releasedIn
+    unfolding usedBitfield bitfieldOf releasedIn
     bits =
         let cut = bits-cut F ss r b in
         let room = bits-room F ss r b in

@@ -1,7 +1,7 @@
 -- What a release leaves behind: on a register that belongs to chunks, held or released, and on every one on which it is done.
 --
--- The notions in it: `HashFunction` (files, Messages), `Entry` (files, Nodes), `Slot` and `Within` (files, Slots), `Register`, `Lent` and `Belongs` (files,
--- Belongs), the used sizes (files, Sizes), `judged` and `registerChecks` (checks, Checks), `releaseVerdict` and `releasedRegister` (Release).
+-- The notions in it: `HashFunction` (file_format, Messages), `Entry` (file_format, Entries), `Slot` and `Within` (file_format, Slots), `Register`, `Lent` and `Belongs` (file_format,
+-- Belongs), the used sizes (file_format, Sizes), `judged` and `registerChecks` (checks, Checks), `releaseVerdict` and `releasedRegister` (Release).
 use Prim.Native.Nat.{ℕ, _≤_, _<_}
 use mathlib.Core.Path.{_≡_}
 use mathlib.Core.Bool.{true, false}

@@ -15,7 +15,7 @@ use Rattle.byte_strings.proofs.Lists.{part-part, part-front, part-behind, part-
 use Rattle.byte_strings.proofs.Lowest.{lowest-agree}
 use Rattle.tree_index.specs.Tree.{filled}
 use Rattle.bitfield.specs.Index.{indexBytes}
-use Rattle.bitfield.specs.Image.{dataBytes, treeBytes, entry, entryCount, entriesOf}
+use Rattle.bitfield.specs.Image.{dataBytes, treeBytes, entry, entryCount, entriesFor, entriesOf}
 use Rattle.bitfield.specs.Append.{bitsPlace}
 use Rattle.bitfield.specs.Release.{storedHeld}
 use Rattle.bitfield.proofs.Image.{length-data, length-tree, length-entry}
@@ -89,7 +89,7 @@ module _ (xs : List ℕ) (n : ℕ) (held known : ℕ → Bool) (cut : part xs 32
   index-of-data e h = index-is e h ∙ ap indexBytes (sym (data-is e h))
 
 pub index-follows : (xs : List ℕ) (n : ℕ) (held : ℕ → Bool) → part xs 32 (3328 * entryCount n) ≡ entriesOf held n → IndexFollows xs n
-unfolding entriesOf
+unfolding entriesFor
 index-follows xs n held cut = index-of-data xs n held (filled n) cut
 
 -- ---- a register that belongs to chunks, held or released

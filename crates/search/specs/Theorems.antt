@@ -1,7 +1,7 @@
 -- What a search answers where the Index is that of the data bits, as in every register that belongs to chunks, held or released.
 --
--- The notions in it: `lowest` (sequences, Lowest), `indexBytes`, `bitsPlace` and `storedHeld` (bitfield, Index, Append and Release), `Slot` and `heldIn` (files, Slots),
--- `Register` and `Belongs` (files, Belongs), `judged` and `registerChecks` (checks, Checks), `firstMissing` and `searchFor` (Search).
+-- The notions in it: `lowest` (byte_strings, Lowest), `indexBytes`, `bitsPlace` and `storedHeld` (bitfield, Index, Append and Release), `Slot` and `heldIn` (file_format, Slots),
+-- `Register` and `Belongs` (file_format, Belongs), `judged` and `registerChecks` (checks, Checks), `firstMissing` and `searchFor` (Search).
 use Prim.Native.Nat.{ℕ, _+_, _-_, _<_}
 use mathlib.Core.Path.{_≡_}
 use mathlib.Core.List.{List}

@@ -16,7 +16,6 @@ use Rattle.bitfield.specs.Image.{entryCount, entriesOf}
 use Rattle.bitfield.proofs.Image.{length-entries}
 use Rattle.file_format.specs.Headers.{bitfieldHeader}
 use Rattle.file_format.specs.Sizes.{longestChunk, usedBitfield}
-use Rattle.file_format.specs.Images.{bitfieldImage}
 use Rattle.file_format.specs.Stored.{storedSize}
 use Rattle.file_format.specs.Belongs.{Register}
 use Rattle.file_format.proofs.OfImage.{bitfieldHeader-length}
@@ -26,6 +25,7 @@ use Rattle.search.specs.Theorems.{IndexFollows}
 use Rattle.search.proofs.Answers.{index-follows}
 use Rattle.short_lookup.specs.Theorems.{LengthsRight, ShortAgreesForAll}
 use Rattle.short_lookup.proofs.Agree.{lookups-agree, search-agrees}
+use Rattle.file_format.specs.Images.{bitfieldImage, bitfieldOf}
 
 -- a bitfield file whose bytes behind the header are those of some entries has these entries
 pub entries-cut : (xs es : List ℕ) (m : ℕ) → 32 + m ≤ length xs → length es ≡ m
@@ -40,7 +40,7 @@ entries-cut xs es m room whole same =
 bits-cut : (xs : List ℕ) (n : ℕ) (held : ℕ → Bool) → usedBitfield n ≤ length xs
     → ((b : ℕ) → 32 ≤ b → b < usedBitfield n → getD xs b 0 ≡ getD (bitfieldImage held n) b 0)
     → part xs 32 (3328 * entryCount n) ≡ entriesOf held n
-unfolding usedBitfield bitfieldImage
+unfolding usedBitfield bitfieldOf
 bits-cut xs n held room same = entries-cut xs (entriesOf held n) (3328 * entryCount n) room (length-entries held n) same
 
 module _ (F : List ℕ → List ℕ) (r : Register) (a : Audited F r) where

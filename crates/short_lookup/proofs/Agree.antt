@@ -14,6 +14,7 @@ use Rattle.file_format.specs.Stored.{storedSize, storedStart, storedRootSizes}
 use Rattle.checks.specs.Checks.{judged, registerChecks}
 use Rattle.checks.proofs.Passed.{passed}
 use Rattle.lookup.specs.Descent.{Ending, stopped, reached, unknown, chunkWithin, byteWithin, descent, always}
+use Rattle.lookup.specs.Lookup.{placeOf, byteAt}
 use Rattle.lookup.specs.Inner.{placeIn, byteIn}
 use Rattle.lookup.specs.Theorems.{Right}
 use Rattle.lookup.proofs.Descents.{Steps, Halted, Ends, ends, chunk-order, byte-order, left-first, right-end, left-inside}
@@ -21,11 +22,10 @@ use Rattle.lookup.proofs.Answers.{never-unknown}
 use Rattle.lookup.proofs.Calls as quick
 use Rattle.search.specs.Search.{soughtUnless, searchFor}
 use Rattle.search.proofs.Follows.{search-follows}
-use Rattle.short_lookup.specs.ShortLookup.{shortPlaceIn, shortByteIn, shortSearchFor}
-use Rattle.short_lookup.specs.Theorems.{LeavesFit, LengthsRight, AgreeInForAll, LookupsAgree, LookupsAgreeForAll, SearchAgreesForAll}
-use Rattle.short_lookup.proofs.Walks.{start-next, start-none, place-nowhere, place-nine, place-there, byte-nine, byte-end, byte-there}
-use Rattle.short_lookup.proofs.Calls.{place-refused, place-passed, byte-refused, byte-passed}
-use Rattle.short_lookup.proofs.Answers.{byte-at, place-at}
+use Rattle.short_lookup.specs.ShortLookup.{shortPlaceIn, shortByteIn, shortPlaceOf, shortByteAt, shortSearchFor, foundBehind}
+use Rattle.short_lookup.specs.Theorems.{LeavesFit, LengthsRight, AgreeIn, AgreeInForAll, LookupsAgreeForAll, SearchAgreesForAll}
+use Rattle.short_lookup.proofs.Walks.{start-next, start-none, place-nine, place-there, byte-nine, byte-end, byte-there}
+use Rattle.short_lookup.proofs.Answers.{fits-right, byte-at, place-at}
 
 module _ (t : List ℕ) (n : ℕ) (few : n ≤ mostChunks) (right : LengthsRight t n) where
   right-at : (d k : ℕ) → (k + 1) * 2 ^ d ≤ n → Right t d k
@@ -67,11 +67,11 @@ module _ (t : List ℕ) (n : ℕ) (few : n ≤ mostChunks) (right : LengthsRight
           let e : k ≡ c = omega (arith, l .met .low, l .met .high) in
           ap₂ reached e (l .met .at ∙ ap (storedStart t) (mul-one k ∙ e))
 
-  place-agrees : (c : ℕ) → shortPlaceIn t n c ≡ placeIn always t n c
+  place-agrees : (c : ℕ) → shortPlaceIn always t n c ≡ placeIn always t n c
   place-agrees c = elim (decLt c n) [
-    | yes h ↦ sym (place-nowhere t c (place-at t c (leaves-fit (c + 1) (omega arith))) ∙ place-there t n c h)
+    | yes h ↦ sym (place-at always t c (fits-right t (c + 1) (leaves-fit (c + 1) (omega arith))) ∙ place-there always t n c h)
         ∙ quick.place-reached always t n c h c (storedStart t c) (storedSize t (index 0 c)) (sym (to-chunk c h)) refl
-    | no h ↦ sym (place-nine t n c (omega arith)) ∙ quick.place-above always t n c (omega arith)
+    | no h ↦ sym (place-nine always t n c (omega arith)) ∙ quick.place-above always t n c (omega arith)
   ]
 
   -- ---- the byte lookup
@@ -102,20 +102,20 @@ module _ (t : List ℕ) (n : ℕ) (few : n ≤ mostChunks) (right : LengthsRight
           }
 
   module _ (size : ℕ) (adds : total (storedRootSizes t n) ≡ size) where
-    byte-inside : (b : ℕ) → b < size → shortByteIn t n size b ≡ byteIn always t n size b
+    byte-inside : (b : ℕ) → b < size → shortByteIn always t n size b ≡ byteIn always t n size b
     byte-inside b h =
         let g = to-byte b (omega (arith, adds)) in
         sym
-        (byte-at t n b (g .k) (g .below) (g .from) (leaves-fit (g .k + 1) (omega (arith, g .below))) (g .to)
-        ∙ byte-there t n size b (omega arith) (λ q. omega arith))
+        (byte-at always t n b (g .k) (g .below) (g .from) (fits-right t (g .k + 1) (leaves-fit (g .k + 1) (omega (arith, g .below)))) (g .to)
+        ∙ byte-there always t n size b (omega arith) (λ q. omega arith))
         ∙ quick.byte-reached always t n size b (omega arith) (λ q. omega arith) (g .k) (storedStart t (g .k)) (sym (g .same))
 
-    byte-agrees : (b : ℕ) → shortByteIn t n size b ≡ byteIn always t n size b
+    byte-agrees : (b : ℕ) → shortByteIn always t n size b ≡ byteIn always t n size b
     byte-agrees b = elim (decLt b size) [
       | yes h ↦ byte-inside b h
       | no h ↦ elim (decLt size b) [
-        | yes g ↦ sym (byte-nine t n size b g) ∙ quick.byte-above always t n size b g
-        | no g ↦ let e : b ≡ size = omega arith in sym (byte-end t n size b e) ∙ quick.byte-end always t n size b e
+        | yes g ↦ sym (byte-nine always t n size b g) ∙ quick.byte-above always t n size b g
+        | no g ↦ let e : b ≡ size = omega arith in sym (byte-end always t n size b e) ∙ quick.byte-end always t n size b e
       ]
     ]
 
@@ -125,21 +125,20 @@ agree-in t n size few adds right = record { place = place-agrees t n few right; 
 -- ---- a register
 
 pub lookups-agree : LookupsAgreeForAll
-lookups-agree r right = pick (judged (registerChecks r) done) refl
+unfolding shortPlaceOf shortByteAt
+lookups-agree r right =
+    record { place = λ c. place c (judged (registerChecks r) done) refl; byte = λ b. byte b (judged (registerChecks r) done) refl }
   where
-    pick : (v : Verdict) → v ≡ judged (registerChecks r) done → LookupsAgree r
-    pick done e =
-        let p = passed r done (sym e) .0 in
-        let a = agree-in (r .tree) (r .n) (r .size) (p .count) (p .adds) right in
-        record {
-          place = λ c. sym (place-passed r e c) ∙ a .place c ∙ quick.place-passed r c e;
-          byte = λ b. sym (byte-passed r e b) ∙ a .byte b ∙ quick.byte-passed r b e;
-        }
-    pick (refused m at) e =
-        record {
-          place = λ c. sym (place-refused r c m at e) ∙ quick.place-refused r c m at e;
-          byte = λ b. sym (byte-refused r b m at e) ∙ quick.byte-refused r b m at e;
-        }
+    agreed : done ≡ judged (registerChecks r) done → AgreeIn (r .tree) (r .n) (r .size)
+    agreed e = let p = passed r done (sym e) .0 in agree-in (r .tree) (r .n) (r .size) (p .count) (p .adds) right
+
+    place : (c : ℕ) (v : Verdict) → v ≡ judged (registerChecks r) done → foundBehind v (shortPlaceIn always (r .tree) (r .n) c) ≡ placeOf r c
+    place c done e = agreed e .place c ∙ quick.place-passed r c e
+    place c (refused m at) e = quick.place-refused r c m at e
+
+    byte : (b : ℕ) (v : Verdict) → v ≡ judged (registerChecks r) done → foundBehind v (shortByteIn always (r .tree) (r .n) (r .size) b) ≡ byteAt r b
+    byte b done e = agreed e .byte b ∙ quick.byte-passed r b e
+    byte b (refused m at) e = quick.byte-refused r b m at e
 
 pub search-agrees : SearchAgreesForAll
 unfolding shortSearchFor searchFor

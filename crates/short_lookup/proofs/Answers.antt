@@ -10,19 +10,19 @@ use borrow.Author.Tests.{leb-true, leb-false}
 use lib.Dec.{leb}
 use Rattle.refusals.specs.Verdict.{tree, done}
 use Rattle.byte_strings.specs.Lowest.{Lowest, nowhere, first, lowest}
-use Rattle.byte_strings.proofs.Lowest.{step, lowest-off}
+use Rattle.byte_strings.proofs.Lowest.{lowest-off, lowest-for-all}
 use Rattle.tree_index.specs.Tree.{index}
-use Rattle.file_format.specs.Sizes.{longestChunk}
 use Rattle.file_format.specs.Stored.{storedSize, storedStart}
 use Rattle.file_format.specs.Belongs.{Register}
 use Rattle.checks.specs.Checks.{judged, registerChecks}
+use Rattle.lookup.specs.Descent.{always}
 use Rattle.lookup.specs.Lookup.{Found, refusal, found}
 use Rattle.search.proofs.Cut.{cut-none, lowest-none}
-use Rattle.short_lookup.specs.ShortLookup.{leafFits, leafPassed, placeByLeaves, byteByLeaves, shortPlaceOf, shortByteAt}
+use Rattle.short_lookup.specs.ShortLookup.{leafRight, leafRefused, leafPassed, placeByLeaves, byteByLeaves, shortPlaceOf, shortByteAt}
 use Rattle.short_lookup.specs.Theorems.{LeavesFit, FirstLong, ShortLookups, ShortLookupsForAll}
-use Rattle.short_lookup.proofs.Walks.{start-next, start-none, leaf-fits, leaf-long, passed-on, passed-long, passed-here, place-nowhere, place-first}
-use Rattle.short_lookup.proofs.Walks.{byte-nowhere, byte-first-long, byte-first-here, place-nine, place-there, byte-nine, byte-end, byte-there}
-use Rattle.short_lookup.proofs.Calls.{place-passed, byte-passed}
+use Rattle.short_lookup.proofs.Walks.{start-next, start-none, leaf-right, leaf-long, refused-by, passed-on, passed-wrong, passed-here}
+use Rattle.short_lookup.proofs.Walks.{place-nowhere, place-first, byte-nowhere, byte-first, place-nine, place-there, byte-nine, byte-end, byte-there}
+use Rattle.short_lookup.proofs.Calls.{place-by, byte-by}
 
 -- ---- the lowest number that a test finds wrong
 
@@ -46,44 +46,15 @@ pub record Found-at (f : ℕ → Bool) (i m j : ℕ) : Type 0 where
   pub right : (l : ℕ) → i ≤ l → l < j → f l ≡ true
 
 pub lowest-says : (f : ℕ → Bool) (i m j : ℕ) → lowest f i m ≡ first j → Found-at f i m j
-unfolding lowest
-lowest-says f i zero j e = let z : _≡_ {A = ℕ} 0 1 = cc in absurd (omega arith)
-lowest-says f i (suc m) j e = pick (f i) refl e (λ g. lowest-says f (suc i) m j g)
-  where
-    same : (l : ℕ) → i ≤ l → l < suc i → f i ≡ true → f l ≡ true
-    same l p q r = let x : i ≡ l = omega arith in subst (λ (y : ℕ). f y ≡ true) x r
-
-    later : (l : ℕ) → i ≤ l → l < j → f i ≡ true → ((k : ℕ) → suc i ≤ k → k < j → f k ≡ true) → f l ≡ true
-    later l p q r rest = let c = le-dest p in split (c .0) (c .1)
-      where
-        split : (d : ℕ) → i + d ≡ l → f l ≡ true
-        split zero x = same l p (omega arith) r
-        split (suc d) x = rest l (omega arith) q
-
-    pick : (b : Bool) → f i ≡ b → step b i (lowest f (suc i) m) ≡ first j → (lowest f (suc i) m ≡ first j → Found-at f (suc i) m j) → Found-at f i (suc m) j
-    pick true r g rec =
-        let a = rec g in
-        record { from = omega (arith, a .from); below = omega (arith, a .below); wrong = a .wrong; right = λ l p q. later l p q r (a .right) }
-    pick false r g rec =
-        let x : i ≡ j = cc in
-        record {
-          from = omega arith;
-          below = omega arith;
-          wrong = subst (λ (y : ℕ). f y ≡ false) x r;
-          right = λ l p q. absurd (omega arith);
-        }
+lowest-says f i m j e = let a = lowest-for-all f i m .some j .0 e in record { from = a .0; below = a .1; wrong = a .2; right = a .3 }
 
 -- ---- a tree file
 
-and-true : (a b : Bool) → (a && b) ≡ true → (a ≡ true) × (b ≡ true)
+pub and-true : (a b : Bool) → (a && b) ≡ true → (a ≡ true) × (b ≡ true)
 and-true true b e = (refl, e)
 and-true false b e = let z : _≡_ {A = ℕ} 0 1 = cc in absurd (omega arith)
 
 module _ (t : List ℕ) where
-  fits-at : (m k : ℕ) → LeavesFit t m → k < m → storedSize t (index 0 k) ≤ longestChunk
-  unfolding LeavesFit
-  fits-at m k p h = p k h
-
   -- starts rise
   start-mono : (i d : ℕ) → storedStart t i ≤ storedStart t (i + d)
   start-mono i zero = let e : i + 0 ≡ i = omega arith in omega (arith, ap (storedStart t) e)
@@ -94,101 +65,108 @@ module _ (t : List ℕ) where
   start-le : (i j : ℕ) → i ≤ j → storedStart t i ≤ storedStart t j
   start-le i j h = let c = le-dest h in subst (λ (x : ℕ). storedStart t i ≤ storedStart t x) (c .1) (start-mono i (c .0))
 
+-- a walk goes on from the leaves of the first m chunks
+abbrev pub Right : (ℕ → Bool) → List ℕ → ℕ → Type 0
+Right known t m = (k : ℕ) → k < m → leafRight known t k ≡ true
+
+-- in a register from those that fit
+pub fits-right : (t : List ℕ) (m : ℕ) → LeavesFit t m → Right always t m
+unfolding LeavesFit
+fits-right t m p k h = leaf-right always t k refl (p k h)
+
+module _ (known : ℕ → Bool) (t : List ℕ) where
   -- a leaf before chunk k, which does not begin behind the offset, is passed
-  pub before-passed : (b k j : ℕ) → LeavesFit t k → storedStart t k ≤ b → j < k → leafPassed t b j ≡ true
-  before-passed b k j p h l =
-      passed-on t b j (fits-at k j p l) (omega (arith, start-next t j, start-le (j + 1) k (omega arith)))
+  before-passed : (b k : ℕ) → Right known t k → storedStart t k ≤ b → (j : ℕ) → j < k → leafPassed known t b j ≡ true
+  before-passed b k p h j l = passed-on known t j b (p j l) (omega (arith, start-next t j, start-le t (j + 1) k (omega arith)))
 
   module _ (n b k : ℕ) (h : k < n) (s : storedStart t k ≤ b) where
-    pub byte-at : LeavesFit t (k + 1) → b < storedStart t k + storedSize t (index 0 k) → found k (b - storedStart t k) ≡ byteByLeaves t n b
-    unfolding LeavesFit
+    pub byte-at : Right known t (k + 1) → b < storedStart t k + storedSize t (index 0 k) → found k (b - storedStart t k) ≡ byteByLeaves known t n b
     byte-at p g =
-        let z : storedSize t (index 0 k) ≤ longestChunk = p k (omega arith) in
-        byte-first-here t n b k
-        (lowest-first (leafPassed t b) k n h (λ j l. before-passed b k j (λ i q. p i (omega arith)) s l) (passed-here t b k z g)) z
+        let z : leafRight known t k ≡ true = p k (omega arith) in
+        byte-first known t n b k true
+        (lowest-first (leafPassed known t b) k n h (before-passed b k (λ i q. p i (omega arith)) s) (passed-here known t k b z g)) z
 
-    byte-stops : FirstLong t k → refusal 10 (tree (index 0 k)) ≡ byteByLeaves t n b
-    byte-stops p =
-        byte-first-long t n b k
-        (lowest-first (leafPassed t b) k n h (λ j l. before-passed b k j (p .before) s l) (passed-long t b k (p .long))) (p .long)
+    pub byte-stops : Right known t k → leafRight known t k ≡ false → leafRefused known t k ≡ byteByLeaves known t n b
+    byte-stops p w =
+        byte-first known t n b k false (lowest-first (leafPassed known t b) k n h (before-passed b k p s) (passed-wrong known t k b w)) w
 
-  byte-ends : (n b : ℕ) → LeavesFit t n → storedStart t n ≤ b → refusal 10 (tree (index 0 (n - 1))) ≡ byteByLeaves t n b
-  byte-ends n b p s = byte-nowhere t n b (lowest-all (leafPassed t b) n (λ j l. before-passed b n j p s l))
+  pub byte-ends : (n b : ℕ) → Right known t n → storedStart t n ≤ b → refusal 10 (tree (index 0 (n - 1))) ≡ byteByLeaves known t n b
+  byte-ends n b p s = byte-nowhere known t n b (lowest-all (leafPassed known t b) n (before-passed b n p s))
 
-  pub place-at : (c : ℕ) → LeavesFit t (c + 1) → lowest (leafFits t) 0 (c + 1) ≡ nowhere
-  place-at c p = lowest-all (leafFits t) (c + 1) (λ j l. leaf-fits t j (fits-at (c + 1) j p l))
+  pub place-at : (c : ℕ) → Right known t (c + 1) → found (storedStart t c) (storedSize t (index 0 c)) ≡ placeByLeaves known t c
+  place-at c p = place-nowhere known t c (lowest-all (leafRight known t) (c + 1) p)
+
+  pub place-stops : (c k : ℕ) → k ≤ c → Right known t k → leafRight known t k ≡ false → leafRefused known t k ≡ placeByLeaves known t c
+  place-stops c k h p w = place-first known t c k (lowest-first (leafRight known t) k (c + 1) (omega arith) p w)
 
   -- ---- a chunk that is answered
 
-  has-from : (b j : ℕ) → ((l : ℕ) → 0 ≤ l → l < j → leafPassed t b l ≡ true) → storedStart t j ≤ b
+  has-from : (b j : ℕ) → ((l : ℕ) → 0 ≤ l → l < j → leafPassed known t b l ≡ true) → storedStart t j ≤ b
   unfolding leafPassed
   has-from b zero p = omega (arith, start-none t)
   has-from b (suc i) p =
-      let q = and-true (leafFits t i) (leb (storedStart t i + storedSize t (index 0 i)) b) (p i (omega arith) (omega arith)) in
+      let q = and-true (leafRight known t i) (leb (storedStart t i + storedSize t (index 0 i)) b) (p i (omega arith) (omega arith)) in
       omega (arith, leb-true (storedStart t i + storedSize t (index 0 i)) b (q .1), start-next t i, ap (storedStart t) (add-one i))
 
-  -- a leaf that fits, and is not passed, ends behind the offset
-  has-to : (b j : ℕ) → leafPassed t b j ≡ false → leafFits t j ≡ true → b < storedStart t j + storedSize t (index 0 j)
+  -- a leaf that is right, and is not passed, ends behind the offset
+  has-to : (b j : ℕ) → leafPassed known t b j ≡ false → leafRight known t j ≡ true → b < storedStart t j + storedSize t (index 0 j)
   unfolding leafPassed
   has-to b j w f =
       leb-false (storedStart t j + storedSize t (index 0 j)) b
       (sym (ap (λ (x : Bool). x && leb (storedStart t j + storedSize t (index 0 j)) b) f) ∙ w)
 
-  record Has (n b k x : ℕ) : Type 0 where
-    below : k < n
-    sum : storedStart t k + x ≡ b
-    inside : x < storedSize t (index 0 k)
+  abbrev pub Has : ℕ → ℕ → ℕ → ℕ → Type 0
+  Has n b k x = (k < n) × (storedStart t k + x ≡ b) × (x < storedSize t (index 0 k))
 
-  byte-has : (n b k x : ℕ) → byteByLeaves t n b ≡ found k x → Has n b k x
-  unfolding byteByLeaves
-  byte-has n b k x e = pick (lowest (leafPassed t b) 0 n) refl e
+  pub byte-has : (n b k x : ℕ) → byteByLeaves known t n b ≡ found k x → Has n b k x
+  unfolding byteByLeaves leafRefused
+  byte-has n b k x e = pick (lowest (leafPassed known t b) 0 n) refl e
     where
-      told : (j : ℕ) (y : Bool) → Found-at (leafPassed t b) 0 n j → leafFits t j ≡ y
-          → cond y (found j (b - storedStart t j)) (refusal 10 (tree (index 0 j))) ≡ found k x → Has n b k x
+      told : (j : ℕ) (y : Bool) → Found-at (leafPassed known t b) 0 n j → leafRight known t j ≡ y
+          → cond y (found j (b - storedStart t j)) (leafRefused known t j) ≡ found k x → Has n b k x
       told j true a f g =
           let p : j ≡ k = cc in
           let q : b - storedStart t j ≡ x = cc in
           let u : storedStart t j ≤ b = has-from b j (a .right) in
           let v : b < storedStart t j + storedSize t (index 0 j) = has-to b j (a .wrong) f in
-          subst (λ (y : ℕ). Has n b y x) p (record { below = omega (arith, a .below); sum = omega arith; inside = omega arith })
+          subst (λ (y : ℕ). Has n b y x) p (omega (arith, a .below), omega arith, omega arith)
       told j false a f g = let z : _≡_ {A = ℕ} 0 1 = cc in absurd (omega arith)
 
-      pick : (l : Lowest) → lowest (leafPassed t b) 0 n ≡ l
-          → elim l [ nowhere ↦ refusal 10 (tree (index 0 (n - 1))) | first j ↦ cond (leafFits t j) (found j (b - storedStart t j)) (refusal 10 (tree (index 0 j))) ] ≡ found k x
+      pick : (l : Lowest) → lowest (leafPassed known t b) 0 n ≡ l
+          → elim l [ nowhere ↦ refusal 10 (tree (index 0 (n - 1))) | first j ↦ cond (leafRight known t j) (found j (b - storedStart t j)) (leafRefused known t j) ] ≡ found k x
           → Has n b k x
       pick nowhere w g = let z : _≡_ {A = ℕ} 0 1 = cc in absurd (omega arith)
-      pick (first j) w g = told j (leafFits t j) (lowest-says (leafPassed t b) 0 n j w) refl g
+      pick (first j) w g = told j (leafRight known t j) (lowest-says (leafPassed known t b) 0 n j w) refl g
 
 -- ---- a register
 
 module _ (r : Register) (e : judged (registerChecks r) done ≡ done) where
-  placed : (c : ℕ) (x : Found) → c < r .n → x ≡ placeByLeaves (r .tree) c → shortPlaceOf r c ≡ x
-  placed c x h p = sym (p ∙ place-there (r .tree) (r .n) c h ∙ place-passed r (sym e) c)
+  abbrev t : List ℕ
+  t = r .tree
 
-  located : (b : ℕ) (x : Found) → b < r .size → x ≡ byteByLeaves (r .tree) (r .n) b → shortByteAt r b ≡ x
+  placed : (c : ℕ) (x : Found) → c < r .n → x ≡ placeByLeaves always t c → shortPlaceOf r c ≡ x
+  placed c x h p = sym (p ∙ place-there always t (r .n) c h ∙ place-by r done (sym e) c)
+
+  located : (b : ℕ) (x : Found) → b < r .size → x ≡ byteByLeaves always t (r .n) b → shortByteAt r b ≡ x
   located b x h p =
-      sym (p ∙ byte-there (r .tree) (r .n) (r .size) b (omega arith) (λ q. omega arith) ∙ byte-passed r (sym e) b)
+      sym (p ∙ byte-there always t (r .n) (r .size) b (omega arith) (λ q. omega arith) ∙ byte-by r done (sym e) b)
 
-  has : (b k x : ℕ) → b < r .size → shortByteAt r b ≡ found k x
-      → (k < r .n) × (storedStart (r .tree) k + x ≡ b) × (x < storedSize (r .tree) (index 0 k))
-  has b k x h g =
-      let a = byte-has (r .tree) (r .n) b k x (sym (located b (byteByLeaves (r .tree) (r .n) b) h refl) ∙ g) in
-      (a .below, a .sum, a .inside)
+  -- the first leaf above 65,536
+  long : (k : ℕ) → FirstLong t k → (leafRight always t k ≡ false) × (refusal 10 (tree (index 0 k)) ≡ leafRefused always t k)
+  long k p = (leaf-long always t k refl (p .long), refused-by always t k true refl)
 
   answered : ShortLookups r
   answered =
       record {
-        place = λ c h p. placed c (found (storedStart (r .tree) c) (storedSize (r .tree) (index 0 c))) h (place-nowhere (r .tree) c (place-at (r .tree) c p));
-        placeLong = λ c k h l p. placed c (refusal 10 (tree (index 0 k))) h
-            (place-first (r .tree) c k
-            (lowest-first (leafFits (r .tree)) k (c + 1) (omega arith) (λ j q. leaf-fits (r .tree) j (fits-at (r .tree) k j (p .before) q)) (leaf-long (r .tree) k (p .long))));
-        noPlace = λ c h. sym (place-nine (r .tree) (r .n) c h ∙ place-passed r (sym e) c);
-        byte = λ b k h l p s g. located b (found k (b - storedStart (r .tree) k)) h (byte-at (r .tree) (r .n) b k l s p g);
-        byteLong = λ b k h l p s. located b (refusal 10 (tree (index 0 k))) h (byte-stops (r .tree) (r .n) b k l s p);
-        byteNone = λ b h p s. located b (refusal 10 (tree (index 0 (r .n - 1)))) h (byte-ends (r .tree) (r .n) b p s);
-        byteHas = has;
-        end = sym (byte-end (r .tree) (r .n) (r .size) (r .size) refl ∙ byte-passed r (sym e) (r .size));
-        noByte = λ b h. sym (byte-nine (r .tree) (r .n) (r .size) b h ∙ byte-passed r (sym e) b);
+        place = λ c h p. placed c _ h (place-at always t c (fits-right t (c + 1) p));
+        placeLong = λ c k h l p. placed c _ h (long k p .1 ∙ place-stops always t c k l (fits-right t k (p .before)) (long k p .0));
+        noPlace = λ c h. sym (place-nine always t (r .n) c h ∙ place-by r done (sym e) c);
+        byte = λ b k h l p s g. located b _ h (byte-at always t (r .n) b k l s (fits-right t (k + 1) p) g);
+        byteLong = λ b k h l p s. located b _ h (long k p .1 ∙ byte-stops always t (r .n) b k l s (fits-right t k (p .before)) (long k p .0));
+        byteNone = λ b h p s. located b _ h (byte-ends always t (r .n) b (fits-right t (r .n) p) s);
+        byteHas = λ b k x h g. byte-has always t (r .n) b k x (sym (located b _ h refl) ∙ g);
+        end = sym (byte-end always t (r .n) (r .size) (r .size) refl ∙ byte-by r done (sym e) (r .size));
+        noByte = λ b h. sym (byte-nine always t (r .n) (r .size) b h ∙ byte-by r done (sym e) b);
       }
 
 pub short-lookups : ShortLookupsForAll

@@ -12,22 +12,31 @@ use Rattle.refusals.specs.Verdict.{none, tree}
 use Rattle.byte_strings.specs.Lists.{total, run}
 use Rattle.byte_strings.specs.Lowest.{Lowest, nowhere, first, lowest}
 use Rattle.byte_strings.proofs.Lowest.{lowest-on, lowest-off, lowest-end}
-use Rattle.tree_index.specs.Tree.{index}
+use Rattle.tree_index.specs.Tree.{index, filled}
 use Rattle.tree_index.proofs.Index.{index-leaf}
 use Rattle.tree_index.proofs.Filled.{end-filled}
 use Rattle.file_format.specs.Sizes.{longestChunk}
 use Rattle.file_format.specs.Stored.{storedSize, storedStart}
-use Rattle.file_format.specs.Inner.{EntryIn, RootsIn}
+use Rattle.file_format.specs.Inner.{EntryIn}
 use Rattle.audit.proofs.Only.{start-suc}
 use Rattle.lookup.specs.Lookup.{Found, refusal, found}
+use Rattle.lookup.specs.Inner.{BitIn, FilesIn}
 use Rattle.lookup.proofs.Visits.{filled-entry}
-use Rattle.short_lookup.specs.ShortLookup.{leafFits, placeByLeaves, leafPassed, byteByLeaves, shortPlaceIn, shortByteIn}
+use Rattle.lookup.proofs.Unknown.{entry-bit}
+use Rattle.short_lookup.specs.ShortLookup.{leafRight, leafRefused, placeByLeaves, leafPassed, byteByLeaves, shortPlaceIn, shortByteIn}
 
 -- ---- the tree file
 
--- the leaf of a chunk that is there
-pub leaf-in : (t : List ℕ) (n k : ℕ) → RootsIn t n → k < n → EntryIn t (index 0 k)
-leaf-in t n k p h = filled-entry t n (index 0 k) (p .count) (p .inside) (end-filled n 0 k (omega (arith, mul-one (k + 1))))
+-- the leaf of a chunk that is there, and its bit
+module _ {partly : Bool} {t bits : List ℕ} {n : ℕ} (p : FilesIn partly t bits n) (k : ℕ) (h : k < n) where
+  filled-leaf : filled n (index 0 k) ≡ true
+  filled-leaf = end-filled n 0 k (omega (arith, mul-one (k + 1)))
+
+  pub leaf-in : EntryIn t (index 0 k)
+  leaf-in = filled-entry t n (index 0 k) (p .roots .count) (p .roots .inside) filled-leaf
+
+  pub leaf-bit : BitIn partly bits (index 0 k)
+  leaf-bit b = entry-bit bits n (index 0 k) (p .bitfield b) filled-leaf
 
 -- where the next chunk starts
 pub start-next : (t : List ℕ) (k : ℕ) → storedStart t (k + 1) ≡ storedStart t k + storedSize t (index 0 k)
@@ -39,94 +48,92 @@ start-none t = refl
 
 -- ---- one leaf
 
-pub leaf-fits : (t : List ℕ) (k : ℕ) → storedSize t (index 0 k) ≤ longestChunk → leafFits t k ≡ true
-unfolding leafFits
-leaf-fits t k h = le-leb (storedSize t (index 0 k)) longestChunk h
+module _ (known : ℕ → Bool) (t : List ℕ) (k : ℕ) where
+  pub leaf-right : known (index 0 k) ≡ true → storedSize t (index 0 k) ≤ longestChunk → leafRight known t k ≡ true
+  unfolding leafRight
+  leaf-right e h = ap₂ _&&_ e (le-leb (storedSize t (index 0 k)) longestChunk h)
 
-pub leaf-long : (t : List ℕ) (k : ℕ) → longestChunk < storedSize t (index 0 k) → leafFits t k ≡ false
-unfolding leafFits
-leaf-long t k h = lt-leb (storedSize t (index 0 k)) longestChunk h
+  pub leaf-long : known (index 0 k) ≡ true → longestChunk < storedSize t (index 0 k) → leafRight known t k ≡ false
+  unfolding leafRight
+  leaf-long e h = ap₂ _&&_ e (lt-leb (storedSize t (index 0 k)) longestChunk h)
 
-module _ (t : List ℕ) (b k : ℕ) where
-  pub passed-on : storedSize t (index 0 k) ≤ longestChunk → storedStart t k + storedSize t (index 0 k) ≤ b → leafPassed t b k ≡ true
-  unfolding leafPassed
-  passed-on h g = ap₂ _&&_ (leaf-fits t k h) (le-leb (storedStart t k + storedSize t (index 0 k)) b g)
+  pub leaf-unknown : known (index 0 k) ≡ false → leafRight known t k ≡ false
+  unfolding leafRight
+  leaf-unknown e = ap (λ (x : Bool). x && leb (storedSize t (index 0 k)) longestChunk) e
 
-  pub passed-long : longestChunk < storedSize t (index 0 k) → leafPassed t b k ≡ false
-  unfolding leafPassed
-  passed-long h = ap (λ (x : Bool). x && leb (storedStart t k + storedSize t (index 0 k)) b) (leaf-long t k h)
+  pub refused-by : (x : Bool) → known (index 0 k) ≡ x → refusal (cond x 10 20) (tree (index 0 k)) ≡ leafRefused known t k
+  unfolding leafRefused
+  refused-by x e = ap (λ (y : Bool). refusal (cond y 10 20) (tree (index 0 k))) (sym e)
 
-  pub passed-here : storedSize t (index 0 k) ≤ longestChunk → b < storedStart t k + storedSize t (index 0 k) → leafPassed t b k ≡ false
-  unfolding leafPassed
-  passed-here h g = ap₂ _&&_ (leaf-fits t k h) (lt-leb (storedStart t k + storedSize t (index 0 k)) b g)
+  module _ (b : ℕ) where
+    pub passed-on : leafRight known t k ≡ true → storedStart t k + storedSize t (index 0 k) ≤ b → leafPassed known t b k ≡ true
+    unfolding leafPassed
+    passed-on h g = ap₂ _&&_ h (le-leb (storedStart t k + storedSize t (index 0 k)) b g)
 
--- ---- what was found
+    pub passed-wrong : leafRight known t k ≡ false → leafPassed known t b k ≡ false
+    unfolding leafPassed
+    passed-wrong h = ap (λ (x : Bool). x && leb (storedStart t k + storedSize t (index 0 k)) b) h
 
-abbrev placeFrom : List ℕ → ℕ → Lowest → Found
-placeFrom t c l = elim l [ nowhere ↦ found (storedStart t c) (storedSize t (index 0 c)) | first k ↦ refusal 10 (tree (index 0 k)) ]
+    pub passed-here : leafRight known t k ≡ true → b < storedStart t k + storedSize t (index 0 k) → leafPassed known t b k ≡ false
+    unfolding leafPassed
+    passed-here h g = ap₂ _&&_ h (lt-leb (storedStart t k + storedSize t (index 0 k)) b g)
 
-pub place-nowhere : (t : List ℕ) (c : ℕ) → lowest (leafFits t) 0 (c + 1) ≡ nowhere → found (storedStart t c) (storedSize t (index 0 c)) ≡ placeByLeaves t c
-unfolding placeByLeaves
-place-nowhere t c e = ap (placeFrom t c) (sym e)
+module _ (known : ℕ → Bool) (t : List ℕ) where
+  -- ---- what was found
 
-pub place-first : (t : List ℕ) (c k : ℕ) → lowest (leafFits t) 0 (c + 1) ≡ first k → refusal 10 (tree (index 0 k)) ≡ placeByLeaves t c
-unfolding placeByLeaves
-place-first t c k e = ap (placeFrom t c) (sym e)
+  abbrev placeFrom : ℕ → Lowest → Found
+  placeFrom c l = elim l [ nowhere ↦ found (storedStart t c) (storedSize t (index 0 c)) | first k ↦ leafRefused known t k ]
 
-abbrev byteFrom : List ℕ → ℕ → ℕ → Lowest → Found
-byteFrom t n b l =
-    elim l [
-      | nowhere ↦ refusal 10 (tree (index 0 (n - 1)))
-      | first k ↦ cond (leafFits t k) (found k (b - storedStart t k)) (refusal 10 (tree (index 0 k)))
-    ]
+  pub place-nowhere : (c : ℕ) → lowest (leafRight known t) 0 (c + 1) ≡ nowhere → found (storedStart t c) (storedSize t (index 0 c)) ≡ placeByLeaves known t c
+  unfolding placeByLeaves
+  place-nowhere c e = ap (placeFrom c) (sym e)
 
-module _ (t : List ℕ) (n b : ℕ) where
-  pub byte-nowhere : lowest (leafPassed t b) 0 n ≡ nowhere → refusal 10 (tree (index 0 (n - 1))) ≡ byteByLeaves t n b
+  pub place-first : (c k : ℕ) → lowest (leafRight known t) 0 (c + 1) ≡ first k → leafRefused known t k ≡ placeByLeaves known t c
+  unfolding placeByLeaves
+  place-first c k e = ap (placeFrom c) (sym e)
+
+  abbrev byteAt : ℕ → ℕ → Bool → Found
+  byteAt b k x = cond x (found k (b - storedStart t k)) (leafRefused known t k)
+
+  abbrev byteFrom : ℕ → ℕ → Lowest → Found
+  byteFrom n b l = elim l [ nowhere ↦ refusal 10 (tree (index 0 (n - 1))) | first k ↦ byteAt b k (leafRight known t k) ]
+
+  pub byte-nowhere : (n b : ℕ) → lowest (leafPassed known t b) 0 n ≡ nowhere → refusal 10 (tree (index 0 (n - 1))) ≡ byteByLeaves known t n b
   unfolding byteByLeaves
-  byte-nowhere e = ap (byteFrom t n b) (sym e)
+  byte-nowhere n b e = ap (byteFrom n b) (sym e)
 
-  byte-first : (k : ℕ) → lowest (leafPassed t b) 0 n ≡ first k → (x : Bool) → leafFits t k ≡ x
-      → cond x (found k (b - storedStart t k)) (refusal 10 (tree (index 0 k))) ≡ byteByLeaves t n b
+  pub byte-first : (n b k : ℕ) (x : Bool) → lowest (leafPassed known t b) 0 n ≡ first k → leafRight known t k ≡ x → byteAt b k x ≡ byteByLeaves known t n b
   unfolding byteByLeaves
-  byte-first k e x f =
-      sym (ap (byteFrom t n b) e ∙ ap (λ (y : Bool). cond y (found k (b - storedStart t k)) (refusal 10 (tree (index 0 k)))) f)
+  byte-first n b k x e f = sym (ap (byteFrom n b) e ∙ ap (byteAt b k) f)
 
-  pub byte-first-long : (k : ℕ) → lowest (leafPassed t b) 0 n ≡ first k → longestChunk < storedSize t (index 0 k)
-      → refusal 10 (tree (index 0 k)) ≡ byteByLeaves t n b
-  byte-first-long k e h = byte-first k e false (leaf-long t k h)
+  -- ---- behind 9, and at the data size
 
-  pub byte-first-here : (k : ℕ) → lowest (leafPassed t b) 0 n ≡ first k → storedSize t (index 0 k) ≤ longestChunk
-      → found k (b - storedStart t k) ≡ byteByLeaves t n b
-  byte-first-here k e h = byte-first k e true (leaf-fits t k h)
+  module _ (n c : ℕ) where
+    pub place-nine : n ≤ c → refusal 9 none ≡ shortPlaceIn known t n c
+    unfolding shortPlaceIn
+    place-nine h = sym (ap (λ (x : Bool). cond x (placeByLeaves known t c) (refusal 9 none)) (le-ltb c n h))
 
--- ---- behind 9, and at the data size
+    pub place-there : c < n → placeByLeaves known t c ≡ shortPlaceIn known t n c
+    unfolding shortPlaceIn
+    place-there h = sym (ap (λ (x : Bool). cond x (placeByLeaves known t c) (refusal 9 none)) (lt-ltb c n h))
 
-module _ (t : List ℕ) (n c : ℕ) where
-  pub place-nine : n ≤ c → refusal 9 none ≡ shortPlaceIn t n c
-  unfolding shortPlaceIn
-  place-nine h = sym (ap (λ (x : Bool). cond x (placeByLeaves t c) (refusal 9 none)) (le-ltb c n h))
+  module _ (n size b : ℕ) where
+    abbrev below : Found
+    below = cond (eqb b size) (found n 0) (byteByLeaves known t n b)
 
-  pub place-there : c < n → placeByLeaves t c ≡ shortPlaceIn t n c
-  unfolding shortPlaceIn
-  place-there h = sym (ap (λ (x : Bool). cond x (placeByLeaves t c) (refusal 9 none)) (lt-ltb c n h))
+    pub byte-nine : size < b → refusal 9 none ≡ shortByteIn known t n size b
+    unfolding shortByteIn
+    byte-nine h = sym (ap (λ (x : Bool). cond x (refusal 9 none) below) (lt-ltb size b h))
 
-module _ (t : List ℕ) (n size b : ℕ) where
-  abbrev below : Found
-  below = cond (eqb b size) (found n 0) (byteByLeaves t n b)
+    not-nine : b ≤ size → below ≡ shortByteIn known t n size b
+    unfolding shortByteIn
+    not-nine h = sym (ap (λ (x : Bool). cond x (refusal 9 none) below) (le-ltb size b h))
 
-  pub byte-nine : size < b → refusal 9 none ≡ shortByteIn t n size b
-  unfolding shortByteIn
-  byte-nine h = sym (ap (λ (x : Bool). cond x (refusal 9 none) below) (lt-ltb size b h))
+    pub byte-end : b ≡ size → found n 0 ≡ shortByteIn known t n size b
+    byte-end e = sym (ap (λ (x : Bool). cond x (found n 0) (byteByLeaves known t n b)) (eq-eqb b size e)) ∙ not-nine (omega arith)
 
-  not-nine : b ≤ size → below ≡ shortByteIn t n size b
-  unfolding shortByteIn
-  not-nine h = sym (ap (λ (x : Bool). cond x (refusal 9 none) below) (le-ltb size b h))
-
-  pub byte-end : b ≡ size → found n 0 ≡ shortByteIn t n size b
-  byte-end e = sym (ap (λ (x : Bool). cond x (found n 0) (byteByLeaves t n b)) (eq-eqb b size e)) ∙ not-nine (omega arith)
-
-  pub byte-there : b ≤ size → (b ≡ size → ⊥) → byteByLeaves t n b ≡ shortByteIn t n size b
-  byte-there h d = sym (ap (λ (x : Bool). cond x (found n 0) (byteByLeaves t n b)) (ne-eqb b size d)) ∙ not-nine h
+    pub byte-there : b ≤ size → (b ≡ size → ⊥) → byteByLeaves known t n b ≡ shortByteIn known t n size b
+    byte-there h d = sym (ap (λ (x : Bool). cond x (found n 0) (byteByLeaves known t n b)) (ne-eqb b size d)) ∙ not-nine h
 
 -- ---- the loops
 
@@ -149,80 +156,113 @@ module _ (f : ℕ → Bool) (t : List ℕ) (end : ℕ) where
         small = omega (arith, w .small);
       }
 
--- what was read of the leaf of chunk k
-pub record Leaf (t : List ℕ) (k leaf length : ℕ) : Type 0 where
+-- what was read of the leaf of chunk k, which is known
+pub record Leaf (known : ℕ → Bool) (t : List ℕ) (k leaf length : ℕ) : Type 0 where
   pub at : leaf ≡ index 0 k
+  pub knows : known leaf ≡ true
   pub says : length ≡ storedSize t leaf
 
-says-leaf : {t : List ℕ} {k leaf length : ℕ} → Leaf t k leaf length → length ≡ storedSize t (index 0 k)
-says-leaf {t} l = l .says ∙ ap (storedSize t) (l .at)
+module _ {known : ℕ → Bool} {t : List ℕ} {k leaf length : ℕ} (l : Leaf known t k leaf length) where
+  is-known : known (index 0 k) ≡ true
+  is-known = ap known (sym (l .at)) ∙ l .knows
 
-refused-at : {t : List ℕ} {k leaf length : ℕ} → Leaf t k leaf length → refusal 10 (tree leaf) ≡ refusal 10 (tree (index 0 k))
-refused-at l = ap (λ (i : ℕ). refusal 10 (tree i)) (l .at)
+  says-leaf : length ≡ storedSize t (index 0 k)
+  says-leaf = l .says ∙ ap (storedSize t) (l .at)
 
-module _ (t : List ℕ) (n c k start leaf length : ℕ) (there : c < n) (w : (k ≤ c) × Walked (leafFits t) t (c + 1) k start) (l : Leaf t k leaf length) where
-  pub place-long : 65536 < length → refusal 10 (tree leaf) ≡ shortPlaceIn t n c
-  place-long h =
-      refused-at l
-      ∙ place-first t c k (w .1 .same ∙ lowest-off (leafFits t) k (c + 1) (omega (arith, w .0)) (leaf-long t k (omega (arith, says-leaf l))))
-      ∙ place-there t n c there
+  right-leaf : length ≤ 65536 → leafRight known t k ≡ true
+  right-leaf h = leaf-right known t k is-known (omega (arith, says-leaf))
 
-  pub place-here : length ≤ 65536 → k ≡ c → found start length ≡ shortPlaceIn t n c
-  place-here h e =
-      ap₂ found (w .1 .here ∙ ap (storedStart t) e) (says-leaf l ∙ ap (λ (j : ℕ). storedSize t (index 0 j)) e)
-      ∙ place-nowhere t c
-      (w .1 .same ∙ lowest-on (leafFits t) k (c + 1) (omega (arith, w .0)) (leaf-fits t k (omega (arith, says-leaf l)))
-      ∙ lowest-end (leafFits t) (k + 1) (c + 1) (omega arith))
-      ∙ place-there t n c there
+  long-leaf : 65536 < length → leafRight known t k ≡ false
+  long-leaf h = leaf-long known t k is-known (omega (arith, says-leaf))
 
-  pub place-on : length ≤ 65536 → (k ≡ c → ⊥) → (k + 1 ≤ c) × Walked (leafFits t) t (c + 1) (k + 1) (start + length)
-  place-on h d = (
-    omega (arith, w .0),
-    walked-on (leafFits t) t (c + 1) k start length (w .1) (omega (arith, w .0)) (leaf-fits t k (omega (arith, says-leaf l))) (says-leaf l) h,
-  )
+  refused-long : refusal 10 (tree leaf) ≡ leafRefused known t k
+  refused-long = ap (λ (i : ℕ). refusal 10 (tree i)) (l .at) ∙ refused-by known t k true is-known
+
+-- and of one that is not
+module _ (known : ℕ → Bool) (t : List ℕ) {leaf : ℕ} (k : ℕ) (at : leaf ≡ index 0 k) (e : known leaf ≡ false) where
+  not-known : known (index 0 k) ≡ false
+  not-known = ap known (sym at) ∙ e
+
+  refused-unknown : refusal 20 (tree leaf) ≡ leafRefused known t k
+  refused-unknown = ap (λ (i : ℕ). refusal 20 (tree i)) at ∙ refused-by known t k false not-known
+
+-- where the place lookup's loop stands
+pub record Come (known : ℕ → Bool) (t : List ℕ) (c k start : ℕ) : Type 0 where
+  pub upto : k ≤ c
+  pub walked : Walked (leafRight known t) t (c + 1) k start
+
+module _ {known : ℕ → Bool} {t : List ℕ} {c k start : ℕ} (n : ℕ) (there : c < n) (w : Come known t c k start) where
+  place-wrong : leafRight known t k ≡ false → leafRefused known t k ≡ shortPlaceIn known t n c
+  place-wrong e =
+      place-first known t c k (w .walked .same ∙ lowest-off (leafRight known t) k (c + 1) (omega (arith, w .upto)) e) ∙ place-there known t n c there
+
+  pub place-unknown : {leaf : ℕ} → leaf ≡ index 0 k → known leaf ≡ false → refusal 20 (tree leaf) ≡ shortPlaceIn known t n c
+  place-unknown at e = refused-unknown known t k at e ∙ place-wrong (leaf-unknown known t k (not-known known t k at e))
+
+  module _ {leaf length : ℕ} (l : Leaf known t k leaf length) where
+    pub place-long : 65536 < length → refusal 10 (tree leaf) ≡ shortPlaceIn known t n c
+    place-long h = refused-long l ∙ place-wrong (long-leaf l h)
+
+    pub place-here : length ≤ 65536 → k ≡ c → found start length ≡ shortPlaceIn known t n c
+    place-here h e =
+        ap₂ found (w .walked .here ∙ ap (storedStart t) e) (says-leaf l ∙ ap (λ (j : ℕ). storedSize t (index 0 j)) e)
+        ∙ place-nowhere known t c
+        (w .walked .same ∙ lowest-on (leafRight known t) k (c + 1) (omega (arith, w .upto)) (right-leaf l h)
+        ∙ lowest-end (leafRight known t) (k + 1) (c + 1) (omega arith))
+        ∙ place-there known t n c there
+
+    pub place-on : length ≤ 65536 → (k ≡ c → ⊥) → Come known t c (k + 1) (start + length)
+    place-on h d =
+        record {
+          upto = omega (arith, w .upto);
+          walked = walked-on (leafRight known t) t (c + 1) k start length (w .walked) (omega (arith, w .upto)) (right-leaf l h) (says-leaf l) h;
+        }
 
 -- where the byte lookup's loop stands: no leaf before chunk k has the byte, and `before` is the last of them
-pub record Passed (t : List ℕ) (n b k start before : ℕ) : Type 0 where
-  pub walked : Walked (leafPassed t b) t n k start
+pub record Passed (known : ℕ → Bool) (t : List ℕ) (n b k start before : ℕ) : Type 0 where
+  pub walked : Walked (leafPassed known t b) t n k start
   pub upto : k ≤ n
   pub from : start ≤ b
   pub last : before ≡ index 0 (k - 1)
 
-pub passed-none : (t : List ℕ) (n b : ℕ) → Passed t n b 0 0 0
+pub passed-none : (known : ℕ → Bool) (t : List ℕ) (n b : ℕ) → Passed known t n b 0 0 0
 unfolding index
-passed-none t n b = record { walked = begun (leafPassed t b) t n; upto = omega arith; from = omega arith; last = refl }
+passed-none known t n b = record { walked = begun (leafPassed known t b) t n; upto = omega arith; from = omega arith; last = refl }
 
-module _ (t : List ℕ) (n size b k start before : ℕ) (h : b ≤ size) (d : b ≡ size → ⊥) (w : Passed t n b k start before) where
-  pub byte-none : n ≤ k → refusal 10 (tree before) ≡ shortByteIn t n size b
+module _ {known : ℕ → Bool} {t : List ℕ} {n b k start before : ℕ} (size : ℕ) (h : b ≤ size) (d : b ≡ size → ⊥) (w : Passed known t n b k start before) where
+  pub byte-none : n ≤ k → refusal 10 (tree before) ≡ shortByteIn known t n size b
   byte-none g =
       let e : k ≡ n = omega (arith, w .upto) in
       ap (λ (i : ℕ). refusal 10 (tree i)) (w .last ∙ ap (λ (j : ℕ). index 0 (j - 1)) e)
-      ∙ byte-nowhere t n b (w .walked .same ∙ lowest-end (leafPassed t b) k n g)
-      ∙ byte-there t n size b h d
+      ∙ byte-nowhere known t n b (w .walked .same ∙ lowest-end (leafPassed known t b) k n g)
+      ∙ byte-there known t n size b h d
 
-  module _ (leaf length : ℕ) (g : k < n) (l : Leaf t k leaf length) where
-    pub byte-long : 65536 < length → refusal 10 (tree leaf) ≡ shortByteIn t n size b
-    byte-long q =
-        let z : longestChunk < storedSize t (index 0 k) = omega (arith, says-leaf l) in
-        refused-at l
-        ∙ byte-first-long t n b k (w .walked .same ∙ lowest-off (leafPassed t b) k n g (passed-long t b k z)) z
-        ∙ byte-there t n size b h d
+  module _ (g : k < n) where
+    ends : (x : Bool) → leafPassed known t b k ≡ false → leafRight known t k ≡ x → byteAt known t b k x ≡ shortByteIn known t n size b
+    ends x e f =
+        byte-first known t n b k x (w .walked .same ∙ lowest-off (leafPassed known t b) k n g e) f ∙ byte-there known t n size b h d
 
-    module _ (q : length ≤ 65536) where
-      fits : storedSize t (index 0 k) ≤ longestChunk
-      fits = omega (arith, says-leaf l)
+    byte-wrong : leafRight known t k ≡ false → leafRefused known t k ≡ shortByteIn known t n size b
+    byte-wrong e = ends false (passed-wrong known t k b e) e
 
-      pub byte-here : b < start + length → found k (b - start) ≡ shortByteIn t n size b
-      byte-here p =
+    pub byte-unknown : {leaf : ℕ} → leaf ≡ index 0 k → known leaf ≡ false → refusal 20 (tree leaf) ≡ shortByteIn known t n size b
+    byte-unknown at e = refused-unknown known t k at e ∙ byte-wrong (leaf-unknown known t k (not-known known t k at e))
+
+    module _ {leaf length : ℕ} (l : Leaf known t k leaf length) where
+      pub byte-long : 65536 < length → refusal 10 (tree leaf) ≡ shortByteIn known t n size b
+      byte-long q = refused-long l ∙ byte-wrong (long-leaf l q)
+
+      pub byte-here : length ≤ 65536 → b < start + length → found k (b - start) ≡ shortByteIn known t n size b
+      byte-here q p =
           ap (λ (s : ℕ). found k (b - s)) (w .walked .here)
-          ∙ byte-first-here t n b k (w .walked .same ∙ lowest-off (leafPassed t b) k n g (passed-here t b k fits (omega (arith, w .walked .here, says-leaf l)))) fits
-          ∙ byte-there t n size b h d
+          ∙ ends true (passed-here known t k b (right-leaf l q) (omega (arith, w .walked .here, says-leaf l))) (right-leaf l q)
 
-      pub byte-on : start + length ≤ b → Passed t n b (k + 1) (start + length) leaf
-      byte-on p =
+      pub byte-on : length ≤ 65536 → start + length ≤ b → Passed known t n b (k + 1) (start + length) leaf
+      byte-on q p =
           let j : k + 1 - 1 ≡ k = omega arith in
           record {
-            walked = walked-on (leafPassed t b) t n k start length (w .walked) g (passed-on t b k fits (omega (arith, w .walked .here, says-leaf l))) (says-leaf l) q;
+            walked = walked-on (leafPassed known t b) t n k start length (w .walked) g
+                (passed-on known t k b (right-leaf l q) (omega (arith, w .walked .here, says-leaf l))) (says-leaf l) q;
             upto = omega arith;
             from = p;
             last = l .at ∙ ap (index 0) (sym j);

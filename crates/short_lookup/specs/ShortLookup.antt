@@ -12,52 +12,57 @@ use Rattle.file_format.specs.Sizes.{longestChunk}
 use Rattle.file_format.specs.Stored.{storedSize, storedStart}
 use Rattle.file_format.specs.Belongs.{Register}
 use Rattle.checks.specs.Checks.{judged, registerChecks}
+use Rattle.lookup.specs.Descent.{always}
 use Rattle.lookup.specs.Lookup.{Found, refusal, found}
 use Rattle.search.specs.Search.{Sought, soughtUnless}
 
--- whether the leaf of chunk k is not above 65,536
-unfoldable pub leafFits : List ℕ → ℕ → Bool
-leafFits t k = leb (storedSize t (index 0 k)) longestChunk
+-- `known` is the test for the entries that may be read: of a register all, of a copy those that it knows
+module _ (known : ℕ → Bool) (t : List ℕ) where
+  -- whether a walk over the leaves goes on from that of chunk k: it is known, and not above 65,536
+  unfoldable pub leafRight : ℕ → Bool
+  leafRight k = known (index 0 k) && leb (storedSize t (index 0 k)) longestChunk
 
--- start and length of chunk c: `storedStart` adds up the leaf lengths before it. "a short lookup refuses with 10 at the first leaf above 65,536 that it
--- comes to, chunk i's own included": the leaves from 0 to c are judged
-unfoldable pub placeByLeaves : List ℕ → ℕ → Found
-placeByLeaves t c =
-    elim (lowest (leafFits t) 0 (c + 1))
-    [ nowhere ↦ found (storedStart t c) (storedSize t (index 0 c)) | first k ↦ refusal 10 (tree (index 0 k)) ]
+  -- where it does not: "a short lookup refuses with 10 at the first leaf above 65,536 that it comes to", and with 20 at one that is not known, whose length
+  -- is not read
+  unfoldable pub leafRefused : ℕ → Found
+  leafRefused k = refusal (cond (known (index 0 k)) 10 20) (tree (index 0 k))
 
--- whether a byte lookup goes on behind the leaf of chunk k: the leaf fits, and the offset b lies behind its bytes
-unfoldable pub leafPassed : List ℕ → ℕ → ℕ → Bool
-leafPassed t b k = leafFits t k && leb (storedStart t k + storedSize t (index 0 k)) b
+  -- start and length of chunk c: `storedStart` adds up the leaf lengths before it. The leaves from 0 to c are judged, "chunk i's own included"
+  unfoldable pub placeByLeaves : ℕ → Found
+  placeByLeaves c =
+      elim (lowest leafRight 0 (c + 1)) [ nowhere ↦ found (storedStart t c) (storedSize t (index 0 c)) | first k ↦ leafRefused k ]
 
--- the chunk, among n, whose bytes contain offset b, and b less its start; 10 at the first leaf above 65,536 before it, "or at the last leaf where no
--- leaf's bytes contain the offset"
-unfoldable pub byteByLeaves : List ℕ → ℕ → ℕ → Found
-byteByLeaves t n b =
-    elim (lowest (leafPassed t b) 0 n) [
-      | nowhere ↦ refusal 10 (tree (index 0 (n - 1)))
-      | first k ↦ cond (leafFits t k) (found k (b - storedStart t k)) (refusal 10 (tree (index 0 k)))
-    ]
+  -- whether a byte lookup goes on behind the leaf of chunk k: the offset b lies behind its bytes
+  unfoldable pub leafPassed : ℕ → ℕ → Bool
+  leafPassed b k = leafRight k && leb (storedStart t k + storedSize t (index 0 k)) b
 
--- "9. The chunk number is not below n", before any leaf
-unfoldable pub shortPlaceIn : List ℕ → ℕ → ℕ → Found
-shortPlaceIn t n c = cond (ltb c n) (placeByLeaves t c) (refusal 9 none)
+  -- the chunk, among n, whose bytes contain offset b, and b less its start; 10 "at the last leaf where no leaf's bytes contain the offset"
+  unfoldable pub byteByLeaves : ℕ → ℕ → Found
+  byteByLeaves n b =
+      elim (lowest (leafPassed b) 0 n) [
+        | nowhere ↦ refusal 10 (tree (index 0 (n - 1)))
+        | first k ↦ cond (leafRight k) (found k (b - storedStart t k)) (leafRefused k)
+      ]
 
--- 9 for offsets above the data size. "At the data size it too answers n and 0, reading no leaf."
-unfoldable pub shortByteIn : List ℕ → ℕ → ℕ → ℕ → Found
-shortByteIn t n size b = cond (ltb size b) (refusal 9 none) (cond (eqb b size) (found n 0) (byteByLeaves t n b))
+  -- "9. The chunk number is not below n", before any leaf
+  unfoldable pub shortPlaceIn : ℕ → ℕ → Found
+  shortPlaceIn n c = cond (ltb c n) (placeByLeaves c) (refusal 9 none)
 
--- what a lookup finds, behind a verdict
+  -- 9 for offsets above the data size. "At the data size it too answers n and 0, reading no leaf."
+  unfoldable pub shortByteIn : ℕ → ℕ → ℕ → Found
+  shortByteIn n size b = cond (ltb size b) (refusal 9 none) (cond (eqb b size) (found n 0) (byteByLeaves n b))
+
+-- what a lookup finds, behind the verdict of the checks
 abbrev pub foundBehind : Verdict → Found → Found
 foundBehind done f = f
 foundBehind (refused m at) f = refusal m at
 
 -- the numbers 2 to 6, and then the lookups and the search
 unfoldable pub shortPlaceOf : Register → ℕ → Found
-shortPlaceOf r c = foundBehind (judged (registerChecks r) done) (shortPlaceIn (r .tree) (r .n) c)
+shortPlaceOf r c = foundBehind (judged (registerChecks r) done) (shortPlaceIn always (r .tree) (r .n) c)
 
 unfoldable pub shortByteAt : Register → ℕ → Found
-shortByteAt r b = foundBehind (judged (registerChecks r) done) (shortByteIn (r .tree) (r .n) (r .size) b)
+shortByteAt r b = foundBehind (judged (registerChecks r) done) (shortByteIn always (r .tree) (r .n) (r .size) b)
 
 -- the first chunk from a given number on, below n, whose data bit is 0, or none
 unfoldable pub shortSearchFor : Register → ℕ → Sought

@@ -1,8 +1,8 @@
 -- What the short lookups answer on every register that passes the checks 2 to 6, and where the short way and the quick one agree.
 --
--- The notions in it: `index` and `filled` (tree_index, Tree), `storedSize`, `storedStart` and `storedRootSizes` (files, Stored), `Register` (files, Belongs), `judged` and `registerChecks`
--- (checks, Checks), `Accepted` (audit, Audit), `placeOf` and `byteAt` (lookup, Lookup), `placeIn` and `byteIn` (lookup, Steps), `Right` (lookup, Answers),
--- `searchFor` (search, Search), `IndexFollows` (search, Answers), and the short versions (ShortAgrees).
+-- The notions in it: `index` and `filled` (tree_index, Tree), `storedSize`, `storedStart` and `storedRootSizes` (file_format, Stored), `Register` (file_format, Belongs), `judged` and `registerChecks`
+-- (checks, Checks), `Accepted` (audit, Audit), `placeOf` and `byteAt` (lookup, Lookup), `placeIn` and `byteIn` (lookup, Inner), `Right` (lookup, Theorems),
+-- `searchFor` (search, Search), `IndexFollows` (search, Theorems), and the short versions (ShortLookup).
 use Prim.Native.Nat.{ℕ, _+_, _-_, _≤_, _<_}
 use mathlib.Core.Path.{_≡_}
 use mathlib.Core.Bool.{true}
@@ -67,8 +67,8 @@ LengthsRight t n = (d k : ℕ) → filled n (index d k) ≡ true → Right t d k
 
 -- then the lookups agree behind the checks 2 to 6, for every chunk number and every offset
 pub record AgreeIn (t : List ℕ) (n size : ℕ) : Type 0 where
-  pub place : (c : ℕ) → shortPlaceIn t n c ≡ placeIn always t n c
-  pub byte : (b : ℕ) → shortByteIn t n size b ≡ byteIn always t n size b
+  pub place : (c : ℕ) → shortPlaceIn always t n c ≡ placeIn always t n c
+  pub byte : (b : ℕ) → shortByteIn always t n size b ≡ byteIn always t n size b
 
 abbrev pub AgreeInForAll : Type 0
 AgreeInForAll =

@@ -1,5 +1,5 @@
-// The lookups leaf by leaf, in a register that passes the checks 2 to 6. The leaf of chunk k stands at tree index 2k. Each leaf is judged before its length
-// is added, so that no sum can wrap: 1,048,576 lengths of at most 65,536.
+// The lookups leaf by leaf, in a register that passes the checks 2 to 6 or a copy that passes its own; `partly` says that the files are a copy's. The leaf of
+// chunk k stands at tree index 2k. Each leaf is judged before its length is added, so that no sum can wrap: 1,048,576 lengths of at most 65,536.
 use lookup::Located;
 use lookup::Placed;
 use number_types::ByteOffset;
@@ -8,14 +8,25 @@ use number_types::TreeIndex;
 use refusals::Place;
 use refusals::Refusal;
 ghost use mathlib.Core.Path.{_≡_};
-ghost use Rattle.file_format.specs.Inner.{RootsIn};
+ghost use Rattle.lookup.specs.Inner.{knownIf, BitIn, FilesIn};
 ghost use Rattle.lookup.specs.Meaning.{placedOf, locatedOf};
 ghost use Rattle.short_lookup.specs.ShortLookup.{shortPlaceIn, shortByteIn};
 
-// Inner: start and length of a chunk. The tree file holds the entries of n chunks.
-pub fn place_in(tree: &[u8], n: u64, chunk: ChunkNumber) -> Placed
-    requires { ⌜ RootsIn (now tree) n ⌝ }
-    ensures { λ r. ⌜ placedOf r ≡ shortPlaceIn (now (tree .entry)) n (chunk .0) ⌝ }
+// Whether an entry may be read: of a copy one whose tree bit is 1. A register's bits are not asked for.
+fn is_known(bitfield: &[u8], partly: bool, i: TreeIndex) -> bool
+    requires { ⌜ BitIn partly (now bitfield) (i .0) ⌝ }
+    ensures { λ r. ⌜ r ≡ knownIf partly (now (bitfield .entry)) (i .0) ⌝ }
+{
+    if partly {
+        return bitfield::is_known(bitfield, i);
+    }
+    true
+}
+
+// Inner: start and length of a chunk. The files hold the entries of n chunks.
+pub fn place_in(tree: &[u8], bitfield: &[u8], partly: bool, n: u64, chunk: ChunkNumber) -> Placed
+    requires { ⌜ FilesIn partly (now tree) (now bitfield) n ⌝ }
+    ensures { λ r. ⌜ placedOf r ≡ shortPlaceIn (knownIf partly (now (bitfield .entry))) (now (tree .entry)) n (chunk .0) ⌝ }
 {
     if n <= chunk.0 {
         return Placed::Refused(Refusal {
@@ -27,6 +38,12 @@ pub fn place_in(tree: &[u8], n: u64, chunk: ChunkNumber) -> Placed
     let mut start = ByteOffset(0);
     loop {
         let leaf = tree_index::leaf_index(k);
+        if !is_known(bitfield, partly, leaf) {
+            return Placed::Refused(Refusal {
+                number: 20,
+                place: Place::Tree(leaf),
+            });
+        }
         let length = file_format::entries::stored_size(tree, leaf);
         if 65536 < length {
             return Placed::Refused(Refusal {
@@ -42,10 +59,18 @@ pub fn place_in(tree: &[u8], n: u64, chunk: ChunkNumber) -> Placed
     }
 }
 
-// Inner: the chunk whose bytes contain an offset, and the offset less its start. The tree file holds the entries of n chunks.
-pub fn locate_in(tree: &[u8], n: u64, size: u64, offset: ByteOffset) -> Located
-    requires { ⌜ RootsIn (now tree) n ⌝ }
-    ensures { λ r. ⌜ locatedOf r ≡ shortByteIn (now (tree .entry)) n size (offset .0) ⌝ }
+// Inner: the chunk whose bytes contain an offset, and the offset less its start. The files hold the entries of n chunks.
+pub fn locate_in(
+    tree: &[u8],
+    bitfield: &[u8],
+    partly: bool,
+    n: u64,
+    size: u64,
+    offset: ByteOffset,
+) -> Located
+    requires { ⌜ FilesIn partly (now tree) (now bitfield) n ⌝ }
+    ensures { λ r.
+        ⌜ locatedOf r ≡ shortByteIn (knownIf partly (now (bitfield .entry))) (now (tree .entry)) n size (offset .0) ⌝ }
 {
     if size < offset.0 {
         return Located::Refused(Refusal {
@@ -61,6 +86,12 @@ pub fn locate_in(tree: &[u8], n: u64, size: u64, offset: ByteOffset) -> Located
     let mut leaf = TreeIndex(0);
     while k.0 < n {
         leaf = tree_index::leaf_index(k);
+        if !is_known(bitfield, partly, leaf) {
+            return Located::Refused(Refusal {
+                number: 20,
+                place: Place::Tree(leaf),
+            });
+        }
         let length = file_format::entries::stored_size(tree, leaf);
         if 65536 < length {
             return Located::Refused(Refusal {

@@ -1,10 +1,7 @@
 // The short way for a later reader: the simplest programs that someone with the files would write.
 mod leaves;
 
-// Inner: a copy's short lookups share them.
 use bitfield::Found;
-pub use leaves::locate_in;
-pub use leaves::place_in;
 use lookup::Located;
 use lookup::Placed;
 use number_types::ByteOffset;
@@ -12,10 +9,86 @@ use number_types::ChunkNumber;
 use refusals::Answer;
 use search::Searched;
 ghost use mathlib.Core.Path.{_≡_};
+ghost use Prim.Native.Nat.{_-_, _≤_};
+ghost use lib.ListN.{length};
+ghost use Rattle.refusals.specs.Verdict.{done};
+ghost use Rattle.refusals.specs.Meaning.{said};
+ghost use Rattle.byte_strings.specs.Lowest.{lowest};
+ghost use Rattle.bitfield.specs.Image.{entryCount};
+ghost use Rattle.bitfield.specs.Append.{bitsPlace};
+ghost use Rattle.bitfield.specs.Release.{storedHeld};
 ghost use Rattle.checks.specs.Lent.{registerOf};
+ghost use Rattle.lookup.specs.Inner.{knownIf, FilesIn};
 ghost use Rattle.lookup.specs.Meaning.{placedOf, locatedOf};
+ghost use Rattle.search.specs.Search.{soughtUnless};
 ghost use Rattle.search.specs.Meaning.{searchedOf};
-ghost use Rattle.short_lookup.specs.ShortLookup.{shortPlaceOf, shortByteAt, shortSearchFor};
+ghost use Rattle.short_lookup.specs.ShortLookup.{shortPlaceIn, shortByteIn, shortPlaceOf, shortByteAt, shortSearchFor, foundBehind};
+
+// Inner: start and length of a chunk, behind the answer of a register's checks 2 to 6 or of a copy's own. `partly` says that the files
+// are a copy's.
+pub fn place_behind(
+    checked: Answer,
+    tree: &[u8],
+    bitfield: &[u8],
+    partly: bool,
+    n: u64,
+    chunk: ChunkNumber,
+) -> Placed
+    requires { ⌜ (said checked ≡ done → FilesIn partly (now tree) (now bitfield) n) ⌝ }
+    ensures { λ r.
+        ⌜
+        placedOf r ≡
+        foundBehind (said checked)
+        (shortPlaceIn (knownIf partly (now (bitfield .entry))) (now (tree .entry)) n (chunk .0))
+        ⌝ }
+{
+    match checked {
+        Answer::Refused(refusal) => Placed::Refused(refusal),
+        Answer::Done => leaves::place_in(tree, bitfield, partly, n, chunk),
+    }
+}
+
+// Inner: the chunk whose bytes contain an offset, and the offset less its start.
+pub fn locate_behind(
+    checked: Answer,
+    tree: &[u8],
+    bitfield: &[u8],
+    partly: bool,
+    n: u64,
+    size: u64,
+    offset: ByteOffset,
+) -> Located
+    requires { ⌜ (said checked ≡ done → FilesIn partly (now tree) (now bitfield) n) ⌝ }
+    ensures { λ r.
+        ⌜
+        locatedOf r ≡
+        foundBehind (said checked)
+        (shortByteIn (knownIf partly (now (bitfield .entry))) (now (tree .entry)) n size (offset .0))
+        ⌝ }
+{
+    match checked {
+        Answer::Refused(refusal) => Located::Refused(refusal),
+        Answer::Done => leaves::locate_in(tree, bitfield, partly, n, size, offset),
+    }
+}
+
+// Inner: the first chunk that is not held, from a given number on.
+pub fn search_behind(checked: Answer, bitfield: &[u8], n: u64, from: ChunkNumber) -> Searched
+    requires { ⌜ (said checked ≡ done → bitsPlace (entryCount n) ≤ length (now bitfield)) ⌝ }
+    ensures { λ r.
+        ⌜
+        searchedOf r ≡
+        soughtUnless (said checked) (lowest (storedHeld (now (bitfield .entry))) (from .0) (n - from .0))
+        ⌝ }
+{
+    match checked {
+        Answer::Refused(refusal) => Searched::Refused(refusal),
+        Answer::Done => match bitfield::first_missing(bitfield, from, n) {
+            Found::At(chunk) => Searched::At(chunk),
+            Found::Nothing => Searched::Nothing,
+        },
+    }
+}
 
 // Start and length of a chunk, by adding up leaf lengths.
 pub fn place(
@@ -36,10 +109,8 @@ pub fn place(
         (chunk .0)
         ⌝ }
 {
-    match checks::judge(tree, signatures, bitfield, content, n, s, size) {
-        Answer::Refused(refusal) => Placed::Refused(refusal),
-        Answer::Done => leaves::place_in(tree, n, chunk),
-    }
+    let checked = checks::judge(tree, signatures, bitfield, content, n, s, size);
+    place_behind(checked, tree, bitfield, false, n, chunk)
 }
 
 // The chunk whose bytes contain an offset, and the offset less its start, by adding up leaf lengths; at the data size n and 0.
@@ -61,10 +132,8 @@ pub fn locate(
         (offset .0)
         ⌝ }
 {
-    match checks::judge(tree, signatures, bitfield, content, n, s, size) {
-        Answer::Refused(refusal) => Located::Refused(refusal),
-        Answer::Done => leaves::locate_in(tree, n, size, offset),
-    }
+    let checked = checks::judge(tree, signatures, bitfield, content, n, s, size);
+    locate_behind(checked, tree, bitfield, false, n, size, offset)
 }
 
 // The first chunk that is not held, from a given number on, by the data bits in order.
@@ -86,11 +155,6 @@ pub fn search(
         (from .0)
         ⌝ }
 {
-    match checks::judge(tree, signatures, bitfield, content, n, s, size) {
-        Answer::Refused(refusal) => Searched::Refused(refusal),
-        Answer::Done => match bitfield::first_missing(bitfield, from, n) {
-            Found::At(chunk) => Searched::At(chunk),
-            Found::Nothing => Searched::Nothing,
-        },
-    }
+    let checked = checks::judge(tree, signatures, bitfield, content, n, s, size);
+    search_behind(checked, bitfield, n, from)
 }

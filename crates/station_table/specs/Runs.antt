@@ -1,7 +1,7 @@
 -- What holds of every run of calls from a fresh table.
 --
 -- The notions in it: `fresh`, `entered`, `next`, `served` and `waitingFor` (Table), `tableOf` (Words), `Begun`, `Entered` and `Left` (Calls),
--- `among` (sequences, Lists).
+-- `among` (byte_strings, Lists).
 use Prim.Native.Nat.{ℕ, _<_, _≤_}
 use mathlib.Core.Path.{_≡_}
 use mathlib.Core.Bool.{false, cond}

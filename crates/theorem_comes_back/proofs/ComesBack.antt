@@ -3,14 +3,15 @@ use Prim.Native.Nat.{ℕ, suc, _*_, _/_, _^_, _≤_, _<_}
 use mathlib.Core.Path.{_≡_, refl, sym, ap, ap₂, _∙_, subst}
 use mathlib.Core.Logic.{⊎-elim}
 use mathlib.Core.Bool.{Bool, true, false, cond, _||_}
-use mathlib.Core.List.{List, _++_}
+use mathlib.Core.List.{List}
 use native.Mathlib.Omega.{arith}
 use borrow.Author.Tests.{eqb-true, le-leb}
 use lib.Dec.{eqb}
 use lib.ListN.{length, drop}
 use Rattle.refusals.specs.Verdict.{Verdict, tree, done, refused, unlessRefused}
-use Rattle.byte_strings.specs.Lists.{sameList}
+use Rattle.byte_strings.specs.Lists.{sameList, put}
 use Rattle.byte_strings.proofs.Lists.{same-eq}
+use Rattle.byte_strings.proofs.Bools.{or-true, or-none}
 use Rattle.tree_index.specs.Tree.{index, filled, entries}
 use Rattle.tree_index.proofs.Filled.{filled-below}
 use Rattle.bitfield.specs.Image.{entryCount}
@@ -18,10 +19,9 @@ use Rattle.bitfield.specs.Release.{storedHeld}
 use Rattle.bitfield.specs.Known.{storedKnown, heldAgain}
 use Rattle.bitfield.proofs.Bits.{cases, with-one}
 use Rattle.blake2b.specs.Hash.{nodeHash}
-use Rattle.file_format.specs.Headers.{bitfieldHeader}
 use Rattle.file_format.specs.Sizes.{usedBitfield}
 use Rattle.file_format.specs.Messages.{HashFunction, leafMessage}
-use Rattle.file_format.specs.Images.{dataSize, bitfieldImage}
+use Rattle.file_format.specs.Images.{dataSize, bitfieldOf}
 use Rattle.file_format.specs.Stored.{storedHash, storedRootMessage}
 use Rattle.file_format.specs.Slots.{Slot, contents, heldIn, Within}
 use Rattle.file_format.specs.Belongs.{Register, Lent, Belongs}
@@ -41,14 +41,14 @@ use Rattle.lookup.specs.Read.{chunkBytes, andThen, readVerdict}
 use Rattle.lookup.proofs.Answers.{stays-inside, to-chunk, answers}
 use Rattle.lookup.proofs.Calls.{done-first}
 use Rattle.release.specs.Release.{releaseVerdict, releasedRegister}
-use Rattle.packet.specs.Packet.{packetOf, roomOr14, outUnless, lengthUnless, makeVerdict, afterMake, madeLength}
+use Rattle.packet.specs.Packet.{packetOf, roomOr14, makeVerdict, afterMake, madeLength, packetWith}
 use Rattle.packet.specs.Inner.{Readable}
 use Rattle.packet.proofs.Makes.{readable}
 use Rattle.copy_checks.specs.Copy.{Copy, filesOf, lentAsCopy, unsigned}
 use Rattle.copy_release.specs.Release.{releasedCopy}
 use Rattle.copy_take_in.specs.TakeIn.{takeVerdict, takenIn, afterTaking}
 use Rattle.theorem_taking_laws.proofs.Brought.{brought-filled, way-filled}
-use Rattle.theorem_taking_laws.proofs.Shown.{shown, shown-ext, entries-filled, used-shown, shown-known, held-more}
+use Rattle.theorem_taking_laws.proofs.Shown.{shown, shown-ext, used-shown, shown-known, held-more}
 use Rattle.theorem_released_back.specs.Returned.{withFiles, returned}
 use Rattle.theorem_taken_in.proofs.Has.{Has, taken-again, comes-back}
 use Rattle.theorem_comes_back.specs.ComesBack.{ComesBack, ComesBackForAll}
@@ -58,14 +58,6 @@ use Rattle.theorem_comes_back.proofs.Made.{Sound, sound-has}
 pub with-same : (p : ℕ → Bool) (i : ℕ) → p i ≡ true → (j : ℕ) → with-one p i j ≡ p j
 with-same p i e j = ⊎-elim here (λ f. ap (λ (b : Bool). p j || b) f ∙ or-none (p j)) (cases (eqb j i))
   where
-    or-none : (b : Bool) → (b || false) ≡ b
-    or-none true = refl
-    or-none false = refl
-
-    or-true : (b : Bool) → (b || true) ≡ true
-    or-true true = refl
-    or-true false = refl
-
     here : eqb j i ≡ true → (p j || eqb j i) ≡ p j
     here f = ap (λ (b : Bool). p j || b) f ∙ or-true (p j) ∙ sym (ap p (eqb-true j i f) ∙ e)
 
@@ -116,10 +108,10 @@ module _ (F : List ℕ → List ℕ) (H : HashFunction F) (r : Register) (l : Le
   tail = drop (usedBitfield (r .n)) (r .bitfield)
 
   bits-are : r .bitfield ≡ shown (heldIn (cut r)) (filled (r .n)) (r .n) tail
-  unfolding bitfieldImage
+  unfolding bitfieldOf
   bits-are =
       used-shown (r .bitfield) (heldIn (cut r)) (filled (r .n)) (r .n)
-      (own .1 .bitfield ∙ ap (λ (x : List ℕ). bitfieldHeader ++ x) (entries-filled (heldIn (cut r)) (r .n)))
+      (own .1 .bitfield)
 
   filled-known : (j : ℕ) → filled (r .n) j ≡ true → storedKnown (r .bitfield) j ≡ true
   unfolding entries entryCount
@@ -177,7 +169,7 @@ module _ (F : List ℕ → List ℕ) (H : HashFunction F) (r : Register) (l : Le
   root-is = ap (λ (v : Verdict). rootUnlessRefused F v r) root-done
 
   has : Has F (lentAsCopy r) (packetOf r i) i (rootAnswer F r)
-  unfolding packetOf chunkBytes toChunk
+  unfolding packetOf packetWith chunkBytes toChunk
   has = subst (Has F (lentAsCopy r) (packetOf r i) i) (sym root-is) (sound-has F (lentAsCopy r) i sound)
 
   released-same : releasedCopy (lentAsCopy r) i ≡ lentAsCopy (releasedRegister r i)
@@ -207,8 +199,8 @@ module _ (F : List ℕ → List ℕ) (H : HashFunction F) (r : Register) (l : Le
   register-back =
       record {
         madeDone = make-done;
-        made = λ out h. ap (λ (v : Verdict). outUnless v (packetOf r i) out) (make-done out h);
-        long = λ out h. ap (λ (v : Verdict). lengthUnless v (packetOf r i)) (make-done out h);
+        made = λ out h. ap (λ (v : Verdict). unlessRefused v (put out 0 (packetOf r i)) out) (make-done out h);
+        long = λ out h. ap (λ (v : Verdict). unlessRefused v (length (packetOf r i)) 0) (make-done out h);
         rootDone = root-done;
         releaseDone = released-done;
         takenDone = again;

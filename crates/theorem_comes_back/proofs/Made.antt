@@ -28,9 +28,9 @@ use Rattle.lookup.specs.Lookup.{startOf, toChunk}
 use Rattle.lookup.specs.Descent.{reached}
 use Rattle.lookup.specs.Read.{chunkBytes}
 use Rattle.lookup.proofs.Visits.{filled-entry}
-use Rattle.packet.specs.Packet.{siblings, otherRoots, section, packetOf}
+use Rattle.packet.specs.Packet.{siblings, otherRoots, section, packetOf, packetWith}
 use Rattle.packet.specs.Check.{chunkLength, siblingsPlace, othersPlace, packetChunk, entryIn, entriesIn, siblingEntries, otherEntries, packetTotal, ordered, rootRight, packetVerdict}
-use Rattle.packet.specs.Inner.{ChunkOf, Shaped, packetWith, Readable}
+use Rattle.packet.specs.Inner.{ChunkOf, Shaped, Readable}
 use Rattle.packet.proofs.Above.{few-siblings, few-others}
 use Rattle.packet.proofs.Climb.{left-first, right-first}
 use Rattle.packet.proofs.Pieces.{length-back, chunk-back, shape-right, sibling-at, other-at}

@@ -4,7 +4,7 @@ use Prim.Native.Nat.{ℕ, zero, suc, _+_, _-_, _*_, _≤_, _<_}
 use mathlib.Core.Path.{_≡_, refl, sym, ap, ap₂, _∙_}
 use mathlib.Core.Bool.{Bool, true, false, cond, not, _&&_, _||_}
 use mathlib.Core.List.{List}
-use native.Mathlib.Nat.{add-zero, add-suc, suc-add, zero-add, mul-comm}
+use native.Mathlib.Nat.{zero-add, mul-comm}
 use native.Mathlib.Omega.{arith}
 use borrow.Author.Tests.{leb-true, eqb-true}
 use lib.Dec.{leb}
@@ -13,15 +13,17 @@ use Rattle.refusals.specs.Verdict.{tree, bitfield, done}
 use Rattle.byte_strings.specs.Lists.{run, joined}
 use Rattle.byte_strings.proofs.Lists.{length-joined}
 use Rattle.byte_strings.specs.Lowest.{Lowest, nowhere, first}
+use Rattle.byte_strings.proofs.Bools.{where-true}
+use Rattle.byte_strings.proofs.Lowest.{never-first}
 use Rattle.tree_index.specs.Tree.{index, depth, block, leftChild, rightChild, filled, entries}
 use Rattle.tree_index.proofs.Index.{depth-index, block-index, leftChild-index, rightChild-index}
 use Rattle.tree_index.proofs.Filled.{filled-below, filled-left, filled-right}
-use Rattle.bitfield.specs.Image.{entry, entryCount}
+use Rattle.bitfield.specs.Image.{entry, entryCount, entriesFor}
 use Rattle.bitfield.proofs.Image.{length-entry}
 use Rattle.file_format.specs.Sizes.{longestChunk, usedBitfield}
 use Rattle.file_format.specs.Stored.{storedSize}
 use Rattle.checks.proofs.Judged.{both-right}
-use Rattle.audit.specs.Audit.{parentRight, holeRight, heldBits, refusedAt}
+use Rattle.audit.specs.Audit.{parentRight, holeRight, heldBits, refusedAt, byteRightBy, leafFrom}
 use Rattle.audit.proofs.Audited.{parent-right, at-must, nowhere-right}
 use Rattle.lookup.specs.Descent.{Ending, stopped, reached, unknown}
 use Rattle.search.specs.Theorems.{IndexFollows}
@@ -29,36 +31,26 @@ use Rattle.search.proofs.Answers.{index-of-data}
 use Rattle.short_lookup.specs.Theorems.{LengthsRight}
 use Rattle.short_lookup.proofs.Accepted.{entries-cut}
 use Rattle.copy_checks.specs.Copy.{Copy, known}
-use Rattle.copy_checks.specs.Least.{leastOf}
-use Rattle.copy_checks.proofs.Least.{lower-none}
+use Rattle.copy_checks.proofs.Least.{least-each}
 use Rattle.copy_checks.proofs.Steps.{Lent, partly-passed}
 use Rattle.copy_checks.specs.Descents.{copyToChunk}
-use Rattle.copy_audit.specs.Audit.{wrongUnless, bothKnown, leafRightFrom, wrongFrom, wrongByLeaf, wrongByParent, wrongByKnown, wrongByUnknown, wrongBy}
-use Rattle.copy_audit.specs.Audit.{wrongEntryOfCopy, knownBits, copyBitfieldImage, copyByteRight, wrongByteOfCopy, auditCopy}
+use Rattle.copy_audit.specs.Audit.{wrongUnless, bothKnown, wrongFrom, wrongByLeaf, wrongByParent, wrongByKnown, wrongByUnknown, wrongBy, copyByteRight}
+use Rattle.copy_audit.specs.Audit.{wrongEntryOfCopy, knownBits, wrongByteOfCopy, auditCopy, leafRightFrom}
 use Rattle.theorem_copies_agree.specs.Theorems.{AllKnown, CopyShortAgreesForAll}
 use Rattle.theorem_copies_agree.proofs.Agree.{copy-lookups-agree, copy-search-agrees}
+use Rattle.file_format.specs.Images.{bitfieldOf}
 
 -- ---- none of a row
-
-least-none : (f : ℕ → Lowest) (i m : ℕ) → leastOf (run f i m) ≡ nowhere → (j : ℕ) → j < m → f (i + j) ≡ nowhere
-unfolding run leastOf
-least-none f i zero e j h = absurd (omega arith)
-least-none f i (suc m) e zero h = ap f (add-zero i) ∙ lower-none (f i) (leastOf (run f (suc i) m)) e .0
-least-none f i (suc m) e (suc j) h =
-    ap f (add-suc i j ∙ sym (suc-add i j)) ∙ least-none f (suc i) m (lower-none (f i) (leastOf (run f (suc i) m)) e .1) j (omega arith)
 
 unless-right : (b : Bool) (i : ℕ) → wrongUnless b i ≡ nowhere → b ≡ true
 unless-right true i e = refl
 unless-right false i e = let z : _≡_ {A = ℕ} 0 1 = cc in absurd (omega arith)
 
-never-first : {A : Type 0} (i : ℕ) → first i ≡ nowhere → A
-never-first i e = let z : _≡_ {A = ℕ} 0 1 = cc in absurd (omega arith)
-
 -- ---- one entry
 
 module _ (F : List ℕ → List ℕ) (c : Copy) where
   leaf-fits : (k : ℕ) → wrongByLeaf F c k ≡ nowhere → storedSize (c .tree) (index 0 k) ≤ longestChunk
-  unfolding wrongByLeaf wrongFrom leafRightFrom
+  unfolding wrongByLeaf wrongFrom leafFrom
   leaf-fits k e = ended (copyToChunk c k) e
     where
       ended : (x : Ending) → wrongFrom F c k x ≡ nowhere → storedSize (c .tree) (index 0 k) ≤ longestChunk
@@ -68,16 +60,12 @@ module _ (F : List ℕ → List ℕ) (c : Copy) where
           leb-true (storedSize (c .tree) (index 0 k)) longestChunk
           (both-right (leb (storedSize (c .tree) (index 0 k)) longestChunk) _ (unless-right (leafRightFrom F c k start) (index 0 k) w) .0)
 
-  judged-where-known : (b r : Bool) → b ≡ true → (not b || r) ≡ true → r ≡ true
-  judged-where-known true r e w = w
-  judged-where-known false r e w = let z : _≡_ {A = ℕ} 0 1 = cc in absurd (omega arith)
-
   parent-sums : (i : ℕ) → known c (leftChild i) ≡ true → known c (rightChild i) ≡ true → wrongByParent F c i ≡ nowhere
       → storedSize (c .tree) i ≡ storedSize (c .tree) (leftChild i) + storedSize (c .tree) (rightChild i)
   unfolding wrongByParent bothKnown
   parent-sums i l r w =
       parent-right F (c .tree) (c .content) i
-      (judged-where-known (bothKnown c i) (parentRight F (c .tree) i) (ap (λ (b : Bool). b && known c (rightChild i)) l ∙ r)
+      (where-true (bothKnown c i) (parentRight F (c .tree) i) (ap (λ (b : Bool). b && known c (rightChild i)) l ∙ r)
       (unless-right (not (bothKnown c i) || parentRight F (c .tree) i) i w))
       .sum
 
@@ -100,7 +88,7 @@ module _ (F : List ℕ → List ℕ) (c : Copy) where
     entry-right : (i : ℕ) → filled (c .n) i ≡ true → wrongBy F c i ≡ nowhere
     unfolding wrongEntryOfCopy
     entry-right i f =
-        ap (wrongBy F c) (sym (zero-add i)) ∙ least-none (wrongBy F c) 0 (entries (c .n)) none i (filled-below (c .n) i f)
+        ap (wrongBy F c) (sym (zero-add i)) ∙ least-each (wrongBy F c) 0 (entries (c .n)) none i (filled-below (c .n) i f)
 
     lengths-right : AllKnown c → LengthsRight (c .tree) (c .n)
     unfolding AllKnown LengthsRight
@@ -125,16 +113,16 @@ module _ (c : Copy) (lent : Lent c) (none : wrongByteOfCopy c ≡ nowhere) where
   abbrev told : ℕ → Bool
   told = knownBits (c .bitfield) (c .n)
 
-  byte-right : (b : ℕ) → 32 ≤ b → b < usedBitfield (c .n) → getD (c .bitfield) b 0 ≡ getD (copyBitfieldImage held told (c .n)) b 0
-  unfolding wrongByteOfCopy copyByteRight
+  byte-right : (b : ℕ) → 32 ≤ b → b < usedBitfield (c .n) → getD (c .bitfield) b 0 ≡ getD (bitfieldOf held told (c .n)) b 0
+  unfolding wrongByteOfCopy byteRightBy
   byte-right b l h =
       let j : ℕ = b - 32 in
       let q : b ≡ 32 + j = omega arith in
-      eqb-true (getD (c .bitfield) b 0) (getD (copyBitfieldImage held told (c .n)) b 0)
+      eqb-true (getD (c .bitfield) b 0) (getD (bitfieldOf held told (c .n)) b 0)
       (ap (copyByteRight (c .bitfield) (c .n)) q ∙ nowhere-right (copyByteRight (c .bitfield) (c .n)) 32 (usedBitfield (c .n) - 32) none j (omega arith))
 
   follows : IndexFollows (c .bitfield) (c .n)
-  unfolding copyBitfieldImage usedBitfield
+  unfolding bitfieldOf entriesFor usedBitfield
   follows =
       let es : List ℕ = joined (run (entry held told) 0 (entryCount (c .n))) in
       index-of-data (c .bitfield) (c .n) held told

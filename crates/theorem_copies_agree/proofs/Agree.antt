@@ -1,24 +1,20 @@
 -- The agreements on copies, from those of tree and bitfield files. Assumes nothing.
 use Prim.Native.Nat.{ℕ, _-_}
 use mathlib.Core.Path.{_≡_, refl, sym, ap, _∙_}
-use mathlib.Core.Bool.{Bool, true, false}
 use mathlib.Core.List.{[], _∷_}
-use borrow.Author.Tests.{ltb-true, ltb-false, leb-false, eqb-true}
+use borrow.Author.Tests.{eqb-true}
 use lib.Dec.{leb, ltb}
-use Rattle.refusals.specs.Verdict.{Spot, Verdict, tree, done, refused}
+use Rattle.refusals.specs.Verdict.{Spot, Verdict, done, refused}
 use Rattle.byte_strings.specs.Lists.{total}
-use Rattle.byte_strings.specs.Lowest.{Lowest}
 use Rattle.tree_index.specs.Tree.{index}
 use Rattle.file_format.specs.Stored.{storedSize, storedRootSizes}
 use Rattle.checks.specs.Checks.{judged, addsUp}
-use Rattle.audit.specs.Audit.{refusedAt}
 use Rattle.lookup.specs.Descent.{Ending, always}
 use Rattle.lookup.specs.Lookup.{foundUnless, stopRefused, chunkOf, startOf, toChunk, toByte}
 use Rattle.lookup.specs.Inner.{placeIn, byteIn}
 use Rattle.search.specs.Search.{soughtUnless}
 use Rattle.search.proofs.Follows.{search-follows}
 use Rattle.short_lookup.specs.ShortLookup.{shortPlaceIn, shortByteIn, foundBehind}
-use Rattle.short_lookup.proofs.Walks.{place-nine, byte-nine}
 use Rattle.short_lookup.proofs.Agree.{agree-in}
 use Rattle.copy_checks.specs.Copy.{Copy, known}
 use Rattle.copy_checks.specs.Descents.{copyToChunk, copyToByte}
@@ -27,41 +23,37 @@ use Rattle.copy_checks.proofs.Steps.{Knowing, copy-passed, copy-passes, copy-re
 use Rattle.copy_checks.proofs.Descents.{chunk-same, byte-same}
 use Rattle.copy_lookup.specs.Lookups.{copyPlaceVerdict, copyByteVerdict, copyPlaceOf, copyByteAt}
 use Rattle.copy_roots.specs.Roots.{copySearch}
-use Rattle.copy_short_lookup.specs.Leaves.{leavesToChunk, leavesToByte}
-use Rattle.copy_short_lookup.specs.Short.{unknownAmong, copyShortPlaceVerdict, copyShortByteVerdict, copyShortPlaceOf, copyShortByteAt, copyShortSearch}
+use Rattle.copy_short_lookup.specs.Short.{copyShortPlaceOf, copyShortByteAt, copyShortSearch}
 use Rattle.theorem_copies_agree.specs.Theorems.{AllKnown, CopyLookupsAgree, CopyLookupsAgreeForAll, CopySearchAgreesForAll}
-use Rattle.theorem_copies_agree.proofs.Known.{chunk-known, byte-known, short-chunk-known, short-byte-known}
+use Rattle.theorem_copies_agree.proofs.Known.{chunk-known, byte-known, short-place-known, short-byte-known}
 
 -- ---- refused by the checks
 
 module _ (c : Copy) (m : ℕ) (at : Spot) (e : copyJudged c done ≡ refused m at) where
   place-refused : (i : ℕ) → copyShortPlaceOf c i ≡ copyPlaceOf c i
-  unfolding copyShortPlaceOf copyShortPlaceVerdict copyPlaceOf copyPlaceVerdict
+  unfolding copyShortPlaceOf copyPlaceOf copyPlaceVerdict
   place-refused i =
-      ap (λ (v : Verdict). foundBehind v (shortPlaceIn (c .tree) (c .n) i)) (copy-refused-by c _ m at e)
+      ap (λ (v : Verdict). foundBehind v (shortPlaceIn (known c) (c .tree) (c .n) i)) e
       ∙ sym (ap (λ (v : Verdict). foundUnless v (startOf (copyToChunk c i)) (storedSize (c .tree) (index 0 i))) (copy-refused-by c _ m at e))
 
   byte-refused : (b : ℕ) → copyShortByteAt c b ≡ copyByteAt c b
-  unfolding copyShortByteAt copyShortByteVerdict copyByteAt copyByteVerdict
+  unfolding copyShortByteAt copyByteAt copyByteVerdict
   byte-refused b =
-      ap (λ (v : Verdict). foundBehind v (shortByteIn (c .tree) (c .n) (c .size) b)) (copy-refused-by c _ m at e)
+      ap (λ (v : Verdict). foundBehind v (shortByteIn (known c) (c .tree) (c .n) (c .size) b)) e
       ∙ sym (ap (λ (v : Verdict). foundUnless v (chunkOf (copyToByte c b)) (b - startOf (copyToByte c b))) (copy-refused-by c _ m at e))
 
 -- ---- passed
 
 module _ (c : Copy) (all : AllKnown c) (k : Knowing c) where
-  short-place : (i : ℕ) → copyShortPlaceOf c i ≡ shortPlaceIn (c .tree) (c .n) i
-  unfolding copyShortPlaceOf copyShortPlaceVerdict unknownAmong refusedAt judged
+  short-place : (i : ℕ) → copyShortPlaceOf c i ≡ shortPlaceIn always (c .tree) (c .n) i
+  unfolding copyShortPlaceOf
   short-place i =
-      ap (λ (v : Verdict). foundBehind v (shortPlaceIn (c .tree) (c .n) i)) (copy-passes c _ k)
-      ∙ pick (ltb i (c .n)) refl
-    where
-      pick : (x : Bool) → ltb i (c .n) ≡ x
-          → foundBehind (judged (record { number = 9; right = x } ∷ []) (unknownAmong c (leavesToChunk (c .tree) i))) (shortPlaceIn (c .tree) (c .n) i)
-          ≡ shortPlaceIn (c .tree) (c .n) i
-      pick true e =
-          ap (λ (l : Lowest). foundBehind (refusedAt 20 tree l done) (shortPlaceIn (c .tree) (c .n) i)) (short-chunk-known c all i (ltb-true i (c .n) e))
-      pick false e = place-nine (c .tree) (c .n) i (ltb-false i (c .n) e)
+      ap (λ (v : Verdict). foundBehind v (shortPlaceIn (known c) (c .tree) (c .n) i)) (copy-passes c done k) ∙ short-place-known c all i
+
+  short-byte : (b : ℕ) → copyShortByteAt c b ≡ shortByteIn always (c .tree) (c .n) (c .size) b
+  unfolding copyShortByteAt
+  short-byte b =
+      ap (λ (v : Verdict). foundBehind v (shortByteIn (known c) (c .tree) (c .n) (c .size) b)) (copy-passes c done k) ∙ short-byte-known c all b
 
   quick-place : (i : ℕ) → placeIn always (c .tree) (c .n) i ≡ copyPlaceOf c i
   unfolding placeIn copyPlaceOf copyPlaceVerdict toChunk
@@ -70,20 +62,6 @@ module _ (c : Copy) (all : AllKnown c) (k : Knowing c) where
       (ap (λ (v : Verdict). foundUnless v (startOf (copyToChunk c i)) (storedSize (c .tree) (index 0 i))) (copy-passes c _ k)
       ∙ ap (λ (e : Ending). foundUnless (judged (record { number = 9; right = ltb i (c .n) } ∷ []) (stopRefused e)) (startOf e) (storedSize (c .tree) (index 0 i)))
       (chunk-same c i (chunk-known c all i)))
-
-  short-byte : (b : ℕ) → copyShortByteAt c b ≡ shortByteIn (c .tree) (c .n) (c .size) b
-  unfolding copyShortByteAt copyShortByteVerdict unknownAmong refusedAt judged
-  short-byte b =
-      ap (λ (v : Verdict). foundBehind v (shortByteIn (c .tree) (c .n) (c .size) b)) (copy-passes c _ k)
-      ∙ pick (leb b (c .size)) refl
-    where
-      pick : (x : Bool) → leb b (c .size) ≡ x
-          → foundBehind (judged (record { number = 9; right = x } ∷ []) (unknownAmong c (leavesToByte (c .tree) (c .n) (c .size) b)))
-          (shortByteIn (c .tree) (c .n) (c .size) b)
-          ≡ shortByteIn (c .tree) (c .n) (c .size) b
-      pick true e =
-          ap (λ (l : Lowest). foundBehind (refusedAt 20 tree l done) (shortByteIn (c .tree) (c .n) (c .size) b)) (short-byte-known c all b)
-      pick false e = byte-nine (c .tree) (c .n) (c .size) b (leb-false b (c .size) e)
 
   quick-byte : (b : ℕ) → byteIn always (c .tree) (c .n) (c .size) b ≡ copyByteAt c b
   unfolding byteIn copyByteAt copyByteVerdict toByte

@@ -1,5 +1,5 @@
 -- Where every entry but the holes is known, no lookup reads an unknown one. Assumes nothing.
-use Prim.Native.Nat.{ℕ, zero, suc, _+_, _*_, _≤_, _<_}
+use Prim.Native.Nat.{ℕ, zero, suc, _+_, _*_, _<_}
 use mathlib.Core.Path.{_≡_, refl, sym, ap, _∙_, subst}
 use mathlib.Core.Bool.{Bool, true, false, cond}
 use mathlib.Core.List.{List, [], _∷_}
@@ -7,22 +7,20 @@ use native.Mathlib.Nat.{mul-one}
 use native.Mathlib.Omega.{arith}
 use lib.Dec.{eqb}
 use lib.ListN.{length, getD}
-use Rattle.byte_strings.specs.Lists.{run}
-use Rattle.byte_strings.specs.Lowest.{Lowest, nowhere, first, lowest}
+use Rattle.byte_strings.specs.Lowest.{nowhere, first}
 use Rattle.tree_index.specs.Tree.{index, depth, block, filled, roots}
 use Rattle.tree_index.proofs.Filled.{end-filled, filled-below, filled-left, filled-right}
 use Rattle.tree_index.proofs.Index.{index-of}
 use Rattle.tree_index.proofs.Roots.{root-filled}
 use Rattle.file_format.specs.Stored.{storedSize}
-use Rattle.lookup.specs.Descent.{chunkWithin, byteWithin}
-use Rattle.short_lookup.specs.ShortLookup.{leafFits, leafPassed}
-use Rattle.short_lookup.proofs.Answers.{lowest-says}
+use Rattle.lookup.specs.Descent.{always, chunkWithin, byteWithin}
+use Rattle.short_lookup.specs.ShortLookup.{shortPlaceIn, shortByteIn}
+use Rattle.short_lookup.proofs.Same.{place-same, byte-same}
 use Rattle.copy_checks.specs.Copy.{Copy, known}
 use Rattle.lookup.specs.Unknown.{firstUnknown}
 use Rattle.copy_checks.specs.Checks.{unknownRoot}
 use Rattle.lookup.proofs.ReadOrder.{readsBelow, readsFrom, reads}
 use Rattle.copy_checks.proofs.Descents.{unknownToChunk, unknownToByte}
-use Rattle.copy_short_lookup.specs.Leaves.{leavesBelow, walkedTo, leavesToChunk, leavesToByte}
 use Rattle.theorem_copies_agree.specs.Theorems.{AllKnown}
 
 module _ (known : ℕ → Bool) (n : ℕ) (all : (i : ℕ) → filled n i ≡ true → known i ≡ true) where
@@ -76,25 +74,11 @@ module _ (known : ℕ → Bool) (n : ℕ) (all : (i : ℕ) → filled n i ≡ tr
     unfolding reads
     descent-known = from (roots n) 0 (root-filled n)
 
-  -- ---- roots and leaves
+  -- ---- roots
 
   listed : (is : List ℕ) → ((j : ℕ) → j < length is → filled n (getD is j 0) ≡ true) → firstUnknown known is ≡ nowhere
   listed [] h = none
   listed (i ∷ is) h = one i is (h 0 (omega arith)) (listed is (λ j l. h (suc j) (omega arith)))
-
-  leaves : (i m : ℕ) → i + m ≤ n → firstUnknown known (run (index 0) i m) ≡ nowhere
-  unfolding run
-  leaves i zero h = none
-  leaves i (suc m) h = one (index 0 i) (run (index 0) (suc i) m) (end-filled n 0 i (omega (arith, mul-one (i + 1)))) (leaves (suc i) m (omega arith))
-
-  -- a walk over m leaves of n chunks
-  walked : (f : ℕ → Bool) (m : ℕ) → m ≤ n → firstUnknown known (leavesBelow (walkedTo (lowest f 0 m) m)) ≡ nowhere
-  unfolding leavesBelow
-  walked f m h = pick (lowest f 0 m) refl
-    where
-      pick : (l : Lowest) → lowest f 0 m ≡ l → firstUnknown known (run (index 0) 0 (walkedTo l m)) ≡ nowhere
-      pick nowhere e = leaves 0 m (omega arith)
-      pick (first k) e = leaves 0 (k + 1) (omega (arith, lowest-says f 0 m k e .below))
 
 -- ---- a copy
 
@@ -119,14 +103,13 @@ module _ (c : Copy) (all : AllKnown c) where
       pick true = refl
       pick false = descent-known (known c) (c .n) filled-known (byteWithin b) (c .tree)
 
-  pub short-chunk-known : (i : ℕ) → i < c .n → firstUnknown (known c) (leavesToChunk (c .tree) i) ≡ nowhere
-  unfolding leavesToChunk
-  short-chunk-known i h = walked (known c) (c .n) filled-known (leafFits (c .tree)) (i + 1) (omega arith)
+  -- ---- the short lookups are a register's
 
-  pub short-byte-known : (b : ℕ) → firstUnknown (known c) (leavesToByte (c .tree) (c .n) (c .size) b) ≡ nowhere
-  unfolding leavesToByte
-  short-byte-known b = pick (eqb b (c .size))
-    where
-      pick : (x : Bool) → firstUnknown (known c) (elim x [ true ↦ [] | false ↦ leavesBelow (walkedTo (lowest (leafPassed (c .tree) b) 0 (c .n)) (c .n)) ]) ≡ nowhere
-      pick true = none (known c) (c .n) filled-known
-      pick false = walked (known c) (c .n) filled-known (leafPassed (c .tree) b) (c .n) (omega arith)
+  leaf-known : (k : ℕ) → k < c .n → known c (index 0 k) ≡ true
+  leaf-known k h = filled-known (index 0 k) (end-filled (c .n) 0 k (omega (arith, mul-one (k + 1))))
+
+  pub short-place-known : (i : ℕ) → shortPlaceIn (known c) (c .tree) (c .n) i ≡ shortPlaceIn always (c .tree) (c .n) i
+  short-place-known = place-same (known c) always (c .tree) (c .tree) (c .n) leaf-known (λ k h _. refl)
+
+  pub short-byte-known : (b : ℕ) → shortByteIn (known c) (c .tree) (c .n) (c .size) b ≡ shortByteIn always (c .tree) (c .n) (c .size) b
+  short-byte-known = byte-same (known c) always (c .tree) (c .tree) (c .n) leaf-known (λ k h _. refl) (c .size)

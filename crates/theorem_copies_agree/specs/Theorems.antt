@@ -1,8 +1,8 @@
 -- Where the short way and the quick one agree on copies.
 --
--- The notions in it: `filled` and `entries` (tree_index, Tree), `LengthsRight` (short_way, Answers), `Copy` and `known` (copies, Copy), `copyJudged` (copies,
+-- The notions in it: `filled` and `entries` (tree_index, Tree), `LengthsRight` (short_lookup, Theorems), `Copy` and `known` (copy_checks, Copy), `copyJudged` (copy_checks,
 -- Checks), `AcceptedCopy` (copy_audit, Audit), `copyPlaceOf` and `copyByteAt` (copy_lookup, Lookups), `copySearch` (copy_roots, Roots), and the short versions
--- (copy_short, Short).
+-- (copy_short_lookup, Short).
 use Prim.Native.Nat.{ℕ, _<_}
 use mathlib.Core.Path.{_≡_}
 use mathlib.Core.Bool.{true}

@@ -13,11 +13,13 @@ use lib.Seq.{getD-take}
 use Rattle.refusals.specs.Verdict.{tree, bitfield, done}
 use Rattle.byte_strings.specs.Lists.{part, run, joined, total, sameList, allZero, zeros}
 use Rattle.byte_strings.specs.Lowest.{Lowest, nowhere, first, lowest}
-use Rattle.byte_strings.proofs.Lists.{length-part, getD-part, run-ext, same-refl}
+use Rattle.byte_strings.proofs.Lists.{length-part, getD-part, run-ext, same-of}
+use Rattle.byte_strings.proofs.Bools.{clash, true-both}
+use Rattle.byte_strings.proofs.Lowest.{lowest-none}
 use Rattle.tree_index.specs.Tree.{index, depth, block, leftChild, rightChild, filled, rootOf, rootsBelow, roots, entries}
 use Rattle.tree_index.proofs.Index.{depth-index, block-index, by-coordinates, leftChild-index, rightChild-index}
 use Rattle.tree_index.proofs.Filled.{filled-below, filled-end, filled-left}
-use Rattle.bitfield.specs.Image.{entry, entryCount}
+use Rattle.bitfield.specs.Image.{entry, entryCount, entriesFor}
 use Rattle.bitfield.specs.Release.{storedHeld}
 use Rattle.bitfield.specs.Known.{storedKnown}
 use Rattle.bitfield.proofs.Image.{entry-ext}
@@ -26,73 +28,32 @@ use Rattle.file_format.specs.Sizes.{longestChunk, entryPlace, usedBitfield}
 use Rattle.file_format.specs.Messages.{leafMessage, parentMessage}
 use Rattle.file_format.specs.Stored.{storedHash, storedSize, storedRootSizes}
 use Rattle.checks.specs.Checks.{addsUp}
-use Rattle.audit.specs.Audit.{parentRight, holeRight, heldBits, refusedAt}
+use Rattle.audit.specs.Audit.{parentRight, holeRight, heldBits, refusedAt, byteRightBy, leafFrom}
 use Rattle.lookup.specs.Descent.{chunkWithin}
 use Rattle.lookup.specs.Lookup.{toChunk}
 use Rattle.packet.specs.Inner.{ChunkOf}
 use Rattle.copy_checks.specs.Copy.{Copy, known}
-use Rattle.copy_checks.specs.Least.{lowerOf, leastOf}
 use Rattle.lookup.specs.Unknown.{firstUnknown}
 use Rattle.copy_checks.specs.Checks.{unknownRoot, passedOver}
 use Rattle.copy_checks.proofs.Steps.{partly-passes}
 use Rattle.lookup.proofs.ReadOrder.{reads}
 use Rattle.copy_checks.proofs.Descents.{unknownToChunk, chunk-same}
-use Rattle.copy_audit.specs.Audit.{wrongUnless, heldLeaf, bothKnown, leafRightFrom, wrongFrom, wrongByLeaf, wrongByParent, wrongByKnown, wrongByUnknown}
-use Rattle.copy_audit.specs.Audit.{wrongBy, wrongEntryOfCopy, knownBits, copyBitfieldImage, copyByteRight, wrongByteOfCopy, auditCopy, AcceptedCopy}
-use Rattle.theorem_taking_laws.proofs.Members.{In}
-use Rattle.theorem_taking_laws.proofs.Shown.{entriesFor, shown, shown-used}
+use Rattle.copy_audit.specs.Audit.{wrongUnless, heldLeaf, bothKnown, wrongFrom, wrongByLeaf, wrongByParent, wrongByKnown, wrongByUnknown, copyByteRight}
+use Rattle.copy_audit.specs.Audit.{wrongBy, wrongEntryOfCopy, knownBits, wrongByteOfCopy, auditCopy, AcceptedCopy, leafRightFrom}
+use Rattle.theorem_taking_laws.proofs.Shown.{shown, shown-used}
+use Rattle.copy_checks.proofs.Least.{each-least}
 use Rattle.theorem_taking_laws.proofs.Brought.{above-root, in-roots-filled}
 use Rattle.theorem_taking_laws.proofs.Descents.{chunkStart}
+use Rattle.theorem_taking_laws.proofs.Unknown.{all-known, none-unknown}
 use Rattle.theorem_copies_grown.proofs.Grows.{Follows, Outside, Grows, stored-held, stored-known, filled-known, chunk-there, comes-to, reads-known, inside-data, lie-apart}
+use Rattle.file_format.specs.Images.{bitfieldOf}
 
 -- ---- tests that pass
-
-both : (x y : Bool) → x ≡ true → y ≡ true → (x && y) ≡ true
-both true y p q = q
-both false y p q = p
-
-same : (xs ys : List ℕ) → xs ≡ ys → sameList xs ys ≡ true
-same xs ys e = subst (λ (l : List ℕ). sameList xs l ≡ true) e (same-refl xs)
-
-clash : {A : Type 0} (b : Bool) → b ≡ true → b ≡ false → A
-clash b p q = absurd (let z : _≡_ {A = ℕ} 0 1 = cc in omega arith)
 
 zeros-all : (xs : List ℕ) → ((j : ℕ) → j < length xs → getD xs j 0 ≡ 0) → allZero xs ≡ true
 unfolding allZero
 zeros-all [] h = refl
-zeros-all (x ∷ xs) h = both (eqb x 0) (allZero xs) (eq-eqb x 0 (h 0 (omega arith))) (zeros-all xs (λ j l. h (suc j) (omega arith)))
-
-least-none : (f : ℕ → Lowest) (i m : ℕ) → ((j : ℕ) → i ≤ j → j < i + m → f j ≡ nowhere) → leastOf (run f i m) ≡ nowhere
-unfolding leastOf run lowerOf
-least-none f i zero h = refl
-least-none f i (suc m) h =
-    ap₂ lowerOf (h i (omega arith) (omega arith)) (least-none f (suc i) m (λ j a b. h j (omega arith) (omega arith)))
-
-lowest-none : (right : ℕ → Bool) (i m : ℕ) → ((j : ℕ) → i ≤ j → j < i + m → right j ≡ true) → lowest right i m ≡ nowhere
-unfolding lowest
-lowest-none right i zero h = refl
-lowest-none right i (suc m) h =
-    ap (λ (b : Bool). orFirst b) (h i (omega arith) (omega arith)) ∙ lowest-none right (suc i) m (λ j a b. h j (omega arith) (omega arith))
-  where
-    orFirst : Bool → Lowest
-    orFirst b = elim b [ true ↦ lowest right (suc i) m | false ↦ first i ]
-
-pub unknown-none : (knows : ℕ → Bool) (is : List ℕ) → ((x : ℕ) → In x is → knows x ≡ true) → firstUnknown knows is ≡ nowhere
-unfolding firstUnknown In
-unknown-none knows [] h = refl
-unknown-none knows (i ∷ is) h =
-    ap (λ (b : Bool). cond b (firstUnknown knows is) (first i)) (h i (inl refl)) ∙ unknown-none knows is (λ x m. h x (inr m))
-
-none-unknown : (knows : ℕ → Bool) (is : List ℕ) → firstUnknown knows is ≡ nowhere → (x : ℕ) → In x is → knows x ≡ true
-unfolding firstUnknown In
-none-unknown knows [] e x m = absurd m
-none-unknown knows (i ∷ is) e x m = pick (none-unknown knows is) (knows i) refl e m
-  where
-    pick : (firstUnknown knows is ≡ nowhere → (x : ℕ) → In x is → knows x ≡ true) → (b : Bool) → knows i ≡ b
-        → cond b (firstUnknown knows is) (first i) ≡ nowhere → (i ≡ x) ⊎ In x is → knows x ≡ true
-    pick rec true q f (inl z) = ap knows (sym z) ∙ q
-    pick rec true q f (inr l) = rec f x l
-    pick rec false q f l = absurd (let z : _≡_ {A = ℕ} 0 1 = cc in omega arith)
+zeros-all (x ∷ xs) h = true-both (eqb x 0) (allZero xs) (eq-eqb x 0 (h 0 (omega arith))) (zeros-all xs (λ j l. h (suc j) (omega arith)))
 
 right-none : (b : Bool) (i : ℕ) → b ≡ true → wrongUnless b i ≡ nowhere
 right-none b i e = ap (λ (x : Bool). wrongUnless x i) e
@@ -133,10 +94,10 @@ module _ (F : List ℕ → List ℕ) (c : Copy) (g : Grows F c) where
       other i q j m (inr a) = inl (omega arith)
 
   leaf-right : (k : ℕ) → g .knowsOf (index 0 k) ≡ true → leafRightFrom F c k (start k) ≡ true
-  unfolding leafRightFrom
+  unfolding leafFrom
   leaf-right k l =
-      both _ _ (le-leb (size k) longestChunk (g .short k l))
-      (both _ _ (le-leb (start k + size k) (c .size) (inside-data F c g k l))
+      true-both _ _ (le-leb (size k) longestChunk (g .short k l))
+      (true-both _ _ (le-leb (start k + size k) (c .size) (inside-data F c g k l))
       (pick (g .heldOf k) refl))
     where
       hashes : Bool
@@ -148,7 +109,7 @@ module _ (F : List ℕ → List ℕ) (c : Copy) (g : Grows F c) where
       pick : (b : Bool) → g .heldOf k ≡ b → cond (storedHeld (c .bitfield) k) hashes blanks ≡ true
       pick true e =
           ap (λ (b : Bool). cond b hashes blanks) (stored-held F c g k (g .heldBelow k e) ∙ e)
-          ∙ same (storedHash t (index 0 k)) (F (leafMessage (part (c .content) (start k) (size k)))) (g .bytes k e)
+          ∙ same-of (storedHash t (index 0 k)) (F (leafMessage (part (c .content) (start k) (size k)))) (g .bytes k e)
       pick false e =
           ap (λ (b : Bool). cond b hashes blanks) (stored-held F c g k (chunk-there F c g k l .below) ∙ e) ∙ blank-leaf k l e
 
@@ -156,7 +117,7 @@ module _ (F : List ℕ → List ℕ) (c : Copy) (g : Grows F c) where
   unfolding wrongByLeaf wrongFrom unknownToChunk toChunk
   leaf-none k l =
       ap (wrongFrom F c k)
-      (chunk-same c k (unknown-none (known c) (reads (chunkWithin k) t (c .n)) (λ x m. filled-known F c g x (reads-known F c g k l t x m))) ∙ comes-to F c g k l)
+      (chunk-same c k (none-unknown (known c) (reads (chunkWithin k) t (c .n)) (λ x m. filled-known F c g x (reads-known F c g k l t x m))) ∙ comes-to F c g k l)
       ∙ right-none (leafRightFrom F c k (start k)) (index 0 k) (leaf-right k l)
 
   parent-right : (d k : ℕ) → Follows F t d k → parentRight F t (index (suc d) k) ≡ true
@@ -171,8 +132,8 @@ module _ (F : List ℕ → List ℕ) (c : Copy) (g : Grows F c) where
 
       here : right (index d (2 * k)) (index d (2 * k + 1)) ≡ true
       here =
-          both _ _ (eq-eqb (storedSize t (index (suc d) k)) (storedSize t (index d (2 * k)) + storedSize t (index d (2 * k + 1))) (w .size))
-          (same _ _ (w .hash))
+          true-both _ _ (eq-eqb (storedSize t (index (suc d) k)) (storedSize t (index d (2 * k)) + storedSize t (index d (2 * k + 1))) (w .size))
+          (same-of _ _ (w .hash))
 
       subst₂' : {l r : ℕ} → l ≡ index d (2 * k) → r ≡ index d (2 * k + 1) → right l r ≡ true
       subst₂' p q = ap₂ right p q ∙ here
@@ -213,7 +174,7 @@ module _ (F : List ℕ → List ℕ) (c : Copy) (g : Grows F c) where
 
   hole-right : (i : ℕ) → i < entries (c .n) → g .knowsOf i ≡ false → holeRight F t i ≡ true
   unfolding holeRight
-  hole-right i l h = same (part t (entryPlace i) 40) (zeros 40) (g .nought i l h)
+  hole-right i l h = same-of (part t (entryPlace i) 40) (zeros 40) (g .nought i l h)
 
   not-held : (d k : ℕ) → filled (c .n) (index d k) ≡ true → g .knowsOf (index d k) ≡ false → not (heldLeaf c (index d k)) ≡ true
   unfolding heldLeaf
@@ -247,14 +208,14 @@ module _ (F : List ℕ → List ℕ) (c : Copy) (g : Grows F c) where
           ap₂ (found (index d k)) e (stored-known F c g (index d k) l ∙ f) ∙ known-none d k f
       pick d k l true false e f =
           ap₂ (found (index d k)) e (stored-known F c g (index d k) l ∙ f)
-          ∙ right-none _ (index d k) (both _ _ (hole-right (index d k) l f) (not-held d k e f))
+          ∙ right-none _ (index d k) (true-both _ _ (hole-right (index d k) l f) (not-held d k e f))
       pick d k l false true e f = clash (filled (c .n) (index d k)) (g .knowsFilled (index d k) f) e
       pick d k l false false e f =
           ap₂ (found (index d k)) e (stored-known F c g (index d k) l ∙ f) ∙ right-none _ (index d k) (hole-right (index d k) l f)
 
   entries-none : wrongEntryOfCopy F c ≡ nowhere
   unfolding wrongEntryOfCopy
-  entries-none = least-none (wrongBy F c) 0 (entries (c .n)) (λ j a b. entry-none j (omega arith))
+  entries-none = each-least (wrongBy F c) 0 (entries (c .n)) (λ j a b. entry-none j (omega arith))
 
   -- ---- the bitfield file
 
@@ -276,8 +237,8 @@ module _ (F : List ℕ → List ℕ) (c : Copy) (g : Grows F c) where
       pick false true e f = clash (filled (c .n) i) (g .knowsFilled i f) e
       pick false false e f = ap (λ (x : Bool). x && storedKnown (c .bitfield) i) e ∙ sym f
 
-  image-is : copyBitfieldImage (heldBits (c .bitfield) (c .n)) (knownBits (c .bitfield) (c .n)) (c .n) ≡ take (usedBitfield (c .n)) (c .bitfield)
-  unfolding copyBitfieldImage entriesFor
+  image-is : bitfieldOf (heldBits (c .bitfield) (c .n)) (knownBits (c .bitfield) (c .n)) (c .n) ≡ take (usedBitfield (c .n)) (c .bitfield)
+  unfolding bitfieldOf entriesFor
   image-is =
       ap (λ (r : List (List ℕ)). bitfieldHeader ++ joined r)
       (run-ext (entry (heldBits (c .bitfield) (c .n)) (knownBits (c .bitfield) (c .n))) (entry (g .heldOf) (g .knowsOf)) 0 (entryCount (c .n))
@@ -285,11 +246,11 @@ module _ (F : List ℕ → List ℕ) (c : Copy) (g : Grows F c) where
       ∙ sym (ap (take (usedBitfield (c .n))) (g .bits) ∙ shown-used (g .heldOf) (g .knowsOf) (c .n) (g .tail))
 
   bytes-none : wrongByteOfCopy c ≡ nowhere
-  unfolding wrongByteOfCopy copyByteRight usedBitfield
+  unfolding wrongByteOfCopy byteRightBy usedBitfield
   bytes-none =
       lowest-none (copyByteRight (c .bitfield) (c .n)) 32 (usedBitfield (c .n) - 32)
       (λ b l h.
-      eq-eqb (getD (c .bitfield) b 0) (getD (copyBitfieldImage (heldBits (c .bitfield) (c .n)) (knownBits (c .bitfield) (c .n)) (c .n)) b 0)
+      eq-eqb (getD (c .bitfield) b 0) (getD (bitfieldOf (heldBits (c .bitfield) (c .n)) (knownBits (c .bitfield) (c .n)) (c .n)) b 0)
       (sym (ap (λ (x : List ℕ). getD x b 0) image-is ∙ getD-take (usedBitfield (c .n)) (c .bitfield) b 0 (omega arith))))
 
   -- ---- 6
@@ -304,7 +265,7 @@ module _ (F : List ℕ → List ℕ) (c : Copy) (g : Grows F c) where
       sums e (suc m) z =
           let h : ChunkOf (c .n) 0 = record { count = g .lent .count; below = omega arith } in
           let r = above-root (c .n) 0 h in
-          let k = none-unknown (known c) (roots (c .n)) e _ r in
+          let k = all-known (known c) (roots (c .n)) e _ r in
           g .adds _ r (sym (stored-known F c g _ (filled-below (c .n) _ (in-roots-filled (c .n) _ r))) ∙ k)
 
       pick : (x : Lowest) → firstUnknown (known c) (roots (c .n)) ≡ x → passedOver x (addsUp t (c .n) (c .size)) ≡ true

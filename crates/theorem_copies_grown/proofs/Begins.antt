@@ -2,27 +2,27 @@
 -- Assumes nothing.
 use Prim.Native.Nat.{ℕ, zero, suc, _+_, _-_, _*_, _≤_, _<_}
 use mathlib.Core.Path.{_≡_, refl, sym, ap, ap₂, _∙_, subst}
-use mathlib.Core.Bool.{Bool, true, false}
+use mathlib.Core.Bool.{Bool, false}
 use mathlib.Core.List.{List, [], _∷_, _++_, append-assoc}
 use native.Mathlib.Omega.{arith}
 use lib.ListN.{length, getD, take, drop, replicate, length-append, length-replicate, replicate-append-replicate, List·getD-append}
-use lib.Seq.{take-at, ext-getD}
+use lib.Seq.{take-at}
 use Rattle.byte_strings.specs.Lists.{part, put, run, joined, zeros}
-use Rattle.byte_strings.proofs.Lists.{length-put, part-behind, part-left, length-part, getD-part, zeros-suc}
+use Rattle.byte_strings.proofs.Lists.{length-put, part-behind, part-left, zeros-suc, part-zeros, getD-zeros}
+use Rattle.byte_strings.proofs.Bools.{not-both}
 use Rattle.tree_index.specs.Tree.{depth, block, entries}
 use Rattle.bitfield.specs.Bits.{byteOf, bytesOf}
 use Rattle.bitfield.specs.Index.{tuple, four, tuples, combine, combined, node, indexByte, indexBytes}
-use Rattle.bitfield.specs.Image.{dataBytes, treeBytes, entry, entryCount}
+use Rattle.bitfield.specs.Image.{dataBytes, treeBytes, entry, entryCount, entriesFor}
 use Rattle.file_format.specs.Headers.{treeHeader, bitfieldHeader}
 use Rattle.file_format.specs.Sizes.{entryPlace, usedTree, usedBitfield}
 use Rattle.file_format.proofs.OfImage.{treeHeader-length}
 use Rattle.copy_checks.specs.Copy.{Copy}
 use Rattle.copy_checks.proofs.Steps.{Lent}
 use Rattle.copy_make.specs.Make.{madeCopy, Roomy}
-use Rattle.theorem_taking_laws.proofs.Shown.{entriesFor, shown, shown-long}
+use Rattle.theorem_taking_laws.proofs.Shown.{shown, shown-long}
 use Rattle.theorem_copies_grown.proofs.Grows.{Grows}
 use Rattle.theorem_copies_grown.proofs.Takes.{shown-front}
-use Rattle.theorem_copies_grown.proofs.Releases.{getD-zeros}
 
 -- ---- an entry of the bitfield with no bit set
 
@@ -70,15 +70,6 @@ unfolding entriesFor
 no-entries n = joined-zeros (entry none none) 3328 no-entry 0 (entryCount n)
 
 -- ---- zeros in a file
-
-part-zeros : (m a k : ℕ) → a + k ≤ m → part (zeros m) a k ≡ zeros k
-part-zeros m a k h =
-    let l : length (part (zeros m) a k) ≡ k = length-part (zeros m) a k (subst (λ (x : ℕ). a + k ≤ x) (sym (length-replicate {A = ℕ} m 0)) h) in
-    ext-getD 0 (part (zeros m) a k) (zeros k) (l ∙ sym (length-replicate {A = ℕ} k 0))
-    (λ j b. getD-part (zeros m) a k j 0 (omega arith) ∙ getD-zeros m (a + j) ∙ sym (getD-zeros k j))
-
-clash : {A : Type 0} → false ≡ true → A
-clash e = absurd (let z : _≡_ {A = ℕ} 0 1 = cc in omega arith)
 
 module _ (F : List ℕ → List ℕ) (c : Copy) (w : Roomy c) where
   abbrev blankTree : List ℕ
@@ -158,15 +149,15 @@ module _ (F : List ℕ → List ℕ) (c : Copy) (w : Roomy c) where
         knowsOf = none;
         tail = tail;
         bits = bits-are;
-        heldBelow = λ k e. clash e;
-        knowsFilled = λ i e. clash e;
+        heldBelow = λ k e. not-both e;
+        knowsFilled = λ i e. not-both e;
         nought = λ i l e. blank-entry i l;
-        heldKnown = λ k e. clash e;
-        upward = λ i e f. clash e;
-        rooted = λ i e r m. clash e;
-        follows = λ d k f e. clash e;
-        short = λ k e. clash e;
-        adds = λ r m e. clash e;
-        bytes = λ k e. clash e;
+        heldKnown = λ k e. not-both e;
+        upward = λ i e f. not-both e;
+        rooted = λ i e r m. not-both e;
+        follows = λ d k f e. not-both e;
+        short = λ k e. not-both e;
+        adds = λ r m e. not-both e;
+        bytes = λ k e. not-both e;
         blank = λ b l h. content-blank b l;
       }

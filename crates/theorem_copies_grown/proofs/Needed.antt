@@ -1,17 +1,18 @@
 -- Both conditions are needed.
 -- Assumes nothing.
-use Prim.Native.Nat.{ℕ, zero, suc, _+_, _≤_, _<_}
+use Prim.Native.Nat.{ℕ, zero, suc, _≤_, _<_}
 use mathlib.Core.Path.{_≡_, refl, sym, ap, ap₂, _∙_, subst}
 use mathlib.Core.Bool.{Bool, true, false, cond, _&&_}
 use mathlib.Core.Logic.{_⊎_, inl, inr}
 use mathlib.Core.List.{List, [], _∷_}
-use native.Mathlib.Nat.{zero-add, add-zero, add-suc, suc-add, not-suc-le-zero, le-of-suc-le-suc}
+use native.Mathlib.Nat.{zero-add}
 use native.Mathlib.Omega.{arith}
 use borrow.Author.Tests.{leb-true, leb-false, ne-eqb}
 use lib.Dec.{leb, eqb}
 use Rattle.refusals.specs.Verdict.{Verdict, none, tree, bitfield, done, refused}
-use Rattle.byte_strings.specs.Lists.{run, total, Bytes}
+use Rattle.byte_strings.specs.Lists.{total, Bytes}
 use Rattle.byte_strings.specs.Lowest.{Lowest, nowhere, first}
+use Rattle.byte_strings.proofs.Lowest.{never-first}
 use Rattle.tree_index.specs.Tree.{index, depth, block, filled, rootOf, rootsBelow, roots, entries}
 use Rattle.tree_index.proofs.Index.{depth-index, block-index, index-of}
 use Rattle.tree_index.proofs.Filled.{filled-below}
@@ -22,20 +23,19 @@ use Rattle.file_format.specs.Messages.{HashFunction}
 use Rattle.file_format.specs.Stored.{storedSize, storedRootSizes}
 use Rattle.checks.specs.Checks.{judged, addsUp}
 use Rattle.checks.proofs.Judged.{both-right}
-use Rattle.audit.specs.Audit.{holeRight, refusedAt}
+use Rattle.audit.specs.Audit.{holeRight, refusedAt, leafFrom}
 use Rattle.audit.proofs.Audited.{at-must}
 use Rattle.lookup.specs.Descent.{Ending, stopped, reached, unknown}
 use Rattle.copy_checks.specs.Copy.{Copy, known}
-use Rattle.copy_checks.specs.Least.{leastOf}
 use Rattle.lookup.specs.Unknown.{firstUnknown}
 use Rattle.copy_checks.specs.Checks.{sizeCheck, unknownRoot, passedOver, partlyJudged}
-use Rattle.copy_checks.proofs.Least.{lower-none}
+use Rattle.copy_checks.proofs.Least.{least-each}
 use Rattle.copy_checks.proofs.Steps.{Lent, lent-passes, partly-passed}
 use Rattle.copy_make.specs.Make.{makeVerdict, madeCopy}
 use Rattle.copy_make.proofs.Calls.{roomy}
 use Rattle.copy_take_in.specs.TakeIn.{Given, lying, takeVerdict, takenIn, brought}
 use Rattle.copy_checks.specs.Descents.{copyToChunk}
-use Rattle.copy_audit.specs.Audit.{wrongUnless, leafRightFrom, wrongFrom, wrongByLeaf, wrongByParent, wrongByKnown, wrongByUnknown, wrongBy, wrongEntryOfCopy, wrongByteOfCopy, auditCopy, AcceptedCopy}
+use Rattle.copy_audit.specs.Audit.{wrongUnless, wrongFrom, wrongByLeaf, wrongByParent, wrongByKnown, wrongByUnknown, wrongBy, wrongEntryOfCopy, wrongByteOfCopy, auditCopy, AcceptedCopy}
 use Rattle.theorem_taking_laws.proofs.Members.{In}
 use Rattle.theorem_taking_laws.proofs.Shown.{shown-known}
 use Rattle.theorem_taking_laws.proofs.Brought.{lying-brought, brought-filled}
@@ -45,9 +45,7 @@ use Rattle.theorem_copies_grown.specs.Needed.{NeededForAll}
 use Rattle.theorem_copies_grown.proofs.Takes.{there, now, holdsNow, holds, bits-now, new-now, entry-place}
 use Rattle.theorem_copies_grown.proofs.Begins.{made-lent}
 use Rattle.theorem_copies_grown.proofs.Grown.{grown-grows}
-
-never-first : {A : Type 0} (i : ℕ) → first i ≡ nowhere → A
-never-first i e = absurd (let z : _≡_ {A = ℕ} 0 1 = cc in omega arith)
+use Rattle.copy_audit.specs.Audit.{leafRightFrom}
 
 -- ---- no chunks, and a data size
 
@@ -82,13 +80,6 @@ long-leaf (y ∷ gs) e = pick (long-leaf gs) (leafShort y) refl e
     pick rec true f q = let r = rec q in (r .0, inr (r .1), r .2, r .3)
     pick rec false f q = let o = own (depth (y .at)) refl f in (y, inl refl, o .0, o .1)
 
-least-each : (f : ℕ → Lowest) (i m : ℕ) → leastOf (run f i m) ≡ nowhere → (j : ℕ) → j < m → f (i + j) ≡ nowhere
-unfolding leastOf run
-least-each f i zero e j h = absurd (not-suc-le-zero h)
-least-each f i (suc m) e zero h = ap f (add-zero i) ∙ lower-none (f i) (leastOf (run f (suc i) m)) e .0
-least-each f i (suc m) e (suc j) h =
-    ap f (add-suc i j ∙ sym (suc-add i j)) ∙ least-each f (suc i) m (lower-none (f i) (leastOf (run f (suc i) m)) e .1) j (le-of-suc-le-suc h)
-
 module _ (F : List ℕ → List ℕ) (c : Copy) (a : AcceptedCopy F c) where
   -- in an accepted copy a known leaf is no longer than a chunk may be
   all-right : (i : ℕ) → i < entries (c .n) → wrongBy F c i ≡ nowhere
@@ -108,7 +99,7 @@ module _ (F : List ℕ → List ℕ) (c : Copy) (a : AcceptedCopy F c) where
       by x y = cond x (cond y (wrongByKnown F c i) (wrongByUnknown F c i)) (wrongUnless (holeRight F (c .tree) i) i)
 
   pub leaf-fits : (k : ℕ) → filled (c .n) (index 0 k) ≡ true → known c (index 0 k) ≡ true → storedSize (c .tree) (index 0 k) ≤ longestChunk
-  unfolding wrongByKnown wrongByLeaf wrongFrom leafRightFrom
+  unfolding wrongByKnown wrongByLeaf wrongFrom leafFrom
   leaf-fits k f e =
       leaf (copyToChunk c k) (sym (ap₂ which (depth-index 0 k) (block-index 0 k)) ∙ known-right (index 0 k) f e)
     where

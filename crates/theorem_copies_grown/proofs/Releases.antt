@@ -1,6 +1,6 @@
 -- Releasing a chunk keeps it.
 -- Assumes nothing.
-use Prim.Native.Nat.{ℕ, zero, suc, _+_, _-_, _≤_, _<_}
+use Prim.Native.Nat.{ℕ, _+_, _-_, _≤_, _<_}
 use mathlib.Core.Path.{_≡_, refl, sym, ap, ap₂, _∙_, subst}
 use mathlib.Core.Bool.{Bool, true, false, cond, not, _&&_}
 use mathlib.Core.Logic.{_⊎_, inl, inr}
@@ -12,6 +12,8 @@ use lib.ListN.{length, getD, take, length-replicate}
 use Rattle.refusals.specs.Verdict.{Verdict, tree, done, refused}
 use Rattle.byte_strings.specs.Lists.{part, put, zeros}
 use Rattle.byte_strings.proofs.Lists.{length-put, getD-part, part-put, part-put-before, part-put-behind}
+use Rattle.byte_strings.proofs.Bools.{both-true}
+use Rattle.byte_strings.proofs.Lists.{getD-zeros}
 use Rattle.tree_index.specs.Tree.{index}
 use Rattle.bitfield.specs.Release.{storedHeld, releasedBits}
 use Rattle.bitfield.proofs.Bits.{without-one}
@@ -49,16 +51,6 @@ asked c i e =
     pick : (x : Bool) → cond x (stopRefused (copyToChunk c i)) (refused 18 (tree (index 0 i))) ≡ done → x ≡ true
     pick true f = refl
     pick false f = absurd (let z : _≡_ {A = ℕ} 0 1 = cc in omega arith)
-
-both : (x y : Bool) → (x && y) ≡ true → (x ≡ true) × (y ≡ true)
-both true y e = (refl, e)
-both false y e = absurd (let z : _≡_ {A = ℕ} 0 1 = cc in omega arith)
-
--- zeros that are put
-pub getD-zeros : (k j : ℕ) → getD (zeros k) j 0 ≡ 0
-getD-zeros zero j = refl
-getD-zeros (suc k) zero = refl
-getD-zeros (suc k) (suc j) = getD-zeros k j
 
 module _ (F : List ℕ → List ℕ) (c : Copy) (g : Grows F c) (i : ℕ) (a : Asked c i) where
   abbrev t : List ℕ
@@ -103,7 +95,7 @@ module _ (F : List ℕ → List ℕ) (c : Copy) (g : Grows F c) (i : ℕ) (a : A
 
   left-held : (k : ℕ) → left k ≡ true → (g .heldOf k ≡ true) × (k ≡ i → ⊥)
   left-held k e =
-      let q = both (g .heldOf k) (not (eqb k i)) e in (q .0, other (eqb k i) refl (q .1))
+      let q = both-true (g .heldOf k) (not (eqb k i)) e in (q .0, other (eqb k i) refl (q .1))
     where
       other : (b : Bool) → eqb k i ≡ b → not b ≡ true → k ≡ i → ⊥
       other true f n z = let y : _≡_ {A = ℕ} 0 1 = cc in omega arith

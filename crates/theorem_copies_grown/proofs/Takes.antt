@@ -14,6 +14,7 @@ use lib.Seq.{take-at}
 use Rattle.byte_strings.specs.Lists.{part, put, total, among, Bytes}
 use Rattle.byte_strings.proofs.Lists.{part-part, length-put, part-put, part-put-before, part-put-behind}
 use Rattle.byte_strings.specs.Numbers.{number}
+use Rattle.byte_strings.proofs.Bools.{or-right, clash, or-split}
 use Rattle.tree_index.specs.Tree.{index, depth, block, parent, filled, roots, entries}
 use Rattle.tree_index.proofs.Index.{depth-index, block-index}
 use Rattle.bitfield.specs.Known.{storedKnown, heldAgain}
@@ -100,24 +101,13 @@ shown-front held knows n tail = take-at bitfieldHeader _ 32 bitfieldHeader-lengt
 
 -- ---- tests
 
-or-split : (a b : Bool) → (a || b) ≡ true → (a ≡ true) ⊎ (b ≡ true)
-or-split true b e = inl refl
-or-split false b e = inr e
-
 or-left : (a b : Bool) → a ≡ true → (a || b) ≡ true
 or-left true b e = refl
 or-left false b e = absurd (let z : _≡_ {A = ℕ} 0 1 = cc in omega arith)
 
-or-right : (a b : Bool) → b ≡ true → (a || b) ≡ true
-or-right true b e = refl
-or-right false b e = e
-
 neither : (a b : Bool) → (a || b) ≡ false → (a ≡ false) × (b ≡ false)
 neither true b e = absurd (let z : _≡_ {A = ℕ} 0 1 = cc in omega arith)
 neither false b e = (refl, e)
-
-clash : {A : Type 0} (b : Bool) → b ≡ true → b ≡ false → A
-clash b p q = absurd (let z : _≡_ {A = ℕ} 0 1 = cc in omega arith)
 
 leaf-short : (gs : List Given) → leavesShort gs ≡ true → (x : Given) → In x gs → depth (x .at) ≡ 0 → x .entry .size ≤ longestChunk
 unfolding leavesShort leafShort In

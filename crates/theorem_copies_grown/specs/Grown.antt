@@ -5,8 +5,8 @@
 -- siblings and other roots by their entries alone. One of them that is a leaf over 65,536 can be right under the root hash; it becomes known, and the audit
 -- finds it wrong. So this is claimed of packets whose given leaves are no longer than a chunk may be. That both are needed is stated in Needed.
 --
--- The notions in it: `HashFunction` (files, Messages), `Copy` (copies, Copy), `makeVerdict` and `madeCopy` (make_copy, Make), `lying`, `takeVerdict` and
--- `takenIn` (take_in, TakeIn), `copyReleaseVerdict` and `releasedCopy` (copy_release, Release), `AcceptedCopy` (copy_audit, Audit).
+-- The notions in it: `HashFunction` (file_format, Messages), `Copy` (copy_checks, Copy), `makeVerdict` and `madeCopy` (copy_make, Make), `lying`, `takeVerdict` and
+-- `takenIn` (copy_take_in, TakeIn), `copyReleaseVerdict` and `releasedCopy` (copy_release, Release), `AcceptedCopy` (copy_audit, Audit).
 use Prim.Native.Nat.{ℕ, zero, suc}
 use mathlib.Core.Path.{_≡_}
 use mathlib.Core.Bool.{Bool, true, _&&_}

@@ -13,7 +13,7 @@ use Rattle.byte_strings.specs.Lists.{part, put, joined, zeros}
 use Rattle.byte_strings.proofs.Lists.{length-put, part-put, part-put-before, part-put-behind, run-ext}
 use Rattle.tree_index.specs.Tree.{index, filled}
 use Rattle.bitfield.specs.Release.{storedHeld, releasedBits}
-use Rattle.bitfield.specs.Image.{entry, entryCount}
+use Rattle.bitfield.specs.Image.{entry, entryCount, entriesFor}
 use Rattle.bitfield.proofs.Bits.{without-one}
 use Rattle.bitfield.proofs.Image.{entry-ext}
 use Rattle.file_format.specs.Headers.{bitfieldHeader}
@@ -34,13 +34,14 @@ use Rattle.copy_checks.specs.Checks.{unknownRoot}
 use Rattle.copy_checks.proofs.Steps.{Lent, partly-passes}
 use Rattle.copy_checks.proofs.Descents.{chunk-read, chunk-same}
 use Rattle.copy_release.specs.Release.{releasedCopy}
-use Rattle.copy_audit.specs.Audit.{knownBits, copyBitfieldImage}
+use Rattle.copy_audit.specs.Audit.{knownBits}
 use Rattle.theorem_taking_laws.proofs.Descents.{descents-apart}
 use Rattle.theorem_taking_laws.proofs.Field.{RoomFor}
-use Rattle.theorem_taking_laws.proofs.Shown.{entriesFor, shown, shown-used, used-shown, shown-held, held-less}
+use Rattle.theorem_taking_laws.proofs.Shown.{shown, shown-used, used-shown, shown-held, held-less}
 use Rattle.theorem_copy_audit.specs.Theorems.{leafStart, leafData, LeafSound, Sound}
-use Rattle.theorem_copy_audit.proofs.Sound.{clash, passed-too}
+use Rattle.theorem_copy_audit.proofs.Sound.{clash, bits-are, passed-too}
 use Rattle.theorem_copies_kept.proofs.Stay.{known-less, Asked, data-room}
+use Rattle.file_format.specs.Images.{bitfieldOf}
 
 module _ (F : List ℕ → List ℕ) (c : Copy) (s : Sound F c) (i : ℕ) (a : Asked c i) where
   abbrev t : List ℕ
@@ -126,9 +127,9 @@ module _ (F : List ℕ → List ℕ) (c : Copy) (s : Sound F c) (i : ℕ) (a : A
   tail = drop (usedBitfield (c .n)) (c .bitfield)
 
   shows : d .bitfield ≡ shown left knownOf (c .n) tail
-  unfolding releasedCopy releasedRegister copyBitfieldImage entriesFor
+  unfolding releasedCopy releasedRegister bitfieldOf entriesFor
   shows =
-      ap (λ (l : List ℕ). releasedBits l i) (used-shown (c .bitfield) heldOf knownOf (c .n) (s .bits))
+      ap (λ (l : List ℕ). releasedBits l i) (used-shown (c .bitfield) heldOf knownOf (c .n) (s .bits ∙ sym (bits-are c)))
       ∙ held-less heldOf knownOf (c .n) tail i (a .below)
 
   held-left : (k : ℕ) → k < c .n → storedHeld (d .bitfield) k ≡ left k
@@ -217,8 +218,8 @@ module _ (F : List ℕ → List ℕ) (c : Copy) (s : Sound F c) (i : ℕ) (a : A
   unfolding knownBits
   known-now j = ap (λ (b : Bool). filled (c .n) j && b) (sym (same-known j))
 
-  bits-left : take (usedBitfield (c .n)) (d .bitfield) ≡ copyBitfieldImage (heldBits (d .bitfield) (c .n)) (knownBits (d .bitfield) (c .n)) (c .n)
-  unfolding entriesFor copyBitfieldImage
+  bits-left : take (usedBitfield (c .n)) (d .bitfield) ≡ bitfieldOf (heldBits (d .bitfield) (c .n)) (knownBits (d .bitfield) (c .n)) (c .n)
+  unfolding entriesFor bitfieldOf
   bits-left =
       ap (take (usedBitfield (c .n))) shows ∙ shown-used left knownOf (c .n) tail
       ∙ ap (λ (l : List (List ℕ)). bitfieldHeader ++ joined l)
@@ -236,5 +237,5 @@ module _ (F : List ℕ → List ℕ) (c : Copy) (s : Sound F c) (i : ℕ) (a : A
         leaf = λ k h e. leaf-left k h (s .leaf k h (sym (same-known (index 0 k)) ∙ e));
         parent = λ x k f e l r.
             s .parent x k f (sym (same-known (index (suc x) k)) ∙ e) (sym (same-known (index x (2 * k))) ∙ l) (sym (same-known (index x (2 * k + 1))) ∙ r);
-        bits = bits-left;
+        bits = bits-left ∙ bits-are d;
       }

@@ -1,8 +1,9 @@
 -- What calls leave of what a copy knows, and of an accepted copy. All of it is said of every copy, however it came about: a known entry never changes, so a copy
--- that knows a leaf above 65,536 is not accepted and never will be; and a release keeps an accepted copy accepted.
+-- that knows a leaf above 65,536 is not accepted and never will be; a release keeps an accepted copy accepted, and every leaf's entry as it was told.
 --
 -- The notions in it: `HashFunction` (file_format, Messages), `Copy` and `known` (copy_checks, Copy), `takeVerdict` and `takenIn` (copy_take_in, TakeIn),
--- `copyReleaseVerdict` and `releasedCopy` (copy_release, Release), `AcceptedCopy` (copy_audit, Audit).
+-- `copyReleaseVerdict` and `releasedCopy` (copy_release, Release), `AcceptedCopy` (copy_audit, Audit), `leafHash` and `leafLength` (stored_leaf, StoredLeaf),
+-- `copyLeafVerdict` (copy_stored_leaf, StoredLeaf).
 use Prim.Native.Nat.{ℕ, _<_}
 use mathlib.Core.Path.{_≡_}
 use mathlib.Core.Bool.{true}
@@ -13,9 +14,11 @@ use Rattle.tree_index.specs.Tree.{index}
 use Rattle.file_format.specs.Sizes.{longestChunk, entryPlace}
 use Rattle.file_format.specs.Messages.{HashFunction}
 use Rattle.file_format.specs.Stored.{storedSize}
+use Rattle.stored_leaf.specs.StoredLeaf.{leafHash, leafLength}
 use Rattle.copy_checks.specs.Copy.{Copy, known}
 use Rattle.copy_take_in.specs.TakeIn.{takeVerdict, takenIn}
 use Rattle.copy_release.specs.Release.{copyReleaseVerdict, releasedCopy}
+use Rattle.copy_stored_leaf.specs.StoredLeaf.{copyLeafVerdict}
 use Rattle.copy_audit.specs.Audit.{AcceptedCopy}
 
 -- what calls make of a copy, one after the other: packets of bytes that are taken in, and releases. A call that is refused changes nothing
@@ -36,6 +39,12 @@ pub record KnowsLong (c : Copy) : Type 0 where
   pub knows : known c (index 0 chunk) ≡ true
   pub long : longestChunk < storedSize (c .tree) (index 0 chunk)
 
+-- of every leaf the same stored entry is told, or the same refusal
+pub record LeavesStay (c d : Copy) : Type 0 where
+  pub says : (k : ℕ) → copyLeafVerdict d k ≡ copyLeafVerdict c k
+  pub hash : (k : ℕ) (out : List ℕ) → leafHash (copyLeafVerdict d k) (d .tree) k out ≡ leafHash (copyLeafVerdict c k) (c .tree) k out
+  pub length : (k : ℕ) → leafLength (copyLeafVerdict d k) (d .tree) k ≡ leafLength (copyLeafVerdict c k) (c .tree) k
+
 pub record CopiesKept (F : List ℕ → List ℕ) : Type 0 where
   -- a known entry never changes
   pub stays : (c d : Copy) → Later F c d → (j : ℕ) → known c j ≡ true → Stays c d j
@@ -43,6 +52,8 @@ pub record CopiesKept (F : List ℕ → List ℕ) : Type 0 where
   pub never : (c d : Copy) → Later F c d → KnowsLong c → AcceptedCopy F d → ⊥
   -- a release keeps an accepted copy accepted
   pub release : (c : Copy) → AcceptedCopy F c → (i : ℕ) → copyReleaseVerdict c i ≡ done → AcceptedCopy F (releasedCopy c i)
+  -- and of any copy what is told of the leaves
+  pub leaves : (c : Copy) (i : ℕ) → copyReleaseVerdict c i ≡ done → LeavesStay c (releasedCopy c i)
 
 -- for every function F from byte strings to 32 bytes
 abbrev pub CopiesKeptForAll : Type 0

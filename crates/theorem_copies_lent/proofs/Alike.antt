@@ -1,55 +1,56 @@
 -- The proof of `LentForAll`, call by call. Assumes nothing.
 use Prim.Native.Nat.{ℕ, _+_, _-_}
 use mathlib.Core.Path.{_≡_, refl, sym, ap, ap₂, _∙_}
-use mathlib.Core.Bool.{Bool, true, false, cond}
+use mathlib.Core.Bool.{cond}
 use mathlib.Core.List.{List, [], _∷_}
-use borrow.Author.Tests.{leb-true, ltb-true, ltb-false, leb-false}
+use borrow.Author.Tests.{leb-true}
 use lib.Dec.{leb, ltb}
 use lib.ListN.{length}
 use Rattle.refusals.specs.Verdict.{Verdict, tree, done, refused, unlessRefused}
-use Rattle.byte_strings.specs.Lists.{part, sameList, zeros}
+use Rattle.byte_strings.specs.Lists.{part, sameList, zeros, put}
 use Rattle.byte_strings.specs.Lowest.{Lowest, lowest}
 use Rattle.tree_index.specs.Tree.{index, roots}
 use Rattle.bitfield.specs.Release.{storedHeld}
 use Rattle.file_format.specs.Messages.{leafMessage}
 use Rattle.file_format.specs.Stored.{storedHash, storedSize, storedRootMessage}
 use Rattle.file_format.specs.Belongs.{Register, Buffers, buffersOf}
-use Rattle.checks.specs.Checks.{Check, judged, registerChecks, holds}
+use Rattle.checks.specs.Checks.{Check, judged, holds}
 use Rattle.checks.proofs.Judged.{judged-same}
 use Rattle.writing.specs.Append.{rootUnlessRefused}
 use Rattle.writing.specs.RootHash.{rootVerdict, rootAnswer}
 use Rattle.audit.specs.Audit.{refusedAt}
 use Rattle.audit.proofs.Audited.{accepted-audited}
 use Rattle.prefix_root.specs.PrefixRoot.{ownChecks, prefixVerdict, prefixRoot}
-use Rattle.lookup.specs.Descent.{Ending}
-use Rattle.lookup.specs.Lookup.{Found, foundUnless, chunkOf, startOf, stopRefused, toChunk, toByte, placeVerdict, heldVerdict, byteVerdict, placeOf, heldPlaceOf, byteAt}
+use Rattle.lookup.specs.Descent.{Ending, always}
+use Rattle.lookup.specs.Lookup.{foundUnless, chunkOf, startOf, stopRefused, toChunk, toByte, placeVerdict, heldVerdict, byteVerdict, placeOf, heldPlaceOf, byteAt}
 use Rattle.lookup.specs.Read.{chunkBytes, andThen, partUnless, readVerdict, readPart}
 use Rattle.lookup.specs.Meaning.{readFound}
 use Rattle.release.specs.Release.{releaseVerdict, releasedRegister, afterRelease}
+use Rattle.stored_leaf.specs.StoredLeaf.{leafVerdict, leafHash, leafLength}
+use Rattle.stored_leaf.proofs.Calls.{leaf-same}
 use Rattle.search.specs.Search.{soughtUnless, firstMissing, searchFor}
-use Rattle.short_lookup.specs.ShortLookup.{shortPlaceIn, shortByteIn, foundBehind, shortPlaceOf, shortByteAt, shortSearchFor}
-use Rattle.short_lookup.proofs.Walks.{place-nine, byte-nine}
+use Rattle.short_lookup.specs.ShortLookup.{shortPlaceOf, shortByteAt, shortSearchFor, foundBehind}
 use Rattle.record_find.specs.ChunkRecords.{headerAfter, nodeAfter, pathAfter, headerIn, pathIn}
 use Rattle.record_find.specs.Finding.{findBy, findIn}
-use Rattle.packet.specs.Packet.{packetOf, roomOr14, outUnless, lengthUnless, makeVerdict, afterMake, madeLength}
+use Rattle.packet.specs.Packet.{packetOf, roomOr14, makeVerdict, afterMake, madeLength, packetWith}
 use Rattle.copy_checks.specs.Copy.{Copy, known, filesOf, unsigned, lentAsCopy}
 use Rattle.copy_checks.specs.Checks.{copyJudged}
 use Rattle.lookup.specs.Unknown.{firstUnknown}
 use Rattle.copy_lookup.specs.Lookups.{copyPlaceVerdict, copyHeldVerdict, copyByteVerdict, copyPlaceOf, copyHeldPlaceOf, copyByteAt}
 use Rattle.copy_lookup.specs.Reading.{copyReadVerdict, copyReadPart, copyReadFound}
 use Rattle.copy_roots.specs.Roots.{rootUnless, copyRootVerdict, copyRootAnswer, copyPrefixVerdict, copyPrefixRoot, copySearch}
-use Rattle.copy_short_lookup.specs.Leaves.{leavesToChunk, leavesToByte}
-use Rattle.copy_short_lookup.specs.Short.{unknownAmong, copyShortPlaceVerdict, copyShortByteVerdict, copyShortPlaceOf, copyShortByteAt, copyShortSearch}
+use Rattle.copy_short_lookup.specs.Short.{copyShortPlaceOf, copyShortByteAt, copyShortSearch}
 use Rattle.copy_packet.specs.Making.{copyMakeVerdict, copyAfterMake, copyMadeLength}
 use Rattle.copy_release.specs.Release.{copyReleaseVerdict, releasedCopy, copyAfterRelease}
+use Rattle.copy_stored_leaf.specs.StoredLeaf.{copyLeafVerdict}
 use Rattle.copy_records.specs.Records.{copyHeader, copyPath, copyFind}
 use Rattle.theorem_copies_agree.specs.Theorems.{AllKnown}
-use Rattle.theorem_copies_agree.proofs.Known.{short-chunk-known, short-byte-known}
+use Rattle.theorem_copies_agree.proofs.Known.{short-place-known, short-byte-known}
 use Rattle.theorem_copy_audit.specs.Theorems.{SignaturesPass}
 use Rattle.theorem_copy_audit.proofs.Registers.{all-known, lent-sound, lent-signed}
 use Rattle.theorem_copy_audit.proofs.Sound.{sound-accepted}
 use Rattle.theorem_copies_lent.specs.Theorems.{filesIn, LentAlike, LentForAll}
-use Rattle.theorem_copies_lent.proofs.Checked.{to-chunk, to-byte, roots-known, checks-same, behind-same}
+use Rattle.theorem_copies_lent.proofs.Checked.{to-chunk, to-byte, roots-known, leaf-known, checks-same, behind-same}
 
 module _ (F : List ℕ → List ℕ) (r : Register) (all : AllKnown (lentAsCopy r)) (g : SignaturesPass r) where
   abbrev c : Copy
@@ -97,47 +98,13 @@ module _ (F : List ℕ → List ℕ) (r : Register) (all : AllKnown (lentAsCopy 
   unfolding copyShortSearch shortSearchFor
   same-short-search from = ap (λ (v : Verdict). soughtUnless v (lowest (storedHeld (r .bitfield)) from (r .n - from))) (checks-same r all g done)
 
-  -- a verdict of a call's own that leaves what a short lookup finds as it is, behind the checks
-  then-found : (w : Verdict) (x : Found) → foundBehind w x ≡ x → foundBehind (judged (registerChecks r) w) x ≡ foundBehind (judged (registerChecks r) done) x
-  unfolding judged
-  then-found w x e = go (registerChecks r)
-    where
-      go : (cs : List Check) → foundBehind (judged cs w) x ≡ foundBehind (judged cs done) x
-      go [] = e
-      go (k ∷ cs) = pick (k .right) (go cs)
-        where
-          pick : (b : Bool) → foundBehind (judged cs w) x ≡ foundBehind (judged cs done) x
-              → foundBehind (judged (record { number = k .number; right = b } ∷ cs) w) x ≡ foundBehind (judged (record { number = k .number; right = b } ∷ cs) done) x
-          pick true q = q
-          pick false q = refl
-
   same-short-place : (i : ℕ) → copyShortPlaceOf c i ≡ shortPlaceOf r i
-  unfolding copyShortPlaceOf copyShortPlaceVerdict shortPlaceOf unknownAmong refusedAt judged
-  same-short-place i =
-      let own : Verdict = judged (nine i) (unknownAmong c (leavesToChunk (r .tree) i)) in
-      ap (λ (v : Verdict). foundBehind v (shortPlaceIn (r .tree) (r .n) i)) (checks-same r all g own)
-      ∙ then-found own (shortPlaceIn (r .tree) (r .n) i) (pick (ltb i (r .n)) refl)
-    where
-      pick : (x : Bool) → ltb i (r .n) ≡ x
-          → foundBehind (judged (record { number = 9; right = x } ∷ []) (unknownAmong c (leavesToChunk (r .tree) i))) (shortPlaceIn (r .tree) (r .n) i)
-          ≡ shortPlaceIn (r .tree) (r .n) i
-      pick true e =
-          ap (λ (l : Lowest). foundBehind (refusedAt 20 tree l done) (shortPlaceIn (r .tree) (r .n) i)) (short-chunk-known c all i (ltb-true i (r .n) e))
-      pick false e = place-nine (r .tree) (r .n) i (ltb-false i (r .n) e)
+  unfolding copyShortPlaceOf shortPlaceOf
+  same-short-place i = ap₂ foundBehind (checks-same r all g done) (short-place-known c all i)
 
   same-short-byte : (b : ℕ) → copyShortByteAt c b ≡ shortByteAt r b
-  unfolding copyShortByteAt copyShortByteVerdict shortByteAt unknownAmong refusedAt judged
-  same-short-byte b =
-      let own : Verdict = judged (nineByte b) (unknownAmong c (leavesToByte (r .tree) (r .n) (r .size) b)) in
-      ap (λ (v : Verdict). foundBehind v (shortByteIn (r .tree) (r .n) (r .size) b)) (checks-same r all g own)
-      ∙ then-found own (shortByteIn (r .tree) (r .n) (r .size) b) (pick (leb b (r .size)) refl)
-    where
-      pick : (x : Bool) → leb b (r .size) ≡ x
-          → foundBehind (judged (record { number = 9; right = x } ∷ []) (unknownAmong c (leavesToByte (r .tree) (r .n) (r .size) b))) (shortByteIn (r .tree) (r .n) (r .size) b)
-          ≡ shortByteIn (r .tree) (r .n) (r .size) b
-      pick true e =
-          ap (λ (l : Lowest). foundBehind (refusedAt 20 tree l done) (shortByteIn (r .tree) (r .n) (r .size) b)) (short-byte-known c all b)
-      pick false e = byte-nine (r .tree) (r .n) (r .size) b (leb-false b (r .size) e)
+  unfolding copyShortByteAt shortByteAt
+  same-short-byte b = ap₂ foundBehind (checks-same r all g done) (short-byte-known c all b)
 
   -- ---- hashes and bytes
 
@@ -204,7 +171,7 @@ module _ (F : List ℕ → List ℕ) (r : Register) (all : AllKnown (lentAsCopy 
       ∙ files-of (releaseVerdict r i) (buffersOf (releasedRegister r i)) (buffersOf r)
 
   same-packet : (i : ℕ) → packetOf (unsigned c) i ≡ packetOf r i
-  unfolding packetOf chunkBytes toChunk
+  unfolding packetOf packetWith chunkBytes toChunk
   same-packet i = refl
 
   same-make : (i : ℕ) (out : List ℕ) → copyMakeVerdict F c i out ≡ makeVerdict F r i out
@@ -213,11 +180,11 @@ module _ (F : List ℕ → List ℕ) (r : Register) (all : AllKnown (lentAsCopy 
 
   same-long : (i : ℕ) (out : List ℕ) → copyMadeLength F c i out ≡ madeLength F r i out
   unfolding copyMadeLength madeLength
-  same-long i out = ap₂ lengthUnless (same-make i out) (same-packet i)
+  same-long i out = ap₂ (λ (v : Verdict) (q : List ℕ). unlessRefused v (length q) 0) (same-make i out) (same-packet i)
 
   same-made : (i : ℕ) (out : List ℕ) → copyAfterMake F c i out ≡ afterMake F r i out
   unfolding copyAfterMake afterMake
-  same-made i out = ap₂ (λ (v : Verdict) (p : List ℕ). outUnless v p out) (same-make i out) (same-packet i)
+  same-made i out = ap₂ (λ (v : Verdict) (p : List ℕ). unlessRefused v (put out 0 p) out) (same-make i out) (same-packet i)
 
   -- ---- records
 
@@ -229,6 +196,10 @@ module _ (F : List ℕ → List ℕ) (r : Register) (all : AllKnown (lentAsCopy 
 
   same-find : (path : List ℕ) → copyFind F c path ≡ findIn F r path
   same-find path = (λ j. findBy (λ i. same-path i path j) (checks-same r all g done j) (same-header 0 j .0) (r .n))
+
+  same-leaf : (k : ℕ) → copyLeafVerdict c k ≡ leafVerdict r k
+  unfolding copyLeafVerdict leafVerdict
+  same-leaf k = ap₂ andThen (checks-same r all g done) (leaf-same (known c) always (r .n) k (λ h. leaf-known r all k h))
 
   pub alike : LentAlike F r
   alike =
@@ -252,6 +223,9 @@ module _ (F : List ℕ → List ℕ) (r : Register) (all : AllKnown (lentAsCopy 
               verdict = same-read;
               part = same-part;
               found = same-found;
+              leafVerdicts = same-leaf;
+              leafHashes = λ k out. ap (λ (v : Verdict). leafHash v (r .tree) k out) (same-leaf k);
+              leafLengths = λ k. ap (λ (v : Verdict). leafLength v (r .tree) k) (same-leaf k);
             };
         writes =
             record {

@@ -1,13 +1,14 @@
 -- The checks of a call on a register that is lent as a copy, and its descents. Assumes nothing.
-use Prim.Native.Nat.{ℕ, suc, _≤_, _<_}
+use Prim.Native.Nat.{ℕ, suc, _+_, _≤_, _<_}
 use mathlib.Core.Path.{_≡_, refl, sym, ap, _∙_, subst}
 use mathlib.Core.Bool.{Bool, true, cond}
 use mathlib.Core.List.{List, [], _∷_, _++_}
+use native.Mathlib.Nat.{mul-one}
 use native.Mathlib.Omega.{arith}
 use lib.ListN.{length, getD}
 use Rattle.refusals.specs.Verdict.{Verdict, tree}
 use Rattle.byte_strings.specs.Lowest.{Lowest, nowhere, first}
-use Rattle.tree_index.specs.Tree.{depth, block, filled, roots}
+use Rattle.tree_index.specs.Tree.{index, depth, block, filled, roots}
 use Rattle.tree_index.proofs.Index.{index-of}
 use Rattle.tree_index.proofs.Filled.{end-filled, filled-end, filled-below}
 use Rattle.tree_index.proofs.Roots.{root-filled}
@@ -55,6 +56,13 @@ module _ (r : Register) (all : AllKnown (lentAsCopy r)) where
           subst (λ (y : ℕ). filled (r .n) y ≡ true) (index-of x)
           (end-filled (r .n) (depth x) (block x)
           (omega (arith, filled-end m (depth x) (block x) (subst (λ (y : ℕ). filled m y ≡ true) (sym (index-of x)) f))))
+
+  -- and so is every leaf
+  pub leaf-known : (k : ℕ) → k < r .n → known (lentAsCopy r) (index 0 k) ≡ true
+  unfolding AllKnown
+  leaf-known k h =
+      let f : filled (r .n) (index 0 k) ≡ true = end-filled (r .n) 0 k (omega (arith, mul-one (k + 1))) in
+      all (index 0 k) (filled-below (r .n) (index 0 k) f) f
 
   module _ (g : SignaturesPass r) where
     -- 2 to 6, by the tests that look at the signatures

@@ -15,6 +15,7 @@ use Rattle.lookup.specs.Read.{readVerdict, readPart}
 use Rattle.lookup.specs.Meaning.{readFound}
 use Rattle.release.specs.Release.{releaseVerdict, releasedRegister, afterRelease}
 use Rattle.search.specs.Search.{searchFor}
+use Rattle.stored_leaf.specs.StoredLeaf.{leafVerdict, leafHash, leafLength}
 use Rattle.short_lookup.specs.ShortLookup.{shortPlaceOf, shortByteAt, shortSearchFor}
 use Rattle.record_find.specs.ChunkRecords.{headerIn, nodeIn, pathIn}
 use Rattle.record_find.specs.Finding.{findIn}
@@ -27,6 +28,7 @@ use Rattle.copy_roots.specs.Roots.{copyRootVerdict, copyRootAnswer, copyPrefixV
 use Rattle.copy_short_lookup.specs.Short.{copyShortPlaceOf, copyShortByteAt, copyShortSearch}
 use Rattle.copy_packet.specs.Making.{copyMakeVerdict, copyAfterMake, copyMadeLength}
 use Rattle.copy_release.specs.Release.{copyReleaseVerdict, releasedCopy, copyAfterRelease}
+use Rattle.copy_stored_leaf.specs.StoredLeaf.{copyLeafVerdict}
 use Rattle.copy_records.specs.Records.{copyHeader, copyNode, copyPath, copyFind}
 use Rattle.theorem_copies_agree.specs.Theorems.{AllKnown}
 use Rattle.theorem_copy_audit.specs.Theorems.{SignaturesPass}
@@ -55,6 +57,10 @@ module _ (F : List ℕ → List ℕ) (r : Register) where
     pub verdict : (i : ℕ) → copyReadVerdict F (lentAsCopy r) i ≡ readVerdict F r i
     pub part : (i : ℕ) → copyReadPart F (lentAsCopy r) i ≡ readPart F r i
     pub found : (i : ℕ) → copyReadFound F (lentAsCopy r) i ≡ readFound F r i
+    -- the stored entry of a leaf
+    pub leafVerdicts : (k : ℕ) → copyLeafVerdict (lentAsCopy r) k ≡ leafVerdict r k
+    pub leafHashes : (k : ℕ) (out : List ℕ) → leafHash (copyLeafVerdict (lentAsCopy r) k) (lentAsCopy r .tree) k out ≡ leafHash (leafVerdict r k) (r .tree) k out
+    pub leafLengths : (k : ℕ) → leafLength (copyLeafVerdict (lentAsCopy r) k) (lentAsCopy r .tree) k ≡ leafLength (leafVerdict r k) (r .tree) k
 
   -- what is written
   pub record LentWrites : Type 0 where

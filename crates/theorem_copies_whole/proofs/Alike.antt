@@ -1,35 +1,19 @@
 -- The entries that a descent reads: where none is unknown each is known, and each is one of n chunks. Assumes nothing.
 use Prim.Native.Nat.{ℕ, zero, suc, _+_, _*_}
-use mathlib.Core.Path.{_≡_, refl, sym, ap, _∙_, subst}
-use mathlib.Core.Bool.{Bool, true, false, cond}
+use mathlib.Core.Path.{_≡_, refl, ap, _∙_, subst}
+use mathlib.Core.Bool.{Bool, true, false}
 use mathlib.Core.Logic.{inl, inr}
 use mathlib.Core.List.{List, [], _∷_}
-use native.Mathlib.Omega.{arith}
 use lib.Dec.{eqb}
-use Rattle.byte_strings.specs.Lowest.{nowhere, first}
+use Rattle.byte_strings.proofs.Bools.{chosen}
 use Rattle.tree_index.specs.Tree.{index, depth, block, filled, roots}
 use Rattle.tree_index.proofs.Index.{index-of}
 use Rattle.tree_index.proofs.Filled.{filled-left, filled-right}
 use Rattle.file_format.specs.Stored.{storedSize}
-use Rattle.lookup.specs.Unknown.{firstUnknown}
 use Rattle.lookup.proofs.ReadOrder.{readsBelow, readsFrom, reads}
 use Rattle.theorem_taking_laws.proofs.Members.{In}
 use Rattle.theorem_taking_laws.proofs.Brought.{in-roots-filled}
-
--- where none is unknown, each is known
-pub all-known : (known : ℕ → Bool) (is : List ℕ) → firstUnknown known is ≡ nowhere → (j : ℕ) → In j is → known j ≡ true
-unfolding firstUnknown In
-all-known known [] e j i = absurd i
-all-known known (x ∷ is) e j i = pick (known x) refl e i (all-known known is)
-  where
-    pick : (b : Bool) → known x ≡ b → cond b (firstUnknown known is) (first x) ≡ nowhere → In j (x ∷ is)
-        → (firstUnknown known is ≡ nowhere → (j : ℕ) → In j is → known j ≡ true) → known j ≡ true
-    pick true f g (inl q) rec = ap known (sym q) ∙ f
-    pick true f g (inr l) rec = rec g j l
-    pick false f g l rec = absurd (let z : _≡_ {A = ℕ} 0 1 = cc in omega arith)
-
-abbrev chosen : {A : Type 0} → Bool → A → A → A
-chosen b x y = elim b [ true ↦ x | false ↦ y ]
+pub use Rattle.theorem_taking_laws.proofs.Unknown.{all-known}
 
 -- ---- a descent among n chunks reads none but their entries
 

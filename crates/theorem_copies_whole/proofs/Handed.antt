@@ -32,8 +32,8 @@ use Rattle.lookup.specs.Read.{chunkBytes}
 use Rattle.lookup.specs.Theorems.{Answers}
 use Rattle.lookup.proofs.Answers.{answers}
 use Rattle.lookup.proofs.Calls.{done-reached, done-first}
-use Rattle.packet.specs.Packet.{siblings, otherRoots, section, packetOf}
-use Rattle.packet.specs.Inner.{ChunkOf, packetWith}
+use Rattle.packet.specs.Packet.{siblings, otherRoots, section, packetOf, packetWith}
+use Rattle.packet.specs.Inner.{ChunkOf}
 use Rattle.packet.proofs.Answers.{packet-answers}
 use Rattle.packet.proofs.Makes.{read-bytes}
 use Rattle.packet.proofs.Rows.{Filled, siblings-filled, others-filled}

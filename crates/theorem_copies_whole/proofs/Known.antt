@@ -16,17 +16,12 @@ use Rattle.packet.specs.Inner.{ChunkOf}
 use Rattle.copy_take_in.specs.TakeIn.{Given, brought}
 use Rattle.theorem_taking_laws.proofs.Members.{In}
 use Rattle.theorem_taking_laws.proofs.Brought.{wayIndex, sideIndex, Brings, onWay, besideWay, otherRoot, brings, siblings-deep, top-root, above-root, other-root}
-use Rattle.theorem_taking_laws.proofs.Descents.{Half, inLeft, inRight, halves, block-above}
-
-never-stopped : {A : Type 0} (i k s : ℕ) → stopped i ≡ reached k s → A
-never-stopped i k s e = let z : _≡_ {A = ℕ} 0 1 = cc in absurd (omega arith)
+use Rattle.theorem_taking_laws.proofs.Descents.{Half, inLeft, inRight, halves, block-above, never-stopped}
+use Rattle.byte_strings.proofs.Bools.{chosen}
 
 if-known : (b : Bool) (i : ℕ) (e : Ending) (k s : ℕ) → ifKnown b i e ≡ reached k s → (b ≡ true) × (e ≡ reached k s)
 if-known true i e k s f = (refl, f)
 if-known false i e k s f = let z : _≡_ {A = ℕ} 0 1 = cc in absurd (omega arith)
-
-abbrev chosen : {A : Type 0} → Bool → A → A → A
-chosen b x y = elim b [ true ↦ x | false ↦ y ]
 
 module _ (known : ℕ → Bool) (t : List ℕ) (c : ℕ) where
   -- the nodes of the way below depth d and those beside it

@@ -33,9 +33,9 @@ use Rattle.lookup.specs.Theorems.{Answers}
 use Rattle.lookup.proofs.Answers.{answers}
 use Rattle.lookup.proofs.Calls.{done-first}
 use Rattle.release.proofs.Calls.{held-passed}
-use Rattle.packet.specs.Packet.{rootAbove, beside, siblings, otherRoots, packetOf, makeVerdict}
+use Rattle.packet.specs.Packet.{rootAbove, beside, siblings, otherRoots, packetOf, makeVerdict, packetWith}
 use Rattle.packet.specs.Check.{othersPlace, siblingsPlace, chunkLength, entryIn, entriesIn, otherEntries, ordered}
-use Rattle.packet.specs.Inner.{ChunkOf, packetWith, Readable}
+use Rattle.packet.specs.Inner.{ChunkOf, Readable}
 use Rattle.packet.proofs.Answers.{chunk-leaf, siblings-are}
 use Rattle.packet.proofs.Climb.{left-first, right-first}
 use Rattle.packet.proofs.Makes.{readable}

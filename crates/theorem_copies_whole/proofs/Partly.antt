@@ -15,12 +15,12 @@ use borrow.Author.Tests.{eqb-true, ltb-true, ltb-false, lt-ltb, leb-true}
 use lib.Arith.{lt-of-le-ne}
 use Rattle.refusals.specs.Verdict.{done}
 use Rattle.byte_strings.specs.Lists.{part, put, run, joined, among, zeros}
-use Rattle.byte_strings.proofs.Lists.{run-ext, length-put, part-add, part-at, part-left, part-behind, part-put, part-put-before, part-put-behind}
+use Rattle.byte_strings.proofs.Lists.{run-ext, length-put, part-add, part-left, part-behind, part-put, part-put-before, part-put-behind, part-zeros, put-front}
 use Rattle.tree_index.specs.Tree.{index, filled, entries, roots}
 use Rattle.tree_index.proofs.Index.{by-coordinates}
 use Rattle.tree_index.proofs.Filled.{filled-end, filled-left, filled-right, block-end}
 use Rattle.tree_index.proofs.Roots.{bit}
-use Rattle.bitfield.specs.Image.{entry, entryCount}
+use Rattle.bitfield.specs.Image.{entry, entryCount, entriesFor}
 use Rattle.bitfield.specs.Release.{storedHeld}
 use Rattle.bitfield.specs.Known.{storedKnown, heldAgain}
 use Rattle.bitfield.proofs.Bits.{cases, with-one}
@@ -30,7 +30,7 @@ use Rattle.file_format.specs.Headers.{treeHeader, bitfieldHeader}
 use Rattle.file_format.specs.Sizes.{entryPlace, usedTree, usedBitfield}
 use Rattle.file_format.specs.Messages.{HashFunction}
 use Rattle.file_format.specs.Entries.{Entry, entryBytes, nodeAt, entryAt}
-use Rattle.file_format.specs.Images.{leaves, dataSize, dataImage, bitfieldImage}
+use Rattle.file_format.specs.Images.{leaves, dataSize, dataImage, bitfieldOf}
 use Rattle.file_format.specs.Slots.{allHeld, heldIn, Within}
 use Rattle.file_format.specs.Belongs.{Belongs}
 use Rattle.file_format.proofs.Spans.{span, span-add, span-one, span-none, span-cons, chunk-inside}
@@ -50,23 +50,11 @@ use Rattle.copy_take_in.specs.TakeIn.{Given, packetStart, withGiven, withKnown,
 use Rattle.theorem_taking_laws.proofs.Members.{In, in-map, map-in}
 use Rattle.theorem_taking_laws.proofs.Brought.{wayIndex, way-parent, way-brought, top-root, above-root, root-hole, brought-filled}
 use Rattle.theorem_taking_laws.proofs.Given.{placesOf, AllFitting, among-in, in-among, length-given, front-given, AllSaying, given-keeps, given-gives, given-other}
-use Rattle.theorem_taking_laws.proofs.Shown.{entriesFor, shown, entries-filled, shown-ext, shown-used, shown-held, shown-known, or-among, more-known, held-more}
+use Rattle.theorem_taking_laws.proofs.Shown.{shown, shown-ext, shown-used, shown-held, shown-known, or-among, more-known, held-more}
 use Rattle.theorem_released_back.proofs.Stays.{under-filled}
 use Rattle.theorem_released_back.proofs.Took.{Took}
 
 -- ---- lists
-
-pub part-zeros : (m a k : ℕ) → a + k ≤ m → part (zeros m) a k ≡ zeros k
-part-zeros m a k h =
-    let z : ℕ = m - (a + k) in
-    let e : a + (k + (m - (a + k))) ≡ m = omega arith in
-    ap (λ (l : List ℕ). part l a k)
-    (sym (ap (λ (l : List ℕ). zeros a ++ l) (replicate-append-replicate k (m - (a + k)) 0) ∙ replicate-append-replicate a (k + (m - (a + k))) 0 ∙ ap zeros e))
-    ∙ part-at (zeros a) (zeros k) (zeros (m - (a + k))) a k (length-replicate {A = ℕ} a 0) (length-replicate {A = ℕ} k 0)
-
-put-front : (xs ys : List ℕ) → put xs 0 ys ≡ ys ++ drop (length ys) xs
-unfolding put
-put-front xs ys = ap (λ (m : ℕ). ys ++ drop m xs) (zero-add (length ys))
 
 zeros-joined : (i m : ℕ) → joined (run (λ e. zeros 3328) i m) ≡ zeros (3328 * m)
 unfolding joined run
@@ -419,15 +407,14 @@ module _ (F : List ℕ → List ℕ) (cs : List (List ℕ)) where
           split false e = q .empty j l (knows-as j ∙ e) ∙ sym (ap entryBytes (entryAt-hole F es j (there false e)) ∙ hole-zeros)
 
       pub whole : Belongs F (unsigned c) (allHeld cs)
-      unfolding bitfieldImage dataImage part
+      unfolding bitfieldOf dataImage part
       whole =
           record {
             count = q .count ∙ sym (all-length cs);
             total = q .total ∙ ap dataSize (sym (all-contents cs));
             tree = tree-of-entries F (allHeld cs) (c .tree) (c .n) (q .count ∙ sym (all-length cs)) (q .front) entry-at;
             bitfield = ap (take (usedBitfield (c .n))) (q .bits ∙ shown-ext has (heldIn (allHeld cs)) knows (filled (c .n)) (c .n) tail has-as knows-as)
-                ∙ shown-used (heldIn (allHeld cs)) (filled (c .n)) (c .n) tail
-                ∙ ap (λ (l : List ℕ). bitfieldHeader ++ l) (sym (entries-filled (heldIn (allHeld cs)) (c .n)));
+                ∙ shown-used (heldIn (allHeld cs)) (filled (c .n)) (c .n) tail;
             content = ap (λ (m : ℕ). take m (c .content)) (q .total)
                 ∙ chunks-joined cs (c .content) 0
                 (λ k l. ap (λ (a : ℕ). part (c .content) a (length (getD cs k []))) (zero-add (span cs 0 k))

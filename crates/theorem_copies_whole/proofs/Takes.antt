@@ -2,7 +2,6 @@
 use Prim.Native.Nat.{ℕ, _+_, _<_}
 use mathlib.Core.Path.{_≡_, refl, sym, ap, ap₂, _∙_}
 use mathlib.Core.Bool.{Bool, true, false, cond}
-use mathlib.Core.Logic.{inl, inr}
 use mathlib.Core.List.{List, [], _∷_, _++_, map}
 use native.Mathlib.Omega.{arith}
 use borrow.Author.Tests.{eq-eqb}
@@ -34,27 +33,23 @@ use Rattle.audit.specs.Audit.{refusedAt}
 use Rattle.lookup.specs.Read.{andThen}
 use Rattle.packet.specs.Check.{packetChunk, packetTotal, packetVerdict}
 use Rattle.copy_checks.specs.Copy.{Copy, known}
-use Rattle.copy_checks.specs.Least.{lowerOf, leastOf}
+use Rattle.copy_checks.specs.Least.{lowerOf}
 use Rattle.copy_checks.specs.Checks.{unknownRoot, passedOver}
 use Rattle.copy_checks.proofs.Steps.{Lent, partly-passes}
 use Rattle.copy_take_in.specs.TakeIn.{Given, packetStart, contradicts, contradictsBytes, brought, contradiction, takeVerdict}
 use Rattle.copy_take_in.proofs.Calls.{fits}
 use Rattle.theorem_taking_laws.proofs.Members.{In, place-in}
 use Rattle.theorem_taking_laws.proofs.Brought.{brought-filled}
-use Rattle.theorem_taking_laws.proofs.Shown.{shown, entriesFor, shown-long, shown-held, shown-known}
+use Rattle.theorem_taking_laws.proofs.Shown.{shown, shown-long, shown-held, shown-known}
 use Rattle.theorem_taking_laws.proofs.Starts.{roots-total}
+use Rattle.theorem_taking_laws.proofs.Unknown.{each-least}
 use Rattle.theorem_copies_whole.specs.Whole.{MadeFrom}
 use Rattle.theorem_copies_whole.proofs.Full.{full, full-belongs, full-count}
 use Rattle.theorem_copies_whole.proofs.Partly.{Partly, tree-bit-in}
 use Rattle.theorem_copies_whole.proofs.Packets.{nodes, piece, start, holds-all, own-chunk, checked}
 use Rattle.theorem_copies_whole.proofs.Alike.{all-known}
 use Rattle.theorem_copies_whole.proofs.Releases.{known-full}
-
--- where none of them is found, none is the lowest
-least-none : (f : Given → Lowest) (gs : List Given) → ((g : Given) → In g gs → f g ≡ nowhere) → leastOf (map f gs) ≡ nowhere
-unfolding leastOf lowerOf In
-least-none f [] h = refl
-least-none f (g ∷ gs) h = ap₂ lowerOf (h g (inl refl)) (least-none f gs (λ x l. h x (inr l)))
+use Rattle.bitfield.specs.Image.{entriesFor}
 
 module _ (F : List ℕ → List ℕ) (hf : HashFunction F) (cs : List (List ℕ)) (w : Within (allHeld cs)) (c : Copy) (has knows : ℕ → Bool) (tail : List ℕ)
     (q : Partly F cs c has knows tail) where
@@ -129,7 +124,7 @@ module _ (F : List ℕ → List ℕ) (hf : HashFunction F) (cs : List (List ℕ)
 
     none : contradiction F c p i ≡ nowhere
     unfolding contradiction lowerOf
-    none = ap₂ lowerOf bytes-agree (least-none (contradicts (c .tree) (c .bitfield)) gs agrees)
+    none = ap₂ lowerOf bytes-agree (each-least (contradicts (c .tree) (c .bitfield)) gs agrees)
 
     sums : packetTotal p (c .n) i ≡ c .size
     sums =

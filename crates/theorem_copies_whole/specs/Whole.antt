@@ -3,9 +3,9 @@
 -- data images: in demand 2's words it belongs to the sequence. Pieces may have been released in between, and the registers may have released others. Such a
 -- copy takes in every such packet.
 --
--- The notions in it: `HashFunction` (files, Messages), `Slot`, `allHeld` and `Within` (files, Slots), `Register` and `Belongs` (files, Belongs), `rootHashFor`
--- (files, Images), `Copy` and `unsigned` (copies, Copy), `makeVerdict` and `madeCopy` (make_copy, Make), `packetOf` and the making of a packet (packet,
--- Packet) and from a copy (copy_packet, Making), `takeVerdict` and `takenIn` (take_in, TakeIn), `copyReleaseVerdict` and `releasedCopy` (copy_release,
+-- The notions in it: `HashFunction` (file_format, Messages), `Slot`, `allHeld` and `Within` (file_format, Slots), `Register` and `Belongs` (file_format, Belongs), `rootHashFor`
+-- (file_format, Images), `Copy` and `unsigned` (copy_checks, Copy), `makeVerdict` and `madeCopy` (copy_make, Make), `packetOf` and the making of a packet (packet,
+-- Packet) and from a copy (copy_packet, Making), `takeVerdict` and `takenIn` (copy_take_in, TakeIn), `copyReleaseVerdict` and `releasedCopy` (copy_release,
 -- Release).
 use Prim.Native.Nat.{ℕ, _<_}
 use mathlib.Core.Path.{_≡_}

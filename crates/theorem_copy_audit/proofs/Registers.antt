@@ -19,12 +19,11 @@ use Rattle.tree_index.proofs.Index.{by-coordinates}
 use Rattle.tree_index.proofs.Filled.{filled-below, filled-end, filled-left, filled-right}
 use Rattle.bitfield.specs.Release.{storedHeld}
 use Rattle.bitfield.specs.Known.{storedKnown}
-use Rattle.bitfield.specs.Image.{entry, entryCount, entriesOf}
+use Rattle.bitfield.specs.Image.{entry, entryCount, entriesFor, entriesOf}
 use Rattle.bitfield.proofs.Image.{entry-ext, length-entries}
 use Rattle.file_format.specs.Headers.{bitfieldHeader}
 use Rattle.file_format.specs.Sizes.{mostChunks, usedBitfield}
 use Rattle.file_format.specs.Messages.{leafMessage}
-use Rattle.file_format.specs.Images.{bitfieldImage}
 use Rattle.file_format.specs.Stored.{storedSize, storedStart, storedChunk, storedRootSizes}
 use Rattle.file_format.specs.Belongs.{Register}
 use Rattle.checks.specs.Checks.{judged, addsUp}
@@ -35,8 +34,8 @@ use Rattle.lookup.specs.Descent.{Ending, stopped, reached, unknown, always, chu
 use Rattle.lookup.specs.Lookup.{Found, refusal, found, foundUnless, stopRefused, startOf, toChunk}
 use Rattle.lookup.specs.Inner.{placeIn}
 use Rattle.short_lookup.specs.Theorems.{LeavesFit, LengthsRight}
-use Rattle.short_lookup.proofs.Walks.{place-nowhere, place-there}
-use Rattle.short_lookup.proofs.Answers.{place-at}
+use Rattle.short_lookup.proofs.Walks.{place-there}
+use Rattle.short_lookup.proofs.Answers.{fits-right, place-at}
 use Rattle.short_lookup.proofs.Agree.{agree-in}
 use Rattle.short_lookup.proofs.Accepted.{entries-cut}
 use Rattle.copy_checks.specs.Copy.{Copy, known, lentAsCopy}
@@ -44,12 +43,13 @@ use Rattle.copy_checks.specs.Descents.{copyToChunk}
 use Rattle.copy_checks.specs.Checks.{unknownRoot, passedOver}
 use Rattle.copy_checks.proofs.Steps.{Lent, partly-passed, partly-passes}
 use Rattle.copy_checks.proofs.Descents.{chunk-same}
-use Rattle.copy_audit.specs.Audit.{knownBits, copyBitfieldImage}
-use Rattle.theorem_taking_laws.proofs.Shown.{entries-filled, used-shown, shown-known}
+use Rattle.copy_audit.specs.Audit.{knownBits}
+use Rattle.theorem_taking_laws.proofs.Shown.{used-shown, shown-known}
 use Rattle.theorem_copies_agree.specs.Theorems.{AllKnown}
 use Rattle.theorem_copies_agree.proofs.Known.{root-known, chunk-known}
 use Rattle.theorem_copy_audit.specs.Theorems.{leafStart, leafData, LeafSound, ParentSound, Sound, SignaturesPass}
-use Rattle.theorem_copy_audit.proofs.Sound.{clash, passed-too, comes-to, leaf-filled}
+use Rattle.theorem_copy_audit.proofs.Sound.{clash, bits-are, passed-too, comes-to, leaf-filled}
+use Rattle.file_format.specs.Images.{bitfieldImage, bitfieldOf}
 
 -- ---- where every length is right a chunk begins at the sum of the leaf lengths before it
 
@@ -61,7 +61,7 @@ module _ (t : List ℕ) (n : ℕ) (few : n ≤ mostChunks) (right : LengthsRight
   unfolding LengthsRight LeavesFit
   told =
       let fit : LeavesFit t (k + 1) = λ j h. right 0 j (filled-at j (omega arith)) in
-      sym (agree-in t n (total (storedRootSizes t n)) few refl right .place k) ∙ sym (place-nowhere t k (place-at t k fit) ∙ place-there t n k below)
+      sym (agree-in t n (total (storedRootSizes t n)) few refl right .place k) ∙ sym (place-at always t k (fits-right t (k + 1) fit) ∙ place-there always t n k below)
     where
       filled-at : (j : ℕ) → j < n → filled n (index 0 j) ≡ true
       filled-at j h = leaf-filled (λ l. l) (record { tree = t; bitfield = []; content = []; n = n; size = 0 }) j h
@@ -107,7 +107,7 @@ module _ (r : Register) where
 
   image-used : Passed r → ((b : ℕ) → 32 ≤ b → b < usedBitfield (r .n) → getD (r .bitfield) b 0 ≡ getD (bitfieldImage heldOf (r .n)) b 0)
       → take (usedBitfield (r .n)) (r .bitfield) ≡ bitfieldHeader ++ entriesOf heldOf (r .n)
-  unfolding usedBitfield bitfieldImage part
+  unfolding usedBitfield bitfieldOf part
   image-used p same =
       let m : ℕ = 3328 * entryCount (r .n) in
       take-add 32 m (r .bitfield)
@@ -117,7 +117,7 @@ module _ (r : Register) where
   image-known : take (usedBitfield (r .n)) (r .bitfield) ≡ bitfieldHeader ++ entriesOf heldOf (r .n) → AllKnown c
   unfolding AllKnown entries entryCount
   image-known e i h f =
-      ap (λ (l : List ℕ). storedKnown l i) (used-shown (r .bitfield) heldOf (filled (r .n)) (r .n) (e ∙ ap (λ (l : List ℕ). bitfieldHeader ++ l) (entries-filled heldOf (r .n))))
+      ap (λ (l : List ℕ). storedKnown l i) (used-shown (r .bitfield) heldOf (filled (r .n)) (r .n) e)
       ∙ shown-known heldOf (filled (r .n)) (r .n) (drop (usedBitfield (r .n)) (r .bitfield)) i (omega arith) ∙ f
 
   -- which are those whose tree bits are 1
@@ -129,8 +129,8 @@ module _ (r : Register) where
       pick true f = all i (filled-below (r .n) i f) f
       pick false f = refl
 
-  images-same : AllKnown c → copyBitfieldImage heldOf knownOf (r .n) ≡ bitfieldHeader ++ entriesOf heldOf (r .n)
-  unfolding copyBitfieldImage entriesOf
+  images-same : AllKnown c → bitfieldOf heldOf knownOf (r .n) ≡ bitfieldHeader ++ entriesOf heldOf (r .n)
+  unfolding bitfieldOf entriesFor
   images-same all =
       ap (λ (l : List (List ℕ)). bitfieldHeader ++ joined l)
       (run-ext (entry heldOf knownOf) (entry heldOf (filled (r .n))) 0 (entryCount (r .n)) (λ e a b. entry-ext heldOf heldOf knownOf (filled (r .n)) (λ j. refl) (known-filled all) e))
@@ -211,7 +211,7 @@ module _ (F : List ℕ → List ℕ) (r : Register) (a : Audited F r) where
         heldKnown = λ k h e. known-all (index 0 k) (leaf-filled F (lentAsCopy r) k h);
         leaf = λ k h e. lent-leaf k h;
         parent = λ d k f e l m. let p = parent-of d k f in record { size = p .sum; hash = p .hash };
-        bits = used ∙ sym (images-same r all-known);
+        bits = used ∙ sym (images-same r all-known) ∙ bits-are (lentAsCopy r);
       }
 
   pub lent-signed : SignaturesPass r
@@ -296,9 +296,9 @@ module _ (F : List ℕ → List ℕ) (r : Register) (s : Sound F (lentAsCopy r))
           says-parent F u (r .content) (r .bitfield) (r .n) (r .size) d k f (record { sum = p .size; hash = p .hash })
 
   right-byte : (b : ℕ) → 32 ≤ b → b < usedBitfield (r .n) → getD (r .bitfield) b 0 ≡ getD (bitfieldImage (heldBits (r .bitfield) (r .n)) (r .n)) b 0
-  unfolding bitfieldImage
+  unfolding bitfieldOf
   right-byte b l h =
-      sym (getD-take (usedBitfield (r .n)) (r .bitfield) b 0 h) ∙ ap (λ (x : List ℕ). getD x b 0) (s .bits ∙ images-same r all)
+      sym (getD-take (usedBitfield (r .n)) (r .bitfield) b 0 h) ∙ ap (λ (x : List ℕ). getD x b 0) (s .bits ∙ sym (bits-are (lentAsCopy r)) ∙ images-same r all)
 
   pub sound-register : Accepted F r
   sound-register = audited-accepted F r (record { checked = passed; entry = right-entry; byte = right-byte })

@@ -17,7 +17,7 @@ use Rattle.tree_index.specs.Tree.{index, leftChild, rightChild, filled, entries
 use Rattle.tree_index.proofs.Index.{depth-index, block-index, by-coordinates, leftChild-index, rightChild-index}
 use Rattle.tree_index.proofs.Filled.{end-filled, filled-below, filled-end}
 use Rattle.bitfield.specs.Release.{storedHeld}
-use Rattle.bitfield.specs.Image.{entry, entryCount}
+use Rattle.bitfield.specs.Image.{entry, entryCount, entriesFor}
 use Rattle.bitfield.proofs.Image.{length-entry}
 use Rattle.file_format.specs.Headers.{bitfieldHeader}
 use Rattle.file_format.specs.Sizes.{mostChunks, longestChunk, entryPlace, usedBitfield}
@@ -25,7 +25,7 @@ use Rattle.file_format.specs.Messages.{leafMessage, parentMessage}
 use Rattle.file_format.specs.Stored.{storedHash, storedSize}
 use Rattle.checks.proofs.Judged.{both-right, right-both}
 use Rattle.checks.proofs.Passed.{same-of}
-use Rattle.audit.specs.Audit.{parentRight, holeRight, heldBits, refusedAt}
+use Rattle.audit.specs.Audit.{parentRight, holeRight, heldBits, refusedAt, byteRightBy, leafFrom}
 use Rattle.audit.proofs.Audited.{parent-right, right-parent, at-must, nowhere-right, right-nowhere, all-zero, zeros-zero}
 use Rattle.lookup.specs.Descent.{Ending, stopped, reached, unknown, chunkWithin, descent}
 use Rattle.lookup.specs.Lookup.{startOf}
@@ -37,9 +37,10 @@ use Rattle.copy_checks.specs.Descents.{copyToChunk}
 use Rattle.copy_checks.specs.Checks.{passedOver}
 use Rattle.copy_checks.proofs.Least.{lower-none}
 use Rattle.copy_checks.proofs.Steps.{Lent, partly-passed, partly-passes}
-use Rattle.copy_audit.specs.Audit.{wrongUnless, heldLeaf, bothKnown, leafRightFrom, wrongFrom, wrongByLeaf, wrongByParent, wrongByKnown, wrongByUnknown}
-use Rattle.copy_audit.specs.Audit.{wrongBy, wrongEntryOfCopy, knownBits, copyBitfieldImage, copyByteRight, wrongByteOfCopy, auditCopy, AcceptedCopy}
-use Rattle.theorem_copy_audit.specs.Theorems.{leafStart, leafData, EntryZero, LeafSound, ParentSound, Sound}
+use Rattle.copy_audit.specs.Audit.{wrongUnless, heldLeaf, bothKnown, wrongFrom, wrongByLeaf, wrongByParent, wrongByKnown, wrongByUnknown, copyByteRight}
+use Rattle.copy_audit.specs.Audit.{wrongBy, wrongEntryOfCopy, knownBits, wrongByteOfCopy, auditCopy, AcceptedCopy, leafRightFrom}
+use Rattle.theorem_copy_audit.specs.Theorems.{leafStart, leafData, bitsOf, EntryZero, LeafSound, ParentSound, Sound}
+use Rattle.file_format.specs.Images.{bitfieldOf}
 
 -- ---- what a test finds
 
@@ -84,6 +85,11 @@ comes-to knows t n k j start few below e =
     in
     omega (arith, l .met .low, l .met .high)
 
+-- the bits that the audit compares with are those of the format
+pub bits-are : (c : Copy) → bitfieldOf (heldBits (c .bitfield) (c .n)) (knownBits (c .bitfield) (c .n)) (c .n) ≡ bitsOf c
+unfolding heldBits knownBits
+bits-are c = refl
+
 module _ (F : List ℕ → List ℕ) (c : Copy) where
   abbrev t : List ℕ
   t = c .tree
@@ -101,7 +107,7 @@ module _ (F : List ℕ → List ℕ) (c : Copy) where
   -- ---- a leaf
 
   leaf-sound : Lent c → (k : ℕ) → k < c .n → wrongByLeaf F c k ≡ nowhere → LeafSound F c k
-  unfolding wrongByLeaf wrongFrom leafRightFrom copyToChunk
+  unfolding wrongByLeaf wrongFrom leafFrom copyToChunk
   leaf-sound lent k below e = from (copyToChunk c k) refl e
     where
       from : (x : Ending) → copyToChunk c k ≡ x → wrongFrom F c k x ≡ nowhere → LeafSound F c k
@@ -124,7 +130,7 @@ module _ (F : List ℕ → List ℕ) (c : Copy) where
           }
 
   sound-leaf : (k : ℕ) → LeafSound F c k → wrongByLeaf F c k ≡ nowhere
-  unfolding wrongByLeaf wrongFrom leafRightFrom
+  unfolding wrongByLeaf wrongFrom leafFrom
   sound-leaf k s =
       ap (wrongFrom F c k) (s .comes)
       ∙ right-unless (leafRightFrom F c k (leafStart c k)) (index 0 k)
@@ -248,8 +254,8 @@ module _ (F : List ℕ → List ℕ) (c : Copy) where
   abbrev knownOf : ℕ → Bool
   knownOf = knownBits (c .bitfield) (c .n)
 
-  found-bits : Lent c → wrongByteOfCopy c ≡ nowhere → take (usedBitfield (c .n)) (c .bitfield) ≡ copyBitfieldImage heldOf knownOf (c .n)
-  unfolding wrongByteOfCopy copyByteRight copyBitfieldImage usedBitfield part
+  found-bits : Lent c → wrongByteOfCopy c ≡ nowhere → take (usedBitfield (c .n)) (c .bitfield) ≡ bitfieldOf heldOf knownOf (c .n)
+  unfolding wrongByteOfCopy byteRightBy bitfieldOf entriesFor usedBitfield part
   found-bits lent none =
       let m : ℕ = 3328 * entryCount (c .n) in
       let es : List ℕ = joined (run (entry heldOf knownOf) 0 (entryCount (c .n))) in
@@ -264,11 +270,11 @@ module _ (F : List ℕ → List ℕ) (c : Copy) where
       (entries-cut (c .bitfield) es m (lent .bitfield)
       (length-joined (entry heldOf knownOf) 3328 (length-entry heldOf knownOf) 0 (entryCount (c .n)) ∙ mul-comm (entryCount (c .n)) 3328) right)
 
-  bits-found : take (usedBitfield (c .n)) (c .bitfield) ≡ copyBitfieldImage heldOf knownOf (c .n) → wrongByteOfCopy c ≡ nowhere
-  unfolding wrongByteOfCopy copyByteRight
+  bits-found : take (usedBitfield (c .n)) (c .bitfield) ≡ bitfieldOf heldOf knownOf (c .n) → wrongByteOfCopy c ≡ nowhere
+  unfolding wrongByteOfCopy byteRightBy
   bits-found e =
       right-nowhere (copyByteRight (c .bitfield) (c .n)) 32 (usedBitfield (c .n) - 32)
-      (λ j h. eq-eqb (getD (c .bitfield) (32 + j) 0) (getD (copyBitfieldImage heldOf knownOf (c .n)) (32 + j) 0)
+      (λ j h. eq-eqb (getD (c .bitfield) (32 + j) 0) (getD (bitfieldOf heldOf knownOf (c .n)) (32 + j) 0)
       (sym (getD-take (usedBitfield (c .n)) (c .bitfield) (32 + j) 0 (omega arith)) ∙ ap (λ (l : List ℕ). getD l (32 + j) 0) e))
 
   -- ---- both ways
@@ -289,7 +295,7 @@ module _ (F : List ℕ → List ℕ) (c : Copy) where
         heldKnown = found-held (p .0) none;
         leaf = found-leaf (p .0) none;
         parent = found-parent (p .0) none;
-        bits = found-bits (p .0) (b .0);
+        bits = found-bits (p .0) (b .0) ∙ bits-are c;
       }
 
   module _ (s : Sound F c) where
@@ -320,4 +326,4 @@ module _ (F : List ℕ → List ℕ) (c : Copy) where
         let p = partly-passed c done (s .checks) in
         partly-passes c _ (p .0) (p .1 .0)
         ∙ ap₂ (λ (x y : Lowest). refusedAt 10 tree x (refusedAt 11 bitfield y done))
-        (each-least (wrongBy F c) 0 (entries (c .n)) (λ j a b. sound-none j (omega arith))) (bits-found (s .bits))
+        (each-least (wrongBy F c) 0 (entries (c .n)) (λ j a b. sound-none j (omega arith))) (bits-found (s .bits ∙ sym (bits-are c)))

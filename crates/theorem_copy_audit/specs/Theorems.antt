@@ -2,14 +2,15 @@
 -- be read; that the two audits accept the same registers; and which copies have the images of some chunks.
 --
 -- The notions in it: `filled` and `entries` (tree_index, Tree), `HashFunction` (file_format, Messages), `Slot` and `Within` (file_format, Slots), `Register`,
--- `Lent` and `Belongs` (file_format, Belongs), `storedHash` and `storedSize` (file_format, Stored), `Accepted` and `heldBits` (audit, Audit),
--- `copyToChunk` (copy_checks, Descents), `copyJudged` and `partlyJudged` (copy_checks, Checks), `AcceptedCopy`, `knownBits` and `copyBitfieldImage` (copy_audit,
--- Audit), `copyReadVerdict` and `copyReadPart` (copy_lookup, Reading), `AllKnown` (theorem_copies_agree, Theorems).
+-- `Lent` and `Belongs` (file_format, Belongs), `bitfieldOf` (file_format, Images), `storedHash` and `storedSize` (file_format, Stored), `Accepted` (audit, Audit),
+-- `copyToChunk` (copy_checks, Descents), `copyJudged` and `partlyJudged` (copy_checks, Checks), `AcceptedCopy` (copy_audit, Audit), `copyReadVerdict` and
+-- `copyReadPart` (copy_lookup, Reading), `AllKnown` (theorem_copies_agree, Theorems).
 use Prim.Native.Nat.{ℕ, suc, _+_, _*_, _≤_, _<_}
 use mathlib.Core.Path.{_≡_}
 use mathlib.Core.Logic.{_↔_}
-use mathlib.Core.Bool.{true, false}
+use mathlib.Core.Bool.{Bool, true, false, _&&_}
 use mathlib.Core.List.{List}
+use lib.Dec.{ltb}
 use lib.ListN.{take}
 use Rattle.refusals.specs.Verdict.{done}
 use Rattle.byte_strings.specs.Lists.{part, zeros}
@@ -22,15 +23,16 @@ use Rattle.file_format.specs.Stored.{storedHash, storedSize}
 use Rattle.file_format.specs.Slots.{Slot, Within}
 use Rattle.file_format.specs.Belongs.{Register, Lent, Belongs}
 use Rattle.checks.specs.Checks.{signedRight, holds, headed}
-use Rattle.audit.specs.Audit.{heldBits, Accepted}
+use Rattle.audit.specs.Audit.{Accepted}
 use Rattle.lookup.specs.Descent.{reached}
 use Rattle.lookup.specs.Lookup.{startOf}
 use Rattle.copy_checks.specs.Copy.{Copy, known, lentAsCopy, unsigned}
 use Rattle.copy_checks.specs.Descents.{copyToChunk}
 use Rattle.copy_checks.specs.Checks.{copyJudged, partlyJudged}
-use Rattle.copy_audit.specs.Audit.{knownBits, copyBitfieldImage, AcceptedCopy}
+use Rattle.copy_audit.specs.Audit.{AcceptedCopy}
 use Rattle.copy_lookup.specs.Reading.{copyReadVerdict, copyReadPart}
 use Rattle.theorem_copies_agree.specs.Theorems.{AllKnown}
+use Rattle.file_format.specs.Images.{bitfieldOf}
 
 -- where the descent to chunk k finds its data, and these data
 abbrev pub leafStart : Copy → ℕ → ℕ
@@ -42,6 +44,17 @@ leafData c k = part (c .content) (leafStart c k) (storedSize (c .tree) (index 0 
 -- the entry i of a tree file is zero
 abbrev pub EntryZero : List ℕ → ℕ → Type 0
 EntryZero t i = part t (entryPlace i) 40 ≡ zeros 40
+
+-- the bitfield file of a copy: a data bit for each chunk below n that is held, and "a tree bit for each entry that is no hole" and known; "others are 0", and the
+-- Index bytes follow from the data bytes
+abbrev pub dataBits : Copy → ℕ → Bool
+dataBits c k = ltb k (c .n) && storedHeld (c .bitfield) k
+
+abbrev pub treeBits : Copy → ℕ → Bool
+treeBits c i = filled (c .n) i && known c i
+
+abbrev pub bitsOf : Copy → List ℕ
+bitsOf c = bitfieldOf (dataBits c) (treeBits c) (c .n)
 
 module _ (F : List ℕ → List ℕ) where
   -- a known leaf
@@ -70,7 +83,7 @@ module _ (F : List ℕ → List ℕ) where
     pub leaf : (k : ℕ) → k < c .n → known c (index 0 k) ≡ true → LeafSound c k
     pub parent : (d k : ℕ) → filled (c .n) (index (suc d) k) ≡ true → known c (index (suc d) k) ≡ true → known c (index d (2 * k)) ≡ true
         → known c (index d (2 * k + 1)) ≡ true → ParentSound (c .tree) d k
-    pub bits : take (usedBitfield (c .n)) (c .bitfield) ≡ copyBitfieldImage (heldBits (c .bitfield) (c .n)) (knownBits (c .bitfield) (c .n)) (c .n)
+    pub bits : take (usedBitfield (c .n)) (c .bitfield) ≡ bitsOf c
 
 -- the signatures of a register pass 3, 4 and 5
 pub record SignaturesPass (r : Register) : Type 0 where

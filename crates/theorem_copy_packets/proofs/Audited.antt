@@ -1,9 +1,9 @@
 -- What an accepted copy is: each parent that is known with its children follows from them, and its bitfield file shows its bits. Assumes nothing.
 use Prim.Native.Nat.{ℕ, zero, suc, _+_, _-_, _*_, _≤_, _<_}
 use mathlib.Core.Path.{_≡_, refl, sym, ap, ap₂, _∙_, subst₂}
-use mathlib.Core.Bool.{Bool, true, false, cond, not, _&&_, _||_}
+use mathlib.Core.Bool.{Bool, true, false, cond, _&&_}
 use mathlib.Core.List.{List, [], _++_}
-use native.Mathlib.Nat.{zero-add, add-zero, add-suc, suc-add, not-suc-le-zero, le-of-suc-le-suc}
+use native.Mathlib.Nat.{zero-add}
 use native.Mathlib.Decide.{decLt}
 use native.Mathlib.Omega.{arith}
 use borrow.Author.Tests.{eqb-true}
@@ -11,40 +11,30 @@ use lib.Dec.{eqb}
 use lib.ListN.{length, getD, take, drop, List·getD-append}
 use lib.Seq.{ext-getD, getD-take, length-take-le}
 use Rattle.refusals.specs.Verdict.{Verdict, tree, bitfield, done}
-use Rattle.byte_strings.specs.Lists.{run}
 use Rattle.byte_strings.specs.Lowest.{Lowest, nowhere}
+use Rattle.byte_strings.proofs.Bools.{where-true}
 use Rattle.tree_index.specs.Tree.{index, depth, block, leftChild, rightChild, filled, entries}
 use Rattle.tree_index.proofs.Index.{depth-index, leftChild-index, rightChild-index}
 use Rattle.tree_index.proofs.Filled.{filled-below}
 use Rattle.file_format.specs.Headers.{bitfieldHeader}
 use Rattle.file_format.specs.Sizes.{usedBitfield}
 use Rattle.file_format.proofs.OfImage.{bitfieldHeader-length}
-use Rattle.audit.specs.Audit.{parentRight, holeRight, heldBits, refusedAt}
+use Rattle.audit.specs.Audit.{parentRight, holeRight, heldBits, refusedAt, byteRightBy}
 use Rattle.audit.proofs.Audited.{nowhere-right, at-must, ParentRight, parent-right}
 use Rattle.copy_checks.specs.Copy.{Copy, known}
-use Rattle.copy_checks.specs.Least.{leastOf}
-use Rattle.copy_checks.proofs.Least.{lower-none}
+use Rattle.copy_checks.proofs.Least.{least-each}
 use Rattle.copy_checks.proofs.Steps.{Lent, partly-passed}
 use Rattle.copy_audit.specs.Audit.{wrongUnless, bothKnown, wrongByLeaf, wrongByParent, wrongByKnown, wrongByUnknown, wrongBy, wrongEntryOfCopy, knownBits}
-use Rattle.copy_audit.specs.Audit.{copyBitfieldImage, copyByteRight, wrongByteOfCopy, auditCopy, AcceptedCopy}
-use Rattle.theorem_taking_laws.proofs.Shown.{entriesFor, shown, shown-used, shown-long, used-shown}
+use Rattle.copy_audit.specs.Audit.{wrongByteOfCopy, auditCopy, AcceptedCopy, copyByteRight}
+use Rattle.theorem_taking_laws.proofs.Shown.{shown, shown-used, shown-long, used-shown}
+use Rattle.file_format.specs.Images.{bitfieldOf}
+use Rattle.bitfield.specs.Image.{entriesFor}
 
 -- ---- each entry
-
-least-run : (f : ℕ → Lowest) (i k : ℕ) → leastOf (run f i k) ≡ nowhere → (j : ℕ) → j < k → f (i + j) ≡ nowhere
-unfolding leastOf run
-least-run f i zero e j l = absurd (not-suc-le-zero l)
-least-run f i (suc k) e zero l = ap f (add-zero i) ∙ lower-none (f i) (leastOf (run f (suc i) k)) e .0
-least-run f i (suc k) e (suc j) l =
-    ap f (add-suc i j ∙ sym (suc-add i j)) ∙ least-run f (suc i) k (lower-none (f i) (leastOf (run f (suc i) k)) e .1) j (le-of-suc-le-suc l)
 
 right-of : (b : Bool) (i : ℕ) → wrongUnless b i ≡ nowhere → b ≡ true
 right-of true i e = refl
 right-of false i e = absurd (let z : _≡_ {A = ℕ} 0 1 = cc in omega arith)
-
-must-right : (a b : Bool) → a ≡ true → (not a || b) ≡ true → b ≡ true
-must-right true b e f = f
-must-right false b e f = absurd (let z : _≡_ {A = ℕ} 0 1 = cc in omega arith)
 
 module _ (F : List ℕ → List ℕ) (c : Copy) (a : AcceptedCopy F c) where
   passed : Lent c × ((wrongEntryOfCopy F c ≡ nowhere) × (wrongByteOfCopy c ≡ nowhere))
@@ -58,7 +48,7 @@ module _ (F : List ℕ → List ℕ) (c : Copy) (a : AcceptedCopy F c) where
 
   entry-none : (x : ℕ) → x < entries (c .n) → wrongBy F c x ≡ nowhere
   unfolding wrongEntryOfCopy
-  entry-none x l = ap (wrongBy F c) (sym (zero-add x)) ∙ least-run (wrongBy F c) 0 (entries (c .n)) (passed .1 .0) x l
+  entry-none x l = ap (wrongBy F c) (sym (zero-add x)) ∙ least-each (wrongBy F c) 0 (entries (c .n)) (passed .1 .0) x l
 
   -- a parent that is known, and its children
   pub parent-follows : (d k : ℕ) → filled (c .n) (index (suc d) k) ≡ true → known c (index (suc d) k) ≡ true → known c (index d (2 * k)) ≡ true
@@ -75,7 +65,7 @@ module _ (F : List ℕ → List ℕ) (c : Copy) (a : AcceptedCopy F c) where
       ap₂ (λ (p q : Bool). p && q) (ap (known c) (leftChild-index d k) ∙ left) (ap (known c) (rightChild-index d k) ∙ right) in
       subst₂ (ParentRight F (c .tree) (c .content) x) (leftChild-index d k) (rightChild-index d k)
       (parent-right F (c .tree) (c .content) x
-      (must-right (known c (leftChild x) && known c (rightChild x)) (parentRight F (c .tree) x) both (right-of _ x none)))
+      (where-true (known c (leftChild x) && known c (rightChild x)) (parentRight F (c .tree) x) both (right-of _ x none)))
 
   -- ---- the bitfield file
 
@@ -88,8 +78,8 @@ module _ (F : List ℕ → List ℕ) (c : Copy) (a : AcceptedCopy F c) where
   abbrev image : List ℕ
   image = bitfieldHeader ++ entriesFor (heldBits (c .bitfield) (c .n)) (knownBits (c .bitfield) (c .n)) (c .n)
 
-  image-is : copyBitfieldImage heldOf knownOf (c .n) ≡ image
-  unfolding copyBitfieldImage entriesFor
+  image-is : bitfieldOf heldOf knownOf (c .n) ≡ image
+  unfolding bitfieldOf entriesFor
   image-is = refl
 
   image-long : length image ≡ usedBitfield (c .n)
@@ -98,7 +88,7 @@ module _ (F : List ℕ → List ℕ) (c : Copy) (a : AcceptedCopy F c) where
       ∙ length-take-le (usedBitfield (c .n)) (shown heldOf knownOf (c .n) []) (omega (arith, shown-long heldOf knownOf (c .n) []))
 
   byte-is : (b : ℕ) → 32 ≤ b → b < usedBitfield (c .n) → getD (c .bitfield) b 0 ≡ getD image b 0
-  unfolding wrongByteOfCopy copyByteRight
+  unfolding wrongByteOfCopy byteRightBy
   byte-is b l h =
       let j : ℕ = b - 32 in
       let e : 32 + j ≡ b = omega arith in

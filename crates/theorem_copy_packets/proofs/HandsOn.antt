@@ -2,7 +2,7 @@
 use Prim.Native.Nat.{ℕ, suc, _+_, _*_, _/_, _^_, _≤_, _<_}
 use mathlib.Core.Path.{_≡_, refl, sym, ap, ap₂, _∙_, subst}
 use mathlib.Core.Bool.{true}
-use mathlib.Core.List.{List}
+use mathlib.Core.List.{List, []}
 use native.Mathlib.Decide.{decLt}
 use native.Mathlib.Omega.{arith}
 use borrow.Author.Tests.{lt-ltb, eqb-true}
@@ -27,7 +27,7 @@ use Rattle.lookup.specs.Read.{chunkBytes}
 use Rattle.lookup.proofs.Answers.{stays-inside}
 use Rattle.lookup.proofs.Calls.{done-reached, done-first}
 use Rattle.packet.specs.Packet.{siblings, packetOf}
-use Rattle.packet.specs.Check.{packetChunk, packetVerdict, checkedChunk, chunkUnless}
+use Rattle.packet.specs.Check.{packetChunk, packetVerdict, checkedChunk}
 use Rattle.packet.specs.Inner.{Readable}
 use Rattle.packet.proofs.Makes.{readable}
 use Rattle.copy_checks.specs.Copy.{Copy, filesOf, known, unsigned}
@@ -147,7 +147,7 @@ module _ (F : List ℕ → List ℕ) (H : HashFunction F) (c : Copy) (i : ℕ) (
       record {
         rootDone = root-done F H c p i hash h;
         passes = passes;
-        gives = ap (λ (v : Verdict). chunkUnless v (packetChunk p)) passes ∙ sym (reads-piece F H c p i hash h);
+        gives = ap (λ (v : Verdict). unlessRefused v (packetChunk p) []) passes ∙ sym (reads-piece F H c p i hash h);
         releaseDone = release-done F H c p i hash h;
         takenDone = again;
         taken = ap₂ (λ (v : Verdict) (d : Copy). unlessRefused v (filesOf d) (filesOf (releasedCopy c i))) again (comes-back F H c p i hash h);

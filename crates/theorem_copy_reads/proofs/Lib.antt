@@ -7,5 +7,6 @@ pub mod Packets
 pub mod Short
 pub mod Released
 pub mod Taking
+pub mod Leaves
 pub mod Theorems
 pub mod Ways

@@ -6,8 +6,8 @@ use mathlib.Core.List.{List, _∷_, _++_}
 use native.Mathlib.Nat.{zero-add}
 use native.Mathlib.Omega.{arith}
 use lib.ListN.{length, getD}
-use Rattle.refusals.specs.Verdict.{Spot, Verdict, done, refused}
-use Rattle.byte_strings.specs.Lists.{part, joined}
+use Rattle.refusals.specs.Verdict.{Spot, Verdict, done, refused, unlessRefused}
+use Rattle.byte_strings.specs.Lists.{part, joined, put}
 use Rattle.byte_strings.specs.Numbers.{be}
 use Rattle.byte_strings.proofs.Lists.{getD-run}
 use Rattle.tree_index.specs.Tree.{index, filled, roots, depth}
@@ -16,7 +16,7 @@ use Rattle.file_format.specs.Sizes.{entryPlace}
 use Rattle.file_format.proofs.Spans.{map-ext}
 use Rattle.checks.specs.Checks.{holds}
 use Rattle.lookup.specs.Read.{andThen}
-use Rattle.packet.specs.Packet.{rootAbove, beside, siblings, otherRoots, section, packetOf, roomOr14, outUnless, lengthUnless}
+use Rattle.packet.specs.Packet.{rootAbove, beside, siblings, otherRoots, section, packetOf, roomOr14, packetWith}
 use Rattle.packet.proofs.Rows.{siblings-filled, others-filled}
 use Rattle.theorem_taking_laws.proofs.Members.{in-place}
 use Rattle.theorem_taking_laws.proofs.Brought.{sideIndex, siblings-deep, other-root}
@@ -63,7 +63,7 @@ module _ (t u bits : List ℕ) (n : ℕ) (g : Agreed t u bits n) (content : List
         (map-ext (λ i. part t (entryPlace i) 40) (λ i. part u (entryPlace i) 40) is (λ j l. g .entries (getD is j 0) (f j l) (k j l)))
 
   packet-same : copyHeldVerdict a i ≡ done → packetOf (unsigned a) i ≡ packetOf (unsigned b) i
-  unfolding packetOf
+  unfolding packetOf packetWith
   packet-same e =
       let r = held-reached a i e in
       let c = bytes-same t u bits n g content size i e in
@@ -94,11 +94,11 @@ module _ (t u bits : List ℕ) (n : ℕ) (g : Agreed t u bits n) (content : List
 
     pub after-same : copyAfterMake F a i out ≡ copyAfterMake F b i out
     unfolding copyAfterMake
-    after-same = made-with (λ v p. outUnless v p out) (λ m at x y. refl)
+    after-same = made-with (λ v p. unlessRefused v (put out 0 p) out) (λ m at x y. refl)
 
     pub made-length-same : copyMadeLength F a i out ≡ copyMadeLength F b i out
     unfolding copyMadeLength
-    made-length-same = made-with (λ v p. lengthUnless v p) (λ m at x y. refl)
+    made-length-same = made-with (λ v p. unlessRefused v (length p) 0) (λ m at x y. refl)
 
   -- ---- the release
 

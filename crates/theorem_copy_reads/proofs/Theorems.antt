@@ -19,6 +19,7 @@ use Rattle.theorem_copy_reads.proofs.Lookups.{held-reached, place-same,
 use Rattle.theorem_copy_reads.proofs.Short.{short-place-same, short-byte-same}
 use Rattle.theorem_copy_reads.proofs.Roots.{root-says, root-same, old-says, old-same, search-same, short-search-same}
 use Rattle.theorem_copy_reads.proofs.Packets.{make-says, after-same, made-length-same, release-says}
+use Rattle.theorem_copy_reads.proofs.Leaves.{leaf-says, leaf-hashes, leaf-lengths}
 use Rattle.theorem_copy_reads.proofs.Released.{known-released}
 use Rattle.theorem_copy_reads.proofs.Taking.{take-says, taken-same, written-same}
 
@@ -79,6 +80,9 @@ module _ (t u bits : List ℕ) (n : ℕ) (g : Agreed t u bits n) (content : List
               headed = λ i. told-same (λ v d. headerAfter v d i) i;
               node = λ i. told-same (λ v d. nodeAfter v d i) i;
               found = found-same;
+              leafSays = λ k. leaf-says t u bits n g content size k;
+              leafHashes = λ k. leaf-hashes t u bits n g content size k;
+              leafLengths = λ k. leaf-lengths t u bits n g content size k;
             };
         writes =
             record {

@@ -1,5 +1,5 @@
 -- Where a descent meets an unknown entry: at a root that is not right of the sought one, or at a child of a parent that it visits. Assumes nothing.
-use Prim.Native.Nat.{ℕ, zero, suc, _+_, _*_, _/_, _^_, _≤_, _<_}
+use Prim.Native.Nat.{ℕ, zero, suc, _+_, _-_, _*_, _/_, _^_, _≤_, _<_}
 use mathlib.Core.Path.{_≡_, refl, sym, ap, _∙_, subst}
 use mathlib.Core.Bool.{Bool, true, false, cond, _||_}
 use mathlib.Core.Logic.{_⊎_, inl, inr}
@@ -9,36 +9,38 @@ use native.Mathlib.Omega.{arith}
 use borrow.Author.Tests.{leb-true, ltb-true, ltb-false, eqb-true, eq-eqb, lt-ltb, le-ltb}
 use lib.Dec.{leb, ltb, eqb}
 use Rattle.refusals.specs.Verdict.{Spot, Verdict, none, tree, done, refused}
-use Rattle.byte_strings.specs.Lists.{run, total, among}
+use Rattle.byte_strings.specs.Lists.{total, among}
 use Rattle.byte_strings.specs.Lowest.{Lowest, nowhere, first, lowest}
 use Rattle.byte_strings.proofs.Lists.{total-append}
 use Rattle.tree_index.specs.Tree.{index, depth, block, roots}
 use Rattle.tree_index.proofs.Index.{index-of}
 use Rattle.bitfield.specs.Release.{storedHeld}
 use Rattle.file_format.specs.Sizes.{longestChunk, mostChunks}
-use Rattle.file_format.specs.Stored.{storedSize}
+use Rattle.file_format.specs.Stored.{storedSize, storedStart}
 use Rattle.checks.specs.Checks.{Check, judged, addsUp}
 use Rattle.checks.proofs.Judged.{AllRight, judged-right}
 use Rattle.audit.specs.Audit.{refusedAt}
 use Rattle.lookup.specs.Descent.{Ending, stopped, reached, unknown, ifKnown, chunkWithin, byteWithin, descend, fromRoots, descent}
-use Rattle.lookup.specs.Lookup.{stopRefused, byteEnding}
+use Rattle.lookup.specs.Lookup.{Found, refusal, found, stopRefused, byteEnding}
+use Rattle.lookup.specs.Read.{andThen}
 use Rattle.lookup.specs.Unknown.{firstUnknown}
 use Rattle.lookup.specs.Theorems.{Right, Visits, fromRoot, toLeft, toRight, HoldsChunk, HoldsByte}
 use Rattle.packet.specs.Packet.{rootAbove}
 use Rattle.packet.specs.Inner.{ChunkOf}
 use Rattle.theorem_taking_laws.proofs.Descents.{Half, inLeft, inRight, halves, block-above}
 use Rattle.theorem_used_bytes.proofs.Lookups.{choose}
+use Rattle.stored_leaf.specs.StoredLeaf.{leafIn}
 use Rattle.copy_checks.specs.Copy.{Copy, known}
 use Rattle.copy_checks.specs.Checks.{lentChecks, unknownRoot, sizeCheck, copyJudged}
 use Rattle.copy_checks.specs.Descents.{copyToChunk, copyToByte}
-use Rattle.copy_checks.proofs.Steps.{lent-passed}
+use Rattle.copy_checks.proofs.Steps.{lent-passed, copy-passed}
 use Rattle.copy_lookup.specs.Lookups.{copyPlaceVerdict, copyHeldVerdict, copyByteVerdict}
-use Rattle.short_lookup.specs.ShortLookup.{leafFits, leafPassed}
+use Rattle.short_lookup.specs.ShortLookup.{leafRight, leafRefused, leafPassed, placeByLeaves, byteByLeaves, shortPlaceIn, shortByteIn, foundBehind}
 use Rattle.short_lookup.proofs.Answers.{lowest-says}
-use Rattle.copy_short_lookup.specs.Leaves.{leavesBelow, walkedTo, leavesToChunk, leavesToByte}
-use Rattle.copy_short_lookup.specs.Short.{unknownAmong, copyShortPlaceVerdict, copyShortByteVerdict}
+use Rattle.copy_short_lookup.specs.Short.{copyShortPlaceOf, copyShortByteAt}
 use Rattle.copy_roots.specs.Roots.{copyPrefixVerdict}
-use Rattle.theorem_copy_reads.specs.Ways.{ChunkBehind, ByteBehind, RootOnWay, ChildOnWay, Met, Meets, Twenty, LeafBelow, Twenties, MeetsForAll}
+use Rattle.copy_stored_leaf.specs.StoredLeaf.{copyLeafVerdict}
+use Rattle.theorem_copy_reads.specs.Ways.{ChunkBehind, ByteBehind, RootOnWay, ChildOnWay, Met, Meets, FromLeft, RootsKnown, Twenty, LeafBelow, Twenties, MeetsForAll}
 
 -- ---- a descent, for what is sought by any test
 
@@ -247,9 +249,59 @@ unfolding among
 in-middle j [] after = ap (λ (b : Bool). b || among j after) (eq-eqb j j refl)
 in-middle j (x ∷ before) after = ap (λ (b : Bool). eqb j x || b) (in-middle j before after) ∙ or-true (eqb j x)
 
--- an unknown root, or what comes behind the checks
-copy-twenty : (c : Copy) (next : Verdict) (at : Spot) → copyJudged c next ≡ refused 20 at
-    → ((j : ℕ) × (at ≡ tree j) × (known c j ≡ false) × (among j (roots (c .n)) ≡ true)) ⊎ ((c .n ≤ mostChunks) × (next ≡ refused 20 at))
+none-listed : {A : Type 0} (j : ℕ) → among j [] ≡ true → A
+unfolding among
+none-listed j e = let z : _≡_ {A = ℕ} 0 1 = cc in absurd (omega arith)
+
+-- what holds of the first of a list, and of each behind it, holds of each
+each-of : (f : ℕ → Bool) (x : ℕ) (is : List ℕ) → f x ≡ true → ((i : ℕ) → among i is ≡ true → f i ≡ true) → (i : ℕ) → among i (x ∷ is) ≡ true → f i ≡ true
+unfolding among
+each-of f x is p rest i m = pick (eqb i x) refl m
+  where
+    pick : (b : Bool) → eqb i x ≡ b → (b || among i is) ≡ true → f i ≡ true
+    pick true e m = ap f (eqb-true i x e) ∙ p
+    pick false e m = rest i m
+
+-- the first that is not known stands behind known ones
+pub record Split (f : ℕ → Bool) (is : List ℕ) (j : ℕ) : Type 0 where
+  pub before : List ℕ
+  pub after : List ℕ
+  pub here : is ≡ before ++ (j ∷ after)
+  pub left : (i : ℕ) → among i before ≡ true → f i ≡ true
+
+first-split : (f : ℕ → Bool) (is : List ℕ) (j : ℕ) → firstUnknown f is ≡ first j → Split f is j
+unfolding firstUnknown
+first-split f [] j e = let z : _≡_ {A = ℕ} 0 1 = cc in absurd (omega arith)
+first-split f (i ∷ is) j e = pick (f i) refl e (first-split f is j)
+  where
+    pick : (b : Bool) → f i ≡ b → cond b (firstUnknown f is) (first i) ≡ first j → (firstUnknown f is ≡ first j → Split f is j) → Split f (i ∷ is) j
+    pick true p q rec =
+        let r = rec q in
+        record { before = i ∷ r .before; after = r .after; here = ap (λ (l : List ℕ). i ∷ l) (r .here); left = each-of f i (r .before) p (r .left) }
+    pick false p q rec = let s : i ≡ j = cc in record { before = []; after = is; here = ap (λ (x : ℕ). x ∷ is) s; left = λ k m. none-listed k m }
+
+all-known : (f : ℕ → Bool) (is : List ℕ) → firstUnknown f is ≡ nowhere → (i : ℕ) → among i is ≡ true → f i ≡ true
+unfolding firstUnknown
+all-known f [] e = λ i m. none-listed i m
+all-known f (x ∷ is) e = pick (f x) refl e (all-known f is)
+  where
+    pick : (b : Bool) → f x ≡ b → cond b (firstUnknown f is) (first x) ≡ nowhere → (firstUnknown f is ≡ nowhere → (i : ℕ) → among i is ≡ true → f i ≡ true)
+        → (i : ℕ) → among i (x ∷ is) ≡ true → f i ≡ true
+    pick true p q rec = each-of f x is p (rec q)
+    pick false p q rec = let z : _≡_ {A = ℕ} 0 1 = cc in absurd (omega arith)
+
+roots-known : (c : Copy) → unknownRoot c ≡ nowhere → RootsKnown c
+unfolding unknownRoot
+roots-known c e = all-known (known c) (roots (c .n)) e
+
+-- the first unknown root, or what comes behind the checks, which all roots pass
+abbrev AtRoot : Copy → Spot → Type 0
+AtRoot c at = (j : ℕ) × (at ≡ tree j) × (known c j ≡ false) × FromLeft c j
+
+abbrev Behind20 : Copy → Verdict → Spot → Type 0
+Behind20 c next at = (c .n ≤ mostChunks) × RootsKnown c × (next ≡ refused 20 at)
+
+copy-twenty : (c : Copy) (next : Verdict) (at : Spot) → copyJudged c next ≡ refused 20 at → AtRoot c at ⊎ Behind20 c next at
 unfolding copyJudged lentChecks unknownRoot refusedAt
 copy-twenty c next at e =
     let six : List Check = sizeCheck (addsUp (c .tree) (c .n) (c .size)) in
@@ -258,10 +310,12 @@ copy-twenty c next at e =
     pick (unknownRoot c) refl (a .1) (lent-passed c done (judged-right (lentChecks c) done (a .0)) .0 .count)
   where
     pick : (l : Lowest) → unknownRoot c ≡ l → refusedAt 20 tree l (judged (sizeCheck (addsUp (c .tree) (c .n) (c .size))) next) ≡ refused 20 at → c .n ≤ mostChunks
-        → ((j : ℕ) × (at ≡ tree j) × (known c j ≡ false) × (among j (roots (c .n)) ≡ true)) ⊎ ((c .n ≤ mostChunks) × (next ≡ refused 20 at))
-    pick nowhere p q few = inr (few, behind-others 20 at (sizeCheck (addsUp (c .tree) (c .n) (c .size))) next (λ e. omega arith, tt) q .1)
+        → AtRoot c at ⊎ Behind20 c next at
+    pick nowhere p q few = inr (few, roots-known c p, behind-others 20 at (sizeCheck (addsUp (c .tree) (c .n) (c .size))) next (λ e. omega arith, tt) q .1)
     pick (first j) p q few =
-        let r = first-unknown (known c) (roots (c .n)) j p in let here : at ≡ tree j = cc in inl (j, here, r .0, r .1)
+        let r = first-unknown (known c) (roots (c .n)) j p in
+        let l = first-split (known c) (roots (c .n)) j p in
+        let here : at ≡ tree j = cc in inl (j, here, r .0, record { before = l .before; after = l .after; here = l .here; left = l .left })
 
 -- a descent's 20 is an ending at an unknown entry
 stop-twenty : (e : Ending) (at : Spot) → stopRefused e ≡ refused 20 at → (j : ℕ) × (at ≡ tree j) × (e ≡ unknown j)
@@ -280,12 +334,15 @@ called : (c : Copy) (Other : ℕ → Type 0) (at : Spot) (right : Bool) (next : 
     → copyJudged c (judged (record { number = 9; right = right } ∷ []) next) ≡ refused 20 at → Twenty c Other at
 called c Other at right next come q = pick (copy-twenty c (judged (record { number = 9; right = right } ∷ []) next) at q)
   where
-    pick : ((j : ℕ) × (at ≡ tree j) × (known c j ≡ false) × (among j (roots (c .n)) ≡ true))
-        ⊎ ((c .n ≤ mostChunks) × (judged (record { number = 9; right = right } ∷ []) next ≡ refused 20 at)) → Twenty c Other at
+    other : (j : ℕ) → known c j ≡ false → RootsKnown c → (among j (roots (c .n)) ≡ true) ⊎ Other j → RootsKnown c × Other j
+    other j u k (inl a) = let z : false ≡ true = sym u ∙ k j a in let w : _≡_ {A = ℕ} 0 1 = cc in absurd (omega arith)
+    other j u k (inr o) = (k, o)
+
+    pick : AtRoot c at ⊎ Behind20 c (judged (record { number = 9; right = right } ∷ []) next) at → Twenty c Other at
     pick (inl r) = record { j = r .0; here = r .1; unknown = r .2; way = inl (r .3) }
     pick (inr r) =
-        let a = behind-others 20 at (record { number = 9; right = right } ∷ []) next (λ e. omega arith, tt) (r .1) in
-        let d = come (r .0) (a .0 .0) (a .1) in record { j = d .0; here = d .1; unknown = d .2; way = d .3 }
+        let a = behind-others 20 at (record { number = 9; right = right } ∷ []) next (λ e. omega arith, tt) (r .2) in
+        let d = come (r .0) (a .0 .0) (a .1) in record { j = d .0; here = d .1; unknown = d .2; way = inr (other (d .0) (d .2) (r .1) (d .3)) }
 
 -- a descent's
 met : (c : Copy) (Behind : List ℕ → Type 0) (Has : ℕ → ℕ → ℕ → Type 0) (at : Spot) (e : Ending) → stopRefused e ≡ refused 20 at
@@ -313,32 +370,70 @@ listed c Other at is q other = pick (firstUnknown (known c) is) refl q
         let u = first-unknown (known c) is j e in
         let here : at ≡ tree j = cc in (j, here, u .0, inr (other j (u .1)))
 
-none-listed : {A : Type 0} (j : ℕ) → among j [] ≡ true → A
-unfolding among
-none-listed j e = let z : _≡_ {A = ℕ} 0 1 = cc in absurd (omega arith)
+-- that of a walk over leaves, at one of the first m chunks
+module _ (c : Copy) (m : ℕ) (at : Spot) where
+  abbrev Come : Type 0
+  Come = (j : ℕ) × (at ≡ tree j) × (known c j ≡ false) × LeafBelow m j
 
--- the leaves of a walk
-among-run : (j i m : ℕ) → among j (run (index 0) i m) ≡ true → LeafBelow (i + m) j
-unfolding among run
-among-run j i zero e = let z : _≡_ {A = ℕ} 0 1 = cc in absurd (omega arith)
-among-run j i (suc m) e = pick (eqb j (index 0 i)) refl e (among-run j (suc i) m)
-  where
-    pick : (b : Bool) → eqb j (index 0 i) ≡ b → (b || among j (run (index 0) (suc i) m)) ≡ true → (among j (run (index 0) (suc i) m) ≡ true → LeafBelow (suc i + m) j)
-        → LeafBelow (i + suc m) j
-    pick true f g rec = (i, omega arith, eqb-true j (index 0 i) f)
-    pick false f g rec = let r = rec g in (r .0, omega (arith, r .1), r .2)
+  leaf-come : (k : ℕ) → k < m → leafRefused (known c) (c .tree) k ≡ refusal 20 at → Come
+  unfolding leafRefused
+  leaf-come k h e = pick (known c (index 0 k)) refl e
+    where
+      pick : (x : Bool) → known c (index 0 k) ≡ x → refusal (cond x 10 20) (tree (index 0 k)) ≡ refusal 20 at → Come
+      pick true f q = let z : _≡_ {A = ℕ} 10 20 = cc in absurd (omega arith)
+      pick false f q = let here : at ≡ tree (index 0 k) = cc in (index 0 k, here, f, (k, h, refl))
 
-walked-below : (f : ℕ → Bool) (m j : ℕ) → among j (leavesBelow (walkedTo (lowest f 0 m) m)) ≡ true → LeafBelow m j
-unfolding leavesBelow
-walked-below f m j e =
-    let r = among-run j 0 (walkedTo (lowest f 0 m) m) e in (r .0, omega (arith, r .1, few (lowest f 0 m) refl), r .2)
+-- an unknown root
+rooted : (c : Copy) (Other : ℕ → Type 0) (at : Spot) → AtRoot c at ⊎ Behind20 c done at → Twenty c Other at
+rooted c Other at (inl r) = record { j = r .0; here = r .1; unknown = r .2; way = inl (r .3) }
+rooted c Other at (inr r) = let e = r .2 in let z : _≡_ {A = ℕ} 0 1 = cc in absurd (omega arith)
+
+-- behind the checks: an unknown root, or what the walk comes to
+walked-twenty : (c : Copy) (m : ℕ) (at : Spot) (x : Found) → (x ≡ refusal 20 at → Come c m at) → foundBehind (copyJudged c done) x ≡ refusal 20 at
+    → Twenty c (LeafBelow m) at
+walked-twenty c m at x come e = pick (copyJudged c done) refl e
   where
-    few : (l : Lowest) → lowest f 0 m ≡ l → walkedTo l m ≤ m
-    few nowhere q = omega arith
-    few (first k) q = omega (arith, lowest-says f 0 m k q .below)
+    pick : (v : Verdict) → copyJudged c done ≡ v → foundBehind v x ≡ refusal 20 at → Twenty c (LeafBelow m) at
+    pick done f q =
+        let r = come q in record { j = r .0; here = r .1; unknown = r .2; way = inr (roots-known c (copy-passed c done f .0 .rooted), r .3) }
+    pick (refused k s) f q = let g : refused k s ≡ refused 20 at = cc in rooted c (LeafBelow m) at (copy-twenty c done at (f ∙ g))
+
+place-come : (c : Copy) (i : ℕ) (at : Spot) → shortPlaceIn (known c) (c .tree) (c .n) i ≡ refusal 20 at → Come c (i + 1) at
+unfolding shortPlaceIn placeByLeaves
+place-come c i at e = pick (ltb i (c .n)) (lowest (leafRight (known c) (c .tree)) 0 (i + 1)) refl e
+  where
+    pick : (x : Bool) (l : Lowest) → lowest (leafRight (known c) (c .tree)) 0 (i + 1) ≡ l
+        → cond x (elim l [ nowhere ↦ found (storedStart (c .tree) i) (storedSize (c .tree) (index 0 i)) | first k ↦ leafRefused (known c) (c .tree) k ]) (refusal 9 none)
+        ≡ refusal 20 at
+        → Come c (i + 1) at
+    pick false l f q = let z : _≡_ {A = ℕ} 9 20 = cc in absurd (omega arith)
+    pick true nowhere f q = let z : _≡_ {A = ℕ} 0 1 = cc in absurd (omega arith)
+    pick true (first k) f q =
+        leaf-come c (i + 1) at k (omega (arith, lowest-says (leafRight (known c) (c .tree)) 0 (i + 1) k f .below)) q
+
+byte-come : (c : Copy) (b : ℕ) (at : Spot) → shortByteIn (known c) (c .tree) (c .n) (c .size) b ≡ refusal 20 at → Come c (c .n) at
+unfolding shortByteIn byteByLeaves
+byte-come c b at e = pick (ltb (c .size) b) (eqb b (c .size)) (lowest (leafPassed (known c) (c .tree) b) 0 (c .n)) refl e
+  where
+    here : ℕ → Bool → Found
+    here k x = cond x (found k (b - storedStart (c .tree) k)) (leafRefused (known c) (c .tree) k)
+
+    at-leaf : (k : ℕ) → k < c .n → (x : Bool) → here k x ≡ refusal 20 at → Come c (c .n) at
+    at-leaf k h true q = let z : _≡_ {A = ℕ} 0 1 = cc in absurd (omega arith)
+    at-leaf k h false q = leaf-come c (c .n) at k h q
+
+    pick : (x y : Bool) (l : Lowest) → lowest (leafPassed (known c) (c .tree) b) 0 (c .n) ≡ l
+        → cond x (refusal 9 none) (cond y (found (c .n) 0)
+        (elim l [ nowhere ↦ refusal 10 (tree (index 0 (c .n - 1))) | first k ↦ here k (leafRight (known c) (c .tree) k) ])) ≡ refusal 20 at
+        → Come c (c .n) at
+    pick true y l f q = let z : _≡_ {A = ℕ} 9 20 = cc in absurd (omega arith)
+    pick false true l f q = let z : _≡_ {A = ℕ} 0 1 = cc in absurd (omega arith)
+    pick false false nowhere f q = let z : _≡_ {A = ℕ} 10 20 = cc in absurd (omega arith)
+    pick false false (first k) f q =
+        at-leaf k (omega (arith, lowest-says (leafPassed (known c) (c .tree) b) 0 (c .n) k f .below)) (leafRight (known c) (c .tree) k) q
 
 twenties : (c : Copy) → Twenties c
-unfolding copyPlaceVerdict copyHeldVerdict copyByteVerdict copyShortPlaceVerdict copyShortByteVerdict unknownAmong leavesToChunk leavesToByte copyPrefixVerdict
+unfolding copyPlaceVerdict copyHeldVerdict copyByteVerdict copyShortPlaceOf copyShortByteAt copyPrefixVerdict copyLeafVerdict leafIn
 twenties c =
     record {
       place = λ i at e.
@@ -350,16 +445,13 @@ twenties c =
       byte = λ b at e.
           called c (ChildOnWay (c .tree) (c .n) (HoldsByte (c .tree) b)) at (leb b (c .size)) (stopRefused (copyToByte c b))
           (λ few r q. met c (ByteBehind (c .tree) b) (HoldsByte (c .tree) b) at (copyToByte c b) q (meets c .byte b)) e;
-      shortPlace = λ i at e.
-          called c (LeafBelow (i + 1)) at (ltb i (c .n)) (unknownAmong c (leavesToChunk (c .tree) i))
-          (λ few r q. listed c (LeafBelow (i + 1)) at (leavesToChunk (c .tree) i) q (walked-below (leafFits (c .tree)) (i + 1))) e;
-      shortByte = λ b at e.
-          called c (LeafBelow (c .n)) at (leb b (c .size)) (unknownAmong c (leavesToByte (c .tree) (c .n) (c .size) b))
-          (λ few r q. listed c (LeafBelow (c .n)) at (leavesToByte (c .tree) (c .n) (c .size) b) q (by-byte b (eqb b (c .size)))) e;
+      shortPlace = λ i at e. walked-twenty c (i + 1) at _ (place-come c i at) e;
+      shortByte = λ b at e. walked-twenty c (c .n) at _ (byte-come c b at) e;
       old = λ m at e.
           called c (λ j. (m ≤ c .n) × (among j (roots m) ≡ true)) at (leb m (c .n)) (refusedAt 20 tree (firstUnknown (known c) (roots m)) done)
           (λ few r q. listed c (λ j. (m ≤ c .n) × (among j (roots m) ≡ true)) at (roots m) q (λ j a. (leb-true m (c .n) r, a))) e;
-      checks = λ at e. rooted at (copy-twenty c done at e);
+      leaf = λ k at e. leafed k at (copyJudged c done) refl e;
+      checks = λ at e. rooted c (λ j. ⊥) at (copy-twenty c done at e);
     }
   where
     Child : ℕ → ℕ → Type 0
@@ -368,15 +460,20 @@ twenties c =
     by-chunk : (i : ℕ) → c .n ≤ mostChunks → ltb i (c .n) ≡ true → (j : ℕ) → copyToChunk c i ≡ unknown j → Met c (ChunkBehind i) (HoldsChunk i) j
     by-chunk i few r j q = meets c .chunk i few (ltb-true i (c .n) r) j q
 
-    by-byte : (b : ℕ) (x : Bool) (j : ℕ)
-        → among j (elim x [ true ↦ [] | false ↦ leavesBelow (walkedTo (lowest (leafPassed (c .tree) b) 0 (c .n)) (c .n)) ]) ≡ true → LeafBelow (c .n) j
-    by-byte b true j q = none-listed j q
-    by-byte b false j q = walked-below (leafPassed (c .tree) b) (c .n) j q
+    -- a leaf that is not known
+    leaf-twenty : (k : ℕ) (at : Spot) (b : Bool) → known c (index 0 k) ≡ b → cond b done (refused 20 (tree (index 0 k))) ≡ refused 20 at
+        → (at ≡ tree (index 0 k)) × (known c (index 0 k) ≡ false)
+    leaf-twenty k at true p q = let z : _≡_ {A = ℕ} 0 1 = cc in absurd (omega arith)
+    leaf-twenty k at false p q = let here : at ≡ tree (index 0 k) = cc in (here, p)
 
-    rooted : (at : Spot) → ((j : ℕ) × (at ≡ tree j) × (known c j ≡ false) × (among j (roots (c .n)) ≡ true)) ⊎ ((c .n ≤ mostChunks) × (done ≡ refused 20 at))
-        → Twenty c (λ j. ⊥) at
-    rooted at (inl r) = record { j = r .0; here = r .1; unknown = r .2; way = inl (r .3) }
-    rooted at (inr r) = let e = r .1 in let z : _≡_ {A = ℕ} 0 1 = cc in absurd (omega arith)
+    leafed : (k : ℕ) (at : Spot) (v : Verdict) → copyJudged c done ≡ v → andThen v (leafIn (known c) (c .n) k) ≡ refused 20 at → Twenty c (λ j. (k < c .n) × (j ≡ index 0 k)) at
+    leafed k at done p q =
+        let w = copy-passed c done p .0 in
+        let a = behind-others 20 at (record { number = 9; right = ltb k (c .n) } ∷ []) (cond (known c (index 0 k)) done (refused 20 (tree (index 0 k)))) (λ e. omega arith, tt)
+        q in
+        let d = leaf-twenty k at (known c (index 0 k)) refl (a .1) in
+        record { j = index 0 k; here = d .0; unknown = d .1; way = inr (roots-known c (w .rooted), (ltb-true k (c .n) (a .0 .0), refl)) }
+    leafed k at (refused m spot) p q = rooted c (λ j. (k < c .n) × (j ≡ index 0 k)) at (copy-twenty c done at (p ∙ q))
 
 pub meets-all : MeetsForAll
 meets-all c = (meets c, twenties c)

@@ -3,7 +3,8 @@
 --
 -- The notions in it: `HashFunction` (file_format, Messages), `Bytes` and `part` (byte_strings, Lists), `filled` (tree_index, Tree), `usedTree` and `entryPlace`
 -- (file_format, Sizes), `Copy` and `known` (copy_checks, Copy), `copyJudged` (copy_checks, Checks), and the calls' verdicts and answers (copy_lookup, Lookups and
--- Reading; copy_short_lookup, Short; copy_roots, Roots; copy_release, Release; copy_packet, Making; copy_records, Records; copy_take_in, TakeIn).
+-- Reading; copy_short_lookup, Short; copy_roots, Roots; copy_release, Release; copy_packet, Making; copy_records, Records; copy_stored_leaf, StoredLeaf, with
+-- `leafHash` and `leafLength` (stored_leaf, StoredLeaf); copy_take_in, TakeIn).
 use Prim.Native.Nat.{ℕ}
 use mathlib.Core.Path.{_≡_}
 use mathlib.Core.Bool.{true}
@@ -16,6 +17,7 @@ use Rattle.tree_index.specs.Tree.{filled}
 use Rattle.file_format.specs.Sizes.{entryPlace, usedTree}
 use Rattle.file_format.specs.Messages.{HashFunction}
 use Rattle.checks.specs.Checks.{holds}
+use Rattle.stored_leaf.specs.StoredLeaf.{leafHash, leafLength}
 use Rattle.copy_checks.specs.Copy.{Copy, known}
 use Rattle.copy_lookup.specs.Lookups.{copyPlaceOf, copyHeldPlaceOf, copyByteAt}
 use Rattle.copy_lookup.specs.Reading.{copyReadVerdict, copyReadPart, copyReadFound}
@@ -24,6 +26,7 @@ use Rattle.copy_roots.specs.Roots.{copyRootVerdict, copyRootAnswer, copyPrefixV
 use Rattle.copy_release.specs.Release.{copyReleaseVerdict, releasedCopy}
 use Rattle.copy_packet.specs.Making.{copyMakeVerdict, copyMadeLength, copyAfterMake}
 use Rattle.copy_records.specs.Records.{copyHeader, copyNode, copyFind}
+use Rattle.copy_stored_leaf.specs.StoredLeaf.{copyLeafVerdict}
 use Rattle.copy_take_in.specs.TakeIn.{takeVerdict, takenIn}
 
 -- copies that differ in nothing but entries that are not known, holes, and what lies behind the used size of the tree file
@@ -63,6 +66,10 @@ pub record ReadAlike (F : List ℕ → List ℕ) (a b : Copy) : Type 0 where
   pub headed : (i : ℕ) → copyHeader F a i ≡ copyHeader F b i
   pub node : (i : ℕ) → copyNode F a i ≡ copyNode F b i
   pub found : (path : List ℕ) → copyFind F a path ≡ copyFind F b path
+  -- the stored entry of a leaf: the verdict, what is left in the bytes lent for the hash, and the length
+  pub leafSays : (k : ℕ) → copyLeafVerdict a k ≡ copyLeafVerdict b k
+  pub leafHashes : (k : ℕ) (out : List ℕ) → leafHash (copyLeafVerdict a k) (a .tree) k out ≡ leafHash (copyLeafVerdict b k) (b .tree) k out
+  pub leafLengths : (k : ℕ) → leafLength (copyLeafVerdict a k) (a .tree) k ≡ leafLength (copyLeafVerdict b k) (b .tree) k
 
 -- at a place of two files, before and after: both have the same byte after, or each has the byte that it had
 abbrev pub SameWritten : List ℕ → List ℕ → List ℕ → List ℕ → ℕ → Type 0

@@ -21,7 +21,7 @@ use Rattle.bitfield.specs.Release.{storedHeld}
 use Rattle.file_format.specs.Sizes.{longestChunk, usedBitfield}
 use Rattle.file_format.specs.Messages.{leafMessage}
 use Rattle.file_format.specs.Stored.{storedHash, storedSize}
-use Rattle.audit.specs.Audit.{holeRight, heldBits, refusedAt}
+use Rattle.audit.specs.Audit.{holeRight, heldBits, refusedAt, byteRightBy, leafFrom}
 use Rattle.lookup.specs.Descent.{Ending, stopped, reached, unknown}
 use Rattle.lookup.proofs.Unknown.{filled-children}
 use Rattle.theorem_used_bytes.proofs.Cut.{held-cut, hash-cut, size-cut, part-cut}
@@ -30,10 +30,11 @@ use Rattle.copy_checks.specs.Copy.{Copy, known}
 use Rattle.copy_checks.specs.Descents.{copyToChunk}
 use Rattle.copy_checks.specs.Least.{leastOf}
 use Rattle.copy_checks.specs.Checks.{partlyJudged}
-use Rattle.copy_audit.specs.Audit.{wrongUnless, heldLeaf, bothKnown, leafRightFrom, wrongFrom, wrongByLeaf, wrongByParent, wrongByKnown, wrongByUnknown}
-use Rattle.copy_audit.specs.Audit.{wrongBy, wrongEntryOfCopy, knownBits, copyBitfieldImage, copyByteRight, wrongByteOfCopy, auditCopy}
+use Rattle.copy_audit.specs.Audit.{wrongUnless, heldLeaf, bothKnown, wrongFrom, wrongByLeaf, wrongByParent, wrongByKnown, wrongByUnknown, copyByteRight}
+use Rattle.copy_audit.specs.Audit.{wrongBy, wrongEntryOfCopy, knownBits, wrongByteOfCopy, auditCopy, leafRightFrom}
 use Rattle.theorem_copy_used_bytes.proofs.Cut.{cutCopy, known-cut, partly-cut}
 use Rattle.theorem_copy_used_bytes.proofs.Descents.{to-chunk-cut}
+use Rattle.file_format.specs.Images.{bitfieldOf}
 
 module _ (F : List ℕ → List ℕ) (c : Copy) where
   abbrev u : List ℕ
@@ -49,7 +50,7 @@ module _ (F : List ℕ → List ℕ) (c : Copy) where
   lastTest held hash d = cond held (sameList hash (F (leafMessage d))) (allZero d)
 
   leaf-cut : (k start : ℕ) → k < c .n → leafRightFrom F (cutCopy c) k start ≡ leafRightFrom F c k start
-  unfolding leafRightFrom
+  unfolding leafFrom
   leaf-cut k start h =
       let l : index 0 k < entries (c .n) = filled-below (c .n) (index 0 k) (end-filled (c .n) 0 k (omega (arith, mul-one (k + 1)))) in
       let z = size-cut (c .tree) (c .n) (index 0 k) l in
@@ -112,7 +113,7 @@ module _ (F : List ℕ → List ℕ) (c : Copy) where
       go zero z = by-leaf (block i) (leaf-below (c .tree) (c .bitfield) (c .content) (c .n) (c .size) F i z f)
       go (suc d) z = by-parent i (omega arith) f
 
-  by : (i : ℕ) → i < entries (c .n) → wrongBy F (cutCopy c) i ≡ wrongBy F c i
+  pub by : (i : ℕ) → i < entries (c .n) → wrongBy F (cutCopy c) i ≡ wrongBy F c i
   unfolding wrongBy
   by i h = go (filled (c .n) i) refl
     where
@@ -137,14 +138,16 @@ module _ (F : List ℕ → List ℕ) (c : Copy) where
   unfolding knownBits
   bits-known i = and-same (filled (c .n) i) (storedKnown w i) (storedKnown (c .bitfield) i) (λ f. known-cut (c .bitfield) (c .n) i f)
 
+  pub byte-cut : (j : ℕ) → j < usedBitfield (c .n) → copyByteRight w (c .n) j ≡ copyByteRight (c .bitfield) (c .n) j
+  unfolding byteRightBy
+  byte-cut j h =
+      let image : bitfieldOf (heldBits w (c .n)) (knownBits w (c .n)) (c .n) ≡ bitfieldOf (heldBits (c .bitfield) (c .n)) (knownBits (c .bitfield) (c .n)) (c .n) =
+      λ i. bitfieldOf (λ k. bits-cut (c .tree) (c .bitfield) (c .content) (c .n) (c .size) k i) (λ k. bits-known k i) (c .n) in
+      ap₂ (λ (x : ℕ) (l : List ℕ). eqb x (getD l j 0)) (getD-take (usedBitfield (c .n)) (c .bitfield) j 0 h) image
+
   byte-found : wrongByteOfCopy (cutCopy c) ≡ wrongByteOfCopy c
-  unfolding wrongByteOfCopy copyByteRight
-  byte-found =
-      let image : copyBitfieldImage (heldBits w (c .n)) (knownBits w (c .n)) (c .n) ≡ copyBitfieldImage (heldBits (c .bitfield) (c .n)) (knownBits (c .bitfield) (c .n)) (c .n) =
-      λ i. copyBitfieldImage (λ k. bits-cut (c .tree) (c .bitfield) (c .content) (c .n) (c .size) k i) (λ k. bits-known k i) (c .n) in
-      lowest-agree (copyByteRight w (c .n)) (copyByteRight (c .bitfield) (c .n)) 32 (usedBitfield (c .n) - 32)
-      (λ j p q before.
-      ap₂ (λ (x : ℕ) (l : List ℕ). eqb x (getD l j 0)) (getD-take (usedBitfield (c .n)) (c .bitfield) j 0 (omega arith)) image)
+  unfolding wrongByteOfCopy
+  byte-found = lowest-agree (copyByteRight w (c .n)) (copyByteRight (c .bitfield) (c .n)) 32 (usedBitfield (c .n) - 32) (λ j p q before. byte-cut j (omega arith))
 
   pub audit-cut : auditCopy F (cutCopy c) ≡ auditCopy F c
   unfolding auditCopy

@@ -9,8 +9,8 @@ use native.Mathlib.Omega.{arith}
 use borrow.Author.Tests.{leb-true, ltb-true}
 use lib.Dec.{leb, ltb}
 use lib.ListN.{length, getD}
-use Rattle.refusals.specs.Verdict.{Spot, Verdict, tree, done, refused}
-use Rattle.byte_strings.specs.Lists.{sameList}
+use Rattle.refusals.specs.Verdict.{Spot, Verdict, tree, done, refused, unlessRefused}
+use Rattle.byte_strings.specs.Lists.{sameList, put}
 use Rattle.byte_strings.specs.Lowest.{Lowest}
 use Rattle.tree_index.specs.Tree.{index, roots, entries}
 use Rattle.tree_index.proofs.Filled.{end-filled, filled-below}
@@ -28,7 +28,7 @@ use Rattle.lookup.specs.Descent.{Ending}
 use Rattle.lookup.specs.Lookup.{stopRefused, foundUnless, chunkOf, startOf, toChunk, placeVerdict}
 use Rattle.lookup.specs.Read.{chunkBytes, andThen, partUnless}
 use Rattle.lookup.proofs.Calls.{held-done}
-use Rattle.packet.specs.Packet.{packetOf, roomOr14, outUnless, lengthUnless}
+use Rattle.packet.specs.Packet.{packetOf, roomOr14, packetWith}
 use Rattle.release.specs.Release.{releasedRegister}
 use Rattle.search.specs.Search.{soughtUnless}
 use Rattle.theorem_used_bytes.proofs.Cut.{held-cut, hash-cut, size-cut, root-message-cut, old-message-cut}
@@ -197,7 +197,7 @@ module _ (F : List ℕ → List ℕ) (c : Copy) (i : ℕ) where
       (size-cut (c .tree) (c .n) (index 0 i) (leaf-below (c .n) i (held-below c i (then-first (copyHeldVerdict c i) _ e)))))
 
   copy-packet-cut : copyReadVerdict F c i ≡ done → packetOf (unsigned (cutCopy c)) i ≡ packetOf (unsigned c) i
-  unfolding packetOf chunkBytes toChunk
+  unfolding packetOf packetWith chunkBytes toChunk
   copy-packet-cut e = packet-cut F (signed c) i (read-as F c i e)
 
   module _ (out : List ℕ) where
@@ -222,11 +222,11 @@ module _ (F : List ℕ → List ℕ) (c : Copy) (i : ℕ) where
 
     pub after-make-cut : copyAfterMake F (cutCopy c) i out ≡ copyAfterMake F c i out
     unfolding copyAfterMake
-    after-make-cut = made-with (λ v p. outUnless v p out) (λ m at x y. refl)
+    after-make-cut = made-with (λ v p. unlessRefused v (put out 0 p) out) (λ m at x y. refl)
 
     pub made-length-cut : copyMadeLength F (cutCopy c) i out ≡ copyMadeLength F c i out
     unfolding copyMadeLength
-    made-length-cut = made-with (λ v p. lengthUnless v p) (λ m at x y. refl)
+    made-length-cut = made-with (λ v p. unlessRefused v (length p) 0) (λ m at x y. refl)
 
 -- ---- the byte lookup
 

@@ -9,3 +9,4 @@ pub mod Taking
 pub mod Making
 pub mod UsedBytes
 pub mod Leaves
+pub mod Parts

@@ -2,3 +2,4 @@
 pub mod UsedBytes
 pub mod Leaves
 pub mod Behind
+pub mod Parts

@@ -7,6 +7,7 @@ use mathlib.Core.List.{List}
 use lib.ListN.{length}
 use Rattle.byte_strings.specs.Lists.{sameList}
 use Rattle.byte_strings.proofs.Lists.{same-eq}
+use Rattle.byte_strings.proofs.Lowest.{lowest-agree}
 use Rattle.tree_index.specs.Tree.{filled, entries}
 use Rattle.file_format.specs.Messages.{HashFunction}
 use Rattle.file_format.specs.Images.{rootHashFor, rootMessageFor, messageFor}
@@ -20,7 +21,6 @@ use Rattle.audit.specs.Audit.{Lowest, lowest, Accepted}
 use Rattle.compare.specs.Walk.{Comparison, rootsDiffer, atRoots, found, walk, collides, unlessRefused, compare}
 use Rattle.compare.proofs.Local.{cond-same}
 use Rattle.compare.proofs.Whole.{belongs-whole}
-use Rattle.theorem_demands.proofs.Lowest.{lowest-same}
 use Rattle.theorem_demands.proofs.Roots.{hashFor, same-roots}
 use Rattle.theorem_demands.proofs.Walk.{free, walkFor}
 
@@ -58,7 +58,7 @@ module _ (F : List ℕ → List ℕ) (H : HashFunction F) (cs ds : List (List �
   one-lowest : rootMessageFor F (allHeld cs) ≡ rootMessageFor F (allHeld ds)
       → lowest storedFree 0 (entries (a .n)) ≡ lowest (free F cs ds) 0 (entries (length cs))
   one-lowest e =
-      lowest-same storedFree (free F cs ds) 0 (entries (a .n)) (λ i _ _. one-test e i)
+      lowest-agree storedFree (free F cs ds) 0 (entries (a .n)) (λ i _ _ _. one-test e i)
       ∙ ap (λ (n : ℕ). lowest (free F cs ds) 0 (entries n)) counted
 
   -- the walk's answer by the root messages and the lowest collision

@@ -11,7 +11,7 @@ use Rattle.refusals.specs.Verdict.{done}
 use Rattle.bitfield.specs.Image.{heldBelow}
 use Rattle.bitfield.proofs.Append.{entries-ext}
 use Rattle.file_format.specs.Headers.{bitfieldHeader}
-use Rattle.file_format.specs.Images.{bitfieldImage, rootMessageFor, messageFor}
+use Rattle.file_format.specs.Images.{rootMessageFor, messageFor, bitfieldImage, bitfieldOf}
 use Rattle.file_format.specs.Slots.{allHeld, heldIn, Within}
 use Rattle.file_format.specs.Belongs.{Register, Belongs}
 use Rattle.file_format.proofs.Slots.{all-contents, all-held}
@@ -65,13 +65,13 @@ module _ (F : List ℕ → List ℕ) (demand : Demand3 F) where
 
 -- "A data bit is 1 for each chunk below n"
 pub sequence-bits : (cs : List (List ℕ)) (n : ℕ) → bitfieldImage (heldIn (allHeld cs)) n ≡ bitfieldImage (heldBelow (length cs)) n
-unfolding bitfieldImage
+unfolding bitfieldOf
 sequence-bits cs n = ap (λ (l : List ℕ). bitfieldHeader ++ l) (entries-ext (heldIn (allHeld cs)) (heldBelow (length cs)) n (all-held cs))
 
 module _ (F : List ℕ → List ℕ) (demand : Demand2 F) {r : Register} {cs : List (List ℕ)} (p : Holds F r cs) where
   -- places and bytes
   pub sequence-answers : Answers F r (allHeld cs) cs
-  sequence-answers = subst (Answers F r (allHeld cs)) (all-contents cs) (demand .reads r (allHeld cs) (p .within) (p .belongs) (p .accepted))
+  sequence-answers = subst (Answers F r (allHeld cs)) (all-contents cs) (demand .gives r (allHeld cs) (p .within) (p .belongs) (p .accepted) .reads)
 
   module _ (i : ℕ) (h : i < length cs) where
     here : heldIn (allHeld cs) i ≡ true
@@ -83,4 +83,4 @@ module _ (F : List ℕ → List ℕ) (demand : Demand2 F) {r : Register} {cs : L
 
     -- and has its packet
     pub sequence-packets : PacketAnswers F r (allHeld cs) i
-    sequence-packets = demand .packets r (allHeld cs) (p .within) (p .belongs) (p .accepted) i here
+    sequence-packets = demand .gives r (allHeld cs) (p .within) (p .belongs) (p .accepted) .packets i here

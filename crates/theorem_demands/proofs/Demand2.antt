@@ -118,7 +118,11 @@ demand-2 F hf =
       root = root-answers F hf;
       written = λ r ss sigs m. written-imaged F hf m;
       audit = audit-exact F hf;
-      reads = λ r ss w b a. answers F hf ss w r b (checks-passed F r a);
-      packets = λ r ss w b a. packet-answers F hf ss w r b (checks-passed F r a);
-      noPacket = λ r ss w b a i l h out. no-packet F r i out (answers F hf ss w r b (checks-passed F r a) .notHeld i (subst (λ (n : ℕ). i < n) (sym (contents-length ss)) l) h);
+      gives = λ r ss w b a.
+          let p = checks-passed F r a in
+          record {
+            reads = answers F hf ss w r b p;
+            packets = packet-answers F hf ss w r b p;
+            noPacket = λ i l h out. no-packet F r i out (answers F hf ss w r b p .notHeld i (subst (λ (n : ℕ). i < n) (sym (contents-length ss)) l) h);
+          };
     }

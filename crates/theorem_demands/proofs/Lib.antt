@@ -1,5 +1,4 @@
 -- Demand 3, proved: the chunk side (messages, roots, the descent), the walk, and the demand with its corollaries; demand 2; and both of the calls.
-pub mod Lowest
 pub mod Roots
 pub mod Descent
 pub mod Walk

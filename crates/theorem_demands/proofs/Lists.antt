@@ -41,9 +41,6 @@ use Rattle.append_list.proofs.Answers.{list-owed}
 use Rattle.theorem_demands.specs.Demand2.{Beyond, ListWrites}
 use Rattle.theorem_demands.proofs.Singles.{root-hash, append-imaged, append-beyond, sign-imaged, sign-beyond}
 
-full : length (zeros 64) ≡ 64
-full = length-replicate {A = ℕ} 64 0
-
 module _ (F : List ℕ → List ℕ) (hf : HashFunction F) where
   -- ---- the images
 
@@ -60,7 +57,7 @@ module _ (F : List ℕ → List ℕ) (hf : HashFunction F) where
   imaged-more r ss sigs c m p a = append-imaged F r c hf (p .bytes) (passed-append r c (checked r ss sigs m) a) ss sigs m
 
   imaged-sign : (r : Register) (ss : List Slot) (sigs : List (List ℕ)) → Imaged F r ss sigs → SignFits r → Imaged F (signedRegister r (zeros 64)) ss (sigs ++ (zeros 64 ∷ []))
-  imaged-sign r ss sigs m f = sign-imaged F r (zeros 64) full (passed-sign r (checked r ss sigs m) f) ss sigs m
+  imaged-sign r ss sigs m f = sign-imaged F r (zeros 64) (length-replicate {A = ℕ} 64 0) (passed-sign r (checked r ss sigs m) f) ss sigs m
 
   pub list-imaged : (r : Register) (ss : List Slot) (sigs : List (List ℕ)) (ls bs : List ℕ) → Imaged F r ss sigs → Bytes bs → listVerdict r ls bs ≡ done
       → Imaged F (appendedList F r (chunksOf ls bs)) (ss ++ allHeld (chunksOf ls bs)) (sigs ++ zeroSignatures (length ls - 1))
@@ -143,7 +140,7 @@ module _ (F : List ℕ → List ℕ) (hf : HashFunction F) where
   list-beyond r ls bs l p e =
       list-kept F (λ x _ _. Bytes (x .tree) × Beyond (buffersOf r) x) (λ x _ _ c q s a. bytes-long F hf x c (q .0) s a)
       (λ x _ _ c q s a. (more-bytes x c (q .0) s a, beyond-append F (buffersOf r) x c (q .1) (append-beyond F x c hf (s .bytes) (q .0) a)))
-      (λ x _ _ q s. (signed-tree x (zeros 64) (q .0), beyond-sign (buffersOf r) x (zeros 64) (q .1) (sign-beyond F x (zeros 64) full s))) r ls bs [] []
+      (λ x _ _ q s. (signed-tree x (zeros 64) (q .0), beyond-sign (buffersOf r) x (zeros 64) (q .1) (sign-beyond F x (zeros 64) (length-replicate {A = ℕ} 64 0) s))) r ls bs [] []
       (list-passed r ls bs e .1) p (l .tree, beyond-none r)
       .1
 
@@ -166,15 +163,18 @@ list-writes F hf =
     record {
       takes = λ r ls bs a. (λ e. list-passed r ls bs e .1, λ f. passed-list r ls bs (accepted-audited F r a .checked) f);
       one = λ r c. (one-verdict r c, one-root F r c, one-buffers F r c);
-      buffers = list-buffers F;
-      singly = λ r ls bs l small p e. singly-done F hf r ls bs (l .tree) small p e;
-      owed = λ r ls bs e. list-owed F r ls bs (list-passed r ls bs e .1);
-      belongs = list-belongs F hf;
-      answers = λ r ss ls bs w b p e.
-          let q = list-belongs F hf r ss ls bs w b p e in
-          list-answers F hf r ss ls bs w b p e ∙ root-hash F hf (appendedList F r (chunksOf ls bs)) (ss ++ allHeld (chunksOf ls bs)) (q .0) (q .1);
-      images = λ r ss sigs ls bs m p e. list-imaged F hf r ss sigs ls bs m p e;
-      accepted = list-accepted F hf;
-      beyond = list-beyond F hf;
+      stored = λ r ls bs e.
+          record {
+            buffers = list-buffers F r ls bs e;
+            singly = λ l small p. singly-done F hf r ls bs (l .tree) small p e;
+            owed = list-owed F r ls bs (list-passed r ls bs e .1);
+            belongs = λ ss w b p. list-belongs F hf r ss ls bs w b p e;
+            answers = λ ss w b p.
+                let q = list-belongs F hf r ss ls bs w b p e in
+                list-answers F hf r ss ls bs w b p e ∙ root-hash F hf (appendedList F r (chunksOf ls bs)) (ss ++ allHeld (chunksOf ls bs)) (q .0) (q .1);
+            images = λ ss sigs m p. list-imaged F hf r ss sigs ls bs m p e;
+            accepted = λ l a p. list-accepted F hf r ls bs l a p e;
+            beyond = λ l p. list-beyond F hf r ls bs l p e;
+          };
       unchanged = list-unchanged F;
     }

@@ -92,9 +92,13 @@ module _ (F : List ℕ → List ℕ) (hf : HashFunction F) where
   pub release-writes : ReleaseWrites F
   release-writes =
       record {
-        takes = λ r ss w b a c. (held-done r ss w b (checks-passed F r a) c, λ h. says r ss w b (checks-passed F r a) .held c h .says);
-        notHeld = λ r ss w b a. says r ss w b (checks-passed F r a) .notHeld;
-        noChunk = λ r ss w b a. says r ss w b (checks-passed F r a) .noChunk;
+        says = λ r ss w b a c.
+            let p = checks-passed F r a in
+            record {
+              takes = (held-done r ss w b p c, λ h. says r ss w b p .held c h .says);
+              notHeld = says r ss w b p .notHeld c;
+              noChunk = says r ss w b p .noChunk c;
+            };
         buffers = release-buffers;
         belongs = release-belongs;
         root = release-root;

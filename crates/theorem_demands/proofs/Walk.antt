@@ -10,6 +10,7 @@ use lib.ListN.{length}
 use borrow.Author.Tests.{not-true, not-false}
 use Rattle.byte_strings.specs.Lists.{sameList}
 use Rattle.byte_strings.proofs.Lists.{same-eq}
+use Rattle.byte_strings.proofs.Lowest.{Found, all, one, found-lowest}
 use Rattle.tree_index.specs.Tree.{filled, entries}
 use Rattle.tree_index.proofs.Filled.{filled-below}
 use Rattle.file_format.specs.Messages.{HashFunction}
@@ -17,11 +18,10 @@ use Rattle.file_format.specs.Images.{rootHashFor, rootMessageFor, messageFor}
 use Rattle.file_format.specs.Slots.{allHeld, Within}
 use Rattle.file_format.proofs.AllHeld.{chunks-hash}
 use Rattle.audit.specs.Audit.{Lowest, lowest}
-use Rattle.compare.specs.Walk.{Comparison, rootsDiffer, atRoots, atIndex, equal, found, walk, collides}
+use Rattle.compare.specs.Walk.{Side, Comparison, rootsDiffer, atRoots, atIndex, equal, found, walk, collides}
 use Rattle.theorem_demands.specs.Demand3.{Collision, CollisionAt}
 use Rattle.checks.proofs.Passed.{same-of}
 use Rattle.compare.proofs.Local.{and-left, and-right, same-false, false-same, Told, told}
-use Rattle.theorem_demands.proofs.Lowest.{Found, none, some, found-lowest}
 use Rattle.theorem_demands.proofs.Roots.{hashFor, same-roots}
 
 module _ (F : List ℕ → List ℕ) (cs ds : List (List ℕ)) where
@@ -29,12 +29,12 @@ module _ (F : List ℕ → List ℕ) (cs ds : List (List ℕ)) where
   abbrev pub free : ℕ → Bool
   free i = not (filled (length cs) i && collides (messageFor F (allHeld cs) i) (messageFor F (allHeld ds) i) (hashFor F cs i) (hashFor F ds i))
 
+  abbrev sideFor : List (List ℕ) → Side
+  sideFor xs = record { top = rootMessageFor F (allHeld xs); message = messageFor F (allHeld xs); hash = hashFor F xs }
+
   -- the walk over two chunk sequences' own hashes and messages
   unfoldable pub walkFor : Comparison
-  walkFor =
-      walk (rootHashFor F (allHeld cs)) (rootHashFor F (allHeld ds)) (rootMessageFor F (allHeld cs)) (rootMessageFor F (allHeld ds)) (messageFor F (allHeld cs))
-      (messageFor F (allHeld ds)) (hashFor F cs)
-      (hashFor F ds) (filled (length cs)) (entries (length cs))
+  walkFor = walk F (sideFor cs) (sideFor ds) (length cs)
 
   -- the four answers, each with what it says
   pub data Answer (w : Comparison) : Type 0 where
@@ -100,10 +100,10 @@ module _ (F : List ℕ → List ℕ) (cs ds : List (List ℕ)) where
             → Answer walkFor
         go (inr p) q f = differ (λ t. answerOf (p .1 t) (sameList (rootMessageFor F (allHeld cs)) (rootMessageFor F (allHeld ds))) l) (p .0)
         go (inl p) (inr q) f = roots (λ t. answerOf (p .1 t) (q .1 t) l) (record { differ = q .0; oneHash = p .0 })
-        go (inl p) (inl q) (none e h) =
+        go (inl p) (inl q) (all e h) =
             same (λ t. answerOf (p .1 t) (q .1 t) (e t)) (q .0)
             (λ i c. free-not i (h i zero-le (omega (arith, filled-below (length cs) i (c .inFirst)))) c)
-        go (inl p) (inl q) (some i e _ _ x h) =
+        go (inl p) (inl q) (one i e _ _ x h) =
             place i (λ t. answerOf (p .1 t) (q .1 t) (e t)) (q .0)
             (wrong-collides i (same-roots F H cs ds W W′ (q .0) .count) x)
             (λ j b c. free-not j (h j zero-le b) c)

@@ -3,11 +3,11 @@
 -- a release leaves an accepted register; and the audit accepts buffers exactly when their used bytes are such images. Reading gives back the very chunks
 -- that are held, and lookups and packets answer as the scope defines them. A chunk sequence cs is the chunks `allHeld cs`.
 --
--- The notions in it: `HashFunction` (files, Messages), `Slot`, `allHeld` and `Within` (files, Slots), `Register`, `Buffers`, `Lent` and `Belongs` (files,
--- Belongs), the used sizes (files, Sizes), `rootHashFor` (files, Images), `Imaged` and `AuditExact` (audit, Exact), `Accepted` (audit, Audit), the calls'
--- verdicts, answers and buffers (writing, Start, Append, Sign and RootHash; list_append, Append; release, Release) and what they ask for (writing, Fits;
--- list_append, Fits), a list's chunks and its zero signatures (list_append, Chunks), the chunks with one released (release, Answers), `Answers`
--- (lookup, Answers), `PacketAnswers` (packet, Answers).
+-- The notions in it: `HashFunction` (file_format, Messages), `Slot`, `allHeld` and `Within` (file_format, Slots), `Register`, `Buffers`, `Lent` and `Belongs` (file_format,
+-- Belongs), the used sizes (file_format, Sizes), `rootHashFor` (file_format, Images), `Imaged` and `AuditExact` (audit, Theorems), `Accepted` (audit, Audit), the calls'
+-- verdicts, answers and buffers (writing, Start, Append, Sign and RootHash; append_list, Append; release, Release) and what they ask for (writing, Conditions;
+-- append_list, Conditions), a list's chunks and its zero signatures (append_list, Chunks), the chunks with one released (release, Theorems), `Answers`
+-- (lookup, Theorems), `PacketAnswers` (packet, Theorems).
 use Prim.Native.Nat.{ℕ, _+_, _-_, _^_, _≤_, _<_}
 use mathlib.Core.Path.{_≡_}
 use mathlib.Core.Logic.{_↔_}
@@ -101,52 +101,56 @@ pub record SignWrites (F : List ℕ → List ℕ) : Type 0 where
   pub beyond : (r : Register) (signature : List ℕ) → length signature ≡ 64 → signVerdict r ≡ done → Beyond (buffersOf r) (signedRegister r signature)
   pub unchanged : (r : Register) (signature : List ℕ) (m : ℕ) (at : Spot) → signVerdict r ≡ refused m at → afterSign r signature ≡ buffersOf r
 
--- "Append a list of chunks: tree, bitfield and data become what single appends would leave, and one root hash is answered." It is lent as lengths
--- and bytes, which `chunksOf` cuts
+-- A list of chunks is lent as lengths and bytes, which `chunksOf` cuts. What holds of a list that was stored: of the register with its chunks
+abbrev pub listed : (List ℕ → List ℕ) → Register → List ℕ → List ℕ → Register
+listed F r lengths bytes = appendedList F r (chunksOf lengths bytes)
+
+pub record ListStored (F : List ℕ → List ℕ) (r : Register) (lengths bytes : List ℕ) : Type 0 where
+  -- the buffers are those of this register
+  pub buffers : afterList F r lengths bytes ≡ buffersOf (listed F r lengths bytes)
+  -- which single appends, with 64 zero bytes stored as a signature between them, lead to, none of them refused: on any register in buffers that can
+  -- be lent, accepted or not
+  pub singly : Lent r → length (r .content) < 2 ^ 64 → Bytes bytes → Singly F r (chunksOf lengths bytes) (listed F r lengths bytes)
+  -- "one signature is owed afterwards, as before"
+  pub owed : listed F r lengths bytes .s + 1 ≡ listed F r lengths bytes .n
+  -- it belongs to the chunk sequence with the chunks at its end, where the first one belonged to the sequence
+  pub belongs : (ss : List Slot) → Within ss → Belongs F r ss → Bytes bytes
+      → Within (ss ++ allHeld (chunksOf lengths bytes)) × Belongs F (listed F r lengths bytes) (ss ++ allHeld (chunksOf lengths bytes))
+  -- whose root hash is the answer
+  pub answers : (ss : List Slot) → Within ss → Belongs F r ss → Bytes bytes → listRoot F r lengths bytes ≡ rootHashFor F (ss ++ allHeld (chunksOf lengths bytes))
+  -- "The set's earlier signature entries are written as 64 zero bytes, which count in demand 2 as handed in": all used bytes are the images of the
+  -- longer sequence, and of the signatures with the zeros at their end
+  pub images : (ss : List Slot) (sigs : List (List ℕ)) → Imaged F r ss sigs → Bytes bytes
+      → Imaged F (listed F r lengths bytes) (ss ++ allHeld (chunksOf lengths bytes)) (sigs ++ zeroSignatures (length lengths - 1))
+  -- an accepted register stays accepted, in buffers that hold bytes again
+  pub accepted : Lent r → Accepted F r → Bytes bytes → Accepted F (listed F r lengths bytes) × Lent (listed F r lengths bytes)
+  -- on any register every byte beyond the new used sizes is left
+  pub beyond : Lent r → Bytes bytes → Beyond (buffersOf r) (listed F r lengths bytes)
+
+-- "Append a list of chunks: tree, bitfield and data become what single appends would leave, and one root hash is answered."
 pub record ListWrites (F : List ℕ → List ℕ) : Type 0 where
   -- on an accepted register it is done exactly when 2, 16, 7, 8 and 14 are passed
   pub takes : (r : Register) (lengths bytes : List ℕ) → Accepted F r → (listVerdict r lengths bytes ≡ done) ↔ ListFits r lengths bytes
   -- a list of one chunk is an append, on every register
   pub one : (r : Register) (chunk : List ℕ) → (listVerdict r (length chunk ∷ []) chunk ≡ appendVerdict r chunk)
       × (listRoot F r (length chunk ∷ []) chunk ≡ appendRoot F r chunk) × (afterList F r (length chunk ∷ []) chunk ≡ afterAppend F r chunk)
-  -- done, the buffers are those of a register
-  pub buffers : (r : Register) (lengths bytes : List ℕ) → listVerdict r lengths bytes ≡ done
-      → afterList F r lengths bytes ≡ buffersOf (appendedList F r (chunksOf lengths bytes))
-  -- which single appends, with 64 zero bytes stored as a signature between them, lead to, none of them refused: on any register in buffers that can
-  -- be lent, accepted or not
-  pub singly : (r : Register) (lengths bytes : List ℕ) → Lent r → length (r .content) < 2 ^ 64 → Bytes bytes → listVerdict r lengths bytes ≡ done
-      → Singly F r (chunksOf lengths bytes) (appendedList F r (chunksOf lengths bytes))
-  -- "one signature is owed afterwards, as before"
-  pub owed : (r : Register) (lengths bytes : List ℕ) → listVerdict r lengths bytes ≡ done
-      → appendedList F r (chunksOf lengths bytes) .s + 1 ≡ appendedList F r (chunksOf lengths bytes) .n
-  -- it belongs to the chunk sequence with the chunks at its end, where the first one belonged to the sequence
-  pub belongs : (r : Register) (ss : List Slot) (lengths bytes : List ℕ) → Within ss → Belongs F r ss → Bytes bytes → listVerdict r lengths bytes ≡ done
-      → Within (ss ++ allHeld (chunksOf lengths bytes)) × Belongs F (appendedList F r (chunksOf lengths bytes)) (ss ++ allHeld (chunksOf lengths bytes))
-  -- whose root hash is the answer
-  pub answers : (r : Register) (ss : List Slot) (lengths bytes : List ℕ) → Within ss → Belongs F r ss → Bytes bytes → listVerdict r lengths bytes ≡ done
-      → listRoot F r lengths bytes ≡ rootHashFor F (ss ++ allHeld (chunksOf lengths bytes))
-  -- "The set's earlier signature entries are written as 64 zero bytes, which count in demand 2 as handed in": all used bytes are the images of the
-  -- longer sequence, and of the signatures with the zeros at their end
-  pub images : (r : Register) (ss : List Slot) (sigs : List (List ℕ)) (lengths bytes : List ℕ) → Imaged F r ss sigs → Bytes bytes → listVerdict r lengths bytes ≡ done
-      → Imaged F (appendedList F r (chunksOf lengths bytes)) (ss ++ allHeld (chunksOf lengths bytes)) (sigs ++ zeroSignatures (length lengths - 1))
-  -- an accepted register stays accepted, in buffers that hold bytes again
-  pub accepted : (r : Register) (lengths bytes : List ℕ) → Lent r → Accepted F r → Bytes bytes → listVerdict r lengths bytes ≡ done
-      → Accepted F (appendedList F r (chunksOf lengths bytes)) × Lent (appendedList F r (chunksOf lengths bytes))
-  -- done, on any register, it leaves every byte beyond the new used sizes
-  pub beyond : (r : Register) (lengths bytes : List ℕ) → Lent r → Bytes bytes → listVerdict r lengths bytes ≡ done
-      → Beyond (buffersOf r) (appendedList F r (chunksOf lengths bytes))
-  -- "stored wholly or left out": "No lent byte changes.", and the answer beside a refusal is zeros
+  -- "stored wholly or left out": done, all of this holds
+  pub stored : (r : Register) (lengths bytes : List ℕ) → listVerdict r lengths bytes ≡ done → ListStored F r lengths bytes
+  -- "No lent byte changes.", and the answer beside a refusal is zeros
   pub unchanged : (r : Register) (lengths bytes : List ℕ) (m : ℕ) (at : Spot) → listVerdict r lengths bytes ≡ refused m at
       → (afterList F r lengths bytes ≡ buffersOf r) × (listRoot F r lengths bytes ≡ zeros 32)
 
+-- what a release of the chunk c answers, on an accepted register that belongs to the chunks ss
+pub record ReleaseSays (r : Register) (ss : List Slot) (c : ℕ) : Type 0 where
+  -- it is done exactly where the chunk is held
+  pub takes : (releaseVerdict r c ≡ done) ↔ (heldIn ss c ≡ true)
+  -- "It refuses with 18, just after 9", a chunk that is not; 9 where there is none
+  pub notHeld : c < length ss → heldIn ss c ≡ false → releaseVerdict r c ≡ refused 18 (tree (index 0 c))
+  pub noChunk : length ss ≤ c → releaseVerdict r c ≡ refused 9 none
+
 -- "Releasing a chunk .. clears its data bit, regenerates that entry's Index and writes zeros over the chunk's bytes; its tree entries stay."
 pub record ReleaseWrites (F : List ℕ → List ℕ) : Type 0 where
-  -- of an accepted register it is done exactly where the chunk is held
-  pub takes : (r : Register) (ss : List Slot) → Within ss → Belongs F r ss → Accepted F r → (c : ℕ) → (releaseVerdict r c ≡ done) ↔ (heldIn ss c ≡ true)
-  -- "It refuses with 18, just after 9", a chunk that is not; 9 where there is none
-  pub notHeld : (r : Register) (ss : List Slot) → Within ss → Belongs F r ss → Accepted F r → (c : ℕ) → c < length ss → heldIn ss c ≡ false
-      → releaseVerdict r c ≡ refused 18 (tree (index 0 c))
-  pub noChunk : (r : Register) (ss : List Slot) → Within ss → Belongs F r ss → Accepted F r → (c : ℕ) → length ss ≤ c → releaseVerdict r c ≡ refused 9 none
+  pub says : (r : Register) (ss : List Slot) → Within ss → Belongs F r ss → Accepted F r → (c : ℕ) → ReleaseSays r ss c
   -- done, the buffers are those of a register
   pub buffers : (r : Register) (c : ℕ) → releaseVerdict r c ≡ done → afterRelease r c ≡ buffersOf (releasedRegister r c)
   -- which belongs to the same chunks with this one released, its entry as it stood: "the leaf entry of a released chunk counts as handed in"
@@ -184,6 +188,15 @@ pub data Written (F : List ℕ → List ℕ) : Register → List Slot → List (
   andSigned : {r : Register} {ss : List Slot} {sigs : List (List ℕ)} (signature : List ℕ) → Written F r ss sigs → length signature ≡ 64 → signVerdict r ≡ done
       → Written F (signedRegister r signature) ss (sigs ++ (signature ∷ []))
 
+-- "reading gives back the very chunks. Lookups and packets answer as document 01 defines them.": what an accepted register r answers that belongs to ss
+pub record Gives (F : List ℕ → List ℕ) (r : Register) (ss : List Slot) : Type 0 where
+  -- places and bytes for all chunks; "restoring the chunks speaks for held ones"
+  pub reads : Answers F r ss (contents ss)
+  -- the packet of each chunk that is held, whatever else is released
+  pub packets : (i : ℕ) → heldIn ss i ≡ true → PacketAnswers F r ss i
+  -- and 18 at its leaf's tree index of one that is not
+  pub noPacket : (i : ℕ) → i < length ss → heldIn ss i ≡ false → (out : List ℕ) → makeVerdict F r i out ≡ refused 18 (tree (index 0 i))
+
 pub record Demand2 (F : List ℕ → List ℕ) : Type 0 where
   pub start : StartWrites F
   pub append : AppendWrites F
@@ -195,14 +208,7 @@ pub record Demand2 (F : List ℕ → List ℕ) : Type 0 where
   pub written : (r : Register) (ss : List Slot) (sigs : List (List ℕ)) → Written F r ss sigs → Imaged F r ss sigs
   -- the audit accepts exactly such images
   pub audit : AuditExact F
-  -- "reading gives back the very chunks. Lookups and packets answer as document 01 defines them.": of an accepted register that belongs to ss. Places and bytes for all
-  -- chunks; "restoring the chunks speaks for held ones"
-  pub reads : (r : Register) (ss : List Slot) → Within ss → Belongs F r ss → Accepted F r → Answers F r ss (contents ss)
-  -- the packet of each chunk that is held, whatever else is released
-  pub packets : (r : Register) (ss : List Slot) → Within ss → Belongs F r ss → Accepted F r → (i : ℕ) → heldIn ss i ≡ true → PacketAnswers F r ss i
-  -- and 18 at its leaf's tree index of one that is not
-  pub noPacket : (r : Register) (ss : List Slot) → Within ss → Belongs F r ss → Accepted F r → (i : ℕ) → i < length ss → heldIn ss i ≡ false
-      → (out : List ℕ) → makeVerdict F r i out ≡ refused 18 (tree (index 0 i))
+  pub gives : (r : Register) (ss : List Slot) → Within ss → Belongs F r ss → Accepted F r → Gives F r ss
 
 -- for every function F from byte strings to 32 bytes
 abbrev pub Demand2ForAll : Type 0

@@ -2,8 +2,8 @@
 --
 -- "demand 3 speaks of their registers, only when each holds all its pieces": of chunks that are all held (`allHeld`).
 --
--- The notions in it: `HashFunction` (files, Messages), `allHeld` and `Within` (files, Slots), `Register`, `Lent` and `Belongs` (files, Belongs), `rootHashFor`,
--- `rootMessageFor` and `messageFor` (files, Images), `filled` (tree_index, Tree), `Accepted` (audit, Audit), `compare` and the
+-- The notions in it: `HashFunction` (file_format, Messages), `allHeld` and `Within` (file_format, Slots), `Register`, `Lent` and `Belongs` (file_format, Belongs), `rootHashFor`,
+-- `rootMessageFor` and `messageFor` (file_format, Images), `filled` (tree_index, Tree), `Accepted` (audit, Audit), `compare` and the
 -- answers of a comparison (compare, Walk).
 use Prim.Native.Nat.{ℕ, _<_}
 use mathlib.Core.Path.{_≡_}

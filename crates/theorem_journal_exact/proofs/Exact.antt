@@ -6,7 +6,7 @@ use native.Mathlib.Nat.{zero-add}
 use mathlib.Core.Path.{_≡_, refl, sym, ap, ap₂, _∙_}
 use mathlib.Core.Bool.{Bool, true, false}
 use mathlib.Core.List.{List, [], _∷_, _++_}
-use lib.ListN.{length, getD, take, drop}
+use lib.ListN.{length, getD, take, drop, length-drop}
 use lib.Dec.{eqb, leb}
 use borrow.Author.Tests.{leb-true, eqb-true}
 use Rattle.byte_strings.specs.Lists.{part, run, sameList, Bytes}
@@ -22,7 +22,7 @@ use Rattle.journal.specs.declared.Said.{Said}
 use Rattle.journal.proofs.Behind.{both}
 use Rattle.journal.proofs.Steps.{walk-start, reach-same, reach-other}
 use Rattle.journal.proofs.Answers.{right-least, right-most, read-length, read-first, read-own, read-table, read-hash}
-use Rattle.theorem_journal_exact.specs.Exact.{Accepts}
+use Rattle.theorem_journal_exact.specs.Exact.{Hashed}
 use Rattle.theorem_journal_exact.proofs.Test.{soundFrom, sound-tested}
 use Rattle.theorem_journal_exact.proofs.Walk.{clash, lowest-none, Accepted, accepted}
 
@@ -90,27 +90,20 @@ module _ (j : List ℕ) (b : Bytes j) where
       ∙ ap (λ (p : ℕ). part j (24 + 8 * i) 8 ++ part j p (8 * n)) (sym d)
       ∙ sym (ap (part j (24 + 8 * i)) e ∙ part-add j (24 + 8 * i) 8 (8 * n))
 
-split : (n : ℕ) (xs : List ℕ) → take n xs ++ drop n xs ≡ xs
+pub split : (n : ℕ) (xs : List ℕ) → take n xs ++ drop n xs ≡ xs
 split zero xs = refl
 split (suc n) [] = refl
 split (suc n) (x ∷ xs) = ap (λ (ys : List ℕ). x ∷ ys) (split n xs)
 
--- ---- the journal that was read
+-- ---- the journal of a table that is right, up to the end m
 
-module _ (F : List ℕ → List ℕ) (j : List ℕ) (b : Bytes j) (p : Passed F j) where
-  abbrev m : ℕ
-  m = bodyLength j
-
-  least : 216 ≤ length j
-  least = right-least (length j) (p .long)
-
+module _ (j : List ℕ) (b : Bytes j) (m : ℕ) (least : 184 ≤ m) (most : m + 32 ≤ 268435456) (inside : m ≤ length j) (tabled : isDone (table j m) ≡ true) where
   tests : (lowest (stateRight j) 0 10 ≡ nowhere) × (isDone (walked j m) ≡ true)
-  tests = states-passed (lowest (stateRight j) 0 10) (walked j m) (sym (ap isDone (table-is j m)) ∙ p .tabled)
+  tests = states-passed (lowest (stateRight j) 0 10) (walked j m) (sym (ap isDone (table-is j m)) ∙ tabled)
 
   pub ranges : Accepted j m 0 0 (oldLengths j) 184
   ranges =
-      accepted j b m (omega (arith, least)) (suc m) 0 0 (oldLengths j) 184 (length-run (λ k. lengthOf (oldAt j k)) 0 10) (omega (arith, least)) (omega arith)
-      (sym (ap isDone (walk-start j m)) ∙ tests .1)
+      accepted j b m inside (suc m) 0 0 (oldLengths j) 184 (length-run (λ k. lengthOf (oldAt j k)) 0 10) least (omega arith) (sym (ap isDone (walk-start j m)) ∙ tests .1)
 
   abbrev pub journalIn : Journal
   journalIn = record { states = run (λ k. number (part j (24 + 8 * k) 8)) 0 20; ranges = ranges .ps }
@@ -146,11 +139,11 @@ module _ (F : List ℕ → List ℕ) (j : List ℕ) (b : Bytes j) (p : Passed F 
       (ap₂ (λ (o n : ℕ). soundFrom (lengthOf o) (lengthOf n) 0 (lengthOf o) (rangesOf i (ranges .ps))) (old-is i h) (new-is i h)
       ∙ sym (ap₂ (λ (a q : ℕ). soundFrom (lengthOf (oldAt j i)) (lengthOf (newAt j i)) a q (rangesOf i (ranges .ps))) (no-reach i) c) ∙ ranges .sound i h)
 
-  longs : longOf journalIn ≡ length j
+  pub longs : longOf journalIn ≡ m + 32
   unfolding longOf
   longs =
-      let e : length (encodeAll (ranges .ps)) ≡ m - 184 = sym (ap length (ranges .encodes)) ∙ length-part j 184 (m - 184) (omega (arith, least)) in
-      omega (arith, least, e)
+      let e : length (encodeAll (ranges .ps)) ≡ m - 184 = sym (ap length (ranges .encodes)) ∙ length-part j 184 (m - 184) (omega arith) in
+      omega arith
 
   pub well-formed : WellFormed journalIn
   well-formed =
@@ -160,30 +153,67 @@ module _ (F : List ℕ → List ℕ) (j : List ℕ) (b : Bytes j) (p : Passed F 
         files = ranges .rise;
         each = ranges .some;
         sound = sounds;
-        bound = let h = right-most (length j) (p .long) in let l = longs in omega arith;
+        bound = let l = longs in omega arith;
       }
 
-  own-is : part j 16 8 ≡ be 8 (longOf journalIn)
+  -- the table stands behind the own length
+  pub table-part : part j 24 (m - 24) ≡ words (journalIn .states) ++ encodeAll (journalIn .ranges)
+  table-part =
+      let d : m - 24 ≡ 160 + (m - 184) = omega arith in
+      ap (part j 24) d ∙ part-add j 24 160 (m - 184) ∙ ap₂ (λ (x y : List ℕ). x ++ y) (sym (words-read j b 20 0 (omega arith))) (ranges .encodes)
+
+  -- and all bytes up to m are the first ones, those of the own length and these
+  pub front-is : begins j ≡ true → take m j ≡ magic ++ (part j 16 8 ++ (words (journalIn .states) ++ encodeAll (journalIn .ranges)))
+  front-is f =
+      let d : m ≡ 16 + (8 + (m - 24)) = omega arith in
+      front-part j m ∙ ap (part j 0) d ∙ part-add j 0 16 (8 + (m - 24))
+      ∙ ap₂ (λ (x y : List ℕ). x ++ y) (same-eq (part j 0 16) magic f) (part-add j 16 8 (m - 24) ∙ ap (λ (y : List ℕ). part j 16 8 ++ y) table-part)
+
+-- ---- the journal that was read
+
+module _ (F : List ℕ → List ℕ) (j : List ℕ) (b : Bytes j) (p : Passed F j) where
+  abbrev m : ℕ
+  m = bodyLength j
+
+  least : 216 ≤ length j
+  least = right-least (length j) (p .long)
+
+  pub low : 184 ≤ bodyLength j
+  low = omega (arith, least)
+
+  pub high : bodyLength j + 32 ≤ 268435456
+  high = omega (arith, least, right-most (length j) (p .long))
+
+  pub inside : bodyLength j ≤ length j
+  inside = omega arith
+
+  abbrev pub journalRead : Journal
+  journalRead = journalIn j b m low high inside (p .tabled)
+
+  pub read-formed : WellFormed journalRead
+  read-formed = well-formed j b m low high inside (p .tabled)
+
+  pub read-long : longOf journalRead ≡ length j
+  read-long = longs j b m low high inside (p .tabled) ∙ omega (arith, least)
+
+  own-is : part j 16 8 ≡ be 8 (longOf journalRead)
   own-is =
       sym (be-number 8 (part j 16 8) (bytes-part j 16 8 b) (length-part j 16 8 (omega (arith, least))))
-      ∙ ap (be 8) (eqb-true (ownLength j) (length j) (p .own) ∙ sym longs)
+      ∙ ap (be 8) (eqb-true (ownLength j) (length j) (p .own) ∙ sym read-long)
 
-  body-is : take m j ≡ body journalIn
+  body-is : take m j ≡ body journalRead
   unfolding body
   body-is =
-      let l = least in
-      let d : m ≡ 16 + (8 + (160 + (m - 184))) = omega (arith, least) in
-      front-part j m
-      ∙ ap (part j 0) d ∙ part-add j 0 16 (8 + (160 + (m - 184)))
-      ∙ ap₂ (λ (x y : List ℕ). x ++ y) (same-eq (part j 0 16) magic (p .front))
-      (part-add j 16 8 (160 + (m - 184))
-      ∙ ap₂ (λ (x y : List ℕ). x ++ y) own-is (part-add j 24 160 (m - 184) ∙ ap₂ (λ (x y : List ℕ). x ++ y) (sym (words-read j b 20 0 (omega (arith, least)))) (ranges .encodes)))
+      front-is j b m low high inside (p .tabled) (p .front)
+      ∙ ap (λ (x : List ℕ). magic ++ (x ++ (words (journalRead .states) ++ encodeAll (journalRead .ranges)))) own-is
 
-  pub encodes : j ≡ journalBytes F journalIn
+  pub encodes : j ≡ journalBytes F journalRead
   unfolding journalBytes
   encodes =
       sym (split m j)
       ∙ ap₂ (λ (x y : List ℕ). x ++ y) body-is (sym (same-eq (F (take m j)) (drop m j) (p .hashed)) ∙ ap F body-is)
 
-pub reading-accepts : (F : List ℕ → List ℕ) → Accepts F
-reading-accepts F = record { encodings = λ j b e. let p = passed F j e in (journalIn F j b p, well-formed F j b p, encodes F j b p) }
+  -- what it was compared with has 32 bytes
+  pub read-hashed : Hashed F journalRead
+  read-hashed =
+      ap (λ (x : List ℕ). length (F x)) (sym body-is) ∙ ap length (same-eq (F (take m j)) (drop m j) (p .hashed)) ∙ length-drop m j ∙ omega (arith, least)

@@ -14,7 +14,7 @@ use Rattle.byte_strings.proofs.Lists.{length-part, getD-part, part-part, part-l
 use Rattle.byte_strings.proofs.Numbers.{length-be, number-be}
 use Rattle.journal.specs.Ranges.{Range, replaced, fresh, blank, witness, start, Placed}
 use Rattle.journal.specs.Form.{kindOf, sizeOf, payload, header, encode}
-use Rattle.journal.specs.Places.{fileAt, kindAt, startAt, sizeAt, copies, behind, whole, rangeOf, rangeAt}
+use Rattle.journal.specs.Places.{fileAt, kindAt, startAt, sizeAt, timesLong, behind, whole, rangeOf, rangeAt}
 use Rattle.journal.proofs.Behind.{end-twice, end-bare, end-once}
 use Rattle.journal_meeting.proofs.Ranges.{is-replaced, is-fresh, is-blank, is-witness}
 use Rattle.theorem_journal_exact.proofs.Test.{joint}
@@ -57,7 +57,7 @@ module _ (f k a l : ℕ) where
   header-kind z = refl
 
 -- a range's bytes are so many times its length
-payload-long : (r : Range) → Alike r → length (payload r) ≡ copies (kindOf r) * sizeOf r
+payload-long : (r : Range) → Alike r → length (payload r) ≡ timesLong (kindOf r) * sizeOf r
 payload-long (replaced at o n) a = let x = end-twice 1 (length n) 0 refl in let y = length-append o n in omega arith
 payload-long (fresh at n) a = let x = end-once 2 (length n) 0 (omega arith) (omega arith) in omega arith
 payload-long (blank at k) a = let x = end-bare 3 k 0 (omega arith) refl in omega arith
@@ -142,7 +142,7 @@ module _ (j : List ℕ) (m q : ℕ) (qm : q ≤ m) (ml : m ≤ length j) (p : Pl
   unfolding behind
   behind-is =
       let x = payload-long (p .range) (e .alike) in
-      let y : copies (kindAt j q) * sizeAt j q ≡ copies (kindOf (p .range)) * sizeOf (p .range) = ap₂ (λ (a b : ℕ). copies a * b) kind-is size-is in
+      let y : timesLong (kindAt j q) * sizeAt j q ≡ timesLong (kindOf (p .range)) * sizeOf (p .range) = ap₂ (λ (a b : ℕ). timesLong a * b) kind-is size-is in
       let z = encode-long in
       omega arith
 

@@ -15,7 +15,7 @@ use Rattle.byte_strings.proofs.Lists.{length-part, part-add, part-run, bytes-pa
 use Rattle.byte_strings.proofs.Numbers.{be-number}
 use Rattle.journal.specs.Ranges.{Range, replaced, fresh, blank, witness, start, bytes, stop, Placed}
 use Rattle.journal.specs.Form.{kindOf, sizeOf, payload, header, encode}
-use Rattle.journal.specs.Places.{fileAt, kindAt, startAt, sizeAt, copies, behind, whole, rangeOf, rangeAt}
+use Rattle.journal.specs.Places.{fileAt, kindAt, startAt, sizeAt, timesLong, behind, whole, rangeOf, rangeAt}
 use Rattle.journal.specs.Reading.{numbersRight}
 use Rattle.journal.proofs.Behind.{both, end-twice, end-bare, end-once, whole-end}
 use Rattle.journal_meeting.proofs.Ranges.{is-replaced, is-fresh, is-blank, is-witness}
@@ -71,10 +71,10 @@ pub record Says (j : List ℕ) (kind at size place : ℕ) (r : Range) : Type 0 w
   pub begins : start r ≡ at
   pub sizes : sizeOf r ≡ size
   pub ends : stop r ≡ at + size
-  pub held : payload r ≡ part j place (copies kind * size)
+  pub held : payload r ≡ part j place (timesLong kind * size)
   pub right : (old new a p : ℕ) → rangeRight old new a p r ≡ numbersRight kind at size old new a p
 
-module _ (j : List ℕ) (kind at size place : ℕ) (held : place + copies kind * size ≤ length j) where
+module _ (j : List ℕ) (kind at size place : ℕ) (held : place + timesLong kind * size ≤ length j) where
   of-it : (r : Range) → rangeOf j kind at size place ≡ r → Says j kind at size place r → Says j kind at size place (rangeOf j kind at size place)
   of-it r e s = subst (λ (x : Range). Says j kind at size place x) (sym e) s
 
@@ -83,7 +83,7 @@ module _ (j : List ℕ) (kind at size place : ℕ) (held : place + copies kind *
       let h = end-twice kind size place e in
       let a : length (part j place size) ≡ size = length-part j place size (omega arith) in
       let b : length (part j (place + size) size) ≡ size = length-part j (place + size) size (omega arith) in
-      let c : copies kind * size ≡ size + size = omega arith in
+      let c : timesLong kind * size ≡ size + size = omega arith in
       record {
         kinds = sym e;
         begins = refl;
@@ -101,7 +101,7 @@ module _ (j : List ℕ) (kind at size place : ℕ) (held : place + copies kind *
   fresh-says e =
       let h = end-once kind size place (omega arith) (omega arith) in
       let a : length (part j place size) ≡ size = length-part j place size (omega arith) in
-      let c : copies kind * size ≡ size = omega arith in
+      let c : timesLong kind * size ≡ size = omega arith in
       record {
         kinds = sym e;
         begins = refl;
@@ -115,7 +115,7 @@ module _ (j : List ℕ) (kind at size place : ℕ) (held : place + copies kind *
   blank-says : kind ≡ 3 → Says j kind at size place (blank at size)
   blank-says e =
       let h = end-bare kind size place (omega arith) e in
-      let c : copies kind * size ≡ 0 = omega arith in
+      let c : timesLong kind * size ≡ 0 = omega arith in
       record {
         kinds = sym e;
         begins = refl;
@@ -131,7 +131,7 @@ module _ (j : List ℕ) (kind at size place : ℕ) (held : place + copies kind *
   witness-says e =
       let h = end-once kind size place (omega arith) (omega arith) in
       let a : length (part j place size) ≡ size = length-part j place size (omega arith) in
-      let c : copies kind * size ≡ size = omega arith in
+      let c : timesLong kind * size ≡ size = omega arith in
       record {
         kinds = sym e;
         begins = refl;
@@ -175,7 +175,7 @@ module _ (j : List ℕ) (m q : ℕ) (l : m ≤ length j) (w : whole j m q ≡ tr
   unfolding rangeAt behind
   whole-says = range-says j (kindAt j q) (startAt j q) (sizeAt j q) (q + 18) inside (whole-kind .0) (whole-kind .1)
 
-  pub behind-long : behind j q ≡ q + 18 + copies (kindAt j q) * sizeAt j q
+  pub behind-long : behind j q ≡ q + 18 + timesLong (kindAt j q) * sizeAt j q
   unfolding behind
   behind-long = refl
 
@@ -197,10 +197,10 @@ module _ (j : List ℕ) (m q : ℕ) (l : m ≤ length j) (w : whole j m q ≡ tr
         ∙ ap₂ (λ (x y : List ℕ). x ++ y) (two (omega arith))
         (part-add j (q + 2) 8 8 ∙ ap₂ (λ (x y : List ℕ). x ++ y) (word (q + 2) (omega arith)) (ap (λ (n : ℕ). part j n 8) d ∙ word (q + 10) (omega arith)))
 
-    pub encode-is : part j q (18 + copies (kindAt j q) * sizeAt j q) ≡ encode (placedAt j q)
+    pub encode-is : part j q (18 + timesLong (kindAt j q) * sizeAt j q) ≡ encode (placedAt j q)
     unfolding encode
     encode-is =
         let s = whole-says in
-        part-add j q 18 (copies (kindAt j q) * sizeAt j q)
+        part-add j q 18 (timesLong (kindAt j q) * sizeAt j q)
         ∙ ap₂ (λ (x y : List ℕ). x ++ y) (header-is ∙ sym (ap (λ (k : ℕ). header (fileAt j q) k (start (rangeAt j q)) (sizeOf (rangeAt j q))) (s .kinds)
         ∙ ap₂ (λ (x y : ℕ). header (fileAt j q) (kindAt j q) x y) (s .begins) (s .sizes))) (sym (s .held))

@@ -3,19 +3,20 @@ use Prim.Native.Nat.{ℕ, zero, suc, _+_, _-_, _*_, _≤_, _<_}
 use native.Mathlib.Omega.{arith}
 use mathlib.Core.Path.{_≡_, refl, sym, ap, ap₂, _∙_}
 use mathlib.Core.Logic.{_⊎_, inl, inr, ⊎-elim}
-use mathlib.Core.List.{List, [], _∷_, List·Memᴰ, List·Memᴰ·head, List·Memᴰ·tail}
-use lib.ListN.{length, getD}
-use Rattle.byte_strings.specs.Lists.{part, run}
+use mathlib.Core.List.{List, [], _∷_, _++_, List·Memᴰ, List·Memᴰ·head, List·Memᴰ·tail}
+use lib.ListN.{length, getD, take}
+use Rattle.byte_strings.specs.Lists.{part, run, zeros}
 use Rattle.byte_strings.proofs.Lists.{length-part, run-ext, run-getD}
 use Rattle.journal.specs.Ranges.{Range, Placed}
-use Rattle.journal.specs.Form.{Journal, WellFormed, encode, encodeAll, journalBytes}
+use Rattle.journal.specs.Form.{Journal, WellFormed, encode, encodeAll, body, journalBytes}
 use Rattle.journal.specs.Places.{oldAt, newAt, behind, bodyLength}
+use Rattle.journal.specs.Reading.{ownLength}
 use Rattle.journal.proofs.Behind.{behind-least, whole-end}
-use Rattle.theorem_journal_exact.specs.Exact.{Unique}
+use Rattle.theorem_journal_exact.specs.Exact.{UniqueForAll}
 use Rattle.theorem_journal_exact.proofs.Made.{Encodable, Stands, stands}
 use Rattle.theorem_journal_exact.proofs.Passes.{one-encoded, none-long, behind-part}
 use Rattle.theorem_journal_exact.proofs.Laid.{encodable}
-use Rattle.theorem_journal_exact.proofs.Encoded.{old-is, new-is, ranges-are, body-length, body-long}
+use Rattle.theorem_journal_exact.proofs.Encoded.{body-taken, old-is, new-is, ranges-are, body-length, body-long}
 
 -- ---- the ranges
 
@@ -69,21 +70,37 @@ same-states xs ys k l each = sym (run-getD xs 20 0 k) ∙ run-ext (λ i. getD xs
         (λ (e : k ≡ 2 * i). ap (λ (n : ℕ). getD xs n 0) e ∙ each i (omega arith) .0 ∙ ap (λ (n : ℕ). getD ys n 0) (sym e))
         (λ (e : k ≡ 2 * i + 1). ap (λ (n : ℕ). getD xs n 0) e ∙ each i (omega arith) .1 ∙ ap (λ (n : ℕ). getD ys n 0) (sym e)) (s .1)
 
-pub encoding-alone : (F : List ℕ → List ℕ) → ((xs : List ℕ) → length (F xs) ≡ 32) → Unique F
-encoding-alone F fl = record { alone = λ x y v w e. ap₂ (λ (ss : List ℕ) (rs : List Placed). record { states = ss; ranges = rs }) (states-alike x y v w e) (ranges-alike x y v w e) }
-  where
-    states-alike : (x y : Journal) → WellFormed x → WellFormed y → journalBytes F x ≡ journalBytes F y → x .states ≡ y .states
-    states-alike x y v w e =
-        same-states (x .states) (y .states) (v .ten) (w .ten)
-        (λ i h. (
-          sym (old-is F fl x v i h) ∙ ap (λ (z : List ℕ). oldAt z i) e ∙ old-is F fl y w i h,
-          sym (new-is F fl x v i h) ∙ ap (λ (z : List ℕ). newAt z i) e ∙ new-is F fl y w i h,
-        ))
+-- a hash of 32 bytes that says nothing
+abbrev plain : List ℕ → List ℕ
+plain xs = zeros 32
 
-    ranges-alike : (x y : Journal) → WellFormed x → WellFormed y → journalBytes F x ≡ journalBytes F y → x .ranges ≡ y .ranges
-    ranges-alike x y v w e =
-        let a = body-length F fl x v in
-        let b = body-long F fl x v in
-        same-ranges (journalBytes F x) (bodyLength (journalBytes F x)) (omega arith) (x .ranges) (y .ranges) 184 (omega arith)
-        (ranges-are F fl x v, encodable x v)
-        (ap (λ (z : List ℕ). part z 184 (bodyLength z - 184)) e ∙ ranges-are F fl y w, encodable y w)
+same-plain : (x y : Journal) → body x ≡ body y → journalBytes plain x ≡ journalBytes plain y
+unfolding journalBytes
+same-plain x y e = ap (λ (z : List ℕ). z ++ zeros 32) e
+
+module _ (x y : Journal) (v : WellFormed x) (w : WellFormed y) (e : journalBytes plain x ≡ journalBytes plain y) where
+  states-alike : x .states ≡ y .states
+  states-alike =
+      same-states (x .states) (y .states) (v .ten) (w .ten)
+      (λ i h. (
+        sym (old-is plain x v i h) ∙ ap (λ (z : List ℕ). oldAt z i) e ∙ old-is plain y w i h,
+        sym (new-is plain x v i h) ∙ ap (λ (z : List ℕ). newAt z i) e ∙ new-is plain y w i h,
+      ))
+
+  ranges-alike : x .ranges ≡ y .ranges
+  ranges-alike =
+      let a = body-length plain x v refl in
+      let b = body-long plain x v in
+      same-ranges (journalBytes plain x) (bodyLength (journalBytes plain x)) (omega arith) (x .ranges) (y .ranges) 184 (omega arith)
+      (ranges-are plain x v refl, encodable x v)
+      (ap (λ (z : List ℕ). part z 184 (bodyLength z - 184)) e ∙ ranges-are plain y w refl, encodable y w)
+
+  alike : x ≡ y
+  alike = ap₂ (λ (ss : List ℕ) (rs : List Placed). record { states = ss; ranges = rs }) states-alike ranges-alike
+
+-- the own length shows the body, whatever F is
+pub encoding-alone : UniqueForAll
+encoding-alone F =
+    record {
+      alone = λ x y v w e. alike x y v w (same-plain x y (sym (body-taken F x v) ∙ ap (λ (z : List ℕ). take (ownLength z - 32) z) e ∙ body-taken F y w));
+    }

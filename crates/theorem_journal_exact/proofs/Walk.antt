@@ -16,7 +16,7 @@ use Rattle.byte_strings.specs.Lowest.{Lowest, nowhere, first, lowest}
 use Rattle.byte_strings.proofs.Lists.{part-add}
 use Rattle.journal.specs.Ranges.{Range, stop, Placed, rangesOf}
 use Rattle.journal.specs.Form.{lengthOf, sizeOf, encodeAll, FilesRise}
-use Rattle.journal.specs.Places.{oldAt, newAt, fileAt, kindAt, startAt, sizeAt, copies, behind, whole, rangeAt}
+use Rattle.journal.specs.Places.{oldAt, newAt, fileAt, kindAt, startAt, sizeAt, timesLong, behind, whole, rangeAt}
 use Rattle.journal.specs.Reading.{isDone, numbersRight, reachOf, follows, stopAt, coveredBy, isFull, gapSays, walk}
 use Rattle.journal.specs.declared.Said.{Said}
 use Rattle.journal.specs.declared.Said.the-variants.{Range as NoRange}
@@ -164,9 +164,9 @@ module _ (j : List ℕ) (bytes : Bytes j) (m : ℕ) (ml : m ≤ length j) where
     more-encodes =
         let l = behind-long j m q ml w in
         let g = whole-end j m q 0 w in
-        let d : m - q ≡ 18 + copies (kindAt j q) * sizeAt j q + (m - behind j q) = omega arith in
-        let e : q + (18 + copies (kindAt j q) * sizeAt j q) ≡ behind j q = omega arith in
-        ap (part j q) d ∙ part-add j q (18 + copies (kindAt j q) * sizeAt j q) (m - behind j q)
+        let d : m - q ≡ 18 + timesLong (kindAt j q) * sizeAt j q + (m - behind j q) = omega arith in
+        let e : q + (18 + timesLong (kindAt j q) * sizeAt j q) ≡ behind j q = omega arith in
+        ap (part j q) d ∙ part-add j q (18 + timesLong (kindAt j q) * sizeAt j q) (m - behind j q)
         ∙ ap₂ (λ (u v : List ℕ). u ++ v) (encode-is j m q ml w bytes) (ap (λ (n : ℕ). part j n (m - behind j q)) e ∙ x .encodes)
 
     more-some : (p : Placed) → List·Memᴰ p (placedAt j q ∷ x .ps) → 1 ≤ sizeOf (p .range)

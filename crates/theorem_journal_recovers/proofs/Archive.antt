@@ -13,7 +13,8 @@ use Rattle.journal.specs.Form.{Journal, WellFormed, oldState, newState, changeO
 use Rattle.journal.proofs.Behind.{both}
 use Rattle.theorem_journal_recovers.specs.Recovers.{Before, Between, SameOutside, Writes, Written, Left, Recovers, Made}
 use Rattle.theorem_journal_recovers.specs.Archive.{File, absent, there, state, contents, Archive, sized, opened, writeFile, writeIn, writesIn, changed}
-use Rattle.theorem_journal_recovers.specs.Archive.{after, BeforeAll, BetweenFile, BetweenAll, SameAll, WritesAll, RecoversAll, MadeAll, MakesAll}
+use Rattle.theorem_journal_recovers.specs.Archive.{after, BeforeAll, BetweenFile, BetweenAll, SameAll, WritesAll, LeftAll, TornAll, RecoversAll, MadeAll, MakesAll}
+use Rattle.theorem_journal_recovers.specs.Archive.{RecoversAllForAll, MakesAllForAll}
 use Rattle.theorem_journal_recovers.proofs.Recovers.{journal-recovers, journal-makes}
 
 -- ---- the ranges of one file
@@ -102,12 +103,15 @@ module _ (x : Journal) (w : WellFormed x) where
       let h = b .high in
       record { low = omega arith; high = omega arith; mixed = b .mixed }
 
+  only-one : (ws : List Placed) → ((p : Placed) → List·Memᴰ p ws → List·Memᴰ p (x .ranges)) → (i : ℕ) (r : Range) → In r (rangesOf i ws) → In r (rangesOf i (x .ranges))
+  only-one ws only i r m =
+      let y = from-placed i ws r m in
+      subst (λ (q : Range). In q (rangesOf i (x .ranges))) (y .3) (to-placed i (x .ranges) (y .0) (only (y .0) (y .1)) (y .2))
+
   writes-one : (ws : List Placed) → WritesAll x ws → (i : ℕ) → Writes (changeOf x i) (rangesOf i ws)
   writes-one ws a i =
       record {
-        only = λ r m.
-            let y = from-placed i ws r m in
-            subst (λ (q : Range). In q (rangesOf i (x .ranges))) (y .3) (to-placed i (x .ranges) (y .0) (a .only (y .0) (y .1)) (y .2));
+        only = only-one ws (a .only) i;
         each = λ r m v.
             let y = from-placed i (x .ranges) r m in
             subst (λ (q : Range). In q (rangesOf i ws)) (y .3)
@@ -158,20 +162,75 @@ module _ (x : Journal) (w : WellFormed x) where
         let g = grow i h in
         record { low = omega arith; high = omega arith; mixed = one i h .between (contents (after x B i)) (s .1) .mixed }
 
-    pub archive-recovers : RecoversAll x B
-    archive-recovers =
+    -- what a stop can leave of one file
+    pub record LeftFile (i : ℕ) (f : File) : Type 0 where
+      pub low : oldState x i ≤ state f
+      pub high : state f ≤ newState x i
+      pub each : Left (changeOf x i) (contents (B i)) (contents f)
+
+    left-all : (A : Archive) → ((i : ℕ) → i < 10 → LeftFile i (A i)) → LeftAll x B A
+    left-all A z = record { low = λ i h. z i h .low; high = λ i h. z i h .high; each = λ i h. z i h .each }
+
+    before-left : (i : ℕ) → i < 10 → LeftFile i (B i)
+    before-left i h =
+        let e = before .states i h in
+        let g = grow i h in
+        record { low = omega arith; high = omega arith; each = one i h .before }
+
+    after-left : (i : ℕ) → i < 10 → LeftFile i (after x B i)
+    after-left i h =
+        let s = after-state i h (newState x i) refl in
+        let e = s .0 in
+        let g = grow i h in
+        record { low = omega arith; high = omega arith; each = s .1 }
+
+    module _ (A : Archive) (l : LeftAll x B A) where
+      left-both : BetweenAll x A × SameAll x B A
+      left-both = (
+        λ i h. record { low = l .low i h; high = l .high i h; mixed = one i h .between (contents (A i)) (l .each i h) .mixed },
+        λ i h. one i h .outside (contents (A i)) (l .each i h),
+      )
+
+      torn-left : (T : Archive) → TornAll x B A T → LeftAll x B T
+      torn-left T t = record { low = t .low; high = t .high; each = λ i h. one i h .torn (contents (A i)) (contents (T i)) (l .each i h) (t .each i h) }
+
+      -- a file that stays absent has nothing written, and one that gets a length has some of its ranges
+      stopped-file : (ws : List Placed) → ((p : Placed) → List·Memᴰ p ws → List·Memᴰ p (x .ranges)) → (i : ℕ) → i < 10 → (n : ℕ) → newState x i ≡ n
+          → LeftFile i (writeFileAll (rangesOf i ws) (sized n (A i)))
+      stopped-file ws only i h zero e =
+          let k = l .high i h in
+          let p : A i ≡ absent = no-state (A i) (omega arith) in
+          subst (λ (f : File). LeftFile i f) (p ∙ sym (ap (writeFileAll (rangesOf i ws)) p)) (record { low = l .low i h; high = l .high i h; each = l .each i h })
+      stopped-file ws only i h (suc n) e =
+          let d : changeOf x i .new ≡ n = omega arith in
+          let t : Left (changeOf x i) (contents (B i)) (writeAll (rangesOf i ws) (grown n (contents (A i)))) =
+          subst (λ (m : ℕ). Left (changeOf x i) (contents (B i)) (writeAll (rangesOf i ws) (grown m (contents (A i))))) d
+          (one i h .stopped (contents (A i)) (l .each i h) (rangesOf i ws) (only-one ws only i)) in
+          let a = t .low in
+          let b = t .high in
+          record { low = omega arith; high = omega arith; each = t }
+
+      stopped-left : (ws : List Placed) → ((p : Placed) → List·Memᴰ p ws → List·Memᴰ p (x .ranges)) → LeftAll x B (writesIn ws (opened x A))
+      stopped-left ws only =
+          left-all (writesIn ws (opened x A))
+          (λ i h. subst (λ (f : File). LeftFile i f) (sym (writes-file ws (opened x A) i)) (stopped-file ws only i h (newState x i) refl))
+
+    recovers-all : RecoversAll x B
+    recovers-all =
         record {
           anyOrder = any-order;
           before = before-between;
           afterwards = after-between;
-          left = λ A l. (
-            λ i h. record { low = l .low i h; high = l .high i h; mixed = one i h .between (contents (A i)) (l .each i h) .mixed },
-            λ i h. one i h .outside (contents (A i)) (l .each i h),
-          );
+          left = left-both;
+          beforeLeft = left-all B before-left;
+          afterLeft = left-all (after x B) after-left;
+          torn = λ A T l. torn-left A l T;
+          stopped = stopped-left;
+          heals = λ A l. any-order A (left-both A l .0) (left-both A l .1);
         }
 
-  pub archive-makes : (B A : Archive) → MadeAll x B A → MakesAll x B A
-  archive-makes B A m = record { before = before-all; becomes = λ i h. at-file i h (newState x i) refl (A i) refl }
+  makes-all : (B A : Archive) → MadeAll x B A → MakesAll x B A
+  makes-all B A m = record { before = before-all; becomes = λ i h. at-file i h (newState x i) refl (A i) refl }
     where
       made : (i : ℕ) → i < 10 → Made (changeOf x i) (contents (B i)) (contents (A i))
       made i h =
@@ -194,3 +253,9 @@ module _ (x : Journal) (w : WellFormed x) where
       at-file i h (suc n) e absent d = let k = m .new i h in let z : state (A i) ≡ 0 = ap state d in absurd (omega arith)
       at-file i h (suc n) e (there f) d =
           ap there (journal-makes (changeOf x i) (w .sound i h) (contents (B i)) (contents (A i)) (made i h) .after ∙ ap contents d) ∙ sym d
+
+pub archive-recovers : RecoversAllForAll
+archive-recovers = recovers-all
+
+pub archive-makes : MakesAllForAll
+archive-makes = makes-all

@@ -12,7 +12,7 @@ use Rattle.byte_strings.proofs.Lists.{getD-part, length-part}
 use Rattle.journal.specs.Ranges.{Range, replaced, fresh, blank, witness, start, bytes, Change, writeAll, grown, applied}
 use Rattle.journal.specs.Form.{Holds, Free, In, FreeAt, Sound}
 use Rattle.theorem_journal_recovers.specs.Recovers.{Written, Outside}
-use Rattle.theorem_journal_recovers.specs.Recovers.{Old, Before, Mixed, Between, SameOutside, Writes, Left, Torn, Recovers, MadeFrom, Made, MakesAfter}
+use Rattle.theorem_journal_recovers.specs.Recovers.{Old, Before, Mixed, Between, SameOutside, Writes, Left, Torn, Recovers, RecoversForAll, MadeFrom, Made, MakesAfter, MakesAfterForAll}
 use Rattle.theorem_journal_recovers.proofs.Places.{here, AllWithin, AllSay, all-length, all-keep, all-make, all-either, rising-within, rising-one, found, grown-length, grown-at}
 
 -- a part says each of its bytes
@@ -200,8 +200,8 @@ module _ (c : Change) (sound : Sound c) where
         at-place i h (inr o) =
             same i (getD (writeAll ws (grown (c .new) f)) i 0) h (untouched f (p .high) ws only i (omega (arith, p .low)) o)
 
-    pub journal-recovers : Recovers c b
-    journal-recovers =
+    all-recovers : Recovers c b
+    all-recovers =
         record {
           recovers = recovers;
           anyOrder = any-order;
@@ -237,8 +237,8 @@ module _ (c : Change) (sound : Sound c) where
       there (blank at k) y = ap (part a at) (length-replicate {A = ℕ} k 0) ∙ y
       there (witness at w) y = y .1
 
-  pub journal-makes : (b a : List ℕ) → Made c b a → MakesAfter c b a
-  journal-makes b a m = record { before = q; after = ext-getD 0 (applied c b) a (after-long b q ∙ sym (m .new)) (λ i h. at-place i h (found (c .ranges) i)) }
+  made-after : (b a : List ℕ) → Made c b a → MakesAfter c b a
+  made-after b a m = record { before = q; after = ext-getD 0 (applied c b) a (after-long b q ∙ sym (m .new)) (λ i h. at-place i h (found (c .ranges) i)) }
     where
       q : Before c b
       q = made-before b a m
@@ -248,3 +248,9 @@ module _ (c : Change) (sound : Sound c) where
       at-place i h (inr o) =
           let g : i < c .old = below i (omega (arith, after-long b q)) o (decLe (c .old) i) in
           after-outside b q i g o ∙ sym (m .same i g o)
+
+pub journal-recovers : RecoversForAll
+journal-recovers = all-recovers
+
+pub journal-makes : MakesAfterForAll
+journal-makes = made-after

@@ -6,8 +6,8 @@ use mathlib.Core.List.{List, [], _∷_, List·Memᴰ}
 use lib.ListN.{length}
 use lib.Dec.{eqb}
 use Rattle.journal.specs.Ranges.{Range, Placed, rangesOf, write, grown, applied}
-use Rattle.journal.specs.Form.{Journal, oldState, newState, changeOf, stateOf, In}
-use Rattle.theorem_journal_recovers.specs.Recovers.{Old, Mixed, SameOutside, Left, MadeFrom, Written}
+use Rattle.journal.specs.Form.{Journal, WellFormed, oldState, newState, changeOf, stateOf, In}
+use Rattle.theorem_journal_recovers.specs.Recovers.{Old, Mixed, SameOutside, Left, Torn, MadeFrom, Written}
 
 -- a file of an archive
 pub data File : Type 0 where
@@ -84,7 +84,13 @@ pub record LeftAll (x : Journal) (B A : Archive) : Type 0 where
   pub high : (i : ℕ) → i < 10 → state (A i) ≤ newState x i
   pub each : (i : ℕ) → i < 10 → Left (changeOf x i) (contents (B i)) (contents (A i))
 
--- the claim, of every well-formed journal and every archive before
+-- an archive torn from A: each file's state is between, each byte that of A or the one after, or anything in a range of kind 2 or 3
+pub record TornAll (x : Journal) (B A T : Archive) : Type 0 where
+  pub low : (i : ℕ) → i < 10 → oldState x i ≤ state (T i)
+  pub high : (i : ℕ) → i < 10 → state (T i) ≤ newState x i
+  pub each : (i : ℕ) → i < 10 → Torn (changeOf x i) (contents (B i)) (contents (A i)) (contents (T i))
+
+-- the claim, of a well-formed journal x and an archive B before
 pub record RecoversAll (x : Journal) (B : Archive) : Type 0 where
   -- "in any order and as often as it takes": on every archive between that is right outside the ranges, the writes give the archive after
   pub anyOrder : (A : Archive) → BetweenAll x A → SameAll x B A → (ws : List Placed) → WritesAll x ws → (i : ℕ) → i < 10 → writesIn ws (opened x A) i ≡ after x B i
@@ -92,6 +98,18 @@ pub record RecoversAll (x : Journal) (B : Archive) : Type 0 where
   pub before : BetweenAll x B
   pub afterwards : BetweenAll x (after x B)
   pub left : (A : Archive) → LeftAll x B A → BetweenAll x A × SameAll x B A
+  -- before and after are what a stop can leave, and so is all that is torn from that
+  pub beforeLeft : LeftAll x B B
+  pub afterLeft : LeftAll x B (after x B)
+  pub torn : (A T : Archive) → LeftAll x B A → TornAll x B A T → LeftAll x B T
+  -- writes of some of the ranges, a recovery that is stopped between two writes, leave such an archive
+  pub stopped : (A : Archive) → LeftAll x B A → (ws : List Placed) → ((p : Placed) → List·Memᴰ p ws → List·Memᴰ p (x .ranges)) → LeftAll x B (writesIn ws (opened x A))
+  -- so whatever a stop left becomes the archive after, in any order and with any repetition
+  pub heals : (A : Archive) → LeftAll x B A → (ws : List Placed) → WritesAll x ws → (i : ℕ) → i < 10 → writesIn ws (opened x A) i ≡ after x B i
+
+-- of every well-formed journal and every archive before
+abbrev pub RecoversAllForAll : Type 0
+RecoversAllForAll = (x : Journal) → WellFormed x → (B : Archive) → BeforeAll x B → RecoversAll x B
 
 -- two archives from which a journal was made: each range has what stands in them, and outside they agree
 pub record MadeAll (x : Journal) (B A : Archive) : Type 0 where
@@ -104,3 +122,7 @@ pub record MadeAll (x : Journal) (B A : Archive) : Type 0 where
 pub record MakesAll (x : Journal) (B A : Archive) : Type 0 where
   pub before : BeforeAll x B
   pub becomes : (i : ℕ) → i < 10 → after x B i ≡ A i
+
+-- of every well-formed journal and every two archives that it was made from
+abbrev pub MakesAllForAll : Type 0
+MakesAllForAll = (x : Journal) → WellFormed x → (B A : Archive) → MadeAll x B A → MakesAll x B A

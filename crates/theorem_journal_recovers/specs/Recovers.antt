@@ -6,7 +6,7 @@ use mathlib.Core.List.{List}
 use lib.ListN.{length, getD}
 use Rattle.byte_strings.specs.Lists.{part, zeros}
 use Rattle.journal.specs.Ranges.{Range, replaced, fresh, blank, witness, Change, grown, writeAll, applied}
-use Rattle.journal.specs.Form.{In, Holds, FreeAt}
+use Rattle.journal.specs.Form.{In, Holds, FreeAt, Sound}
 
 -- a range that is written: all but a witness
 abbrev pub Written : Range → Type 0
@@ -66,7 +66,7 @@ pub record Torn (c : Change) (b f g : List ℕ) : Type 0 where
   pub high : length g ≤ c .new
   pub each : (i : ℕ) → i < c .old → (getD g i 0 ≡ getD f i 0) ⊎ ((getD g i 0 ≡ getD (applied c b) i 0) ⊎ FreeAt c i)
 
--- the claim, of every sound change and every file before
+-- the claim, of a sound change c and a file b before it
 pub record Recovers (c : Change) (b : List ℕ) : Type 0 where
   -- A: every file between that is right outside the ranges becomes the file after
   pub recovers : (f : List ℕ) → Between c f → SameOutside c b f → applied c f ≡ applied c b
@@ -84,6 +84,10 @@ pub record Recovers (c : Change) (b : List ℕ) : Type 0 where
   pub stopped : (f : List ℕ) → Left c b f → (ws : List Range) → ((r : Range) → In r ws → In r (c .ranges)) → Left c b (writeAll ws (grown (c .new) f))
   -- so whatever a stop left becomes the file after, in any order and with any repetition
   pub heals : (f : List ℕ) → Left c b f → (ws : List Range) → Writes c ws → writeAll ws (grown (c .new) f) ≡ applied c b
+
+-- of every sound change and every file before
+abbrev pub RecoversForAll : Type 0
+RecoversForAll = (c : Change) → Sound c → (b : List ℕ) → Before c b → Recovers c b
 
 -- a range that was made from the file before and the file after
 abbrev pub MadeFrom : List ℕ → List ℕ → Range → Type 0
@@ -103,3 +107,7 @@ pub record Made (c : Change) (b a : List ℕ) : Type 0 where
 pub record MakesAfter (c : Change) (b a : List ℕ) : Type 0 where
   pub before : Before c b
   pub after : applied c b ≡ a
+
+-- of every sound change and every two files that it was made from
+abbrev pub MakesAfterForAll : Type 0
+MakesAfterForAll = (c : Change) → Sound c → (b a : List ℕ) → Made c b a → MakesAfter c b a

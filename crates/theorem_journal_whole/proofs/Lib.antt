@@ -3,4 +3,5 @@ pub mod Mixed
 pub mod OneFile
 pub mod Gives
 pub mod Making
+pub mod Sealed
 pub mod Whole

@@ -11,7 +11,7 @@ use lib.Dec.{eqb, leb}
 use borrow.Author.Tests.{eq-eqb, le-leb}
 use Rattle.byte_strings.specs.Lists.{put, zeros}
 use Rattle.byte_strings.specs.Numbers.{be}
-use Rattle.byte_strings.proofs.Lists.{drop-behind, length-put}
+use Rattle.byte_strings.proofs.Lists.{drop-behind, length-put, take-put}
 use Rattle.byte_strings.proofs.Numbers.{length-be}
 use Rattle.journal.specs.Ranges.{Range, replaced, fresh, blank, witness, start, Placed}
 use Rattle.journal.specs.Form.{Journal, WellFormed, kindOf, sizeOf, payload, header, encode, encodeAll, magic, words, longOf, body, journalBytes}
@@ -22,12 +22,13 @@ use Rattle.journal.proofs.Answers.{done-written}
 use Rattle.journal_making.specs.Making.{beginSaid, begun, fitting, roomFor, rangeBytes, putAfter, endSaid, sealed, endAfter}
 use Rattle.journal_making.proofs.Answers.{begin-done, put-done, end-done}
 use Rattle.journal_making.proofs.Puts.{put-next}
+use Rattle.theorem_journal_exact.specs.Exact.{Hashed}
 use Rattle.theorem_journal_exact.proofs.Test.{joint}
 use Rattle.theorem_journal_exact.proofs.Made.{Alike, header-long}
 use Rattle.theorem_journal_exact.proofs.Passes.{one-encoded}
 use Rattle.theorem_journal_exact.proofs.Laid.{words-long, below-ten, encodable, laid-front, laid-table}
 use Rattle.theorem_journal_exact.proofs.Encoded.{body-long}
-use Rattle.theorem_journal_whole.specs.Making.{oldBytes, newBytes, saysPut, afterPut, PutsDone, putAll, filled, rangesEnd, Makes}
+use Rattle.theorem_journal_whole.specs.Making.{oldBytes, newBytes, saysPut, afterPut, PutsDone, putAll, filled, rangesEnd, Makes, MakesForAll}
 
 -- ---- one range
 
@@ -124,19 +125,55 @@ hashed xs tail h q e hl =
     ∙ ap (take (q + 32)) (sym (append-assoc xs h (drop (q + length h) (xs ++ tail))))
     ∙ take-at (xs ++ h) (drop (q + length h) (xs ++ tail)) (q + 32) (length-append xs h ∙ omega arith)
 
-module _ (F : List ℕ → List ℕ) (fl : (xs : List ℕ) → length (F xs) ≡ 32) (x : Journal) (w : WellFormed x) (j : List ℕ) (room : longOf x ≤ length j) where
+-- what the end writes, where a well-formed journal was laid, whatever stood for its own length and behind it
+module _ (F : List ℕ → List ℕ) (x : Journal) (w : WellFormed x) (zs tail : List ℕ) (zl : length zs ≡ 8) where
+  abbrev pub laidEnd : ℕ
+  laidEnd = 184 + length (encodeAll (x .ranges))
+
+  abbrev pub laid : List ℕ
+  laid = magic ++ (zs ++ (words (x .states) ++ (encodeAll (x .ranges) ++ tail)))
+
+  long-is : longOf x ≡ laidEnd + 32
+  unfolding longOf
+  long-is = refl
+
+  own : put laid 16 (be 8 (laidEnd + 32)) ≡ body x ++ tail
+  unfolding body
+  own =
+      owned (be 8 (laidEnd + 32)) zs (words (x .states) ++ (encodeAll (x .ranges) ++ tail)) (length-be 8 (laidEnd + 32)) zl
+      ∙ ap (λ (n : ℕ). magic ++ (be 8 n ++ (words (x .states) ++ (encodeAll (x .ranges) ++ tail)))) (sym long-is)
+      ∙ ap (λ (z : List ℕ). magic ++ (be 8 (longOf x) ++ z)) (sym (append-assoc (words (x .states)) (encodeAll (x .ranges)) tail))
+      ∙ ap (λ (z : List ℕ). magic ++ z) (sym (append-assoc (be 8 (longOf x)) (words (x .states) ++ encodeAll (x .ranges)) tail))
+      ∙ sym (append-assoc magic (be 8 (longOf x) ++ (words (x .states) ++ encodeAll (x .ranges))) tail)
+
+  pub owned-body : take laidEnd (put laid 16 (be 8 (laidEnd + 32))) ≡ body x
+  owned-body = ap (take laidEnd) own ∙ take-at (body x) tail laidEnd (body-long F x w)
+
+  pub sealed-front : take laidEnd (sealed F laid laidEnd) ≡ body x
+  unfolding sealed
+  sealed-front =
+      let l = length-append (body x) tail in
+      let m : length (body x) ≡ laidEnd = body-long F x w in
+      let n : length (put laid 16 (be 8 (laidEnd + 32))) ≡ length (body x ++ tail) = ap length own in
+      take-put laidEnd (put laid 16 (be 8 (laidEnd + 32))) laidEnd (F (take laidEnd (put laid 16 (be 8 (laidEnd + 32))))) (omega arith) (omega arith) ∙ owned-body
+
+  pub sealed-is : Hashed F x → take (laidEnd + 32) (sealed F laid laidEnd) ≡ journalBytes F x
+  unfolding sealed journalBytes
+  sealed-is fl =
+      let l : length (body x) ≡ laidEnd = body-long F x w in
+      ap (λ (z : List ℕ). take (laidEnd + 32) (put z laidEnd (F (take laidEnd z)))) own
+      ∙ ap (λ (z : List ℕ). take (laidEnd + 32) (put (body x ++ tail) laidEnd (F z))) (take-at (body x) tail laidEnd l)
+      ∙ hashed (body x) tail (F (body x)) laidEnd l fl
+
+module _ (F : List ℕ → List ℕ) (x : Journal) (w : WellFormed x) (fl : Hashed F x) (j : List ℕ) (room : longOf x ≤ length j) where
   abbrev start-bytes : List ℕ
   start-bytes = magic ++ (zeros 8 ++ words (x .states))
 
   abbrev q : ℕ
   q = 184 + length (encodeAll (x .ranges))
 
-  long-is : longOf x ≡ q + 32
-  unfolding longOf
-  long-is = refl
-
   end-is : rangesEnd x ≡ q
-  end-is = let l = long-is in omega arith
+  end-is = let l = long-is F x w (zeros 8) [] refl in omega arith
 
   start-long : length start-bytes ≡ 184
   start-long =
@@ -145,7 +182,7 @@ module _ (F : List ℕ → List ℕ) (fl : (xs : List ℕ) → length (F xs) ≡
       length-append magic (zeros 8 ++ words (x .states)) ∙ omega (arith, length-append (zeros 8) (words (x .states)))
 
   begin-says : beginSaid j ≡ Done 184
-  begin-says = let l = long-is in sym (begin-done j (omega arith))
+  begin-says = let l = long-is F x w (zeros 8) [] refl in sym (begin-done j (omega arith))
 
   begin-gives : begun (x .states) j ≡ put j 0 start-bytes
   unfolding begun
@@ -153,7 +190,7 @@ module _ (F : List ℕ → List ℕ) (fl : (xs : List ℕ) → length (F xs) ≡
 
   all-put : Filled j start-bytes 184 (x .ranges)
   all-put =
-      let l = long-is in
+      let l = long-is F x w (zeros 8) [] refl in
       let s = start-long in
       fill j (x .ranges) start-bytes 184 (sym s) (omega arith) (λ p k. (below-ten 0 (x .ranges) p (w .files) k, encodable x w p k .alike))
 
@@ -174,7 +211,7 @@ module _ (F : List ℕ → List ℕ) (fl : (xs : List ℕ) → length (F xs) ≡
 
   full-long : length full ≡ length j
   full-long =
-      let l = long-is in
+      let l = long-is F x w (zeros 8) [] refl in
       let s = start-long in
       let n = length-append start-bytes (encodeAll (x .ranges)) in
       ap length (sym filled-is ∙ ap (λ (b : List ℕ). putAll b 184 (x .ranges)) begin-gives ∙ all-put .gives) ∙ length-put j 0 (start-bytes ++ encodeAll (x .ranges)) (omega arith)
@@ -182,42 +219,30 @@ module _ (F : List ℕ → List ℕ) (fl : (xs : List ℕ) → length (F xs) ≡
   right : lengthRight (q + 32) ≡ true
   unfolding lengthRight
   right =
-      let l = long-is in
+      let l = long-is F x w (zeros 8) [] refl in
       let b = w .bound in
       joint (leb 216 (q + 32)) (leb (q + 32) 268435456) (le-leb 216 (q + 32) (omega arith)) (le-leb (q + 32) 268435456 (omega arith))
 
   end-says : endSaid full q ≡ Done (q + 32)
   end-says =
-      let l = long-is in
+      let l = long-is F x w (zeros 8) [] refl in
       let n = full-long in
       sym (end-done full q (omega arith) right (laid-front x w full (zeros 8) tail refl refl) (table full q) refl (ap isDone (laid-table x w full (zeros 8) tail refl refl)))
-
-  own : put full 16 (be 8 (q + 32)) ≡ body x ++ tail
-  unfolding body
-  own =
-      owned (be 8 (q + 32)) (zeros 8) rest (length-be 8 (q + 32)) refl
-      ∙ ap (λ (n : ℕ). magic ++ (be 8 n ++ rest)) (sym long-is)
-      ∙ ap (λ (z : List ℕ). magic ++ (be 8 (longOf x) ++ z)) (sym (append-assoc (words (x .states)) (encodeAll (x .ranges)) tail))
-      ∙ ap (λ (z : List ℕ). magic ++ z) (sym (append-assoc (be 8 (longOf x)) (words (x .states) ++ encodeAll (x .ranges)) tail))
-      ∙ sym (append-assoc magic (be 8 (longOf x) ++ (words (x .states) ++ encodeAll (x .ranges))) tail)
-
-  sealed-is : take (q + 32) (sealed F full q) ≡ journalBytes F x
-  unfolding sealed journalBytes
-  sealed-is =
-      let l : length (body x) ≡ q = body-long F fl x w in
-      ap (λ (z : List ℕ). take (q + 32) (put z q (F (take q z)))) own
-      ∙ ap (λ (z : List ℕ). take (q + 32) (put (body x ++ tail) q (F z))) (take-at (body x) tail q l)
-      ∙ hashed (body x) tail (F (body x)) q l (fl (body x))
 
   end-gives : endAfter F full q ≡ sealed F full q
   unfolding endAfter
   end-gives = sym (done-written _ (endSaid full q) (sealed F full q) full refl (sym end-says))
 
-  pub made : Makes F x j
-  made =
+  all-made : Makes F x j
+  all-made =
       record {
         begins = begin-says;
         puts = subst (λ (b : List ℕ). PutsDone b 184 (x .ranges)) (sym begin-gives) (all-put .done);
-        ends = ap₂ endSaid filled-is end-is ∙ end-says ∙ ap Done (sym long-is);
-        bytes = ap (λ (n : ℕ). take n (endAfter F (filled x j) (rangesEnd x))) long-is ∙ ap (take (q + 32)) (ap₂ (endAfter F) filled-is end-is ∙ end-gives) ∙ sealed-is;
+        ends = ap₂ endSaid filled-is end-is ∙ end-says ∙ ap Done (sym (long-is F x w (zeros 8) tail refl));
+        bytes =
+            ap (λ (n : ℕ). take n (endAfter F (filled x j) (rangesEnd x))) (long-is F x w (zeros 8) tail refl)
+            ∙ ap (take (q + 32)) (ap₂ (endAfter F) filled-is end-is ∙ end-gives) ∙ sealed-is F x w (zeros 8) tail refl fl;
       }
+
+pub made : MakesForAll
+made = all-made

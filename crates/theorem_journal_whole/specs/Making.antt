@@ -1,13 +1,19 @@
 -- A journal made: begin, a call for each range, the end.
-use Prim.Native.Nat.{ℕ, _+_, _-_}
+use Prim.Native.Nat.{ℕ, _+_, _-_, _≤_}
 use mathlib.Core.Path.{_≡_}
+use mathlib.Core.Logic.{_↔_}
+use mathlib.Core.Bool.{true}
 use mathlib.Core.List.{List, [], _∷_}
 use lib.ListN.{length, take}
+use Rattle.byte_strings.specs.Lists.{Bytes}
+use Rattle.file_format.specs.Messages.{HashFunction}
 use Rattle.journal.specs.Ranges.{Range, replaced, fresh, blank, witness, start, Placed}
-use Rattle.journal.specs.Form.{Journal, kindOf, sizeOf, encode, front, hashBytes, longOf, journalBytes}
+use Rattle.journal.specs.Form.{Journal, WellFormed, kindOf, sizeOf, encode, front, hashBytes, longOf, body, journalBytes}
+use Rattle.journal.specs.Reading.{read, isDone}
 use Rattle.journal.specs.declared.Said.{Said}
 use Rattle.journal.specs.declared.Said.the-variants.{Done}
 use Rattle.journal_making.specs.Making.{beginSaid, begun, putSaid, putAfter, endSaid, endAfter}
+use Rattle.theorem_journal_exact.specs.Exact.{Hashed}
 
 -- the old and the new bytes that a range is put with; a witness's are old ones
 abbrev pub oldBytes : Range → List ℕ
@@ -49,9 +55,32 @@ filled x j = putAll (begun (x .states) j) front (x .ranges)
 abbrev pub rangesEnd : Journal → ℕ
 rangesEnd x = longOf x - hashBytes
 
--- the claim, of every well-formed journal x and every buffer j that has room for it: all calls are done, and then the buffer begins with the journal's bytes
+-- the claim, of a well-formed journal x and a buffer j that has room for it: all calls are done, and then the buffer begins with the journal's bytes
 pub record Makes (F : List ℕ → List ℕ) (x : Journal) (j : List ℕ) : Type 0 where
   pub begins : beginSaid j ≡ Done front
   pub puts : PutsDone (begun (x .states) j) front (x .ranges)
   pub ends : endSaid (filled x j) (rangesEnd x) ≡ Done (longOf x)
   pub bytes : take (longOf x) (endAfter F (filled x j) (rangesEnd x)) ≡ journalBytes F x
+
+-- of every well-formed journal, with every F whose hash of it has 32 bytes, in every buffer with room
+abbrev pub MakesForAll : Type 0
+MakesForAll = (F : List ℕ → List ℕ) (x : Journal) → WellFormed x → Hashed F x → (j : List ℕ) → longOf x ≤ length j → Makes F x j
+
+-- what the end seals at q
+abbrev pub sealedBytes : (List ℕ → List ℕ) → List ℕ → ℕ → List ℕ
+sealedBytes F j q = take (q + hashBytes) (endAfter F j q)
+
+-- the claim, of a buffer j where the end at q is done, however it was filled: it seals a well-formed journal, and reading accepts that
+pub record Seals (F : List ℕ → List ℕ) (j : List ℕ) (q : ℕ) : Type 0 where
+  pub journal : Journal
+  pub formed : WellFormed journal
+  pub before : take q (endAfter F j q) ≡ body journal
+  pub bytes : Hashed F journal → sealedBytes F j q ≡ journalBytes F journal
+  -- reading accepts it exactly where its hash has 32 bytes
+  pub exactly : (read F (sealedBytes F j q) ≡ Done (q + hashBytes)) ↔ Hashed F journal
+  -- so always with a function F from byte strings to 32 bytes
+  pub accepted : HashFunction F → read F (sealedBytes F j q) ≡ Done (q + hashBytes)
+
+-- of every buffer, whatever function stands in for BLAKE2b
+abbrev pub SealsForAll : Type 0
+SealsForAll = (F : List ℕ → List ℕ) (j : List ℕ) (q : ℕ) → Bytes j → isDone (endSaid j q) ≡ true → Seals F j q

@@ -1,20 +1,21 @@
 -- A journal that reading accepts: all its files judged, one after the other, and what writing gives then.
-use Prim.Native.Nat.{ℕ, _+_, _-_, _<_}
+use Prim.Native.Nat.{ℕ, _+_, _-_, _≤_, _<_}
 use mathlib.Core.Path.{_≡_}
 use mathlib.Core.Logic.{_↔_}
 use mathlib.Core.Bool.{Bool, true, false}
 use mathlib.Core.List.{List, [], _∷_}
 use lib.ListN.{length}
 use lib.Dec.{ltb}
-use Rattle.byte_strings.specs.Lists.{part}
+use Rattle.byte_strings.specs.Lists.{part, Bytes}
 use Rattle.journal.specs.Ranges.{Range, replaced, fresh, blank, witness, start, Placed}
-use Rattle.journal.specs.Form.{Journal, kindOf, sizeOf, encodeAll, front}
-use Rattle.journal.specs.Places.{fileAt, kindAt, startAt, sizeAt, newPlace, behind, bodyLength}
-use Rattle.journal.specs.Reading.{nextSaid}
+use Rattle.journal.specs.Form.{Journal, WellFormed, kindOf, sizeOf, encodeAll, front, journalBytes, oldState, newState}
+use Rattle.journal.specs.Places.{oldAt, newAt, fileAt, kindAt, startAt, sizeAt, newPlace, behind, bodyLength}
+use Rattle.journal.specs.Reading.{read, isDone, nextSaid, ifDone, statesSaid}
 use Rattle.journal.specs.declared.Said.the-variants as said
-use Rattle.journal.specs.declared.Said.the-variants.{Done}
+use Rattle.journal.specs.declared.Said.the-variants.{Done, Unfit}
 use Rattle.journal_meeting.specs.Between.{between}
 use Rattle.theorem_journal_recovers.specs.Archive.{File, absent, there, contents, Archive, BeforeAll, BetweenFile, SameAll, WritesAll, opened, writesIn, after}
+use Rattle.theorem_journal_exact.specs.Exact.{Hashed}
 
 -- the ranges of the file i and of those behind it
 unfoldable pub fromFile : ℕ → List Placed → List Placed
@@ -53,11 +54,19 @@ abbrev pub Gives : List ℕ → ℕ → List Placed → Type 0
 Gives j q [] = nextSaid j q ≡ said.Range q
 Gives j q (p ∷ ps) = (nextSaid j q ≡ Done (behind j q)) × Names j q p × Gives j (behind j q) ps
 
+-- what the call on the states of the file i leaves in two numbers lent
+abbrev pub statesLeft : List ℕ → ℕ → List ℕ → List ℕ
+statesLeft j i lent = ifDone (statesSaid j i) (oldAt j i ∷ newAt j i ∷ []) lent
+
 -- the claim, of the bytes j that encode the journal x
 pub record Judges (j : List ℕ) (x : Journal) : Type 0 where
   -- the first file's ranges begin behind the table, and behind the last file's stands the hash
   pub first : placeIn j x 0 ≡ front
   pub last : placeIn j x 10 ≡ bodyLength j
+  -- the states that the call answers are the journal's, of ten files and no other
+  pub statesDone : (i : ℕ) → i < 10 → statesSaid j i ≡ Done 0
+  pub states : (i : ℕ) → i < 10 → (lent : List ℕ) → statesLeft j i lent ≡ oldState x i ∷ newState x i ∷ []
+  pub noFile : (i : ℕ) → 10 ≤ i → statesSaid j i ≡ Unfit
   -- the call is exact
   pub exactly : (i : ℕ) → i < 10 → (f : File) → SaysBetween j x i f ↔ BetweenFile x i f
   -- the writes that the calls answer are the journal's
@@ -65,3 +74,11 @@ pub record Judges (j : List ℕ) (x : Journal) : Type 0 where
   -- so ten calls judge an archive before the first byte is written, and then writes in any order and with any repetition give the archive after
   pub settles : (B A : Archive) → BeforeAll x B → ((i : ℕ) → i < 10 → SaysBetween j x i (A i)) → SameAll x B A → (ws : List Placed) → WritesAll x ws
       → (i : ℕ) → i < 10 → writesIn ws (opened x A) i ≡ after x B i
+
+-- of every well-formed journal, with every F whose hash of it has 32 bytes
+abbrev pub JudgesForAll : Type 0
+JudgesForAll = (F : List ℕ → List ℕ) (x : Journal) → WellFormed x → Hashed F x → Judges (journalBytes F x) x
+
+-- so of all bytes that reading accepts, whatever function stands in for BLAKE2b
+abbrev pub AcceptedForAll : Type 0
+AcceptedForAll = (F : List ℕ → List ℕ) (j : List ℕ) → Bytes j → isDone (read F j) ≡ true → (x : Journal) × WellFormed x × (j ≡ journalBytes F x) × Judges j x

@@ -9,8 +9,8 @@ use borrow.Author.Tests.{lt-ltb, le-leb}
 use lib.Dec.{ltb}
 use lib.ListN.{length, getD, take}
 use lib.Seq.{length-take-le}
-use Rattle.refusals.specs.Verdict.{Verdict, tree, done, refused}
-use Rattle.byte_strings.specs.Lists.{part, joined, total, sameList}
+use Rattle.refusals.specs.Verdict.{Verdict, tree, done, refused, unlessRefused}
+use Rattle.byte_strings.specs.Lists.{part, joined, total, sameList, put}
 use Rattle.byte_strings.specs.Numbers.{be}
 use Rattle.tree_index.specs.Tree.{index, filled, roots, entries}
 use Rattle.tree_index.proofs.Filled.{filled-below}
@@ -39,7 +39,7 @@ use Rattle.lookup.specs.Descent.{always, chunkWithin, descent}
 use Rattle.lookup.specs.Lookup.{startOf, stopRefused, toChunk, heldVerdict}
 use Rattle.lookup.specs.Read.{chunkBytes, andThen, partUnless, readVerdict, readPart}
 use Rattle.lookup.proofs.Answers.{answers, to-chunk}
-use Rattle.packet.specs.Packet.{section, siblings, otherRoots, packetOf, roomOr14, outUnless, lengthUnless, makeVerdict, madeLength, afterMake}
+use Rattle.packet.specs.Packet.{section, siblings, otherRoots, packetOf, roomOr14, makeVerdict, madeLength, afterMake, packetWith}
 use Rattle.packet.specs.Check.{packetVerdict, checkedChunk}
 use Rattle.packet.specs.Inner.{ChunkOf}
 use Rattle.packet.proofs.Rows.{Filled, siblings-filled, others-filled}
@@ -204,7 +204,7 @@ module _ (F : List ℕ → List ℕ) (hf : HashFunction F) (ss : List Slot) (w :
     packed u c n = be 4 (length c) ++ (c ++ (section u (siblings n i) ++ section u (otherRoots n i)))
 
     pub packet-same : packetOf told i ≡ packetOf q i
-    unfolding toldAs packetOf
+    unfolding toldAs packetOf packetWith
     packet-same =
         let c : ChunkOf m i = record { count = told-passes .count; below = h } in
         ap (λ (x : List ℕ). packed (r .tree) x m) chunk-same
@@ -220,11 +220,11 @@ module _ (F : List ℕ → List ℕ) (hf : HashFunction F) (ss : List Slot) (w :
 
     pub long-same : (out : List ℕ) → madeLength F told i out ≡ madeLength F q i out
     unfolding madeLength
-    long-same out = ap₂ lengthUnless (says-same out) packet-same
+    long-same out = ap₂ (λ (v : Verdict) (q : List ℕ). unlessRefused v (length q) 0) (says-same out) packet-same
 
     pub left-same : (out : List ℕ) → afterMake F told i out ≡ afterMake F q i out
     unfolding afterMake
-    left-same out = ap₂ (λ (v : Verdict) (c : List ℕ). outUnless v c out) (says-same out) packet-same
+    left-same out = ap₂ (λ (v : Verdict) (c : List ℕ). unlessRefused v (put out 0 c) out) (says-same out) packet-same
 
     abbrev root : List ℕ
     root = rootHashFor F (take m ss)

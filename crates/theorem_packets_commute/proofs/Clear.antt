@@ -11,6 +11,7 @@ use lib.ListN.{length}
 use Rattle.byte_strings.specs.Lists.{part, put, among, sameList}
 use Rattle.byte_strings.specs.Lowest.{Lowest, nowhere, first}
 use Rattle.byte_strings.proofs.Lists.{part-put, part-put-before, part-put-behind, same-eq}
+use Rattle.byte_strings.proofs.Bools.{or-right}
 use Rattle.tree_index.specs.Tree.{index}
 use Rattle.bitfield.specs.Append.{bitsPlace}
 use Rattle.bitfield.specs.Release.{storedHeld}
@@ -27,6 +28,7 @@ use Rattle.theorem_taking_laws.proofs.Members.{In, map-in, apart-out}
 use Rattle.theorem_taking_laws.proofs.Places.{puts-turn}
 use Rattle.theorem_taking_laws.proofs.Field.{RoomFor, known-again}
 use Rattle.theorem_taking_laws.proofs.Given.{bytesFor, placesOf, AllFitting, AllRoom, Agree, among-in, in-among, given-keeps, given-gives, length-known, known-given}
+use Rattle.theorem_taking_laws.proofs.Unknown.{each-least}
 
 -- ---- one entry
 
@@ -63,11 +65,6 @@ unfolding leastOf In
 least-each f [] e g m = absurd m
 least-each f (h ∷ gs) e g (inl q) = ap f (sym q) ∙ lower-none (f h) (leastOf (map f gs)) e .0
 least-each f (h ∷ gs) e g (inr m) = least-each f gs (lower-none (f h) (leastOf (map f gs)) e .1) g m
-
-each-least : (f : Given → Lowest) (gs : List Given) → ((g : Given) → In g gs → f g ≡ nowhere) → leastOf (map f gs) ≡ nowhere
-unfolding leastOf lowerOf In
-each-least f [] h = refl
-each-least f (g ∷ gs) h = ap₂ lowerOf (h g (inl refl)) (each-least f gs (λ k m. h k (inr m)))
 
 abbrev pub AllClear : List ℕ → List ℕ → List Given → Type 0
 AllClear t bits gs = (g : Given) → In g gs → Clear t bits g
@@ -116,10 +113,6 @@ distinct-agree (k ∷ gs) d g h (inr m) (inl q) e =
 distinct-agree (k ∷ gs) d g h (inr m) (inr l) e = distinct-agree gs (d .1) g h m l e
 
 -- ---- known after a taking in
-
-or-right : (a b : Bool) → b ≡ true → (a || b) ≡ true
-or-right true b e = refl
-or-right false b e = e
 
 module _ (bits : List ℕ) (gs : List Given) (k : ℕ) (room : AllRoom bits gs) (bit : RoomFor bits (k / 8192)) where
   pub known-after : (i : ℕ) → storedKnown (heldAgain (withKnown bits gs) k) i ≡ (among i (placesOf gs) || storedKnown bits i)

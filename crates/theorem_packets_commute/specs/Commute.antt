@@ -1,6 +1,6 @@
 -- "Two packets both taken in, one right after the other, are both taken in the other way round too, with the same images."
 --
--- The notions in it: `HashFunction` (files, Messages), `Copy` (copies, Copy), `takeVerdict` and `takenIn` (take_in, TakeIn).
+-- The notions in it: `HashFunction` (file_format, Messages), `Copy` (copy_checks, Copy), `takeVerdict` and `takenIn` (copy_take_in, TakeIn).
 use Prim.Native.Nat.{ℕ}
 use mathlib.Core.Path.{_≡_}
 use mathlib.Core.List.{List}

@@ -12,14 +12,14 @@ use Rattle.tree_index.specs.Tree.{entries}
 use Rattle.file_format.specs.Belongs.{Register}
 use Rattle.checks.specs.Checks.{judged, registerChecks}
 use Rattle.checks.proofs.Passed.{Passed, passes, passed}
-use Rattle.audit.specs.Audit.{entryRight, wrongEntry, byteRight, wrongByte, refusedAt, andThen, imagesVerdict, audit, Accepted}
+use Rattle.audit.specs.Audit.{entryRight, wrongEntry, wrongByte, refusedAt, andThen, imagesVerdict, audit, Accepted, byteRight}
 use Rattle.audit.proofs.Search.{judged-then}
 use Rattle.compare.specs.Walk.{Comparison, firstRefused, secondRefused, rootsDiffer, atRoots, atIndex, equal, found, missing, heldThen, wholeVerdict, unlessRefused, unlessTold, compare}
 use Rattle.compare.proofs.Whole.{atLeaf, held-then, whole-accepted}
 use Rattle.compare.proofs.Walked.{free, top, top-count, walked, walk-parts}
 use Rattle.copy_checks.specs.Least.{lowerOf, leastOf}
 use Rattle.copy_checks.specs.Checks.{partlyJudged}
-use Rattle.copy_audit.specs.Audit.{wrongBy, wrongEntryOfCopy, copyByteRight, wrongByteOfCopy, auditCopy}
+use Rattle.copy_audit.specs.Audit.{wrongBy, wrongEntryOfCopy, wrongByteOfCopy, auditCopy, copyByteRight}
 use Rattle.parts_audit.specs.Range.{within}
 use Rattle.parts_audit.specs.Part.{treePart, bitfieldPart}
 use Rattle.parts_audit.specs.Together.{comesBefore, earlier, together}

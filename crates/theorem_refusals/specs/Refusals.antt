@@ -1,7 +1,7 @@
 -- Which failure an answer names: the first check that is not passed, the lowest wrong entry or byte, and which of two registers.
 --
 -- The notions in it: `Check`, `judged` and `registerChecks` (checks, Checks), the checks and verdicts of an append and of a signature (writing, Append
--- and Sign), of a list (list_append, Append), of the root hash and of an old one (writing, RootHash; prefix_root, PrefixRoot), `entryRight`, `byteRight` and
+-- and Sign), of a list (append_list, Append), of the root hash and of an old one (writing, RootHash; prefix_root, PrefixRoot), `entryRight`, `byteRight` and
 -- `audit` (audit, Audit), `IsLowest` (byte_strings, Lowest), `wholeVerdict` and `compare` (compare, Walk).
 use Prim.Native.Nat.{ℕ, _-_, _<_}
 use mathlib.Core.Path.{_≡_}
@@ -20,7 +20,7 @@ use Rattle.writing.specs.Sign.{signChecks, signVerdict}
 use Rattle.writing.specs.RootHash.{rootVerdict}
 use Rattle.append_list.specs.Append.{appendListChecks, listVerdict}
 use Rattle.prefix_root.specs.PrefixRoot.{prefixVerdict}
-use Rattle.audit.specs.Audit.{entryRight, byteRight, audit}
+use Rattle.audit.specs.Audit.{entryRight, audit, byteRight}
 use Rattle.compare.specs.Walk.{firstRefused, secondRefused, wholeVerdict, compare}
 
 -- ---- "Checks apply to what the call is given, in this order."

@@ -1,7 +1,7 @@
 -- One slot replaced by a held chunk with the same leaf entry, whatever else is released: the mirror image of a release. Assumes nothing.
 use Prim.Native.Nat.{ℕ, _≤_, _<_}
-use mathlib.Core.Path.{_≡_, refl, sym, ap, _∙_, subst}
-use mathlib.Core.Bool.{Bool, true, false, _||_}
+use mathlib.Core.Path.{_≡_, sym, ap, _∙_, subst}
+use mathlib.Core.Bool.{Bool, true, false}
 use mathlib.Core.Logic.{⊎-elim}
 use mathlib.Core.List.{List, [], _++_, map}
 use native.Mathlib.Omega.{arith}
@@ -10,6 +10,7 @@ use lib.ListN.{length, getD, set, length-set, length-map}
 use lib.Seq.{map-set-same, getD-set-same, getD-set-other}
 use borrow.Author.Tests.{eq-eqb}
 use Rattle.byte_strings.specs.Lists.{Bytes}
+use Rattle.byte_strings.proofs.Bools.{or-right}
 use Rattle.bitfield.proofs.Bits.{with-one, sets}
 use Rattle.bitfield.proofs.Levels.{same-or}
 use Rattle.file_format.specs.Headers.{treeHeader}
@@ -19,10 +20,6 @@ use Rattle.file_format.specs.Images.{leaves, treeImage}
 use Rattle.file_format.specs.Slots.{Slot, held, isHeld, slotBytes, slotEntry, contents, heldIn, Handed, Within}
 use Rattle.file_format.proofs.Slots.{slotAt}
 use Rattle.release.proofs.Replaced.{map-set, each-set}
-
-or-all : (a b : Bool) → b ≡ true → (a || b) ≡ true
-or-all true b e = refl
-or-all false b e = e
 
 module _ (ss : List Slot) (c : ℕ) (x : List ℕ) where
   abbrev ts : List Slot
@@ -40,7 +37,7 @@ module _ (ss : List Slot) (c : ℕ) (x : List ℕ) where
   unfolding heldIn
   held-ts h j =
       ⊎-elim
-      (λ f. or-all (getD (map isHeld ss) j false) (eqb j c) (eq-eqb j c f)
+      (λ f. or-right (getD (map isHeld ss) j false) (eqb j c) (eq-eqb j c f)
       ∙ sym (ap (λ (l : List Bool). getD l j false) (map-set isHeld ss c (held x)) ∙ ap (λ (i : ℕ). getD (set (map isHeld ss) c true) i false) f
       ∙ getD-set-same (map isHeld ss) c true false (subst (λ (m : ℕ). c < m) (sym (length-map ss isHeld)) h)))
       (λ f. sym (sets .other (λ i. getD (map isHeld ss) i false) c j f)

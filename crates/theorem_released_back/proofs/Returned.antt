@@ -14,7 +14,7 @@ use Rattle.byte_strings.specs.Lists.{part, put, Bytes}
 use Rattle.byte_strings.proofs.Lists.{bytes-append, bytes-drop, bytes-put}
 use Rattle.tree_index.specs.Tree.{index, filled, entries}
 use Rattle.tree_index.proofs.Filled.{filled-below}
-use Rattle.bitfield.specs.Image.{entryCount}
+use Rattle.bitfield.specs.Image.{entryCount, entriesFor}
 use Rattle.bitfield.specs.Release.{storedHeld}
 use Rattle.bitfield.specs.Known.{storedKnown, heldAgain}
 use Rattle.bitfield.proofs.Bits.{with-one, sets}
@@ -26,7 +26,7 @@ use Rattle.file_format.specs.Messages.{HashFunction}
 use Rattle.file_format.specs.Entries.{Entry, hole, entryBytes, leaf, node}
 use Rattle.file_format.specs.Stored.{storedSize, storedChunk}
 use Rattle.file_format.specs.Slots.{Slot, held, contents, heldIn, Within}
-use Rattle.file_format.specs.Images.{leaves, dataSize, dataImage, bitfieldImage}
+use Rattle.file_format.specs.Images.{leaves, dataSize, dataImage, bitfieldImage, bitfieldOf}
 use Rattle.file_format.specs.Belongs.{Register, Lent, Belongs}
 use Rattle.file_format.proofs.Hashed.{hash-function}
 use Rattle.file_format.proofs.Spans.{span}
@@ -56,7 +56,7 @@ use Rattle.copy_take_in.proofs.Calls.{chunk-long, start-inside, leaf-filled}
 use Rattle.theorem_taking_laws.proofs.Members.{In, in-map}
 use Rattle.theorem_taking_laws.proofs.Brought.{brought-filled}
 use Rattle.theorem_taking_laws.proofs.Starts.{HoldsAll, packet-descent, brought-proper}
-use Rattle.theorem_taking_laws.proofs.Shown.{entriesFor, shown, entries-filled, shown-used, used-shown, shown-held, shown-known, held-more}
+use Rattle.theorem_taking_laws.proofs.Shown.{shown, shown-used, used-shown, shown-held, shown-known, held-more}
 use Rattle.theorem_released_back.specs.Returned.{returned, Returned, ReturnedForAll}
 use Rattle.theorem_released_back.proofs.Took.{Took, took, chunk-bytes, chunk-short}
 use Rattle.theorem_released_back.proofs.Stays.{none-contradicts, tree-stays, known-stays}
@@ -92,10 +92,10 @@ module _ (F : List ℕ → List ℕ) (hf : HashFunction F) (r : Register) (p : L
   -- ---- every filled entry is known, so what is brought is there
 
   bits-are : r .bitfield ≡ shown (heldIn ss) (filled (r .n)) (r .n) tail
-  unfolding bitfieldImage
+  unfolding bitfieldOf
   bits-are =
       used-shown (r .bitfield) (heldIn ss) (filled (r .n)) (r .n)
-      (b .bitfield ∙ ap (λ (l : List ℕ). bitfieldHeader ++ l) (entries-filled (heldIn ss) (r .n)))
+      (b .bitfield)
 
   bit-in : (j : ℕ) → j < entries (r .n) → j / 16384 < entryCount (r .n)
   unfolding entries entryCount
@@ -185,11 +185,11 @@ module _ (F : List ℕ → List ℕ) (hf : HashFunction F) (r : Register) (p : L
       ∙ sym (ap dataImage (contents-ts ss i piece) ∙ data-set (contents ss) i piece (subst (λ (m : ℕ). i < m) (sym (contents-length ss)) below) long-same)
 
   now-bits : take (usedBitfield (r .n)) (returned F r p i .bitfield) ≡ bitfieldImage (heldIn ts) (r .n)
-  unfolding bitfieldImage
+  unfolding bitfieldOf
   now-bits =
       ap (take (usedBitfield (r .n))) bits-now ∙ shown-used (with-one (heldIn ss) i) (filled (r .n)) (r .n) tail
       ∙ ap (λ (l : List ℕ). bitfieldHeader ++ l)
-      (sym (entries-filled (with-one (heldIn ss) i) (r .n)) ∙ entries-ext (with-one (heldIn ss) i) (heldIn ts) (r .n) (held-ts ss i piece below))
+      (entries-ext (with-one (heldIn ss) i) (heldIn ts) (r .n) (held-ts ss i piece below))
 
   pub now-within : Within ts
   now-within = within-ts ss i piece w (chunk-short p (r .n) i shaped bp) (chunk-bytes p (r .n) i shaped bp)
@@ -234,11 +234,10 @@ module _ (F : List ℕ → List ℕ) (hf : HashFunction F) (r : Register) (p : L
 
   -- the bytes of every buffer
   now-bytes : Bytes (r .bitfield) → Bytes (returned F r p i .bitfield)
-  unfolding shown bitfieldImage
+  unfolding shown bitfieldOf
   now-bytes h =
       subst Bytes
-      (sym (bits-now ∙ sym (append-assoc bitfieldHeader (entriesFor (with-one (heldIn ss) i) (filled (r .n)) (r .n)) tail)
-      ∙ ap (λ (x : List ℕ). (bitfieldHeader ++ x) ++ tail) (sym (entries-filled (with-one (heldIn ss) i) (r .n)))))
+      (sym (bits-now ∙ sym (append-assoc bitfieldHeader (entriesFor (with-one (heldIn ss) i) (filled (r .n)) (r .n)) tail)))
       (bytes-append (bitfieldImage (with-one (heldIn ss) i) (r .n)) tail (bitfieldImage-bytes (with-one (heldIn ss) i) (r .n))
       (bytes-drop (usedBitfield (r .n)) (r .bitfield) h))
 

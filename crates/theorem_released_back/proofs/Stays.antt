@@ -9,6 +9,7 @@ use lib.ListN.{length, take, drop}
 use Rattle.byte_strings.specs.Lists.{part, put, sameList, among}
 use Rattle.byte_strings.specs.Lowest.{nowhere, first}
 use Rattle.byte_strings.proofs.Lists.{around, length-part, same-eq}
+use Rattle.byte_strings.proofs.Bools.{or-none}
 use Rattle.tree_index.specs.Tree.{filled, entries}
 use Rattle.tree_index.proofs.Filled.{filled-below}
 use Rattle.bitfield.specs.Image.{entryCount}
@@ -80,10 +81,6 @@ known-stays held n tail gs f =
     or-true true e = refl
     or-true false e = sym e
 
-    or-false : (b : Bool) → (b || false) ≡ b
-    or-false true = refl
-    or-false false = refl
-
     pick : (j : ℕ) (b : Bool) → among j (map (λ (g : Given). g .at) gs) ≡ b → (filled n j || among j (map (λ (g : Given). g .at) gs)) ≡ filled n j
     pick j true e = ap (λ (b : Bool). filled n j || b) e ∙ or-true (filled n j) (f j (among-in j (map (λ (g : Given). g .at) gs) e))
-    pick j false e = ap (λ (b : Bool). filled n j || b) e ∙ or-false (filled n j)
+    pick j false e = ap (λ (b : Bool). filled n j || b) e ∙ or-none (filled n j)

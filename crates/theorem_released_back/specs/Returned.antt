@@ -1,8 +1,8 @@
 -- "A released piece comes back this way too, a register's by lending it as a copy." Whatever packet an accepted register takes in, lent as a copy, it is
 -- an accepted register afterwards, with that piece held as the packet's chunk, and nothing else is another.
 --
--- The notions in it: `HashFunction` (files, Messages), `Register`, `Lent` and `Belongs` (files, Belongs), `Slot` and `Within` (files, Slots), `Accepted`
--- (audit, Audit), `Imaged` (audit, Exact), `lentAsCopy` (copies, Copy), `takeVerdict` and `takenIn` (take_in, TakeIn), `packetChunk` (packet, Check),
+-- The notions in it: `HashFunction` (file_format, Messages), `Register`, `Lent` and `Belongs` (file_format, Belongs), `Slot` and `Within` (file_format, Slots), `Accepted`
+-- (audit, Audit), `Imaged` (audit, Theorems), `lentAsCopy` (copy_checks, Copy), `takeVerdict` and `takenIn` (copy_take_in, TakeIn), `packetChunk` (packet, Check),
 -- `storedHeld`, `storedKnown` and `heldAgain` (bitfield, Release and Known), `toChunk` (lookup, Lookup), `readVerdict` and `readPart` (lookup, Read).
 use Prim.Native.Nat.{ℕ, _<_}
 use mathlib.Core.Path.{_≡_}

@@ -23,7 +23,7 @@ use Rattle.bitfield.specs.Known.{storedKnown, heldAgain}
 use Rattle.bitfield.proofs.Bits.{digit-le}
 use Rattle.theorem_taking_laws.proofs.Members.{In}
 use Rattle.theorem_taking_laws.proofs.Bits.{bit-set}
-use Rattle.theorem_taking_laws.proofs.Field.{RoomFor, bit-anew, anew-once}
+use Rattle.theorem_taking_laws.proofs.Field.{RoomFor, bit-anew, anew-once, room-bit}
 
 -- ---- one digit
 
@@ -144,10 +144,6 @@ trees-again xs (i ∷ is) h = ap (λ (ys : List ℕ). setTreeBits ys is) (tree-a
 -- ---- a data bit and the Index of its entry
 
 module _ (xs : List ℕ) (k : ℕ) (room : RoomFor xs (k / 8192)) where
-  set-room : RoomFor (setDataBit xs k) (k / 8192)
-  unfolding setDataBit changeBit
-  set-room = subst (λ (l : ℕ). bitsPlace (k / 8192 + 1) ≤ l) (sym (length-set xs (bitsPlace (k / 8192) + k % 8192 / 8) _)) room
-
   clear-room : RoomFor (clearDataBit xs k) (k / 8192)
   unfolding clearDataBit changeBit
   clear-room = subst (λ (l : ℕ). bitsPlace (k / 8192 + 1) ≤ l) (sym (length-set xs (bitsPlace (k / 8192) + k % 8192 / 8) _)) room
@@ -167,7 +163,7 @@ module _ (xs : List ℕ) (k : ℕ) (room : RoomFor xs (k / 8192)) where
   -- a chunk that is held again is held as it was
   pub held-twice : heldAgain (heldAgain xs k) k ≡ heldAgain xs k
   unfolding heldAgain
-  held-twice = anew-once (setDataBit xs k) k set-room ∙ ap (λ (ys : List ℕ). regenerated ys (k / 8192)) data-again
+  held-twice = anew-once (setDataBit xs k) k (room-bit xs k room) ∙ ap (λ (ys : List ℕ). regenerated ys (k / 8192)) data-again
 
   -- one that was released is held as if it had not been
   pub held-back : heldAgain (releasedBits xs k) k ≡ heldAgain xs k

@@ -2,7 +2,7 @@
 -- Assumes nothing.
 use Prim.Native.Nat.{ℕ, _+_, _/_, _≤_}
 use mathlib.Core.Path.{_≡_, refl, sym, ap, ap₂, _∙_, subst}
-use mathlib.Core.Logic.{inl, inr}
+use mathlib.Core.Logic.{inl}
 use mathlib.Core.Bool.{Bool, true, false, cond}
 use mathlib.Core.List.{List, [], _∷_}
 use native.Mathlib.Omega.{arith}
@@ -25,15 +25,14 @@ use Rattle.checks.specs.Checks.{judged, holds, addsUp}
 use Rattle.checks.proofs.Judged.{both-right, judged-right, judged-done}
 use Rattle.checks.proofs.Passed.{same-of}
 use Rattle.lookup.specs.Descent.{Ending, reached, chunkWithin}
-use Rattle.lookup.specs.Unknown.{firstUnknown}
 use Rattle.lookup.specs.Lookup.{startOf, stopRefused, toChunk}
 use Rattle.lookup.specs.Read.{chunkBytes, andThen, partUnless}
 use Rattle.lookup.proofs.ReadOrder.{reads}
 use Rattle.release.specs.Release.{releasedRegister}
 use Rattle.release.proofs.Bits.{bits-long, bits-header}
-use Rattle.packet.specs.Packet.{packetOf, roomOr14, outUnless, lengthUnless}
+use Rattle.packet.specs.Packet.{packetOf, roomOr14, packetWith}
 use Rattle.packet.specs.Check.{packetChunk, packetTotal, steps, packetRootMessage, rootRight, packetVerdict}
-use Rattle.packet.specs.Inner.{ChunkOf, packetWith}
+use Rattle.packet.specs.Inner.{ChunkOf}
 use Rattle.copy_checks.specs.Copy.{Copy, known, unsigned, copyOf}
 use Rattle.copy_checks.specs.Descents.{copyToChunk}
 use Rattle.copy_checks.specs.Checks.{unknownRoot, passedOver}
@@ -53,6 +52,7 @@ use Rattle.theorem_taking_laws.proofs.Field.{RoomFor}
 use Rattle.theorem_taking_laws.proofs.Given.{placesOf, known-held}
 use Rattle.theorem_taking_laws.proofs.Brought.{root-brought}
 use Rattle.theorem_taking_laws.proofs.Starts.{HoldsAll, leaf-size, packet-descent, reads-brought, roots-total, brought-proper}
+use Rattle.theorem_taking_laws.proofs.Unknown.{none-unknown}
 use Rattle.theorem_packets_commute.proofs.Turns.{Takes, taken, fitting, room, bit-room, bytes-inside}
 use Rattle.theorem_packets_commute.proofs.Chunks.{bytes-hold, short-chunk}
 use Rattle.theorem_released_back.proofs.Stays.{put-part, tree-stays}
@@ -71,12 +71,6 @@ pub record Has (F : List ℕ → List ℕ) (c : Copy) (p : List ℕ) (i : ℕ) (
   pub held : storedHeld (c .bitfield) i ≡ true
   pub piece : part (c .content) (packetStart p (c .n) i) (length (packetChunk p)) ≡ packetChunk p
   pub index : heldAgain (c .bitfield) i ≡ c .bitfield
-
-none-unknown : (knows : ℕ → Bool) (is : List ℕ) → ((x : ℕ) → In x is → knows x ≡ true) → firstUnknown knows is ≡ nowhere
-unfolding firstUnknown In
-none-unknown knows [] h = refl
-none-unknown knows (i ∷ is) h =
-    ap (λ (b : Bool). cond b (firstUnknown knows is) (first i)) (h i (inl refl)) ∙ none-unknown knows is (λ x m. h x (inr m))
 
 module _ (F : List ℕ → List ℕ) (H : HashFunction F) (c : Copy) (p : List ℕ) (i : ℕ) (root : List ℕ) (h : Has F c p i root) where
   abbrev n : ℕ
@@ -189,11 +183,11 @@ module _ (F : List ℕ → List ℕ) (H : HashFunction F) (c : Copy) (p : List �
 
     pub made-out : copyAfterMake F c i out ≡ put out 0 p
     unfolding copyAfterMake
-    made-out = ap₂ (λ (v : Verdict) (q : List ℕ). outUnless v q out) made-done packet-is
+    made-out = ap₂ (λ (v : Verdict) (q : List ℕ). unlessRefused v (put out 0 q) out) made-done packet-is
 
     pub made-long : copyMadeLength F c i out ≡ length p
     unfolding copyMadeLength
-    made-long = ap₂ lengthUnless made-done packet-is
+    made-long = ap₂ (λ (v : Verdict) (q : List ℕ). unlessRefused v (length q) 0) made-done packet-is
 
   -- ---- a release, and the packet again
 

@@ -16,9 +16,9 @@ use Rattle.byte_strings.proofs.Numbers.{be-number}
 use Rattle.file_format.specs.Sizes.{longestChunk, entryPlace}
 use Rattle.file_format.specs.Entries.{hole, entryBytes}
 use Rattle.checks.proofs.Judged.{both-right}
-use Rattle.packet.specs.Packet.{siblings, otherRoots, section}
+use Rattle.packet.specs.Packet.{siblings, otherRoots, section, packetWith}
 use Rattle.packet.specs.Check.{chunkLength, siblingsPlace, othersPlace, wholeLength, shapeRight, packetChunk, entryIn, entriesIn, siblingEntries, otherEntries}
-use Rattle.packet.specs.Inner.{Shaped, packetWith}
+use Rattle.packet.specs.Inner.{Shaped}
 use Rattle.packet.proofs.Right.{map-run}
 use Rattle.packet.proofs.Shape.{sized}
 use Rattle.packet_compare.proofs.Stands.{sibling-is}

@@ -1,5 +1,5 @@
 -- The root message of a packet is the one that the roots of a tree file give, where the file holds what the packet brings. Assumes nothing.
-use Prim.Native.Nat.{ℕ, zero, suc, _<_}
+use Prim.Native.Nat.{ℕ, zero, suc, _+_, _<_}
 use mathlib.Core.Path.{_≡_, refl, sym, ap, ap₂, _∙_}
 use mathlib.Core.Bool.{Bool, true, false}
 use mathlib.Core.List.{List, [], _∷_, map}
@@ -14,47 +14,46 @@ use Rattle.file_format.specs.Messages.{rootItem, rootMessage}
 use Rattle.file_format.specs.Entries.{Entry, hole, leaf}
 use Rattle.file_format.specs.Stored.{storedHash, storedSize, storedRootMessage}
 use Rattle.packet.specs.Packet.{rootAbove, siblings, without, otherRoots}
-use Rattle.packet.specs.Check.{packetChunk, siblingEntries, otherEntries, inTurn, items, Step, stepsAbove, steps, lastEntry, packetRoot, packetRootMessage}
+use Rattle.packet.specs.Check.{packetChunk, siblingEntries, otherEntries, inTurn, othersPlace, items, Step, stepsAbove, steps, lastEntry, packetRoot, packetRootMessage}
 use Rattle.packet.specs.Inner.{ChunkOf}
+use Rattle.packet.proofs.InTurn.{turning, whole}
 use Rattle.packet_compare.specs.Theorems.{stepAt}
 use Rattle.packet_compare.proofs.Stands.{above-count, sides-count}
 use Rattle.copy_take_in.specs.TakeIn.{Given, brought}
 use Rattle.theorem_taking_laws.proofs.Members.{In}
 use Rattle.theorem_taking_laws.proofs.Brought.{wayEntry, others-count, way-brought, other-brought, top-root}
 use Rattle.theorem_taking_laws.proofs.Starts.{HoldsAll}
+use Rattle.byte_strings.proofs.Bools.{chosen}
 
 -- ---- lists
 
-abbrev chosen : {A : Type 0} → Bool → A → A → A
-chosen b x y = elim b [ true ↦ x | false ↦ y ]
-
 module _ (f : ℕ → Entry) (r : ℕ) where
-  turn-here : (i : ℕ) (is : List ℕ) (es : List Entry) → eqb i r ≡ true → inTurn r (f r) (i ∷ is) es ≡ f r ∷ inTurn r (f r) is es
-  unfolding inTurn
-  turn-here i is [] e = ap (λ (b : Bool). chosen b (f r ∷ inTurn r (f r) is []) (inTurn r (f r) is [])) e
-  turn-here i is (x ∷ es) e = ap (λ (b : Bool). chosen b (f r ∷ inTurn r (f r) is (x ∷ es)) (x ∷ inTurn r (f r) is es)) e
+  turn-here : (i : ℕ) (is : List ℕ) (es : List Entry) → eqb i r ≡ true → turning r (f r) (i ∷ is) es ≡ f r ∷ turning r (f r) is es
+  unfolding turning
+  turn-here i is [] e = ap (λ (b : Bool). chosen b (f r ∷ turning r (f r) is []) (turning r (f r) is [])) e
+  turn-here i is (x ∷ es) e = ap (λ (b : Bool). chosen b (f r ∷ turning r (f r) is (x ∷ es)) (x ∷ turning r (f r) is es)) e
 
-  turn-other : (i : ℕ) (is : List ℕ) (x : Entry) (es : List Entry) → eqb i r ≡ false → inTurn r (f r) (i ∷ is) (x ∷ es) ≡ x ∷ inTurn r (f r) is es
-  unfolding inTurn
-  turn-other i is x es e = ap (λ (b : Bool). chosen b (f r ∷ inTurn r (f r) is (x ∷ es)) (x ∷ inTurn r (f r) is es)) e
+  turn-other : (i : ℕ) (is : List ℕ) (x : Entry) (es : List Entry) → eqb i r ≡ false → turning r (f r) (i ∷ is) (x ∷ es) ≡ x ∷ turning r (f r) is es
+  unfolding turning
+  turn-other i is x es e = ap (λ (b : Bool). chosen b (f r ∷ turning r (f r) is (x ∷ es)) (x ∷ turning r (f r) is es)) e
 
   without-by : (i : ℕ) (is : List ℕ) (b : Bool) → eqb i r ≡ b → without r (i ∷ is) ≡ chosen b (without r is) (i ∷ without r is)
   unfolding without
   without-by i is b e = ap (λ (x : Bool). chosen x (without r is) (i ∷ without r is)) e
 
   -- the one that was left out, put back in its turn
-  in-turn : (is : List ℕ) → inTurn r (f r) is (map f (without r is)) ≡ map f is
-  unfolding inTurn without
+  in-turn : (is : List ℕ) → turning r (f r) is (map f (without r is)) ≡ map f is
+  unfolding turning without
   in-turn [] = refl
   in-turn (i ∷ is) = pick (eqb i r) refl (in-turn is)
     where
-      pick : (b : Bool) → eqb i r ≡ b → inTurn r (f r) is (map f (without r is)) ≡ map f is
-          → inTurn r (f r) (i ∷ is) (map f (without r (i ∷ is))) ≡ f i ∷ map f is
+      pick : (b : Bool) → eqb i r ≡ b → turning r (f r) is (map f (without r is)) ≡ map f is
+          → turning r (f r) (i ∷ is) (map f (without r (i ∷ is))) ≡ f i ∷ map f is
       pick true e rec =
-          ap (λ (l : List ℕ). inTurn r (f r) (i ∷ is) (map f l)) (without-by i is true e) ∙ turn-here i is (map f (without r is)) e
+          ap (λ (l : List ℕ). turning r (f r) (i ∷ is) (map f l)) (without-by i is true e) ∙ turn-here i is (map f (without r is)) e
           ∙ ap₂ (λ (x : Entry) (l : List Entry). x ∷ l) (ap f (sym (eqb-true i r e))) rec
       pick false e rec =
-          ap (λ (l : List ℕ). inTurn r (f r) (i ∷ is) (map f l)) (without-by i is false e) ∙ turn-other i is (f i) (map f (without r is)) e
+          ap (λ (l : List ℕ). turning r (f r) (i ∷ is) (map f l)) (without-by i is false e) ∙ turn-other i is (f i) (map f (without r is)) e
           ∙ ap (λ (l : List Entry). f i ∷ l) rec
 
   items-map : (is : List ℕ) → items is (map f is) ≡ map (λ i. rootItem (f i .hash) i (f i .size)) is
@@ -102,9 +101,10 @@ module _ (F : List ℕ → List ℕ) (p : List ℕ) (n c : ℕ) (h : ChunkOf n c
       there _ (other-brought F p n c j m) ∙ sym (mapped-at (storedEntry t) 0 (otherRoots n c) j m))
 
   pub message-there : packetRootMessage F p n c ≡ storedRootMessage t n
-  unfolding packetRootMessage storedRootMessage otherRoots
+  unfolding packetRootMessage storedRootMessage otherRoots otherEntries inTurn
   message-there =
       let r : ℕ = rootAbove (roots n) c in
       ap (λ (es : List Entry). rootMessage (items (roots n) es))
-      (ap₂ (λ (x : Entry) (es : List Entry). inTurn r x (roots n) es) root-there others-there ∙ in-turn (storedEntry t) r (roots n))
+      (sym (whole p (othersPlace p n c + 1) n c (packetRoot F p n c) h)
+      ∙ ap₂ (λ (x : Entry) (es : List Entry). turning r x (roots n) es) root-there others-there ∙ in-turn (storedEntry t) r (roots n))
       ∙ ap rootMessage (items-map (storedEntry t) r (roots n))

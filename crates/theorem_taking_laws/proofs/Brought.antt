@@ -20,9 +20,9 @@ use Rattle.tree_index.proofs.Index.{depth-index, block-index, pow-twice}
 use Rattle.tree_index.proofs.Filled.{block-end, end-hole}
 use Rattle.tree_index.proofs.Roots.{bit, root-filled, root-at}
 use Rattle.file_format.specs.Entries.{Entry, hole, leaf, parentOf}
-use Rattle.packet.specs.Packet.{rootAbove, beside, siblings, without, otherRoots}
+use Rattle.packet.specs.Packet.{rootAbove, beside, siblings, without, otherRoots, placeAbove}
 use Rattle.packet.specs.Check.{packetChunk, ordered, entriesIn, siblingEntries, otherEntries, Step, stepsAbove, steps}
-use Rattle.packet.specs.Inner.{placeAbove, ChunkOf}
+use Rattle.packet.specs.Inner.{ChunkOf}
 use Rattle.packet.proofs.Above.{place-root, place-below, Distinct, roots-distinct}
 use Rattle.packet.proofs.Climb.{left-first, right-first}
 use Rattle.packet.proofs.Rows.{beside-even, beside-odd, half, sibling-filled, others-filled}

@@ -13,6 +13,7 @@ use lib.Pow.{pow-pos}
 use lib.ListN.{length}
 use Rattle.byte_strings.specs.Lists.{run, total}
 use Rattle.byte_strings.proofs.Lists.{run-suc, total-append}
+use Rattle.byte_strings.proofs.Bools.{chosen}
 use Rattle.tree_index.specs.Tree.{index, trailingOnes, depth, block, rootOf, rootsBelow, roots}
 use Rattle.tree_index.proofs.Index.{depth-index, block-index, index-of, index-sum, index-leaf}
 use Rattle.tree_index.proofs.Filled.{block-end}
@@ -32,11 +33,8 @@ use Rattle.lookup.proofs.ReadOrder.{readsBelow, readsFrom, reads}
 use Rattle.theorem_taking_laws.proofs.Members.{In, without-in}
 use Rattle.theorem_taking_laws.proofs.Brought.{wayIndex, sideIndex, siblings-deep}
 
-abbrev chosen : {A : Type 0} → Bool → A → A → A
-chosen b x y = elim b [ true ↦ x | false ↦ y ]
-
-never : {A : Type 0} (i k s : ℕ) → stopped i ≡ reached k s → A
-never i k s e = let z : _≡_ {A = ℕ} 0 1 = cc in absurd (omega arith)
+pub never-stopped : {A : Type 0} (i k s : ℕ) → stopped i ≡ reached k s → A
+never-stopped i k s e = let z : _≡_ {A = ℕ} 0 1 = cc in absurd (omega arith)
 
 -- ---- two tree files
 
@@ -451,7 +449,7 @@ module _ (t : List ℕ) where
           let x : a ≡ k = cc in
           let y : z ≡ s = cc in
           record { low = omega arith; high = omega (arith, ap (λ (i : ℕ). storedSize t (index 0 i)) x) }
-      pick false q = never (index 0 k) a z q
+      pick false q = never-stopped (index 0 k) a z q
   below-inside c (suc d) k s a z e =
       pick (below-inside c d) (eqb (storedSize t (index (suc d) k)) (b + storedSize t (index d (2 * k + 1)))) refl (chunkWithin c d (2 * k) s b) e
     where
@@ -471,11 +469,11 @@ module _ (t : List ℕ) where
             low = omega (arith, r .low);
             high = omega (arith, r .high, eqb-true (storedSize t (index (suc d) k)) (b + storedSize t (index d (2 * k + 1))) w);
           }
-      pick rec false w y q = never (index (suc d) k) a z q
+      pick rec false w y q = never-stopped (index (suc d) k) a z q
 
   from-inside : (c : ℕ) (is : List ℕ) (s a z : ℕ) → fromRoots always (chunkWithin c) t is s ≡ reached a z → Inside s a z (s + total (map (storedSize t) is))
   unfolding fromRoots total
-  from-inside c [] s a z e = never 0 a z e
+  from-inside c [] s a z e = never-stopped 0 a z e
   from-inside c (i ∷ is) s a z e = pick (from-inside c is) (chunkWithin c (depth i) (block i) s (storedSize t i)) e
     where
       pick : ((s a z : ℕ) → fromRoots always (chunkWithin c) t is s ≡ reached a z → Inside s a z (s + total (map (storedSize t) is))) → (b : Bool)
@@ -525,12 +523,12 @@ module _ (t : List ℕ) where
             → chosen g (child j (chunkWithin j d (2 * k) s m)) (stopped (index (suc d) k)) ≡ reached b y → z + storedSize t (index 0 a) ≤ y
         pick rec true u v =
             split rec (chunkWithin i d (2 * k) s m) (chunkWithin j d (2 * k) s m) (sym (within-is i d (2 * k) s m)) (sym (within-is j d (2 * k) s m)) u v
-        pick rec false u v = never (index (suc d) k) a z u
+        pick rec false u v = never-stopped (index (suc d) k) a z u
 
     from-apart : (n d s a z b y : ℕ) → n / 2 ^ d * 2 ^ d ≤ i → j < n → fromRoots always (chunkWithin i) t (rootsBelow d n) s ≡ reached a z
         → fromRoots always (chunkWithin j) t (rootsBelow d n) s ≡ reached b y → z + storedSize t (index 0 a) ≤ y
     unfolding rootsBelow fromRoots
-    from-apart n zero s a z b y l h e f = never 0 a z e
+    from-apart n zero s a z b y l h e f = never-stopped 0 a z e
     from-apart n (suc d) s a z b y l h e f = pick (from-apart n d) (bit (n / 2 ^ d))
       where
         after : ℕ → ℕ → Bool → Ending

@@ -208,7 +208,7 @@ unfolding setDataBit
 data-bit-turn xs j k = bits-turn xs (bitsPlace (j / 8192)) (j % 8192) (bitsPlace (k / 8192)) (k % 8192)
 
 module _ (xs : List ℕ) (k : ℕ) (r : RoomFor xs (k / 8192)) where
-  room-bit : RoomFor (setDataBit xs k) (k / 8192)
+  pub room-bit : RoomFor (setDataBit xs k) (k / 8192)
   room-bit = subst (λ (l : ℕ). bitsPlace (k / 8192 + 1) ≤ l) (sym (length-data-bit xs k)) r
 
   pub length-held : length (heldAgain xs k) ≡ length xs

@@ -12,6 +12,7 @@ use lib.Arith.{lt-of-le-ne}
 use lib.ListN.{length, take, drop}
 use Rattle.byte_strings.specs.Lists.{part, put, among}
 use Rattle.byte_strings.proofs.Lists.{length-put, take-put, drop-put, part-put, part-put-before, part-put-behind}
+use Rattle.byte_strings.proofs.Bools.{or-true}
 use Rattle.bitfield.specs.Release.{storedHeld}
 use Rattle.bitfield.specs.Known.{storedKnown, heldAgain}
 use Rattle.bitfield.proofs.Levels.{same-or}
@@ -52,10 +53,6 @@ unfolding among In
 in-among i [] h = absurd h
 in-among i (j ∷ is) (inl e) = ap (λ (b : Bool). b || among i is) (eq-eqb i j (sym e))
 in-among i (j ∷ is) (inr m) = ap (λ (b : Bool). eqb i j || b) (in-among i is m) ∙ or-true (eqb i j)
-  where
-    or-true : (b : Bool) → (b || true) ≡ true
-    or-true true = refl
-    or-true false = refl
 
 -- ---- the tree file
 

@@ -1,5 +1,6 @@
 -- Laws of what a taking in leaves.
 pub mod Members
+pub mod Unknown
 pub mod Shown
 pub mod Places
 pub mod Bits

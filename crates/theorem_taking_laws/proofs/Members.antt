@@ -11,6 +11,7 @@ use borrow.Author.Tests.{eqb-true, eqb-false}
 use lib.Dec.{eqb}
 use lib.ListN.{length, getD}
 use Rattle.byte_strings.specs.Lists.{run}
+use Rattle.byte_strings.proofs.Bools.{chosen}
 use Rattle.packet.specs.Packet.{without}
 use Rattle.packet.proofs.Above.{Apart, Distinct}
 
@@ -81,9 +82,6 @@ module _ {A : Type 0} where
       inr (subst (λ (x : ℕ). In (f x) (run f (suc i) k)) (suc-add i j ∙ sym (add-suc i j)) (run-in f (suc i) k j (le-of-suc-le-suc h)))
 
 -- ---- the list without one of its numbers
-
-abbrev chosen : {A : Type 0} → Bool → A → A → A
-chosen b x y = elim b [ true ↦ x | false ↦ y ]
 
 pub in-without : (a x : ℕ) (is : List ℕ) → In a is → (a ≡ x) ⊎ In a (without x is)
 unfolding In without

@@ -2,42 +2,34 @@
 -- Assumes nothing.
 use Prim.Native.Nat.{ℕ, _+_, _*_, _/_, _%_, _<_}
 use mathlib.Core.Path.{_≡_, refl, sym, ap, _∙_}
-use mathlib.Core.Bool.{Bool, true, false, _||_}
+use mathlib.Core.Bool.{Bool, _||_}
 use mathlib.Core.List.{List, [], _∷_, _++_, append-assoc}
-use native.Mathlib.Nat.{zero-add, mul-comm}
+use native.Mathlib.Nat.{zero-add}
 use native.Mathlib.Omega.{arith}
 use lib.Dec.{eqb}
 use lib.ListN.{length, take, drop, length-append, take-append-drop}
 use lib.Seq.{take-at}
 use Rattle.byte_strings.specs.Lists.{part, put, run, joined, among}
 use Rattle.byte_strings.proofs.Lists.{run-ext, length-joined, part-behind, part-left, part-part, part-joined, part-front}
-use Rattle.tree_index.specs.Tree.{filled}
+use Rattle.byte_strings.proofs.Bools.{or-assoc, or-none}
 use Rattle.bitfield.specs.Bits.{bitAt, changeBit, withDigit, withoutDigit, setBit}
 use Rattle.bitfield.specs.Index.{indexBytes}
-use Rattle.bitfield.specs.Image.{dataBytes, treeBytes, entry, entryCount, entriesOf}
+use Rattle.bitfield.specs.Image.{dataBytes, treeBytes, entry, entryCount, entriesFor}
 use Rattle.bitfield.specs.Append.{bitsPlace, setDataBit, setTreeBit, setTreeBits, regenerated}
 use Rattle.bitfield.specs.Release.{storedHeld, clearDataBit, releasedBits}
 use Rattle.bitfield.specs.Known.{storedKnown, heldAgain}
 use Rattle.bitfield.proofs.Bits.{Changes, with-one, without-one, sets, clears, bit-bytesOf, bit-part}
 use Rattle.bitfield.proofs.Levels.{length-index}
-use Rattle.bitfield.proofs.Image.{entryWith, entry-is, entry-ext, length-data, length-tree, length-entryWith, length-entry, data-other, data-file, tree-file, data-part, index-file}
+use Rattle.bitfield.proofs.Image.{length-for, entryWith, entry-is, entry-ext, length-data, length-tree, length-entryWith, data-other, data-file, tree-file, data-part, index-file}
 use Rattle.bitfield.proofs.Append.{ix-ext}
 use Rattle.bitfield.proofs.Release.{entry-below}
 use Rattle.file_format.specs.Headers.{bitfieldHeader}
 use Rattle.file_format.specs.Sizes.{usedBitfield}
 use Rattle.file_format.proofs.OfImage.{bitfieldHeader-length}
 
--- the entries of n chunks, of which those are held and those tree entries known that two tests say
-unfoldable pub entriesFor : (ℕ → Bool) → (ℕ → Bool) → ℕ → List ℕ
-entriesFor held known n = joined (run (entry held known) 0 (entryCount n))
-
 -- a bitfield file with these entries, and any bytes behind the used ones
 unfoldable pub shown : (ℕ → Bool) → (ℕ → Bool) → ℕ → List ℕ → List ℕ
 shown held known n tail = bitfieldHeader ++ (entriesFor held known n ++ tail)
-
-pub entries-filled : (held : ℕ → Bool) (n : ℕ) → entriesOf held n ≡ entriesFor held (filled n) n
-unfolding entriesOf entriesFor
-entries-filled held n = refl
 
 pub shown-ext : (p q known known' : ℕ → Bool) (n : ℕ) (tail : List ℕ) → ((j : ℕ) → p j ≡ q j) → ((j : ℕ) → known j ≡ known' j)
     → shown p known n tail ≡ shown q known' n tail
@@ -45,10 +37,6 @@ unfolding shown entriesFor
 shown-ext p q known known' n tail h k =
     ap (λ (r : List (List ℕ)). bitfieldHeader ++ (joined r ++ tail))
     (run-ext (entry p known) (entry q known') 0 (entryCount n) (λ e a b. entry-ext p q known known' h k e))
-
-length-for : (held known : ℕ → Bool) (n : ℕ) → length (entriesFor held known n) ≡ 3328 * entryCount n
-unfolding entriesFor
-length-for held known n = length-joined (entry held known) 3328 (length-entry held known) 0 (entryCount n) ∙ mul-comm (entryCount n) 3328
 
 -- its used bytes, and a file that has them
 pub shown-used : (held known : ℕ → Bool) (n : ℕ) (tail : List ℕ) → take (usedBitfield n) (shown held known n tail) ≡ bitfieldHeader ++ entriesFor held known n
@@ -146,14 +134,6 @@ Under k (i ∷ is) = (i / 16384 < k) × Under k is
 abbrev pub or-among : (ℕ → Bool) → List ℕ → ℕ → Bool
 or-among p is j = p j || among j is
 
-or-none : (b : Bool) → b ≡ (b || false)
-or-none true = refl
-or-none false = refl
-
-or-assoc : (a b c : Bool) → ((a || b) || c) ≡ (a || (b || c))
-or-assoc true b c = refl
-or-assoc false b c = refl
-
 module _ (held : ℕ → Bool) (n : ℕ) (tail : List ℕ) where
   one-known : (known : ℕ → Bool) (i : ℕ) → i / 16384 < entryCount n → setTreeBit (shown held known n tail) i ≡ shown held (with-one known i) n tail
   unfolding setTreeBit bitsPlace
@@ -167,7 +147,7 @@ module _ (held : ℕ → Bool) (n : ℕ) (tail : List ℕ) where
   pub more-known : (known : ℕ → Bool) (is : List ℕ) → Under (entryCount n) is
       → setTreeBits (shown held known n tail) is ≡ shown held (or-among known is) n tail
   unfolding setTreeBits Under among
-  more-known known [] u = shown-ext held held known (or-among known []) n tail (λ j. refl) (λ j. or-none (known j))
+  more-known known [] u = shown-ext held held known (or-among known []) n tail (λ j. refl) (λ j. sym (or-none (known j)))
   more-known known (i ∷ is) u =
       ap (λ (l : List ℕ). setTreeBits l is) (one-known known i (u .0)) ∙ more-known (with-one known i) is (u .1)
       ∙ shown-ext held held (or-among (with-one known i) is) (or-among known (i ∷ is)) n tail (λ j. refl) (λ j. or-assoc (known j) (eqb j i) (among j is))

@@ -14,6 +14,7 @@ use lib.ListN.{length, getD}
 use Rattle.byte_strings.specs.Lists.{part, run, total, Bytes}
 use Rattle.byte_strings.proofs.Lists.{length-part, getD-run, run-add, run-suc, run-getD, total-append, bytes-part}
 use Rattle.byte_strings.proofs.Numbers.{eight-lt}
+use Rattle.byte_strings.proofs.Bools.{chosen}
 use Rattle.tree_index.specs.Tree.{index, roots}
 use Rattle.tree_index.proofs.Roots.{bit}
 use Rattle.file_format.specs.Sizes.{longestChunk}
@@ -49,9 +50,6 @@ abbrev pub HoldsAll : List ℕ → List Given → Type 0
 HoldsAll t gs = (g : Given) → In g gs → HoldsEntry t g
 
 -- ---- sums
-
-abbrev chosen : {A : Type 0} → Bool → A → A → A
-chosen b x y = elim b [ true ↦ x | false ↦ y ]
 
 pub without-none : (x : ℕ) (is : List ℕ) → (In x is → ⊥) → without x is ≡ is
 unfolding without In

@@ -20,12 +20,11 @@ use Rattle.bitfield.proofs.Append.{entries-ext}
 use Rattle.file_format.specs.Headers.{bitfieldHeader}
 use Rattle.file_format.specs.Sizes.{longestChunk, usedTree, usedBitfield}
 use Rattle.file_format.specs.Messages.{leafMessage, parentMessage}
-use Rattle.file_format.specs.Images.{bitfieldImage}
 use Rattle.file_format.specs.Stored.{storedHash, storedSize, storedStart, storedChunk, storedMessage, storedRootMessage}
 use Rattle.file_format.specs.Belongs.{Register}
 use Rattle.file_format.proofs.OfImage.{stored-leaf, stored-parent, overs}
 use Rattle.checks.specs.Checks.{judged}
-use Rattle.audit.specs.Audit.{lowest, leafRight, parentRight, holeRight, entryRight, wrongEntry, heldBits, byteRight, wrongByte, refusedAt, imagesVerdict, audit, Accepted}
+use Rattle.audit.specs.Audit.{lowest, parentRight, holeRight, entryRight, wrongEntry, heldBits, wrongByte, refusedAt, imagesVerdict, audit, Accepted, byteRight}
 use Rattle.audit.proofs.Audited.{accepted-audited, leaf-says, even-entry, odd-entry, entryRight-hole}
 use Rattle.audit.proofs.Search.{lowest-agree}
 use Rattle.compare.specs.Walk.{Comparison, rootsDiffer, atRoots, found, collides, walk, unlessRefused, missing, wholeVerdict, compare}
@@ -34,6 +33,8 @@ use Rattle.compare.proofs.RootMessages.{same-count}
 use Rattle.compare.proofs.Walked.{rooted}
 use Rattle.compare.proofs.Whole.{whole-accepted}
 use Rattle.theorem_used_bytes.proofs.Cut.{cut, held-cut, part-cut, entry-cut, hash-cut, size-cut, start-cut, root-message-cut, checks-cut}
+use Rattle.file_format.specs.Images.{bitfieldImage, bitfieldOf}
+use Rattle.audit.specs.Audit.{byteRightBy, leafFrom, leafRight}
 
 -- ---- a chunk within the data
 
@@ -76,7 +77,7 @@ module _ (t bits content : List ℕ) (n size : ℕ) where
     lastTest held hash c = cond held (sameList hash (F (leafMessage c))) (allZero c)
 
     leaf-cut : (held : Bool) (k : ℕ) → k < n → leafRight F u v size held k ≡ leafRight F t content size held k
-    unfolding leafRight entries
+    unfolding leafFrom storedChunk entries
     leaf-cut held k h =
         let z = leaf-size-cut k h in
         let s = leaf-start-cut k h in
@@ -107,7 +108,7 @@ module _ (t bits content : List ℕ) (n size : ℕ) where
     unfolding filled
     leaf-below i z f = omega (arith, leb-true ((block i + 1) * 2 ^ depth i) n f, ap (λ (d : ℕ). (block i + 1) * 2 ^ d) z)
 
-    right-cut : (i : ℕ) → i < entries n → entryRight F u w v n size i ≡ entryRight F t bits content n size i
+    pub right-cut : (i : ℕ) → i < entries n → entryRight F u w v n size i ≡ entryRight F t bits content n size i
     right-cut i h = go (filled n i) refl
       where
         by-depth : (d : ℕ) → depth i ≡ d → filled n i ≡ true → entryRight F u w v n size i ≡ entryRight F t bits content n size i
@@ -131,18 +132,21 @@ module _ (F : List ℕ → List ℕ) (r : Register) where
       (λ j p q before. right-cut (r .tree) (r .bitfield) (r .content) (r .n) (r .size) F j (omega arith))
 
   same-image : bitfieldImage (heldBits (cut r .bitfield) (r .n)) (r .n) ≡ bitfieldImage (heldBits (r .bitfield) (r .n)) (r .n)
-  unfolding bitfieldImage
+  unfolding bitfieldOf
   same-image =
       ap (λ (l : List ℕ). bitfieldHeader ++ l)
       (entries-ext (heldBits (cut r .bitfield) (r .n)) (heldBits (r .bitfield) (r .n)) (r .n) (bits-cut (r .tree) (r .bitfield) (r .content) (r .n) (r .size)))
 
-  byte-found : wrongByte (cut r) ≡ wrongByte r
-  unfolding wrongByte byteRight
-  byte-found =
-      lowest-agree (byteRight (cut r .bitfield) (r .n)) (byteRight (r .bitfield) (r .n)) 32 (usedBitfield (r .n) - 32)
-      (λ j p q before.
+  pub byte-cut : (j : ℕ) → j < usedBitfield (r .n) → byteRight (cut r .bitfield) (r .n) j ≡ byteRight (r .bitfield) (r .n) j
+  unfolding byteRightBy
+  byte-cut j h =
       ap (λ (l : List ℕ). eqb (getD (cut r .bitfield) j 0) (getD l j 0)) same-image
-      ∙ ap (λ (x : ℕ). eqb x (getD (bitfieldImage (heldBits (r .bitfield) (r .n)) (r .n)) j 0)) (getD-take (usedBitfield (r .n)) (r .bitfield) j 0 (omega arith)))
+      ∙ ap (λ (x : ℕ). eqb x (getD (bitfieldImage (heldBits (r .bitfield) (r .n)) (r .n)) j 0)) (getD-take (usedBitfield (r .n)) (r .bitfield) j 0 h)
+
+  byte-found : wrongByte (cut r) ≡ wrongByte r
+  unfolding wrongByte
+  byte-found =
+      lowest-agree (byteRight (cut r .bitfield) (r .n)) (byteRight (r .bitfield) (r .n)) 32 (usedBitfield (r .n) - 32) (λ j p q before. byte-cut j (omega arith))
 
   images-cut : imagesVerdict F (cut r) ≡ imagesVerdict F r
   unfolding imagesVerdict
@@ -152,7 +156,7 @@ module _ (F : List ℕ → List ℕ) (r : Register) where
   unfolding audit
   audit-cut = λ i. judged (checks-cut r i) (images-cut i)
 
-  missing-cut : missing (cut r) ≡ missing r
+  pub missing-cut : missing (cut r) ≡ missing r
   unfolding missing
   missing-cut =
       lowest-agree (storedHeld (cut r .bitfield)) (storedHeld (r .bitfield)) 0 (r .n)

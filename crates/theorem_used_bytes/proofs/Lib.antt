@@ -11,3 +11,5 @@ pub mod Writing
 pub mod UsedBytes
 pub mod Records
 pub mod Leaves
+pub mod Ranges
+pub mod Parts

@@ -4,8 +4,8 @@ use Prim.Native.Nat.{ℕ}
 use mathlib.Core.Path.{_≡_, refl, ap, _∙_}
 use mathlib.Core.List.{List, _∷_, _++_}
 use lib.ListN.{length, take, getD}
-use Rattle.refusals.specs.Verdict.{Spot, Verdict, done, refused}
-use Rattle.byte_strings.specs.Lists.{part, joined}
+use Rattle.refusals.specs.Verdict.{Spot, Verdict, done, refused, unlessRefused}
+use Rattle.byte_strings.specs.Lists.{part, joined, put}
 use Rattle.byte_strings.specs.Numbers.{be}
 use Rattle.tree_index.proofs.Filled.{filled-below}
 use Rattle.file_format.specs.Sizes.{entryPlace, usedTree}
@@ -15,7 +15,7 @@ use Rattle.checks.specs.Checks.{holds}
 use Rattle.lookup.specs.Lookup.{placeVerdict, heldVerdict}
 use Rattle.lookup.proofs.Calls.{held-done}
 use Rattle.lookup.specs.Read.{andThen, readVerdict}
-use Rattle.packet.specs.Packet.{siblings, otherRoots, section, packetOf, roomOr14, outUnless, lengthUnless, makeVerdict, afterMake, madeLength}
+use Rattle.packet.specs.Packet.{siblings, otherRoots, section, packetOf, roomOr14, makeVerdict, afterMake, madeLength, packetWith}
 use Rattle.packet.specs.Inner.{ChunkOf}
 use Rattle.packet.proofs.Rows.{Filled, siblings-filled, others-filled}
 use Rattle.theorem_used_bytes.proofs.Cut.{cut, entry-cut}
@@ -30,7 +30,7 @@ section-cut t n is f =
 
 module _ (F : List ℕ → List ℕ) (r : Register) (c : ℕ) where
   pub packet-cut : readVerdict F r c ≡ done → packetOf (cut r) c ≡ packetOf r c
-  unfolding packetOf readVerdict
+  unfolding packetOf packetWith readVerdict
   packet-cut e =
       let p : placeVerdict r c ≡ done = held-done r c (then-first (heldVerdict r c) _ e) .1 in
       let f = place-found r c p in
@@ -62,8 +62,8 @@ module _ (F : List ℕ → List ℕ) (r : Register) (c : ℕ) where
 
     pub after-make-cut : afterMake F (cut r) c out ≡ afterMake F r c out
     unfolding afterMake
-    after-make-cut = made-with (λ v p. outUnless v p out) (λ m at x y. refl)
+    after-make-cut = made-with (λ v p. unlessRefused v (put out 0 p) out) (λ m at x y. refl)
 
     pub made-length-cut : madeLength F (cut r) c out ≡ madeLength F r c out
     unfolding madeLength
-    made-length-cut = made-with (λ v p. lengthUnless v p) (λ m at x y. refl)
+    made-length-cut = made-with (λ v p. unlessRefused v (length p) 0) (λ m at x y. refl)

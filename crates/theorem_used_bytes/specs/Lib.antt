@@ -2,3 +2,4 @@
 pub mod UsedBytes
 pub mod Records
 pub mod Leaves
+pub mod Parts

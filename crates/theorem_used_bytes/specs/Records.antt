@@ -1,7 +1,7 @@
 -- No byte behind a used size is looked at where records are read and paths are sought: two registers with the same used bytes (`SameUsed`, in
 -- UsedBytes) get the same from these calls.
 --
--- The notions in it: `headerIn` and `nodeIn` (paths, Chunks) and `findIn` (paths, Finding).
+-- The notions in it: `headerIn` and `nodeIn` (record_find, ChunkRecords) and `findIn` (record_find, Finding).
 use Prim.Native.Nat.{ℕ}
 use mathlib.Core.Path.{_≡_}
 use mathlib.Core.List.{List}

@@ -2,9 +2,9 @@
 -- length, get the same from every call that reads. A call that writes says the same of both, where both have room for its result or both
 -- lack it, and leaves the same used bytes in both.
 --
--- The notions in it: `HashFunction` (files, Messages), `Register`, `Buffers` and `Lent` (files, Belongs), the used sizes (files, Sizes), the
--- calls' verdicts and answers (writing, Start, Append, Sign and RootHash; list_append, Append, with Chunks and Fits; prefix_root, PrefixRoot; audit, Audit;
--- compare, Walk; lookup, Lookup, Read and Said; release, Release; search, Search; short_way, ShortAgrees; packet, Packet) and what a call that writes asks for (writing, Fits).
+-- The notions in it: `HashFunction` (file_format, Messages), `Register`, `Buffers` and `Lent` (file_format, Belongs), the used sizes (file_format, Sizes), the
+-- calls' verdicts and answers (writing, Start, Append, Sign and RootHash; append_list, Append, with Chunks and Conditions; prefix_root, PrefixRoot; audit, Audit;
+-- compare, Walk; lookup, Lookup, Read and Meaning; release, Release; search, Search; short_lookup, ShortLookup; packet, Packet) and what a call that writes asks for (writing, Conditions).
 use Prim.Native.Nat.{ℕ}
 use mathlib.Core.Path.{_≡_}
 use mathlib.Core.Logic.{_↔_}
@@ -75,7 +75,7 @@ pub record ReadsUsed (F : List ℕ → List ℕ) : Type 0 where
   pub two : (a b c d : Register) → SameUsed a b → SameUsed c d → compare F a c ≡ compare F b d
 
 -- of the calls that write. What they ask for besides the numbers 2 to 6 is room, and facts of n, s and the chunk that two such registers share.
--- Refused, they change no byte (`unchanged` in demands, Demand2). That the buffers and the chunk hold bytes is asked where F hashes them
+-- Refused, they change no byte (`unchanged` in theorem_demands, Demand2). That the buffers and the chunk hold bytes is asked where F hashes them
 pub record WritesUsed (F : List ℕ → List ℕ) : Type 0 where
   -- a start looks at no byte
   pub start : (a b : Buffers) → StartFits a ↔ StartFits b → startVerdict a ≡ startVerdict b

@@ -11,7 +11,7 @@ use Rattle.bitfield.specs.Index.{indexBytes}
 use Rattle.byte_strings.specs.Lists.{run, zeros, joined}
 use Rattle.byte_strings.specs.Numbers.{be}
 use Rattle.file_format.specs.Sizes.{usedBitfield}
-use Rattle.file_format.specs.Images.{treeImage, signaturesImage, bitfieldImage, dataImage, dataSize}
+use Rattle.file_format.specs.Images.{treeImage, signaturesImage, dataImage, dataSize, bitfieldImage}
 use Rattle.file_format.specs.Slots.{allHeld, heldIn}
 use Rattle.file_format.specs.Belongs.{Register}
 use Rattle.append_needs.specs.Needs.{leafRuns}

@@ -20,7 +20,7 @@ use Rattle.file_format.specs.Headers.{bitfieldHeader}
 use Rattle.file_format.specs.Sizes.{mostChunks, usedTree, usedBitfield}
 use Rattle.file_format.specs.Messages.{HashFunction}
 use Rattle.file_format.specs.Entries.{leaf}
-use Rattle.file_format.specs.Images.{dataSize, dataImage, bitfieldImage, rootHashFor}
+use Rattle.file_format.specs.Images.{dataSize, dataImage, rootHashFor, bitfieldImage, bitfieldOf}
 use Rattle.file_format.specs.Stored.{storedRootMessage}
 use Rattle.file_format.specs.Slots.{Slot, held, contents, heldIn, Within}
 use Rattle.file_format.specs.Belongs.{Register, Belongs}
@@ -40,7 +40,7 @@ use Rattle.writing.proofs.Tree.{appended-tree, tree-rest}
 module _ (xs : List ℕ) (was : ℕ → Bool) (n : ℕ) (none : NoneFrom was n) (few : n < mostChunks) (room : usedBitfield (n + 1) ≤ length xs)
     (image : take (usedBitfield n) xs ≡ bitfieldImage was n) where
   cut : (take 32 xs ≡ bitfieldHeader) × (part xs 32 (3328 * entryCount n) ≡ entriesOf was n)
-  unfolding usedBitfield bitfieldImage
+  unfolding usedBitfield bitfieldOf
   cut = header-cut xs bitfieldHeader (entriesOf was n) 32 (3328 * entryCount n) bitfieldHeader-length (omega arith) image
 
   pub bits-put : appended xs n ≡ put xs 32 (entriesOf (with-one was n) (n + 1))
@@ -48,7 +48,7 @@ module _ (xs : List ℕ) (was : ℕ → Bool) (n : ℕ) (none : NoneFrom was n) 
   bits-put = appended-image xs was n none few (omega (arith, entries-after n)) (cut .1)
 
   pub bits-image : (now : ℕ → Bool) → ((j : ℕ) → with-one was n j ≡ now j) → take (usedBitfield (n + 1)) (appended xs n) ≡ bitfieldImage now (n + 1)
-  unfolding usedBitfield bitfieldImage
+  unfolding usedBitfield bitfieldOf
   bits-image now same =
       ap (take (32 + 3328 * entryCount (n + 1))) bits-put
       ∙ take-put-end xs 32 (3328 * entryCount (n + 1)) (entriesOf (with-one was n) (n + 1)) (length-entries (with-one was n) (n + 1)) (omega arith)

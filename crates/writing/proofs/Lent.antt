@@ -6,7 +6,6 @@ use mathlib.Core.List.{List, [], _∷_, _++_, map}
 use Rattle.byte_strings.specs.Lists.{put, Bytes, zeros}
 use Rattle.byte_strings.proofs.Lists.{bytes-put, bytes-zeros}
 use Rattle.tree_index.specs.Tree.{filledBy}
-use Rattle.bitfield.specs.Image.{entriesOf}
 use Rattle.bitfield.proofs.Bits.{with-one}
 use Rattle.bitfield.proofs.Image.{bytes-entries}
 use Rattle.file_format.specs.Headers.{treeHeader, signaturesHeader, bitfieldHeader}
@@ -23,6 +22,7 @@ use Rattle.writing.specs.Sign.{signedRegister}
 use Rattle.writing.specs.Conditions.{AppendFits}
 use Rattle.writing.proofs.Tree.{by-hole, appended-entries}
 use Rattle.writing.proofs.Appended.{bits-put, none-from, longer-within}
+use Rattle.bitfield.specs.Image.{entriesOf}
 
 -- ---- the tree's entries
 

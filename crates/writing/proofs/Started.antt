@@ -10,11 +10,11 @@ use lib.ListN.{length, take, drop}
 use Rattle.refusals.specs.Verdict.{none, done, refused}
 use Rattle.byte_strings.specs.Lists.{put, run, joined, total}
 use Rattle.tree_index.specs.Tree.{entries}
-use Rattle.bitfield.specs.Image.{entryCount, entriesOf}
+use Rattle.bitfield.specs.Image.{entryCount, entriesFor}
 use Rattle.file_format.specs.Headers.{treeHeader, signaturesHeader, bitfieldHeader}
 use Rattle.file_format.specs.Sizes.{usedTree, usedSignatures, usedBitfield}
 use Rattle.file_format.specs.Entries.{treeEntries}
-use Rattle.file_format.specs.Images.{dataSize, dataImage, bitfieldImage, signaturesImage, treeImage, leaves}
+use Rattle.file_format.specs.Images.{dataSize, dataImage, signaturesImage, treeImage, leaves, bitfieldImage, bitfieldOf}
 use Rattle.file_format.specs.Slots.{contents, heldIn}
 use Rattle.file_format.specs.Belongs.{Buffers, Belongs}
 use Rattle.file_format.proofs.OfImage.{treeHeader-length, signaturesHeader-length, bitfieldHeader-length}
@@ -55,7 +55,7 @@ unfolding treeImage treeEntries leaves entries run joined
 none-tree F = append-nil treeHeader
 
 none-bitfield : bitfieldImage (heldIn []) 0 ≡ bitfieldHeader
-unfolding bitfieldImage entriesOf entryCount run joined
+unfolding bitfieldOf entriesFor entryCount run joined
 none-bitfield = append-nil bitfieldHeader
 
 none-signatures : signaturesImage [] ≡ signaturesHeader

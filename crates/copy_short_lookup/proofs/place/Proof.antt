@@ -1,8 +1,8 @@
 -- `copy_short_lookup::place` meets its contract: the checks of a copy, and what comes behind them. Assumes nothing.
-use mathlib.Core.Path.{sym, ap, _∙_}
-use Rattle.refusals.specs.Meaning.{said, spotOf}
+use mathlib.Core.Path.{sym, _∙_}
+use Rattle.refusals.specs.Meaning.{said}
 use Rattle.copy_checks.specs.Copy.{Copy, copyOf}
-use Rattle.copy_short_lookup.proofs.Calls.{short-in, place-refused, place-passed}
+use Rattle.copy_short_lookup.proofs.Calls.{place-by, files-in}
 use borrow.Author.Needs.{needs}
 use Rattle.copy_short_lookup.proofs.place.Statement.{statement}
 use Rattle.copy_short_lookup.proofs.place.Tie as tie
@@ -10,23 +10,13 @@ use Rattle.copy_short_lookup.proofs.place.Tie as tie
 abbrev given : (c : tie.Start) → Copy
 given c = copyOf (c .args .tree .now) (c .args .bitfield .now) (c .args .content .now) (c .args .n) (c .args .size)
 
-place-in-requires : tie.Need-place-in-requires
-place-in-requires c κs =
-    let start = c .before .before .before .before .before .before in
-    short-in (given start) (sym (ap said (c .enum-told .given .1)) ∙ c .before .before .judge .ensures)
+place-behind-requires : tie.Need-place-behind-requires
+place-behind-requires c κs = λ e. files-in (given (c .before .before .before .before)) (sym e ∙ c .judge .ensures)
 
 returns : tie.Need-returns
 returns c =
-    let at-judge = c .before .before .before in
-    let s = at-judge .before .before .before .before in
-    let q = c .before .refusal .given in
-    place-refused (given s) (s .args .chunk .0) (q .0 .0 .number) (spotOf (q .0 .0 .place)) (sym (ap said (q .1)) ∙ at-judge .judge .ensures)
-
-returns-2 : tie.Need-returns-2
-returns-2 c =
-    let at-judge = c .before .before .before in
-    let s = at-judge .before .before .before .before in
-    c .place-in .ensures ∙ place-passed (given s) (sym (ap said (c .before .enum-told .given .1)) ∙ at-judge .judge .ensures) (s .args .chunk .0)
+    let s = c .before .before .before .before .before in
+    c .place-behind .ensures ∙ place-by (given s) (said (c .before .judge .result)) (c .before .judge .ensures) (s .args .chunk .0)
 
 pub place-spec : {M : Type 1} → statement M
-place-spec = tie.close (tie.spec (λ c κs. search needs) (λ c. search needs) (λ c. search needs) place-in-requires returns returns-2)
+place-spec = tie.close (tie.spec (λ c κs. search needs) place-behind-requires returns)

@@ -1,9 +1,10 @@
 -- `copy_take_in::judge` meets its contract. Assumes nothing.
-use mathlib.Core.Path.{sym, ap, _∙_}
+use mathlib.Core.Path.{refl, sym, ap, _∙_}
 use Rattle.refusals.specs.Meaning.{said, spotOf}
 use Rattle.blake2b.specs.Hash.{nodeHash}
+use Rattle.packet.proofs.Right.{handed-by}
 use Rattle.copy_checks.specs.Copy.{Copy, copyOf}
-use Rattle.copy_take_in.proofs.Calls.{judge-copy, judge-own, never}
+use Rattle.copy_take_in.proofs.Calls.{judge-copy, judge-own}
 use borrow.Author.Needs.{needs}
 use Rattle.copy_take_in.proofs.judge.Statement.{statement}
 use Rattle.copy_take_in.proofs.judge.Tie as tie
@@ -17,22 +18,18 @@ returns c =
     let q = c .before .before .refusal .given in
     let start = at-judge .before .before .before .before .before in
     let a = start .args in
-    let e = ap said (c .unhashed .ensures) in (
-      e
-          ∙ judge-copy nodeHash (given start) (a .packet .now) (a .chunk .0) (a .root .now) (q .0 .0 .number) (spotOf (q .0 .0 .place))
-          (sym (ap said (q .1)) ∙ at-judge .judge-partly .ensures),
-      never e,
-    )
+    let e = judge-copy nodeHash (given start) (a .packet .now) (a .chunk .0) (a .root .now) (q .0 .0 .number) (spotOf (q .0 .0 .place))
+    (sym (ap said (q .1)) ∙ at-judge .judge-partly .ensures) in
+    (ap said (c .unhashed .ensures .0) ∙ e, handed-by nodeHash (a .packet .now) (a .n) (a .chunk .0) e (c .unhashed .ensures .1))
 
 returns-2 : tie.Need-returns-2
 returns-2 c =
     let at-judge = c .before .before .before in
     let start = at-judge .before .before .before .before .before in
-    let a = start .args in (
-      judge-own nodeHash (given start) (a .packet .now) (a .chunk .0) (a .root .now) (sym (ap said (c .before .enum-told .given .1)) ∙ at-judge .judge-partly .ensures)
-          (said (c .judge-packet .result .answer)) (c .judge-packet .ensures .0),
-      c .judge-packet .ensures .1,
-    )
+    let a = start .args in
+    let e = judge-own nodeHash (given start) (a .packet .now) (a .chunk .0) (a .root .now) (sym (ap said (c .before .enum-told .given .1)) ∙ at-judge .judge-partly .ensures)
+    _ refl in
+    (c .judge-packet .ensures .0 ∙ e, handed-by nodeHash (a .packet .now) (a .n) (a .chunk .0) e (c .judge-packet .ensures .1))
 
 pub judge-spec : {M : Type 1} → statement M
 judge-spec =

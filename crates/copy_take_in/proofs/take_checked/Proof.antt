@@ -33,7 +33,7 @@ ready c =
       room = start-at c .pre .0;
       way = c .before .before .way-of .ensures;
       begins = c .before .start-of .ensures;
-      led = led-rows (start-at c .pre .1) (c .entry-row .ensures);
+      led = led-rows _ _ _ (start-at c .pre .1) (c .entry-row .ensures);
     }
 
 contradiction-of-requires : tie.Need-contradiction-of-requires

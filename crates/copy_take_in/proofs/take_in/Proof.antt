@@ -2,6 +2,7 @@
 use mathlib.Core.Path.{sym, ap, _∙_}
 use Rattle.refusals.specs.Meaning.{said, spotOf}
 use Rattle.blake2b.specs.Hash.{nodeHash}
+use Rattle.packet.proofs.Right.{handed-by}
 use Rattle.copy_checks.specs.Copy.{Copy, copyOf}
 use Rattle.copy_take_in.proofs.Calls.{room, take-not, take-done, sizeless}
 use borrow.Author.Needs.{needs}
@@ -16,9 +17,11 @@ take-checked-requires c κs =
     let at-enum-told = c .before .before .before .before in
     let at-judge = at-enum-told .before .before .before .before in
     let done-is = at-enum-told .enum-told .given .1 in
-    let start = at-judge .before .before .before .before .before .before .before .before in (
-      room nodeHash (given start) (start .args .packet .now) (start .args .chunk .0) (start .args .root .now) (sym (ap said done-is) ∙ at-judge .judge .ensures .0),
-      at-judge .judge .ensures .1 (ap said done-is),
+    let start = at-judge .before .before .before .before .before .before .before .before in
+    let a = start .args in
+    let e = sym (ap said done-is) ∙ at-judge .judge .ensures .0 in (
+      room nodeHash (given start) (a .packet .now) (a .chunk .0) (a .root .now) e,
+      handed-by nodeHash (a .packet .now) (a .n) (a .chunk .0) (sym e) (at-judge .judge .ensures .1),
     )
 
 returns : tie.Need-returns

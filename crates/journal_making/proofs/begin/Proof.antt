@@ -33,13 +33,14 @@ same-length c = search needs
 returns-2 : tie.Need-returns-2
 unfolding begun
 returns-2 c =
-    let at-clear = c .before .before .before .before .before .before .before in
+    let at-write-words = c .before .before in
+    let at-clear = at-write-words .before .before .before .before .before in
     let at-copy-to = at-clear .before .before .before .before in
     let start = at-copy-to .before .before .before .before .before in
     let a = start .args in
     let e = begin-done (a .journal .now) (omega arith) in (
       e,
-      front-put (a .journal .now) _ _ _ (a .states .now) (omega arith) (at-copy-to .copy-to .ensures) (at-clear .clear .ensures) (c .before .before .write-words .ensures)
+      front-put (a .journal .now) _ _ _ (a .states .now) (omega arith) (at-copy-to .copy-to .ensures) (at-clear .clear .ensures) (at-write-words .write-words .ensures)
           ∙ done-written _ _ _ _ refl e,
     )
 

@@ -18,13 +18,16 @@ same-length c = search needs
 returns : tie.Need-returns
 unfolding endAfter
 returns c =
-    let e = c .before .before .judge-end .ensures in
-    (e, refused-kept _ _ _ _ (sym (c .before .is-done .ensures) ∙ not-true _ (c .if1 .taken)) e)
+    let at-is-done = c .before in
+    let e = at-is-done .before .judge-end .ensures in
+    (e, refused-kept _ _ _ _ (sym (at-is-done .is-done .ensures) ∙ not-true _ (c .if1 .taken)) e)
 
 add-be64 : tie.Need-add-be64
 add-be64 c =
-    let s = c .before .before .before .before .before in
-    let x = end-has (s .args .journal .now) (s .args .at) (ap isDone (sym (c .before .before .judge-end .ensures)) ∙ sym (c .before .is-done .ensures) ∙ not-false _ (c .if1 .left)) in
+    let at-is-done = c .before in
+    let at-judge-end = at-is-done .before in
+    let s = at-judge-end .before .before .before in
+    let x = end-has (s .args .journal .now) (s .args .at) (ap isDone (sym (at-judge-end .judge-end .ensures)) ∙ sym (at-is-done .is-done .ensures) ∙ not-false _ (c .if1 .left)) in
     search needs
 
 be64-requires : tie.Need-be64-requires
@@ -35,8 +38,11 @@ slice-aggregate-copy-to c = search needs
 
 copy-to-requires : tie.Need-copy-to-requires
 copy-to-requires c κs =
-    let s = c .before .before .before .before .before .before .before .before in
-    let x = end-has (s .args .journal .now) (s .args .at) (ap isDone (sym (c .before .before .before .before .before .judge-end .ensures)) ∙ sym (c .before .before .before .before .is-done .ensures) ∙ not-false _ (c .before .before .before .if1 .left)) in
+    let branch1 = c .before .before .before in
+    let at-is-done = branch1 .before in
+    let at-judge-end = at-is-done .before in
+    let s = at-judge-end .before .before .before in
+    let x = end-has (s .args .journal .now) (s .args .at) (ap isDone (sym (at-judge-end .judge-end .ensures)) ∙ sym (at-is-done .is-done .ensures) ∙ not-false _ (branch1 .if1 .left)) in
     search needs
 
 slice-aggregate-hash-parts : tie.Need-slice-aggregate-hash-parts
@@ -53,8 +59,11 @@ part-hash-parts-start c = search needs
 
 part-hash-parts-end : tie.Need-part-hash-parts-end
 part-hash-parts-end c =
-    let s = c .before .before .before .before .before .before .before .before .before .before .before .before .before .before in
-    let x = end-has (s .args .journal .now) (s .args .at) (ap isDone (sym (c .before .before .before .before .before .before .before .before .before .before .before .judge-end .ensures)) ∙ sym (c .before .before .before .before .before .before .before .before .before .before .is-done .ensures) ∙ not-false _ (c .before .before .before .before .before .before .before .before .before .if1 .left)) in
+    let branch1 = c .before .before .before .before .before .before .before .before .before in
+    let at-is-done = branch1 .before in
+    let at-judge-end = at-is-done .before in
+    let s = at-judge-end .before .before .before in
+    let x = end-has (s .args .journal .now) (s .args .at) (ap isDone (sym (at-judge-end .judge-end .ensures)) ∙ sym (at-is-done .is-done .ensures) ∙ not-false _ (branch1 .if1 .left)) in
     search needs
 
 hash-parts-requires : tie.Need-hash-parts-requires
@@ -66,7 +75,10 @@ slice-aggregate-copy-to-2 c = search needs
 copy-to-requires-2 : tie.Need-copy-to-requires-2
 copy-to-requires-2 c κs =
     let s = c .before .before .before .before .before .before .before .before .before .before .before .before .before .before .before .before .before .before in
-    let x = end-has (s .args .journal .now) (s .args .at) (ap isDone (sym (c .before .before .before .before .before .before .before .before .before .before .before .before .before .before .before .judge-end .ensures)) ∙ sym (c .before .before .before .before .before .before .before .before .before .before .before .before .before .before .is-done .ensures) ∙ not-false _ (c .before .before .before .before .before .before .before .before .before .before .before .before .before .if1 .left)) in
+    let x = end-has (s .args .journal .now) (s .args .at)
+    (ap isDone (sym (c .before .before .before .before .before .before .before .before .before .before .before .before .before .before .before .judge-end .ensures)) ∙ sym
+    (c .before .before .before .before .before .before .before .before .before .before .before .before .before .before .is-done .ensures) ∙ not-false _
+    (c .before .before .before .before .before .before .before .before .before .before .before .before .before .if1 .left)) in
     search needs
 
 same-length-2 : tie.Need-same-length-2
@@ -75,11 +87,19 @@ same-length-2 c = search needs
 returns-2 : tie.Need-returns-2
 unfolding endAfter
 returns-2 c =
-    let s = c .before .before .before .before .before .before .before .before .before .before .before .before .before .before .before .before .before .before .before .before .before in
-    let e = c .before .before .before .before .before .before .before .before .before .before .before .before .before .before .before .before .before .before .judge-end .ensures in (
+    let at-copy-to2 = c .before .before in
+    let at-hash-parts = at-copy-to2 .before .before .before in
+    let at-copy-to = at-hash-parts .before .before .before .before .before .before .before in
+    let at-be64 = at-copy-to .before .before .before in
+    let branch1 = at-be64 .before in
+    let at-is-done = branch1 .before in
+    let at-judge-end = at-is-done .before in
+    let s = at-judge-end .before .before .before in
+    let e = at-judge-end .judge-end .ensures in (
       e,
-      sealed-said (s .args .journal .now) _ _ _ _ (s .args .at) (c .before .before .before .before .before .before .before .before .before .before .before .before .before .before .before .be64 .ensures) (c .before .before .before .before .before .before .before .before .before .before .before .before .copy-to .ensures) (hash-said _ _ (s .args .at) (c .before .before .before .before .before .hash-parts .ensures)) (c .before .before .copy-to2 .ensures)
-          ∙ done-written _ _ _ _ (sym (c .before .before .before .before .before .before .before .before .before .before .before .before .before .before .before .before .before .is-done .ensures) ∙ not-false _ (c .before .before .before .before .before .before .before .before .before .before .before .before .before .before .before .before .if1 .left)) e,
+      sealed-said (s .args .journal .now) _ _ _ _ (s .args .at) (at-be64 .be64 .ensures) (at-copy-to .copy-to .ensures)
+          (hash-said _ _ (s .args .at) (at-hash-parts .hash-parts .ensures)) (at-copy-to2 .copy-to2 .ensures)
+          ∙ done-written _ _ _ _ (sym (at-is-done .is-done .ensures) ∙ not-false _ (branch1 .if1 .left)) e,
     )
 
 is-done-requires : tie.Need-is-done-requires

@@ -31,32 +31,41 @@ begins-requires c κs = search needs
 
 returns-4 : tie.Need-returns-4
 returns-4 c =
-    let at-length-right = c .before .before .before in
-    end-first _ _ (omega arith) (sym (at-length-right .length-right .ensures) ∙ not-false _ (c .before .before .if3 .left)) (sym (c .before .begins .ensures) ∙ not-true _ (c .if4 .taken))
+    let at-begins = c .before in
+    let branch3 = at-begins .before in
+    let at-length-right = branch3 .before in
+    end-first _ _ (omega arith) (sym (at-length-right .length-right .ensures) ∙ not-false _ (branch3 .if3 .left)) (sym (at-begins .begins .ensures) ∙ not-true _ (c .if4 .taken))
 
 judge-table-requires : tie.Need-judge-table-requires
-judge-table-requires c κs = let h = right-least _ (sym (c .before .before .before .length-right .ensures) ∙ not-false _ (c .before .before .if3 .left)) in search needs
+judge-table-requires c κs =
+    let branch3 = c .before .before in
+    let at-length-right = branch3 .before in
+    let h = right-least _ (sym (at-length-right .length-right .ensures) ∙ not-false _ (branch3 .if3 .left)) in search needs
 
 returns-5 : tie.Need-returns-5
 returns-5 c =
-    let branch4 = c .before .before .before in
+    let at-is-done = c .before in
+    let at-judge-table = at-is-done .before in
+    let branch4 = at-judge-table .before in
     let at-begins = branch4 .before in
     let branch3 = at-begins .before in
     let at-length-right = branch3 .before in
     end-table _ _ (omega arith) (sym (at-length-right .length-right .ensures) ∙ not-false _ (branch3 .if3 .left))
-    (sym (at-begins .begins .ensures) ∙ not-false _ (branch4 .if4 .left)) _ (c .before .before .judge-table .ensures) (sym (c .before .is-done .ensures) ∙ not-true _ (c .if5 .taken))
+    (sym (at-begins .begins .ensures) ∙ not-false _ (branch4 .if4 .left)) _ (at-judge-table .judge-table .ensures) (sym (at-is-done .is-done .ensures) ∙ not-true _ (c .if5 .taken))
 
 add-t6 : tie.Need-add-t6
 add-t6 c = search needs
 
 returns-6 : tie.Need-returns-6
 returns-6 c =
-    let branch4 = c .before .before .before in
+    let at-is-done = c .before in
+    let at-judge-table = at-is-done .before in
+    let branch4 = at-judge-table .before in
     let at-begins = branch4 .before in
     let branch3 = at-begins .before in
     let at-length-right = branch3 .before in
     end-done _ _ (omega arith) (sym (at-length-right .length-right .ensures) ∙ not-false _ (branch3 .if3 .left))
-    (sym (at-begins .begins .ensures) ∙ not-false _ (branch4 .if4 .left)) _ (c .before .before .judge-table .ensures) (sym (c .before .is-done .ensures) ∙ not-false _ (c .if5 .left))
+    (sym (at-begins .begins .ensures) ∙ not-false _ (branch4 .if4 .left)) _ (at-judge-table .judge-table .ensures) (sym (at-is-done .is-done .ensures) ∙ not-false _ (c .if5 .left))
 
 is-done-requires : tie.Need-is-done-requires
 is-done-requires c κs = search needs

@@ -24,9 +24,10 @@ is-fitting-requires c κs = search needs
 returns-2 : tie.Need-returns-2
 unfolding putAfter
 returns-2 c =
-    let start = c .before .before .before .before .before .before in
+    let at-is-fitting = c .before in
+    let start = at-is-fitting .before .before .before .before .before in
     let a = start .args in
-    let e = put-unfit (a .journal .now) (a .at) (a .file) (a .kind) (a .size) (a .old .now) (a .new .now) (omega arith) (sym (c .before .is-fitting .ensures) ∙ not-true _ (c .if2 .taken)) in
+    let e = put-unfit (a .journal .now) (a .at) (a .file) (a .kind) (a .size) (a .old .now) (a .new .now) (omega arith) (sym (at-is-fitting .is-fitting .ensures) ∙ not-true _ (c .if2 .taken)) in
     (e, refused-kept _ _ _ _ refl e)
 
 has-room-requires : tie.Need-has-room-requires
@@ -35,30 +36,43 @@ has-room-requires c κs = search needs
 returns-3 : tie.Need-returns-3
 unfolding putAfter
 returns-3 c =
-    let at-is-fitting = c .before .before .before in
+    let at-has-room = c .before in
+    let branch2 = at-has-room .before in
+    let at-is-fitting = branch2 .before in
     let start = at-is-fitting .before .before .before .before .before in
     let a = start .args in
     let e = put-no-room (a .journal .now) (a .at) (a .file) (a .kind) (a .size) (a .old .now) (a .new .now) (omega arith)
-    (sym (at-is-fitting .is-fitting .ensures) ∙ not-false _ (c .before .before .if2 .left)) (sym (c .before .has-room .ensures) ∙ not-true _ (c .if3 .taken)) in
+    (sym (at-is-fitting .is-fitting .ensures) ∙ not-false _ (branch2 .if2 .left)) (sym (at-has-room .has-room .ensures) ∙ not-true _ (c .if3 .taken)) in
     (e, refused-kept _ _ _ _ refl e)
 
 cast-write-range : tie.Need-cast-write-range
 cast-write-range c = search needs
 
 cast-write-range-2 : tie.Need-cast-write-range-2
-cast-write-range-2 c = let h = small-kind _ _ _ _ (sym (c .before .before .before .before .is-fitting .ensures) ∙ not-false _ (c .before .before .before .if2 .left)) in search needs
+cast-write-range-2 c =
+    let branch2 = c .before .before .before in
+    let at-is-fitting = branch2 .before in
+    let h = small-kind _ _ _ _ (sym (at-is-fitting .is-fitting .ensures) ∙ not-false _ (branch2 .if2 .left)) in search needs
 
 write-range-requires : tie.Need-write-range-requires
-write-range-requires c κs = let h = has-room _ _ _ _ (sym (c .before .before .has-room .ensures) ∙ not-false _ (c .before .if3 .left)) in search needs
+write-range-requires c κs =
+    let branch3 = c .before in
+    let h = has-room _ _ _ _ (sym (branch3 .before .has-room .ensures) ∙ not-false _ (branch3 .if3 .left)) in search needs
 
 add-t10 : tie.Need-add-t10
-add-t10 c = let h = has-room _ _ _ _ (sym (c .before .before .before .before .before .has-room .ensures) ∙ not-false _ (c .before .before .before .before .if3 .left)) in search needs
+add-t10 c =
+    let branch3 = c .before .before .before .before in
+    let at-has-room = branch3 .before in
+    let h = has-room _ _ _ _ (sym (at-has-room .has-room .ensures) ∙ not-false _ (branch3 .if3 .left)) in search needs
 
 add-t21 : tie.Need-add-t21
 add-t21 c = search needs
 
 add-t22 : tie.Need-add-t22
-add-t22 c = let h = has-room _ _ _ _ (sym (c .before .before .before .before .before .has-room .ensures) ∙ not-false _ (c .before .before .before .before .if3 .left)) in search needs
+add-t22 c =
+    let branch3 = c .before .before .before .before in
+    let at-has-room = branch3 .before in
+    let h = has-room _ _ _ _ (sym (at-has-room .has-room .ensures) ∙ not-false _ (branch3 .if3 .left)) in search needs
 
 same-length : tie.Need-same-length
 same-length c = search needs
@@ -66,7 +80,8 @@ same-length c = search needs
 returns-4 : tie.Need-returns-4
 unfolding putAfter
 returns-4 c =
-    let branch3 = c .before .before .before .before in
+    let at-write-range = c .before .before in
+    let branch3 = at-write-range .before .before in
     let at-has-room = branch3 .before in
     let branch2 = at-has-room .before in
     let at-is-fitting = branch2 .before in
@@ -74,7 +89,7 @@ returns-4 c =
     let a = start .args in
     let e = put-done (a .journal .now) (a .at) (a .file) (a .kind) (a .size) (a .old .now) (a .new .now) (omega arith)
     (sym (at-is-fitting .is-fitting .ensures) ∙ not-false _ (branch2 .if2 .left)) (sym (at-has-room .has-room .ensures) ∙ not-false _ (branch3 .if3 .left)) in
-    (e, c .before .before .write-range .ensures ∙ done-written _ _ _ _ refl e)
+    (e, at-write-range .write-range .ensures ∙ done-written _ _ _ _ refl e)
 
 pub put-spec : {M : Type 1} → statement M
 put-spec =

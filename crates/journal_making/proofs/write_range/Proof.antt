@@ -55,7 +55,8 @@ same-length c = search needs
 
 returns : tie.Need-returns
 returns c =
-    let at-copy-to4 = c .before .before .before .before .before .before in
+    let at-copy-to5 = c .before .before in
+    let at-copy-to4 = at-copy-to5 .before .before .before .before in
     let at-copy-to3 = at-copy-to4 .before .before .before .before in
     let at-copy-to2 = at-copy-to3 .before .before .before .before .before in
     let at-copy-to = at-copy-to2 .before .before .before .before .before in
@@ -64,7 +65,7 @@ returns c =
     let start = at-be64 .before .before .before .before in
     let a = start .args in
     five-puts (a .journal .now) (a .at) (a .file) (a .kind) (a .offset) (a .size) (a .old .now) (a .new .now) (omega arith) _ _ _ _ _ _ _ (at-be64 .be64 .ensures) (at-be642 .be642 .ensures)
-    (at-copy-to .copy-to .ensures) (at-copy-to2 .copy-to2 .ensures) (at-copy-to3 .copy-to3 .ensures) (at-copy-to4 .copy-to4 .ensures) (c .before .before .copy-to5 .ensures)
+    (at-copy-to .copy-to .ensures) (at-copy-to2 .copy-to2 .ensures) (at-copy-to3 .copy-to3 .ensures) (at-copy-to4 .copy-to4 .ensures) (at-copy-to5 .copy-to5 .ensures)
 
 pub write-range-spec : {M : Type 1} → statement M
 write-range-spec =

@@ -48,11 +48,12 @@ loop-less c = search needs
 
 loop-again : tie.Need-loop-again Inv-loop μ-loop
 loop-again c =
-    let at-be64 = c .before .before .before .before .before in
+    let at-copy-to = c .before .before in
+    let at-be64 = at-copy-to .before .before .before in
     let l = at-be64 .before .before .before in
     let g = l .before .before .before in
     let w = words-next (g .args .journal .now) (g .args .at) (g .args .numbers .now) (omega arith) (l .loop .journal) _ _ (l .loop .i) (omega arith) (l .loop .inv .1)
-    (at-be64 .be64 .ensures) (c .before .before .copy-to .ensures) in
+    (at-be64 .be64 .ensures) (at-copy-to .copy-to .ensures) in
     (omega arith, w, words-long (g .args .journal .now) (g .args .at) (g .args .numbers .now) (omega arith) _ (l .loop .i + 1) (omega arith) (omega arith) w)
 
 same-length : tie.Need-same-length Inv-loop μ-loop

@@ -43,10 +43,12 @@ add-t15 c = search needs
 
 returns : tie.Need-returns Inv-loop μ-loop
 returns c =
-    let tested = c .before .before .before .before .before in
+    let at-either = c .before in
+    let tested = at-either .before .before .before .before in
     let a = tested .before in
-    let g = a .before .before .before .before .args in
-    let right = right-said (g .file .now) (g .old .now) (g .new .now) (g .at) (a .loop .i) (c .before .either .result) (c .before .either .ensures) false (not-true _ (c .if1 .taken)) in
+    let start = a .before .before .before .before in
+    let g = start .args in
+    let right = right-said (g .file .now) (g .old .now) (g .new .now) (g .at) (a .loop .i) (at-either .either .result) (at-either .either .ensures) false (not-true _ (c .if1 .taken)) in
     shifted-first (g .at) (a .loop .i) _
     (a .loop .inv .1 ∙ lowest-off (rightAt (g .file .now) (g .old .now) (g .new .now) (g .at)) (a .loop .i) (length (g .new .now)) (tested .loop-test .taken) right)
 
@@ -58,10 +60,12 @@ loop-less c = search needs
 
 loop-again : tie.Need-loop-again Inv-loop μ-loop
 loop-again c =
-    let tested = c .before .before .before .before .before in
+    let at-either = c .before in
+    let tested = at-either .before .before .before .before in
     let a = tested .before in
-    let g = a .before .before .before .before .args in
-    let right = right-said (g .file .now) (g .old .now) (g .new .now) (g .at) (a .loop .i) (c .before .either .result) (c .before .either .ensures) true (not-false _ (c .if1 .left)) in (
+    let start = a .before .before .before .before in
+    let g = start .args in
+    let right = right-said (g .file .now) (g .old .now) (g .new .now) (g .at) (a .loop .i) (at-either .either .result) (at-either .either .ensures) true (not-false _ (c .if1 .left)) in (
       omega arith,
       a .loop .inv .1 ∙ lowest-on (rightAt (g .file .now) (g .old .now) (g .new .now) (g .at)) (a .loop .i) (length (g .new .now)) (tested .loop-test .taken) right,
     )
@@ -69,7 +73,8 @@ loop-again c =
 returns-2 : tie.Need-returns-2 Inv-loop μ-loop
 returns-2 c =
     let a = c .before in
-    let g = a .before .before .before .before .args in
+    let start = a .before .before .before .before in
+    let g = start .args in
     shifted-none (g .at) _
     (a .loop .inv .1 ∙ lowest-end (rightAt (g .file .now) (g .old .now) (g .new .now) (g .at)) (a .loop .i) (length (g .new .now)) (c .loop-test .left))
 

@@ -23,17 +23,21 @@ place-behind-requires c κs = search needs
 
 returns : tie.Need-returns Inv-loop μ-loop
 returns c =
-    let l = c .before .before .before in
+    let at-place-behind = c .before in
+    let l = at-place-behind .before .before in
     let start = l .before .before .before in
     let a = start .args in
     mets-cut (a .journal .now) (a .end) (a .file) (a .bytes .now) (a .at) (l .loop .place) (l .loop .inv)
-    (behind-none (a .journal .now) (a .end) (l .loop .place) _ (c .before .place-behind .ensures) (c .if1 .taken))
+    (behind-none (a .journal .now) (a .end) (l .loop .place) _ (at-place-behind .place-behind .ensures) (c .if1 .taken))
 
 shared-slice-read-wide : tie.Need-shared-slice-read-wide Inv-loop μ-loop
 shared-slice-read-wide c =
-    let l = c .before .before .before .before in
-    let a = c .before .before .before .before .before .before .before .args in
-    let w = behind-some (a .journal .now) (a .end) (l .loop .place) _ (c .before .before .place-behind .ensures) (c .before .if1 .left) in
+    let branch1 = c .before in
+    let at-place-behind = branch1 .before in
+    let l = at-place-behind .before .before in
+    let start = l .before .before .before in
+    let a = start .args in
+    let w = behind-some (a .journal .now) (a .end) (l .loop .place) _ (at-place-behind .place-behind .ensures) (branch1 .if1 .left) in
     search needs
 
 wide-requires : tie.Need-wide-requires Inv-loop μ-loop
@@ -41,13 +45,14 @@ wide-requires c κs = search needs
 
 returns-2 : tie.Need-returns-2 Inv-loop μ-loop
 returns-2 c =
-    let branch1 = c .before .before .before in
+    let at-wide = c .before in
+    let branch1 = at-wide .before .before in
     let at-place-behind = branch1 .before in
     let l = at-place-behind .before .before in
     let start = l .before .before .before in
     let a = start .args in
     let w = behind-some (a .journal .now) (a .end) (l .loop .place) _ (at-place-behind .place-behind .ensures) (branch1 .if1 .left) in
-    mets-other (a .journal .now) (a .end) (a .file) (a .bytes .now) (a .at) (l .loop .place) (l .loop .inv) (w .is) _ (c .before .wide .ensures) (c .if2 .taken)
+    mets-other (a .journal .now) (a .end) (a .file) (a .bytes .now) (a .at) (l .loop .place) (l .loop .inv) (w .is) _ (at-wide .wide .ensures) (c .if2 .taken)
 
 met-range-requires : tie.Need-met-range-requires Inv-loop μ-loop
 met-range-requires c κs =
@@ -64,7 +69,8 @@ enum-known-found c = search needs
 
 returns-3 : tie.Need-returns-3 Inv-loop μ-loop
 returns-3 c =
-    let at-met-range = c .before .before .before in
+    let at-found = c .before in
+    let at-met-range = at-found .before .before in
     let branch2 = at-met-range .before in
     let at-wide = branch2 .before in
     let branch1 = at-wide .before .before in
@@ -74,22 +80,26 @@ returns-3 c =
     let a = start .args in
     let w = behind-some (a .journal .now) (a .end) (l .loop .place) _ (at-place-behind .place-behind .ensures) (branch1 .if1 .left) in
     mets-byte (a .journal .now) (a .end) (a .file) (a .bytes .now) (a .at) (l .loop .place) (w .is) _ (at-wide .wide .ensures) (branch2 .if2 .left) _
-    (at-met-range .met-range .ensures) (l .loop .inv) (omega arith) _ (c .before .found .given .1)
+    (at-met-range .met-range .ensures) (l .loop .inv) (omega arith) _ (at-found .found .given .1)
 
 enum-told : tie.Need-enum-told Inv-loop μ-loop
 enum-told c = search needs
 
 loop-less : tie.Need-loop-less Inv-loop μ-loop
 loop-less c =
-    let l = c .before .before .before .before .before .before .before .before .before in
-    let a = c .before .before .before .before .before .before .before .before .before .before .before .before .args in
-    let w = behind-some (a .journal .now) (a .end) (l .loop .place) _ (c .before .before .before .before .before .before .before .place-behind .ensures)
-    (c .before .before .before .before .before .before .if1 .left) in
+    let branch1 = c .before .before .before .before .before .before in
+    let at-place-behind = branch1 .before in
+    let l = at-place-behind .before .before in
+    let start = l .before .before .before in
+    let a = start .args in
+    let w = behind-some (a .journal .now) (a .end) (l .loop .place) _ (at-place-behind .place-behind .ensures)
+    (branch1 .if1 .left) in
     search needs
 
 loop-again : tie.Need-loop-again Inv-loop μ-loop
 loop-again c =
-    let branch2 = c .before .before .before in
+    let at-met-range = c .before .before in
+    let branch2 = at-met-range .before in
     let at-wide = branch2 .before in
     let branch1 = at-wide .before .before in
     let at-place-behind = branch1 .before in
@@ -98,7 +108,7 @@ loop-again c =
     let a = start .args in
     let w = behind-some (a .journal .now) (a .end) (l .loop .place) _ (at-place-behind .place-behind .ensures) (branch1 .if1 .left) in
     mets-on (a .journal .now) (a .end) (a .file) (a .bytes .now) (a .at) (l .loop .place) (w .is) _ (at-wide .wide .ensures) (branch2 .if2 .left) _
-    (c .before .before .met-range .ensures) (l .loop .inv) (omega arith) _ w (c .enum-told .given .1)
+    (at-met-range .met-range .ensures) (l .loop .inv) (omega arith) _ w (c .enum-told .given .1)
 
 returns-4 : tie.Need-returns-4 Inv-loop μ-loop
 returns-4 c =

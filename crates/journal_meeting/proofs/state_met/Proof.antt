@@ -25,26 +25,32 @@ read-be64-requires-2 c κs = search needs
 
 returns : tie.Need-returns
 returns c =
-    let at-read-be64 = c .before .before .before in
-    met-over _ _ _ _ _ _ (at-read-be64 .read-be64 .ensures) (c .before .before .read-be642 .ensures) (c .before .if1 .taken) (omega arith)
+    let branch1 = c .before in
+    let at-read-be642 = branch1 .before in
+    let at-read-be64 = at-read-be642 .before in
+    met-over _ _ _ _ _ _ (at-read-be64 .read-be64 .ensures) (at-read-be642 .read-be642 .ensures) (branch1 .if1 .taken) (omega arith)
 
 returns-2 : tie.Need-returns-2
 returns-2 c =
-    let at-read-be642 = c .before .before .before in
+    let branch1 = c .before .before in
+    let at-read-be642 = branch1 .before in
     let at-read-be64 = at-read-be642 .before in
-    met-new _ _ _ _ _ _ (at-read-be64 .read-be64 .ensures) (at-read-be642 .read-be642 .ensures) (c .before .before .if1 .taken) (omega arith) (omega arith)
+    met-new _ _ _ _ _ _ (at-read-be64 .read-be64 .ensures) (at-read-be642 .read-be642 .ensures) (branch1 .if1 .taken) (omega arith) (omega arith)
 
 sub-result : tie.Need-sub-result
 sub-result c = search needs
 
 returns-3 : tie.Need-returns-3
 returns-3 c =
-    let at-read-be642 = c .before .before .before in
+    let branch1 = c .before .before in
+    let at-read-be642 = branch1 .before in
     let at-read-be64 = at-read-be642 .before in
-    met-old _ _ _ _ _ _ (at-read-be64 .read-be64 .ensures) (at-read-be642 .read-be642 .ensures) (c .before .before .if1 .taken) (omega arith) (omega arith)
+    met-old _ _ _ _ _ _ (at-read-be64 .read-be64 .ensures) (at-read-be642 .read-be642 .ensures) (branch1 .if1 .taken) (omega arith) (omega arith)
 
 returns-4 : tie.Need-returns-4
-returns-4 c = met-absent _ _ _ _ _ _ (c .before .before .read-be64 .ensures) (c .before .read-be642 .ensures) (c .if1 .left)
+returns-4 c =
+    let at-read-be642 = c .before in
+    met-absent _ _ _ _ _ _ (at-read-be642 .before .read-be64 .ensures) (at-read-be642 .read-be642 .ensures) (c .if1 .left)
 
 pub state-met-spec : {M : Type 1} → statement M
 state-met-spec =

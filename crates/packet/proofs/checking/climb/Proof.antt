@@ -1,12 +1,12 @@
 -- `packet::checking::climb` meets its contract. Assumes nothing.
 use Prim.Native.Nat.{ℕ, _-_}
-use mathlib.Core.Path.{ap, _∙_, subst}
+use mathlib.Core.Path.{ap, _∙_}
 use native.Mathlib.Nat.{div-one}
 use native.Mathlib.Omega.{arith}
 use Rattle.blake2b.specs.Hash.{nodeHash}
 use Rattle.file_format.specs.Entries.{entryBytes}
 use Rattle.packet.specs.Check.{entriesIn, stepsAbove}
-use Rattle.packet.specs.Inner.{entryOf, climbed, PathRow}
+use Rattle.packet.specs.Inner.{entryOf, climbed, pathRow}
 use Rattle.packet.proofs.Climb.{climbing-fits, climbing-end}
 use Rattle.packet.proofs.Rising.{Rising, rising-none, rising-next, rising-end}
 use borrow.Author.Needs.{needs}
@@ -77,9 +77,9 @@ returns c =
       climbing-end nodeHash (a .packet .now) (a .at) (a .count) (c .before .before .block-over .result) (l .k) (entryOf (a .leaf)) (entryOf (l .node)) (l .j)
           (l .inv .climbing) (c .loop-test .left)
           ∙ ap (λ (k : ℕ). climbed nodeHash k (entryOf (a .leaf)) (entriesIn (a .packet .now) (a .at) (a .count))) first,
-      subst (λ (k : ℕ). PathRow (stepsAbove nodeHash 0 k (entryOf (a .leaf)) (entriesIn (a .packet .now) (a .at) (a .count))) (l .row)) first
-          (rising-end nodeHash (a .packet .now) (a .at) (a .count) (c .before .before .block-over .result) (entryOf (a .leaf)) (l .k) (entryOf (l .node)) (l .j)
-          (l .row) (l .inv) (c .loop-test .left)),
+      rising-end nodeHash (a .packet .now) (a .at) (a .count) (c .before .before .block-over .result) (entryOf (a .leaf)) (l .k) (entryOf (l .node)) (l .j)
+          (l .row) (l .inv) (c .loop-test .left)
+          ∙ ap (λ (k : ℕ). pathRow (stepsAbove nodeHash 0 k (entryOf (a .leaf)) (entriesIn (a .packet .now) (a .at) (a .count)))) first,
     )
 
 pub climb-spec : {M : Type 1} → statement M

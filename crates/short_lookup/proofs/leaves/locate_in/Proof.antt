@@ -1,48 +1,52 @@
 -- `short_lookup::leaves::locate_in` meets its contract. The invariant: no leaf before k has the byte, `start` is the sum of their lengths, and `leaf` is the
 -- last of them. The measure: the leaves left. Assumes nothing.
-use Prim.Native.Nat.{_-_}
+use Prim.Native.Nat.{ℕ, _-_}
 use mathlib.Core.Path.{sym, ap, _∙_, subst}
+use mathlib.Core.Bool.{Bool}
 use native.Mathlib.Omega.{arith}
+use borrow.Author.Tests.{not-true, not-false}
 use Rattle.file_format.specs.Inner.{EntryIn}
 use Rattle.lookup.specs.Lookup.{found}
-use Rattle.short_lookup.proofs.Walks.{leaf-in, Passed, passed-none, byte-nine, byte-end, byte-none, byte-long, byte-here, byte-on}
+use Rattle.lookup.specs.Inner.{knownIf, BitIn}
+use Rattle.short_lookup.proofs.Walks.{leaf-in, leaf-bit, Leaf, Passed, passed-none, byte-nine, byte-end, byte-none, byte-unknown, byte-long, byte-here, byte-on}
 use borrow.Author.Needs.{needs}
 use Rattle.short_lookup.proofs.leaves.locate_in.Statement.{statement}
 use Rattle.short_lookup.proofs.leaves.locate_in.Tie as tie
 
 abbrev Inv-loop : tie.InvT-loop
-Inv-loop tree n size offset k₀ start₀ leaf₀ k start leaf = Passed tree n (offset .0) (k .0) (start .0) (leaf .0)
+Inv-loop tree bitfield partly n size offset k₀ start₀ leaf₀ k start leaf = Passed (knownIf partly bitfield) tree n (offset .0) (k .0) (start .0) (leaf .0)
 
 abbrev μ-loop : tie.MeasureT-loop
-μ-loop tree n size offset k₀ start₀ leaf₀ k start leaf = n - k .0
+μ-loop tree bitfield partly n size offset k₀ start₀ leaf₀ k start leaf = n - k .0
+
+abbrev known : tie.Start Inv-loop μ-loop → ℕ → Bool
+known s = knownIf (s .args .partly) (s .args .bitfield .now)
 
 returns : tie.Need-returns Inv-loop μ-loop
 returns c =
-    let start = c .before .before .before in
-    let a = start .args in byte-nine (a .tree .now) (a .n) (a .size) (a .offset .0) (c .if1 .taken)
+    let s = c .before .before .before .before in
+    byte-nine (known s) (s .args .tree .now) (s .args .n) (s .args .size) (s .args .offset .0) (c .if1 .taken)
 
 returns-2 : tie.Need-returns-2 Inv-loop μ-loop
 returns-2 c =
-    let start = c .before .before .before .before .before .before in
-    let a = start .args in
-    ap (λ k. found k 0) (c .chunk-behind .ensures) ∙ byte-end (a .tree .now) (a .n) (a .size) (a .offset .0) (c .before .if2 .taken)
+    let s = c .before .before .before .before .before .before .before in
+    ap (λ k. found k 0) (c .chunk-behind .ensures) ∙ byte-end (known s) (s .args .tree .now) (s .args .n) (s .args .size) (s .args .offset .0) (c .before .if2 .taken)
 
 loop-holds : tie.Need-loop-holds Inv-loop μ-loop
 loop-holds c =
-    let start = c .before .before .before .before .before in
-    let a = start .args in passed-none (a .tree .now) (a .n) (a .offset .0)
+    let s = c .before .before .before .before .before .before in
+    passed-none (known s) (s .args .tree .now) (s .args .n) (s .args .offset .0)
 
 leaf-index-requires : tie.Need-leaf-index-requires Inv-loop μ-loop
 leaf-index-requires c κs =
-    let entered = c .before .before .before .before .before .before .before .before in
-    omega (arith, c .if3 .taken, entered .pre .count)
+    let s = c .before .before .before .before .before .before .before .before .before in
+    omega (arith, c .if3 .taken, s .pre .roots .count)
 
-stored-size-requires : tie.Need-stored-size-requires Inv-loop μ-loop
-stored-size-requires c κs =
+is-known-requires : tie.Need-is-known-requires Inv-loop μ-loop
+is-known-requires c κs =
     let looped = c .before .before .before in
-    let start = looped .before .before .before .before .before .before in
-    let a = start .args in
-    subst (EntryIn (a .tree .now)) (sym (c .leaf-index .ensures)) (leaf-in (a .tree .now) (a .n) (looped .loop .k .0) (start .pre) (c .before .if3 .taken))
+    let s = looped .before .before .before .before .before .before .before in
+    subst (BitIn (s .args .partly) (s .args .bitfield .now)) (sym (c .leaf-index .ensures)) (leaf-bit (s .pre) (looped .loop .k .0) (c .before .if3 .taken))
 
 returns-3 : tie.Need-returns-3 Inv-loop μ-loop
 returns-3 c =
@@ -50,87 +54,103 @@ returns-3 c =
     let looped = branch3 .before .before in
     let branch2 = looped .before in
     let branch1 = branch2 .before .before in
-    let start = branch1 .before .before .before in
-    let a = start .args in
-    let l = looped .loop in
-    let i = c .before .before .leaf-index in
-    let z = c .before .stored-size in
-    byte-long (a .tree .now) (a .n) (a .size) (a .offset .0) (l .k .0) (l .start .0) (l .leaf .0) (branch1 .if1 .left) (branch2 .if2 .left) (l .inv)
-    (i .result .0) (z .result) (branch3 .if3 .taken) (record { at = i .ensures; says = z .ensures }) (c .if4 .taken)
+    let s = branch1 .before .before .before .before in
+    byte-unknown (s .args .size) (branch1 .if1 .left) (branch2 .if2 .left) (looped .loop .inv) (branch3 .if3 .taken) (c .before .before .leaf-index .ensures)
+    (sym (c .before .is-known .ensures) ∙ not-true _ (c .if4 .taken))
 
-add-if5 : tie.Need-add-if5 Inv-loop μ-loop
-add-if5 c =
-    let branch3 = c .before .before .before .before in
+stored-size-requires : tie.Need-stored-size-requires Inv-loop μ-loop
+stored-size-requires c κs =
+    let branch3 = c .before .before .before in
     let looped = branch3 .before .before in
-    let entered = looped .before .before .before .before .before .before in
-    omega (arith, looped .loop .inv .walked .small, branch3 .if3 .taken, c .before .if4 .left, entered .pre .count)
+    let s = looped .before .before .before .before .before .before .before in
+    subst (EntryIn (s .args .tree .now)) (sym (c .before .before .leaf-index .ensures)) (leaf-in (s .pre) (looped .loop .k .0) (branch3 .if3 .taken))
 
-sub-t17 : tie.Need-sub-t17 Inv-loop μ-loop
-sub-t17 c =
-    let looped = c .before .before .before .before .before .before .before .before .before .before in
-    looped .loop .inv .from
+-- what was read, behind a stored size
+abbrev loops : tie.After-stored-size Inv-loop μ-loop → tie.At-loop Inv-loop μ-loop
+loops c = c .before .before .before .before .before .before
+
+abbrev begins : tie.After-stored-size Inv-loop μ-loop → tie.Start Inv-loop μ-loop
+begins c = loops c .before .before .before .before .before .before .before
+
+read : (c : tie.After-stored-size Inv-loop μ-loop)
+    → Leaf (known (begins c)) (begins c .args .tree .now) (loops c .loop .k .0) (c .before .before .before .leaf-index .result .0) (c .stored-size .result)
+read c =
+    let branch4 = c .before in
+    let at-is-known = branch4 .before in
+    record {
+      at = at-is-known .before .leaf-index .ensures;
+      knows = sym (at-is-known .is-known .ensures) ∙ not-false _ (branch4 .if4 .left);
+      says = c .stored-size .ensures;
+    }
 
 returns-4 : tie.Need-returns-4 Inv-loop μ-loop
 returns-4 c =
-    let branch4 = c .before .before .before .before .before in
-    let at-stored-size = branch4 .before in
-    let at-leaf-index = at-stored-size .before in
-    let branch3 = at-leaf-index .before in
+    let branch3 = c .before .before .before .before .before in
     let looped = branch3 .before .before in
     let branch2 = looped .before in
     let branch1 = branch2 .before .before in
-    let start = branch1 .before .before .before in
-    let a = start .args in
-    let l = looped .loop in
-    let i = at-leaf-index .leaf-index in
-    let z = at-stored-size .stored-size in
-    byte-here (a .tree .now) (a .n) (a .size) (a .offset .0) (l .k .0) (l .start .0) (l .leaf .0) (branch1 .if1 .left) (branch2 .if2 .left) (l .inv)
-    (i .result .0) (z .result) (branch3 .if3 .taken) (record { at = i .ensures; says = z .ensures }) (branch4 .if4 .left) (c .before .before .if5 .taken)
+    let s = branch1 .before .before .before .before in
+    byte-long (s .args .size) (branch1 .if1 .left) (branch2 .if2 .left) (looped .loop .inv) (branch3 .if3 .taken) (read (c .before)) (c .if5 .taken)
 
-add-t16 : tie.Need-add-t16 Inv-loop μ-loop
-add-t16 c =
-    let branch4 = c .before .before .before .before in
-    let branch3 = branch4 .before .before .before in
+add-if6 : tie.Need-add-if6 Inv-loop μ-loop
+add-if6 c =
+    let branch3 = c .before .before .before .before .before .before in
     let looped = branch3 .before .before in
-    let entered = looped .before .before .before .before .before .before in
-    omega (arith, looped .loop .inv .walked .small, branch3 .if3 .taken, branch4 .if4 .left, entered .pre .count)
+    let s = looped .before .before .before .before .before .before .before in
+    omega (arith, looped .loop .inv .walked .small, branch3 .if3 .taken, c .before .if5 .left, s .pre .roots .count)
 
-add-t16-2 : tie.Need-add-t16-2 Inv-loop μ-loop
-add-t16-2 c =
-    let branch3 = c .before .before .before .before .before .before .before .before in
-    let entered = branch3 .before .before .before .before .before .before .before .before in
-    omega (arith, branch3 .if3 .taken, entered .pre .count)
+sub-t22 : tie.Need-sub-t22 Inv-loop μ-loop
+sub-t22 c =
+    let looped = c .before .before .before .before .before .before .before .before .before .before .before .before in
+    looped .loop .inv .from
+
+returns-5 : tie.Need-returns-5 Inv-loop μ-loop
+returns-5 c =
+    let branch5 = c .before .before .before .before .before in
+    let branch3 = branch5 .before .before .before .before .before in
+    let looped = branch3 .before .before in
+    let branch2 = looped .before in
+    let branch1 = branch2 .before .before in
+    let s = branch1 .before .before .before .before in
+    byte-here (s .args .size) (branch1 .if1 .left) (branch2 .if2 .left) (looped .loop .inv) (branch3 .if3 .taken) (read (branch5 .before)) (branch5 .if5 .left)
+    (c .before .before .if6 .taken)
+
+add-t21 : tie.Need-add-t21 Inv-loop μ-loop
+add-t21 c =
+    let branch5 = c .before .before .before .before in
+    let branch3 = branch5 .before .before .before .before .before in
+    let looped = branch3 .before .before in
+    let s = looped .before .before .before .before .before .before .before in
+    omega (arith, looped .loop .inv .walked .small, branch3 .if3 .taken, branch5 .if5 .left, s .pre .roots .count)
+
+add-t21-2 : tie.Need-add-t21-2 Inv-loop μ-loop
+add-t21-2 c =
+    let branch3 = c .before .before .before .before .before .before .before .before .before .before in
+    let s = branch3 .before .before .before .before .before .before .before .before .before in
+    omega (arith, branch3 .if3 .taken, s .pre .roots .count)
 
 loop-less : tie.Need-loop-less Inv-loop μ-loop
 loop-less c =
-    let branch3 = c .before .before .before .before .before .before .before .before in
+    let branch3 = c .before .before .before .before .before .before .before .before .before .before in
     omega (arith, branch3 .if3 .taken)
 
 loop-again : tie.Need-loop-again Inv-loop μ-loop
 loop-again c =
-    let branch4 = c .before .before .before .before .before in
-    let at-stored-size = branch4 .before in
-    let at-leaf-index = at-stored-size .before in
-    let branch3 = at-leaf-index .before in
+    let branch5 = c .before .before .before .before .before in
+    let branch3 = branch5 .before .before .before .before .before in
     let looped = branch3 .before .before in
     let branch2 = looped .before in
     let branch1 = branch2 .before .before in
-    let start = branch1 .before .before .before in
-    let a = start .args in
-    let l = looped .loop in
-    let i = at-leaf-index .leaf-index in
-    let z = at-stored-size .stored-size in
-    byte-on (a .tree .now) (a .n) (a .size) (a .offset .0) (l .k .0) (l .start .0) (l .leaf .0) (branch1 .if1 .left) (branch2 .if2 .left) (l .inv)
-    (i .result .0) (z .result) (branch3 .if3 .taken) (record { at = i .ensures; says = z .ensures }) (branch4 .if4 .left) (c .before .before .if5 .left)
+    let s = branch1 .before .before .before .before in
+    byte-on (s .args .size) (branch1 .if1 .left) (branch2 .if2 .left) (looped .loop .inv) (branch3 .if3 .taken) (read (branch5 .before)) (branch5 .if5 .left)
+    (c .before .before .if6 .left)
 
-returns-5 : tie.Need-returns-5 Inv-loop μ-loop
-returns-5 c =
+returns-6 : tie.Need-returns-6 Inv-loop μ-loop
+returns-6 c =
     let branch2 = c .before .before .before in
     let branch1 = branch2 .before .before in
-    let start = branch1 .before .before .before in
-    let a = start .args in
-    let l = c .before .before .loop in
-    byte-none (a .tree .now) (a .n) (a .size) (a .offset .0) (l .k .0) (l .start .0) (l .leaf .0) (branch1 .if1 .left) (branch2 .if2 .left) (l .inv) (c .if3 .left)
+    let s = branch1 .before .before .before .before in
+    byte-none (s .args .size) (branch1 .if1 .left) (branch2 .if2 .left) (c .before .before .loop .inv) (c .if3 .left)
 
 pub locate-in-spec : {M : Type 1} → statement M
 locate-in-spec =
@@ -143,13 +163,15 @@ locate-in-spec =
     returns-2
     loop-holds
     leaf-index-requires
-    stored-size-requires
+    is-known-requires
     returns-3
-    add-if5
-    sub-t17
+    stored-size-requires
     returns-4
-    add-t16
-    add-t16-2
+    add-if6
+    sub-t22
+    returns-5
+    add-t21
+    add-t21-2
     loop-less
     loop-again
-    returns-5)
+    returns-6)

@@ -1,101 +1,110 @@
--- `short_lookup::leaves::place_in` meets its contract. The invariant: the leaves before k fit, and `start` is the sum of their lengths. The measure: the chunks
--- up to the one sought. Assumes nothing.
-use Prim.Native.Nat.{_+_, _-_, _≤_}
-use mathlib.Core.Path.{sym, subst}
+-- `short_lookup::leaves::place_in` meets its contract. The invariant: the leaves before k are right, and `start` is the sum of their lengths. The measure: the
+-- chunks up to the one sought. Assumes nothing.
+use Prim.Native.Nat.{ℕ, _+_, _-_}
+use mathlib.Core.Path.{sym, _∙_, subst}
+use mathlib.Core.Bool.{Bool}
 use native.Mathlib.Omega.{arith}
+use borrow.Author.Tests.{not-true, not-false}
 use Rattle.file_format.specs.Inner.{EntryIn}
-use Rattle.short_lookup.specs.ShortLookup.{leafFits}
-use Rattle.short_lookup.proofs.Walks.{leaf-in, Walked, begun, place-nine, place-long, place-on, place-here}
+use Rattle.lookup.specs.Inner.{knownIf, BitIn}
+use Rattle.short_lookup.specs.ShortLookup.{leafRight}
+use Rattle.short_lookup.proofs.Walks.{leaf-in, leaf-bit, begun, Leaf, Come, place-nine, place-unknown, place-long, place-on, place-here}
 use Rattle.short_lookup.proofs.leaves.place_in.Statement.{statement}
 use Rattle.short_lookup.proofs.leaves.place_in.Tie as tie
 
 abbrev Inv-loop : tie.InvT-loop
-Inv-loop tree n chunk k₀ start₀ k start = (k .0 ≤ chunk .0) × Walked (leafFits tree) tree (chunk .0 + 1) (k .0) (start .0)
+Inv-loop tree bitfield partly n chunk k₀ start₀ k start = Come (knownIf partly bitfield) tree (chunk .0) (k .0) (start .0)
 
 abbrev μ-loop : tie.MeasureT-loop
-μ-loop tree n chunk k₀ start₀ k start = chunk .0 - k .0
+μ-loop tree bitfield partly n chunk k₀ start₀ k start = chunk .0 - k .0
+
+abbrev known : tie.Start Inv-loop μ-loop → ℕ → Bool
+known s = knownIf (s .args .partly) (s .args .bitfield .now)
 
 returns : tie.Need-returns Inv-loop μ-loop
 returns c =
-    let start = c .before .before .before in
-    let a = start .args in place-nine (a .tree .now) (a .n) (a .chunk .0) (c .if1 .taken)
+    let s = c .before .before .before .before in
+    place-nine (known s) (s .args .tree .now) (s .args .n) (s .args .chunk .0) (c .if1 .taken)
 
 loop-holds : tie.Need-loop-holds Inv-loop μ-loop
 loop-holds c =
-    let start = c .before .before .before in
-    let a = start .args in (omega arith, begun (leafFits (a .tree .now)) (a .tree .now) (a .chunk .0 + 1))
+    let s = c .before .before .before .before in
+    record { upto = omega arith; walked = begun (leafRight (known s) (s .args .tree .now)) (s .args .tree .now) (s .args .chunk .0 + 1) }
 
 leaf-index-requires : tie.Need-leaf-index-requires Inv-loop μ-loop
 leaf-index-requires c κs =
-    let entered = c .before .before .before .before in
-    omega (arith, c .loop .inv .0, entered .pre .count)
+    let s = c .before .before .before .before .before in
+    omega (arith, c .loop .inv .upto, s .pre .roots .count)
 
-stored-size-requires : tie.Need-stored-size-requires Inv-loop μ-loop
-stored-size-requires c κs =
-    let start = c .before .before .before .before .before in
-    let a = start .args in
-    let k = c .before .loop .k .0 in
-    subst (EntryIn (a .tree .now)) (sym (c .leaf-index .ensures))
-    (leaf-in (a .tree .now) (a .n) k (start .pre) (omega (arith, c .before .loop .inv .0)))
+is-known-requires : tie.Need-is-known-requires Inv-loop μ-loop
+is-known-requires c κs =
+    let s = c .before .before .before .before .before .before in
+    subst (BitIn (s .args .partly) (s .args .bitfield .now)) (sym (c .leaf-index .ensures))
+    (leaf-bit (s .pre) (c .before .loop .k .0) (omega (arith, c .before .loop .inv .upto)))
 
 returns-2 : tie.Need-returns-2 Inv-loop μ-loop
 returns-2 c =
     let looped = c .before .before .before in
-    let branch1 = looped .before in
-    let start = branch1 .before .before .before in
-    let a = start .args in
-    let l = looped .loop in
-    let i = c .before .before .leaf-index in
-    let z = c .before .stored-size in
-    place-long (a .tree .now) (a .n) (a .chunk .0) (l .k .0) (l .start .0) (i .result .0) (z .result) (branch1 .if1 .left) (l .inv)
-    (record { at = i .ensures; says = z .ensures }) (c .if2 .taken)
+    let s = looped .before .before .before .before .before in
+    place-unknown (s .args .n) (looped .before .if1 .left) (looped .loop .inv) (c .before .before .leaf-index .ensures)
+    (sym (c .before .is-known .ensures) ∙ not-true _ (c .if2 .taken))
+
+stored-size-requires : tie.Need-stored-size-requires Inv-loop μ-loop
+stored-size-requires c κs =
+    let looped = c .before .before .before in
+    let s = looped .before .before .before .before .before in
+    subst (EntryIn (s .args .tree .now)) (sym (c .before .before .leaf-index .ensures))
+    (leaf-in (s .pre) (looped .loop .k .0) (omega (arith, looped .loop .inv .upto)))
+
+-- what was read, behind a stored size
+read : (c : tie.After-stored-size Inv-loop μ-loop)
+    → Leaf (known (c .before .before .before .before .before .before .before .before .before)) (c .before .before .before .before .before .before .before .before .before .args .tree .now)
+    (c .before .before .before .before .loop .k .0) (c .before .before .before .leaf-index .result .0) (c .stored-size .result)
+read c =
+    let branch2 = c .before in
+    let at-is-known = branch2 .before in
+    record {
+      at = at-is-known .before .leaf-index .ensures;
+      knows = sym (at-is-known .is-known .ensures) ∙ not-false _ (branch2 .if2 .left);
+      says = c .stored-size .ensures;
+    }
 
 returns-3 : tie.Need-returns-3 Inv-loop μ-loop
 returns-3 c =
-    let branch2 = c .before .before .before in
-    let at-stored-size = branch2 .before in
-    let at-leaf-index = at-stored-size .before in
-    let looped = at-leaf-index .before in
-    let branch1 = looped .before in
-    let start = branch1 .before .before .before in
-    let a = start .args in
-    let l = looped .loop in
-    let i = at-leaf-index .leaf-index in
-    let z = at-stored-size .stored-size in
-    place-here (a .tree .now) (a .n) (a .chunk .0) (l .k .0) (l .start .0) (i .result .0) (z .result) (branch1 .if1 .left) (l .inv)
-    (record { at = i .ensures; says = z .ensures }) (branch2 .if2 .left) (c .if3 .taken)
+    let looped = c .before .before .before .before .before in
+    let s = looped .before .before .before .before .before in
+    place-long (s .args .n) (looped .before .if1 .left) (looped .loop .inv) (read (c .before)) (c .if3 .taken)
 
-add-t14 : tie.Need-add-t14 Inv-loop μ-loop
-add-t14 c =
-    let looped = c .before .before .before .before .before .before .before in
-    let entered = looped .before .before .before .before in
-    omega (arith, looped .loop .inv .0, looped .loop .inv .1 .small, entered .pre .count)
+returns-4 : tie.Need-returns-4 Inv-loop μ-loop
+returns-4 c =
+    let branch3 = c .before .before .before in
+    let looped = branch3 .before .before .before .before .before in
+    let s = looped .before .before .before .before .before in
+    place-here (s .args .n) (looped .before .if1 .left) (looped .loop .inv) (read (branch3 .before)) (branch3 .if3 .left) (c .if4 .taken)
 
-add-t14-2 : tie.Need-add-t14-2 Inv-loop μ-loop
-add-t14-2 c =
-    let looped = c .before .before .before .before .before .before .before .before in
-    let entered = looped .before .before .before .before in
-    omega (arith, looped .loop .inv .0, entered .pre .count)
+add-t19 : tie.Need-add-t19 Inv-loop μ-loop
+add-t19 c =
+    let looped = c .before .before .before .before .before .before .before .before .before in
+    let s = looped .before .before .before .before .before in
+    omega (arith, looped .loop .inv .upto, looped .loop .inv .walked .small, s .pre .roots .count)
+
+add-t19-2 : tie.Need-add-t19-2 Inv-loop μ-loop
+add-t19-2 c =
+    let looped = c .before .before .before .before .before .before .before .before .before .before in
+    let s = looped .before .before .before .before .before in
+    omega (arith, looped .loop .inv .upto, s .pre .roots .count)
 
 loop-less : tie.Need-loop-less Inv-loop μ-loop
 loop-less c =
-    let looped = c .before .before .before .before .before .before .before .before in
-    omega (arith, looped .loop .inv .0)
+    let looped = c .before .before .before .before .before .before .before .before .before .before in
+    omega (arith, looped .loop .inv .upto)
 
 loop-again : tie.Need-loop-again Inv-loop μ-loop
 loop-again c =
-    let branch2 = c .before .before .before .before .before in
-    let at-stored-size = branch2 .before in
-    let at-leaf-index = at-stored-size .before in
-    let looped = at-leaf-index .before in
-    let branch1 = looped .before in
-    let start = branch1 .before .before .before in
-    let a = start .args in
-    let l = looped .loop in
-    let i = at-leaf-index .leaf-index in
-    let z = at-stored-size .stored-size in
-    place-on (a .tree .now) (a .n) (a .chunk .0) (l .k .0) (l .start .0) (i .result .0) (z .result) (branch1 .if1 .left) (l .inv)
-    (record { at = i .ensures; says = z .ensures }) (branch2 .if2 .left) (c .before .before .if3 .left)
+    let branch3 = c .before .before .before .before .before in
+    let looped = branch3 .before .before .before .before .before in
+    let s = looped .before .before .before .before .before in
+    place-on (s .args .n) (looped .before .if1 .left) (looped .loop .inv) (read (branch3 .before)) (branch3 .if3 .left) (c .before .before .if4 .left)
 
 pub place-in-spec : {M : Type 1} → statement M
 place-in-spec =
@@ -106,10 +115,12 @@ place-in-spec =
     returns
     loop-holds
     leaf-index-requires
-    stored-size-requires
+    is-known-requires
     returns-2
+    stored-size-requires
     returns-3
-    add-t14
-    add-t14-2
+    returns-4
+    add-t19
+    add-t19-2
     loop-less
     loop-again)

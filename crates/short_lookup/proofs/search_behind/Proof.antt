@@ -1,0 +1,37 @@
+-- `short_lookup::search_behind` meets its contract: the answer of the checks is handed on, or what comes behind them is. Assumes nothing.
+use Prim.Native.Nat.{_-_}
+use mathlib.Core.Path.{sym, ap, _∙_}
+use Rattle.refusals.specs.Verdict.{Verdict}
+use Rattle.refusals.specs.Meaning.{said}
+use Rattle.byte_strings.specs.Lowest.{lowest}
+use Rattle.bitfield.specs.Release.{storedHeld}
+use Rattle.bitfield.specs.Missing.{foundAt}
+use Rattle.search.specs.Search.{Sought, answer, soughtUnless}
+use borrow.Author.Needs.{needs}
+use Rattle.short_lookup.proofs.search_behind.Statement.{statement}
+use Rattle.short_lookup.proofs.search_behind.Tie as tie
+
+abbrev behind : tie.Start → Verdict → Sought
+behind s v = let a = s .args in soughtUnless v (lowest (storedHeld (a .bitfield .now)) (a .from .0) (a .n - a .from .0))
+
+first-missing-requires : tie.Need-first-missing-requires
+first-missing-requires c κs = c .before .before .before .pre (ap said (c .enum-told .given .1))
+
+returns : tie.Need-returns
+returns c = sym (ap (behind (c .before .before .before .before)) (ap said (c .before .checked .given .1)))
+
+returns-2 : tie.Need-returns-2
+returns-2 c =
+    let q = c .before .before .before in
+    ap answer (sym (ap foundAt (c .before .chunk .given .1)) ∙ q .first-missing .ensures)
+    ∙ sym (ap (behind (q .before .before .before .before)) (ap said (q .before .enum-told .given .1)))
+
+returns-3 : tie.Need-returns-3
+returns-3 c =
+    let q = c .before .before in
+    ap answer (sym (ap foundAt (c .enum-told2 .given .1)) ∙ q .first-missing .ensures)
+    ∙ sym (ap (behind (q .before .before .before .before)) (ap said (q .before .enum-told .given .1)))
+
+pub search-behind-spec : {M : Type 1} → statement M
+search-behind-spec =
+    tie.close (tie.spec (λ c. search needs) (λ c. search needs) first-missing-requires (λ c. search needs) (λ c. search needs) returns returns-2 returns-3)

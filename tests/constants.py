@@ -12,7 +12,7 @@ import sys
 PROMISED = [
     ('SLEEP_PACKET_EXTRA', r'const PACKET_EXTRA: usize = (\w+);', 'packet/specs/Packet', 'packetExtra', 'packet/specs/Theorems', 'PacketStaysShort'),
     ('SLEEP_NODE_ROOM', r'const NODE_ROOM: usize = (\w+);', 'record_node/specs/Theorems', 'nodeRoom', 'record_node/specs/Theorems', 'RoomForAny'),
-    ('SLEEP_TABLE_NUMBERS', r'numbers: \[u64; (\w+)\]', 'station_table/specs/Words', 'tableWords', 'station_table/specs/Words', 'tableWords'),
+    ('SLEEP_TABLE_NUMBERS', r'numbers: \[u64; (\w+)\]', 'station_queue/specs/Words', 'tableWords', 'station_queue/specs/Words', 'tableWords'),
 ]
 
 # what the listing program has, and the name of the definition in listing_lines/specs/Limits
@@ -54,7 +54,7 @@ def main(header, wrapper):
         assert in_header == [str(proved)], f'{macro} is {in_header} in the header, and {proved} in {file}'
         in_wrapper = set(re.findall(pattern, wrapper))
         assert in_wrapper == {str(proved)}, f'{macro} is {in_wrapper} in the wrapper, and {proved} in {file}'
-    program = open('crates/listing/src/main.rt').read()
+    program = open('crates/listing_program/src/main.rt').read()
     for pattern, name in LENT:
         proved = defined('listing_lines/specs/Limits', name)
         assert re.findall(pattern, program) == [str(proved)], f'the listing program lends another number than {proved}, {name}'

@@ -12,7 +12,7 @@ import os
 import re
 import sys
 
-BOUNDS = {'unused': 0, 'long': 0, 'chains': 282, 'twice': 79}
+BOUNDS = {'unused': 0, 'long': 0, 'chains': 82, 'twice': 41}
 KINDS = ('src', 'specs', 'proofs')
 LONGEST = 200
 TOKEN = re.compile(r"[A-Za-z_][\w'·-]*|[^\sA-Za-z_]")

@@ -2,7 +2,7 @@
 
 usage: python3 tests/listing_cases.py [PROGRAM [CASES [SEED]]]
 
-PROGRAM is target/bin/listing unless it is named. The named cases come first: the scope's example with its lines, the limits on both sides,
+PROGRAM is target/bin/listing_program unless it is named. The named cases come first: the scope's example with its lines, the limits on both sides,
 input that is cut short, and surplus bytes. Then CASES random inputs, half of them one change away from an input of chunks. The exit status is 1
 where anything differs.
 """
@@ -74,7 +74,7 @@ def differs(program, what, data, expected):
     return 1
 
 
-def main(program=os.path.join(HERE, '..', 'target', 'bin', 'listing'), cases='400', seed='7693'):
+def main(program=os.path.join(HERE, '..', 'target', 'bin', 'listing_program'), cases='400', seed='7693'):
     wrong = differs(program, "the scope's lines", written(EXAMPLE), EXAMPLE_LINES)
     count = 1
     for what, data, refused in named():

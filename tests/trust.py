@@ -9,7 +9,7 @@ import re
 import subprocess
 import sys
 
-ALWAYS = {'c_api', 'listing'}  # what tests/run itself has checked
+ALWAYS = {'c_api', 'listing_program'}  # what tests/run itself has checked
 
 
 def verdict_in(file):

@@ -514,6 +514,35 @@ def several_commits(rng):
     return steps
 
 
+def long_journal(rng):
+    """An `add` whose journal is written while its end is made is killed, torn or without room at some of its many writes, and at each step from the journal's
+    last bytes on until the files are written: it stands wholly, or nothing of it does."""
+    lay(FOLDER, {})
+    done('new', ARCHIVE)
+    before, piece = under(FOLDER), os.path.join(INPUTS, 'long')
+    with open(piece, 'wb') as file:
+        file.write(rng.randbytes(9 << 20))
+    words = ['add', ARCHIVE, '--as', '/long', piece, '--split', '65536', '--signer', SIGNER]
+    if os.path.exists(LOG):
+        os.remove(LOG)
+    done(*words, faults={'UNDER': FOLDER, 'KIND': 'log', 'LOG': LOG})
+    steps, after, count = logged(), under(FOLDER), 0
+    own = [at for at, step in enumerate(steps, 1) if step[0] == 'w' and step[1].endswith(UNSYNCED)]
+    expect(len(own) > 30 and steps[own[-2] - 1][2] == 0, 'the first bytes of a long journal come when its end is made', len(own))
+    for at in own[:1] + sorted(rng.sample(own[1:-2], 2)) + list(range(own[-2], own[-1] + 8)):
+        for kind in ('kill', 'torn', 'full'):
+            lay(FOLDER, before)
+            ran = run(*words, faults={'UNDER': FOLDER, 'KIND': kind, 'AT': at})
+            expect(ran.status == (2 if kind == 'full' else -9), 'a long journal: %s at step %d' % (kind, at), ran)
+            expect(kind != 'full' or (b'nothing is changed' in ran.err) != (b'written down in ' in ran.err), 'not said what is', ran)
+            done('journal', ARCHIVE, '--finish')
+            now = {name: content for name, content in under(FOLDER).items() if not name.endswith(KEPT)}
+            expect(any(now == {name: content for name, content in state.items() if not name.endswith(KEPT)} for state in (before, after)),
+                   'a long journal: %s at step %d: neither before nor after' % (kind, at), sorted(now))
+            count += 1
+    return count
+
+
 def given_out(rng):
     """`export` and `get -o` are killed, torn or without room at each step: what bears a piece's name is the piece, whole, and nothing else has changed but
     files of the program's own names; then they are done again. After the end no loss of power takes anything."""
@@ -573,6 +602,7 @@ def main(count, seed):
         command.torn_journals(rng)
         recovering += sum(command.lost_while_recovering(at, rng) for at in command.recoveries())
     print('faults: an add of three commits, %d steps: as many stand as were made' % several_commits(rng))
+    print('faults: a long journal, %d faults: before or after' % long_journal(rng))
     print('faults: export and get -o, %d times: what bears a piece\'s name is whole' % given_out(rng))
     steps = sum(len(command.steps) for command in made)
     print('faults: %d commands, %d steps, each met by a kill, a torn write, dropped writes (all, some) and a full disk: %d times the archive before, %d after'

@@ -387,16 +387,17 @@ def several_commits(rng):
 
 
 def journals_of(*words):
-    """The lengths of the journals that a command writes, from the log of its steps."""
+    """The lengths of the journals that a command writes, from the log of its steps: each is written from its front on, in one write or several."""
     log, lengths, at = os.path.join(ROOM, 'log'), [], 0
     done(*words, faults={'UNDER': ROOM, 'KIND': 'log', 'LOG': log})
     with open(log, 'rb') as file:
         steps = file.read()
     os.remove(log)
     while at < len(steps):
-        path, _, length, count = struct.unpack_from('=IQQI', steps, at + 1)
+        path, offset, length, count = struct.unpack_from('=IQQI', steps, at + 1)
         if steps[at:at + 1] == b'w' and steps[at + 25:at + 25 + path].endswith(UNSYNCED.encode()):
-            lengths.append(length)
+            lengths += [0] if offset == 0 else []
+            lengths[-1] += length
         at += 25 + path + count
     return lengths
 

@@ -104,7 +104,8 @@ fn add_all(told: &Told, sources: &Arc<Sources>, signer: &mut Option<Signer>, far
             false if far.commits == 0 => fits(&archive, sources)?,
             false => {}
         }
-        let mut batch = Batch::begin(archive, Limits { journal: told.every, times: told.times, one_set: signer.is_none() })?;
+        let coming = sources.all[far.files..].iter().map(|source| source.size).sum();
+        let mut batch = Batch::begin(archive, Limits { journal: told.every, times: told.times, one_set: signer.is_none() }, coming)?;
         let made = work.fill(&mut batch, signer, far.files).and_then(|end| {
             batch.complete(signer)?;
             progress::note(&format!("committing {}, {end} of {} files", counted(batch.pieces(), "piece"), sources.all.len()));

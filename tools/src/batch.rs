@@ -1,17 +1,19 @@
 //! One commit of an `add`: pieces as sets of chunks in both registers, in memory, each set with its signature.
 use crate::changes::changes;
-use crate::commit::{commit, Room};
+use crate::commit::{commit_from, Room};
 use crate::counts::{used_sizes, Which, CONTENT_KEY, LONGEST, MOST_CHUNKS};
 use crate::cuts::Cuts;
 use crate::files::Reading;
 use crate::image::Image;
 use crate::kept::whole_files;
+use crate::memory::Ready;
 use crate::printable::shown;
 use crate::reading::Archive;
 use crate::signer::Signer;
 use crate::sleep_register::{write_header, write_node, Node, Refusal, Stat, Store, NODE_ROOM};
 use crate::sources::{too_large, too_long, BESIDE, LONGEST_PIECE};
 use crate::words::{counted, refused, Done, Trouble};
+use std::collections::VecDeque;
 use std::path::PathBuf;
 
 /// The most chunks of a set.
@@ -48,6 +50,8 @@ pub struct Limits {
 }
 
 pub struct Batch {
+    /// Of the content's data; it ends before the image does.
+    _ready: Ready,
     archive: Archive,
     content: Store<Image>,
     metadata: Store<Image>,
@@ -63,11 +67,14 @@ pub struct Batch {
     long: Option<PathBuf>,
     roots: [[u8; 32]; 2],
     signed: Vec<(Which, [u8; 32])>,
+    /// Of the last sets the root hashes whose signatures are not here yet, and whether the signer has the first: it signs while the next files come in.
+    unsigned: VecDeque<(Which, [u8; 32])>,
+    handed: bool,
 }
 
 impl Batch {
-    /// Both registers with room for a commit, after the first checks.
-    pub fn begin(archive: Archive, limits: Limits) -> Done<Batch> {
+    /// Both registers with room for a commit, after the first checks. So many bytes of pieces are going to come, as far as they have room.
+    pub fn begin(archive: Archive, limits: Limits, coming: u64) -> Done<Batch> {
         let folder = &archive.folder;
         let most = limits.journal.max(LONGEST_PIECE) + 2 * LONGEST;
         let grown = |which: Which| {
@@ -84,6 +91,7 @@ impl Batch {
         }
         let (chunks, roots) = (Set::default(), [[0; 32]; 2]);
         Ok(Batch {
+            _ready: content.data.ready(coming.min(limits.journal)),
             archive,
             content,
             metadata,
@@ -96,6 +104,8 @@ impl Batch {
             long: None,
             roots,
             signed: Vec::new(),
+            unsigned: VecDeque::new(),
+            handed: false,
         })
     }
 
@@ -103,9 +113,9 @@ impl Batch {
         self.pieces
     }
 
-    /// Root hashes that were signed for this commit.
-    pub fn signed(&self) -> &[(Which, [u8; 32])] {
-        &self.signed
+    /// Root hashes that were signed for this commit, with the one that the signer has.
+    pub fn signed(&self) -> impl Iterator<Item = &(Which, [u8; 32])> {
+        self.signed.iter().chain(self.unsigned.front().filter(|_| self.handed))
     }
 
     /// Whether a file has room in this commit, or would be alone in it. One set takes on whatever comes: a call judges it.
@@ -164,6 +174,9 @@ impl Batch {
         let (size_of, blocks_of) = (Some(size), Some(blocks));
         self.record(name, Stat { size: size_of, blocks: blocks_of, offset: Some(first), byte_offset: Some(start), mtime, ..read.stat() })?;
         (self.bytes, self.beside, self.pieces) = (self.bytes + size, self.beside + BESIDE * (blocks + 1), self.pieces + 1);
+        if self.chunks.lengths.len() >= MOST / 2 {
+            self.sign_all_but(1, signer)?;
+        }
         if !self.limits.one_set && (self.chunks.lengths.len() == MOST || self.records.lengths.len() == MOST) {
             self.close(signer)?;
         }
@@ -211,6 +224,7 @@ impl Batch {
 
     /// The chunks and records so far become a set of each register, which a signer signs.
     fn close(&mut self, signer: &mut Option<Signer>) -> Done<()> {
+        self.sign_all_but(0, signer)?;
         let (chunks, records) = (std::mem::take(&mut self.chunks), self.closed_records());
         for (which, set) in [(Which::Content, &chunks), (Which::Metadata, &records)].into_iter().filter(|(_, set)| !set.lengths.is_empty())
         {
@@ -219,14 +233,28 @@ impl Batch {
             self.roots[(which == Which::Content) as usize] = root;
         }
         let Some(signer) = signer else { return Ok(()) };
-        for which in [Which::Metadata, Which::Content] {
+        let owing = [(Which::Metadata, &self.metadata), (Which::Content, &self.content)].into_iter().filter(|(_, store)| store.s < store.n);
+        self.unsigned = owing.map(|(which, _)| (which, self.roots[(which == Which::Content) as usize])).collect();
+        self.hand(signer)
+    }
+
+    /// Hands the signer the next root hash.
+    fn hand(&mut self, signer: &mut Signer) -> Done<()> {
+        self.handed = self.unsigned.front().map_or(Ok(false), |(_, root)| signer.ask(root))?;
+        Ok(())
+    }
+
+    /// Takes in signatures of the last sets until so many are left to come.
+    fn sign_all_but(&mut self, left: usize, signer: &mut Option<Signer>) -> Done<()> {
+        let Some(signer) = signer else { return Ok(()) };
+        while self.unsigned.len() > left {
+            let (which, root) = self.unsigned.pop_front().expect("one that is left");
+            self.handed = false;
+            let signature = signer.sign(which, &root)?;
+            self.signed.push((which, root));
             let store = if which == Which::Content { &mut self.content } else { &mut self.metadata };
-            if store.s < store.n {
-                let root = self.roots[(which == Which::Content) as usize];
-                let signature = signer.sign(which, &root)?;
-                self.signed.push((which, root));
-                store.store_signature(&signature).map_err(|reason| refused(which.name(), reason))?;
-            }
+            store.store_signature(&signature).map_err(|reason| refused(which.name(), reason))?;
+            self.hand(signer)?;
         }
         Ok(())
     }
@@ -248,6 +276,7 @@ impl Batch {
         if !self.chunks.lengths.is_empty() || !self.records.lengths.is_empty() {
             self.close(signer)?;
         }
+        self.sign_all_but(0, signer)?;
         signer.as_ref().map_or(Ok(()), Signer::quiet)
     }
 
@@ -264,7 +293,7 @@ impl Batch {
         let folder = &self.archive.folder;
         let mut all = changes(folder, Which::Metadata, whole_files(&self.metadata))?;
         all.extend(changes(folder, Which::Content, whole_files(&self.content))?);
-        commit(folder, all, Room::Free)?;
+        commit_from(folder, all, Room::Free, || self.content.data.let_go())?;
         Ok(self.roots)
     }
 }

@@ -8,6 +8,7 @@ use crate::disk;
 use crate::folder::Folder;
 use crate::journal_calls::{self as calls, Given, Kind, Wrong};
 use crate::left_over::{Left, MOST_BYTES, MOST_RANGES, NAME};
+use crate::memory::Ready;
 use crate::windows::WINDOW;
 use crate::words::{said, Done, Trouble};
 use std::collections::BTreeMap;
@@ -15,6 +16,7 @@ use std::fs::{File, Permissions};
 use std::io;
 use std::os::unix::fs::{FileExt, PermissionsExt};
 use std::rc::Rc;
+use std::thread::Builder;
 
 /// The journal's name until all of it is synced.
 pub const UNSYNCED: &str = "sleep-archive.journal.new";
@@ -23,8 +25,16 @@ pub const UNSYNCED: &str = "sleep-archive.journal.new";
 pub const ROOM: &str = "sleep-archive.room";
 const KEPT_ROOM: u64 = 65536;
 
+/// So many bytes are written at once. For longer writes the system takes longer runs of free memory, which a virtual machine's host may have taken back:
+/// then it has to bring them again, which takes longer than the write.
+const AT_ONCE: usize = 256 << 10;
+
 /// The disk begins with a journal after so many bytes of it.
-const AT_ONCE: usize = 8 << 20;
+const TO_BEGIN: usize = 8 << 20;
+
+/// A journal that is written while its end is made, and the first bytes of it, among which the end writes.
+const LONG: usize = 8 << 20;
+const FIRST: usize = 4096;
 
 /// A file that this user alone can see, until it is given the rights that the archive's files have.
 const PRIVATE: u32 = 0o600;
@@ -56,6 +66,11 @@ impl Failed {
 
 /// Makes all changes, or none of them.
 pub fn commit(folder: &Folder, changes: Vec<Change>, room: Room) -> Done<()> {
+    commit_from(folder, changes, room, || ())
+}
+
+/// The same; once the journal has the changes in memory, they may be let go where they came from.
+pub fn commit_from(folder: &Folder, changes: Vec<Change>, room: Room, let_go: impl FnOnce()) -> Done<()> {
     if changes.is_empty() {
         return Ok(());
     }
@@ -65,10 +80,18 @@ pub fn commit(folder: &Folder, changes: Vec<Change>, room: Room) -> Done<()> {
         give_back(folder, &numbers);
         failed.told(folder, "nothing is changed")
     };
-    let (bytes, mode) = (encoded(folder, changes)?, mode(folder)?);
+    let ((mut bytes, end), mode) = (encoded(folder, changes)?, mode(folder)?);
+    let_go();
+    let is_long = bytes.len() >= LONG && room == Room::Free;
+    if !is_long {
+        calls::end(&mut bytes, end).map_err(|wrong| refused(folder, wrong))?;
+    }
     let ranges = calls::ranges(&bytes).collect::<Vec<_>>();
     reserve(folder, &ranges).map_err(not_begun)?;
-    let journal = written_down(folder, &bytes, mode, room).map_err(not_begun)?;
+    let journal = match is_long {
+        true => ended(folder, &mut bytes, end, mode).inspect_err(|_| give_back(folder, &numbers))?,
+        false => written_down(folder, &bytes, mode, room).map_err(not_begun)?,
+    };
     if let Err(error) = folder.handle.sync_all() {
         return Err(taken_back(folder, &numbers, &error));
     }
@@ -123,8 +146,8 @@ fn mode(folder: &Folder) -> Done<Option<u32>> {
     Ok(all)
 }
 
-/// The bytes of the journal: the states of all ten files, the changes, and the witnesses.
-fn encoded(folder: &Folder, changes: Vec<Change>) -> Done<Vec<u8>> {
+/// The bytes of the journal: the states of all ten files, the changes, and the witnesses; and where its end comes, which is not made yet.
+fn encoded(folder: &Folder, changes: Vec<Change>) -> Done<(Vec<u8>, u64)> {
     let witnesses = Witnesses::of(folder)?;
     let mut states = [0; 20];
     for number in 0..FILES.len() {
@@ -142,18 +165,19 @@ fn encoded(folder: &Folder, changes: Vec<Change>) -> Done<Vec<u8>> {
     put_down(&states, &ranges.collect::<Vec<_>>()).map_err(|wrong| refused(folder, wrong))
 }
 
-fn put_down(states: &[u64; 20], ranges: &[(usize, Given)]) -> Result<Vec<u8>, Wrong> {
+fn put_down(states: &[u64; 20], ranges: &[(usize, Given)]) -> Result<(Vec<u8>, u64), Wrong> {
     let length = calls::BESIDE + ranges.iter().map(|(_, range)| range.takes()).sum::<u64>();
     if length > MOST_BYTES || ranges.len() > MOST_RANGES {
         return Err(Wrong::Length);
     }
     let mut bytes = vec![0; length as usize];
+    let half = bytes.len() / 2;
+    let _ready = Ready::start(bytes[half..].as_mut_ptr(), half);
     let mut place = calls::begin(&mut bytes, states)?;
     for (number, range) in ranges {
         place = calls::put(&mut bytes, place, *number, range)?;
     }
-    calls::end(&mut bytes, place)?;
-    Ok(bytes)
+    Ok((bytes, place))
 }
 
 fn refused(folder: &Folder, wrong: Wrong) -> Trouble {
@@ -165,12 +189,38 @@ fn refused(folder: &Folder, wrong: Wrong) -> Trouble {
     Trouble::File(format!("{}: {why}; nothing is changed", folder.path.display()))
 }
 
+/// A long journal is written while its end is made, which goes over all of it and writes its length, among the first bytes, and its hash alone. These come
+/// when the end is made.
+fn ended(folder: &Folder, bytes: &mut [u8], end: u64, mode: Option<u32>) -> Done<File> {
+    let told = |failed: Failed| failed.told(folder, "nothing is changed");
+    let file = fresh(folder, mode).inspect_err(|_| drop_new(folder)).map_err(told)?;
+    let (start, middle) = (bytes.as_ptr() as usize, FIRST..end as usize);
+    let write = || put_parts(&file, unsafe { std::slice::from_raw_parts((start + FIRST) as *const u8, middle.len()) }, FIRST);
+    let (made, written) = std::thread::scope(|scope| {
+        let writer = Builder::new().spawn_scoped(scope, write);
+        let made = calls::end(bytes, end).map_err(|wrong| refused(folder, wrong));
+        // where the system gives no thread, it is written now
+        (made, writer.map_or_else(|_| write(), |writer| writer.join().expect("it does not panic")))
+    });
+    let rest = || put_parts(&file, &bytes[..middle.start], 0).and_then(|()| put_parts(&file, &bytes[middle.end..], middle.end));
+    let written = written.and_then(|()| rest()).map_err(at(UNSYNCED));
+    let synced = made.and_then(|_| written.and_then(|()| synced(folder, &file, bytes.len(), mode)).map_err(told));
+    synced.inspect_err(|_| drop_new(folder))?;
+    Ok(file)
+}
+
+fn drop_new(folder: &Folder) {
+    let _ = below::remove(&folder.handle, UNSYNCED); // where it stays, the next change drops it
+}
+
 /// The journal on the disk, synced, and then under its name. A change that makes room takes what is kept where the disk has none.
 fn written_down(folder: &Folder, bytes: &[u8], mode: Option<u32>, room: Room) -> Result<File, Failed> {
-    let drop_it = |_: &Failed| {
-        let _ = below::remove(&folder.handle, UNSYNCED); // where it stays, the next change drops it
+    let whole = |file: File| {
+        put_parts(&file, bytes, 0).map_err(at(UNSYNCED))?;
+        synced(folder, &file, bytes.len(), mode)?;
+        Ok(file)
     };
-    let written = fresh(folder, mode).and_then(|file| synced(folder, file, bytes, mode)).inspect_err(drop_it);
+    let written = fresh(folder, mode).and_then(whole).inspect_err(|_| drop_new(folder));
     match written {
         Err(failed) if room == Room::Kept && failed.error.kind() == io::ErrorKind::StorageFull => {
             if bytes.len() as u64 > KEPT_ROOM {
@@ -178,24 +228,34 @@ fn written_down(folder: &Folder, bytes: &[u8], mode: Option<u32>, room: Room) ->
                     "no space left on device, and the room that is kept is for fewer pieces at once",
                 )));
             }
-            let written = kept_room(folder).and_then(|file| synced(folder, file, bytes, mode)).inspect_err(drop_it);
+            let written = kept_room(folder).and_then(whole).inspect_err(|_| drop_new(folder));
             written.inspect_err(|_| keep_room(folder))
         }
         other => other,
     }
 }
 
-fn synced(folder: &Folder, file: File, bytes: &[u8], mode: Option<u32>) -> Result<File, Failed> {
-    for (number, part) in bytes.chunks(AT_ONCE).enumerate() {
-        file.write_all_at(part, (number * AT_ONCE) as u64).map_err(at(UNSYNCED))?;
-        disk::begin(&file, part.len() as u64);
+/// Writes bytes of a journal from a place on.
+fn put_parts(file: &File, bytes: &[u8], from: usize) -> io::Result<()> {
+    for (number, part) in bytes.chunks(TO_BEGIN).enumerate() {
+        write_parts(file, part, (from + number * TO_BEGIN) as u64)?;
+        disk::begin(file, part.len() as u64);
     }
+    Ok(())
+}
+
+fn write_parts(file: &File, bytes: &[u8], offset: u64) -> io::Result<()> {
+    bytes.chunks(AT_ONCE).zip((offset..).step_by(AT_ONCE)).try_for_each(|(part, offset)| file.write_all_at(part, offset))
+}
+
+/// Syncs a journal that is written, and gives it its name.
+fn synced(folder: &Folder, file: &File, length: usize, mode: Option<u32>) -> Result<(), Failed> {
     if let Some(mode) = mode {
         file.set_permissions(Permissions::from_mode(mode)).map_err(at(UNSYNCED))?;
     }
     file.sync_all().map_err(at(UNSYNCED))?;
-    below::rename(&folder.handle, UNSYNCED, NAME).map_err(at(NAME))?;
-    Ok(file)
+    disk::forget(file, length as u64);
+    below::rename(&folder.handle, UNSYNCED, NAME).map_err(at(NAME))
 }
 
 /// A journal's file that was not there. It is locked: whoever makes an archive has no other lock, and waits here for another who does.
@@ -291,7 +351,7 @@ impl Down<'_> {
     fn write(&self, file: &File, range: &calls::Range) -> io::Result<()> {
         let bytes = range.bytes(self.bytes);
         if !self.in_windows {
-            return file.write_all_at(bytes, range.offset);
+            return write_parts(file, bytes, range.offset);
         }
         let (mut copy, mut offset) = (vec![0; bytes.len().min(WINDOW)], range.offset);
         for part in bytes.chunks(WINDOW) {

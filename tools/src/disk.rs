@@ -15,9 +15,19 @@ const BEGIN: u32 = 2;
 /// Bytes for which the disk is asked to begin.
 const WORTH: u64 = 1 << 20;
 
+const NOT_NEEDED: i32 = 4;
+
 extern "C" {
     fn fallocate(file: i32, mode: i32, offset: i64, length: i64) -> i32;
     fn sync_file_range(file: i32, offset: i64, length: i64, flags: u32) -> i32;
+    fn posix_fadvise(file: i32, offset: i64, length: i64, advice: i32) -> i32;
+}
+
+/// A synced file's bytes are not read soon: the memory that has them is free for what is written next.
+pub fn forget(file: &File, bytes: u64) {
+    if bytes >= WORTH {
+        unsafe { posix_fadvise(file.as_raw_fd(), 0, 0, NOT_NEEDED) };
+    }
 }
 
 /// Lets the disk begin with what was written to a file, so that less is left for the sync, which alone is waited for and relied on. For a few bytes it is

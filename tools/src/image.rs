@@ -6,7 +6,7 @@
 //! The system gives a process some 65,530 mappings, and every block that can be written among those that can't takes two. So blocks become larger as they
 //! become many: of 64 GiB there are never more than some 12,000.
 use crate::below::Plain;
-use crate::memory::{self, Bytes};
+use crate::memory::{self, Bytes, Ready};
 use crate::signals;
 use crate::windows;
 use std::cell::OnceCell;
@@ -98,6 +98,18 @@ impl Image {
             image.watch()?;
         }
         Ok(image)
+    }
+
+    /// Has the first bytes behind the file's ready to be written, as long as what is given back lasts, which is no longer than the image.
+    pub fn ready(&self, length: u64) -> Ready {
+        let filled = memory::whole_pages(self.old);
+        Ready::start(self.start.wrapping_add(filled), (self.mapped - filled).min(length as usize))
+    }
+
+    /// Gives the memory behind the file's bytes back: what was written there is gone.
+    pub fn let_go(&self) {
+        let filled = memory::whole_pages(self.old);
+        memory::give_up(self.start.wrapping_add(filled), self.mapped - filled);
     }
 
     /// Zeros that a call may write as zeros, and as nothing else: a large part is one run of memory in many places.

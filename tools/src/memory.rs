@@ -3,7 +3,9 @@ use std::ffi::c_char;
 use std::fs::File;
 use std::io;
 use std::os::fd::{AsRawFd, FromRawFd};
-use std::sync::OnceLock;
+use std::sync::atomic::{AtomicBool, Ordering::SeqCst};
+use std::sync::{Arc, OnceLock};
+use std::thread::JoinHandle;
 
 const NO_ACCESS: i32 = 0;
 const READ: i32 = 1;
@@ -17,6 +19,7 @@ const NO_RESERVE: i32 = 0x4000;
 const AT_ONCE: i32 = 0x8000;
 
 const NOT_NEEDED: i32 = 4;
+const TO_BE_WRITTEN: i32 = 23;
 const CLOSED_AT_EXEC: u32 = 1;
 
 const PAGE_SIZE: i32 = 30;
@@ -62,6 +65,39 @@ pub fn place_file(address: *mut u8, length: usize, file: &File) -> io::Result<()
 /// Zeros at addresses of ours, to be read and written; memory is taken as they are written.
 pub fn place_room(address: *mut u8, length: usize) -> io::Result<()> {
     mapping(address, length, READ | WRITE, PRIVATE | ANONYMOUS | FIXED | NO_RESERVE, -1).map(|_| ())
+}
+
+/// Pages that another thread makes ready, so that who writes them first does not wait for each. Ends with what it stands for.
+pub struct Ready {
+    over: Arc<AtomicBool>,
+    thread: Option<JoinHandle<()>>,
+}
+
+/// How much is made ready at once, and the least that is worth a thread.
+const AT_A_TIME: usize = 1 << 20;
+const WORTH: usize = 1 << 22;
+
+impl Ready {
+    /// Of zeros at addresses of ours, which last as long as this. Where the system can't, or has no memory, they stay as they are.
+    pub fn start(address: *mut u8, length: usize) -> Ready {
+        let (from, to) = (whole_pages(address as usize), (address as usize + length) / page() * page());
+        let over = Arc::new(AtomicBool::new(false));
+        let stop = Arc::clone(&over);
+        let thread = (from + WORTH <= to).then(|| {
+            std::thread::spawn(move || {
+                let parts = (from..to).step_by(AT_A_TIME).take_while(|_| !stop.load(SeqCst));
+                let _ = parts.map(|at| unsafe { madvise(at as *mut u8, AT_A_TIME.min(to - at), TO_BE_WRITTEN) }).all(|done| done == 0);
+            })
+        });
+        Ready { over, thread }
+    }
+}
+
+impl Drop for Ready {
+    fn drop(&mut self) {
+        self.over.store(true, SeqCst);
+        let _ = self.thread.take().map(JoinHandle::join);
+    }
 }
 
 /// Zeros in memory that a file's handle stands for.

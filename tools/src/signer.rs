@@ -29,6 +29,8 @@ pub struct Signer {
     /// It is started once, and answers one root hash after the other.
     once: bool,
     running: Option<Running>,
+    /// It was handed a root hash that it has not answered yet; whether all of it could be written.
+    asked: Option<bool>,
 }
 
 struct Running {
@@ -40,7 +42,7 @@ struct Running {
 impl Signer {
     /// `--sign-with COMMAND` or `--signer COMMAND`, if one is given. Nothing is started yet.
     pub fn of(arguments: &Arguments) -> Done<Option<Signer>> {
-        let signer = |command: &OsStr, once| Signer { command: command.to_owned(), once, running: None };
+        let signer = |command: &OsStr, once| Signer { command: command.to_owned(), once, running: None, asked: None };
         match (arguments.option("--sign-with"), arguments.option("--signer")) {
             (Some(_), Some(_)) => usage("--sign-with starts a command for each root hash, --signer one for all: one of them"),
             (Some(command), None) => Ok(Some(signer(command, false))),
@@ -53,26 +55,40 @@ impl Signer {
         Trouble::File(format!("{}: {}", self.command.to_string_lossy(), words.as_ref()))
     }
 
-    /// The signature of a root hash.
+    /// The signature of a root hash; where one was asked for, of that one.
     pub fn sign(&mut self, which: Which, root: &[u8; 32]) -> Done<Signature> {
-        let signature = if self.once { self.asked(root)? } else { made_by(&self.command, which, root)? };
+        if self.asked.is_none() {
+            self.ask(root)?;
+        }
+        let signature = if self.once { self.answer()? } else { made_by(&self.command, which, root)? };
         match signature == [0; 64] {
             true => Err(self.failed("gave 64 zero bytes, which are no signature")),
             false => Ok(signature),
         }
     }
 
-    /// What the command that runs answers to a root hash.
-    fn asked(&mut self, root: &[u8; 32]) -> Done<Signature> {
+    /// Hands a root hash to a command that is started once, which signs it while other work is done; whether it has it. It never has two: not every command
+    /// reads 32 bytes alone where there are more.
+    pub fn ask(&mut self, root: &[u8; 32]) -> Done<bool> {
+        if !self.once {
+            return Ok(false);
+        }
         self.quiet()?;
         if self.running.is_none() {
             let started = started(&mut shell(&self.command)).map_err(|error| self.failed(said(&error)))?;
             self.running = Some(started);
         }
-        let Running { input, output, .. } = self.running.as_mut().expect("it runs");
+        let Running { input, .. } = self.running.as_mut().expect("it runs");
+        self.asked = Some(input.write_all(root).and_then(|()| input.flush()).is_ok());
+        Ok(true)
+    }
+
+    /// What the command that runs answers to the root hash that it has.
+    fn answer(&mut self) -> Done<Signature> {
+        let Running { output, .. } = self.running.as_mut().expect("it runs");
         let (mut signature, mut count) = ([0; 64], 0);
-        let written = input.write_all(root).and_then(|()| input.flush());
-        while written.is_ok() && count < 64 {
+        let written = self.asked.take() == Some(true);
+        while written && count < 64 {
             match output.read(&mut signature[count..]) {
                 Ok(0) => break,
                 Ok(more) => count += more,

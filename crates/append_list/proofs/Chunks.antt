@@ -10,10 +10,10 @@ use lib.ListN.{length, getD, take, drop, length-drop, take-append-drop}
 use lib.Seq.{length-take-le, take-append-le, drop-append-le}
 use Rattle.byte_strings.specs.Lists.{joined, total, Bytes}
 use Rattle.byte_strings.proofs.Lists.{bytes-take, bytes-drop}
+use Rattle.byte_strings.proofs.Bools.{true-both}
 use Rattle.file_format.specs.Sizes.{longestChunk}
 use Rattle.file_format.specs.Images.{dataSize}
 use Rattle.checks.specs.Lengths.{allShort}
-use Rattle.checks.proofs.Judged.{right-both}
 use Rattle.append_list.specs.Chunks.{chunksOf}
 
 pub chunks-count : (ls bs : List ℕ) → length (chunksOf ls bs) ≡ length ls
@@ -70,4 +70,4 @@ chunks-each (l ∷ ls) bs p h s = (
 pub each-short : (ls : List ℕ) → ((k : ℕ) → getD ls k 0 ≤ longestChunk) → allShort ls ≡ true
 unfolding allShort
 each-short [] h = refl
-each-short (l ∷ ls) h = right-both (leb l longestChunk) (allShort ls) (le-leb l longestChunk (h 0)) (each-short ls (λ k. h (suc k)))
+each-short (l ∷ ls) h = true-both (leb l longestChunk) (allShort ls) (le-leb l longestChunk (h 0)) (each-short ls (λ k. h (suc k)))

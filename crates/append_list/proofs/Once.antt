@@ -11,7 +11,8 @@ use lib.Dec.{eqb}
 use lib.ListN.{length, take, drop, take-append-drop}
 use lib.Seq.{length-take-le, take-at, drop-drop}
 use Rattle.byte_strings.specs.Lists.{part, put}
-use Rattle.byte_strings.proofs.Lists.{drop-behind, take-put, drop-put}
+use Rattle.byte_strings.proofs.Lists.{drop-behind, take-put, drop-put, part-take}
+use Rattle.byte_strings.proofs.Bools.{or-left, or-right}
 use Rattle.tree_index.specs.Tree.{filledBy}
 use Rattle.bitfield.specs.Index.{indexBytes}
 use Rattle.bitfield.specs.Append.{bitsPlace, setDataBit, setTreeBits, regenerated, withBits, appended}
@@ -19,7 +20,6 @@ use Rattle.bitfield.specs.Image.{entryCount}
 use Rattle.bitfield.proofs.Levels.{length-index}
 use Rattle.bitfield.proofs.Append.{zeroed-old}
 use Rattle.file_format.specs.Sizes.{mostChunks, usedBitfield}
-use Rattle.file_format.proofs.OfImage.{part-take}
 use Rattle.writing.proofs.Bits.{Stays, set-stays, with-stays, bits-stay}
 use Rattle.append_list.specs.Inner.{bitsWith, bitsNext, bitsOnce, BitsFit}
 
@@ -201,13 +201,6 @@ once (suc k) n xs few h =
     (eqb k 0 || eqb ((n + 1) % 8192) 0) refl
 
 -- ---- the code's steps
-
-or-left : (a b : Bool) → a ≡ true → a || b ≡ true
-or-left a b e = ap (λ (x : Bool). x || b) e
-
-or-right : (a b : Bool) → b ≡ true → a || b ≡ true
-or-right true b e = refl
-or-right false b e = e
 
 or-both : (a b : Bool) → a ≡ false → b ≡ false → a || b ≡ false
 or-both a b e f = ap (λ (x : Bool). x || b) e ∙ f

@@ -6,11 +6,11 @@ use mathlib.Core.List.{List, _++_}
 use borrow.Author.Tests.{ltb-true, lt-ltb, le-ltb, le-leb, lt-leb}
 use lib.Dec.{leb, ltb, eqb}
 use lib.ListN.{length}
-use Rattle.refusals.specs.Verdict.{Verdict, none, done, refused}
-use Rattle.refusals.specs.Meaning.{said}
-use Rattle.refusals.specs.declared.Refusal.{Refusal}
-use Rattle.refusals.specs.declared.Answer.{Answer}
-use Rattle.refusals.specs.declared.Answer.the-variants.{Done, Refused}
+use Rattle.answer_types.specs.Verdict.{Verdict, none, done, refused}
+use Rattle.answer_types.specs.Meaning.{said}
+use Rattle.answer_types.specs.declared.Refusal.{Refusal}
+use Rattle.answer_types.specs.declared.Answer.{Answer}
+use Rattle.answer_types.specs.declared.Answer.the-variants.{Done, Refused}
 use Rattle.byte_strings.specs.Lists.{total}
 use Rattle.file_format.specs.Sizes.{mostChunks, usedTree, usedSignatures, usedBitfield}
 use Rattle.file_format.specs.Belongs.{Register}

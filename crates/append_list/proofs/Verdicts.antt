@@ -5,7 +5,7 @@ use mathlib.Core.List.{List}
 use native.Mathlib.Omega.{arith}
 use borrow.Author.Tests.{leb-true, ltb-true, eqb-true, le-leb, lt-ltb, eq-eqb}
 use lib.ListN.{length}
-use Rattle.refusals.specs.Verdict.{done}
+use Rattle.answer_types.specs.Verdict.{done}
 use Rattle.byte_strings.specs.Lists.{total}
 use Rattle.file_format.specs.Sizes.{mostChunks, usedTree, usedSignatures, usedBitfield}
 use Rattle.file_format.specs.Belongs.{Register}

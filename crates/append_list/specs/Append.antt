@@ -5,7 +5,7 @@ use Prim.Native.Nat.{ℕ, _+_, _-_}
 use mathlib.Core.List.{List, [], _∷_, _++_}
 use lib.ListN.{length}
 use lib.Dec.{leb, ltb, eqb}
-use Rattle.refusals.specs.Verdict.{Verdict, done, unlessRefused}
+use Rattle.answer_types.specs.Verdict.{Verdict, done, unlessRefused}
 use Rattle.byte_strings.specs.Lists.{total, zeros}
 use Rattle.file_format.specs.Sizes.{mostChunks, usedTree, usedSignatures, usedBitfield}
 use Rattle.file_format.specs.Belongs.{Buffers, Register, buffersOf}

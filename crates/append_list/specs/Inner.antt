@@ -5,7 +5,7 @@ use mathlib.Core.Bool.{Bool, cond, _||_}
 use mathlib.Core.List.{List, [], _∷_}
 use lib.ListN.{length}
 use lib.Dec.{eqb}
-use Rattle.refusals.specs.Verdict.{Verdict, done}
+use Rattle.answer_types.specs.Verdict.{Verdict, done}
 use Rattle.byte_strings.specs.Lists.{put, total, zeros}
 use Rattle.bitfield.specs.Append.{withBits, regenerated, appended}
 use Rattle.blake2b.specs.Hash.{nodeHash}

@@ -1,12 +1,12 @@
 // The checks of a list, number by number. They only read, so that a refused call has changed nothing.
-use refusals::Answer;
+use answer_types::Answer;
 ghost use mathlib.Core.Path.{_≡_};
 ghost use Prim.Native.Nat.{_+_, _≤_, _<_};
 ghost use lib.ListN.{length};
 ghost use lib.Dec.{eqb};
 ghost use Rattle.byte_strings.specs.Lists.{total};
-ghost use Rattle.refusals.specs.Verdict.{done};
-ghost use Rattle.refusals.specs.Meaning.{said};
+ghost use Rattle.answer_types.specs.Verdict.{done};
+ghost use Rattle.answer_types.specs.Meaning.{said};
 ghost use Rattle.checks.specs.Checks.{judged};
 ghost use Rattle.checks.specs.Lent.{registerOf};
 ghost use Rattle.append_list.specs.Append.{listChecks, roomChecks, listVerdict};
@@ -34,16 +34,16 @@ fn judge_list(lengths: &[u64], bytes: &[u8]) -> Answer
     ensures { λ r. ⌜ said r ≡ judged (listChecks (now (lengths .entry)) (now (bytes .entry))) done ⌝ }
 {
     if lengths.len() == 0 {
-        return refusals::refuse(16);
+        return answer_types::refuse(16);
     }
     if 256 < lengths.len() {
-        return refusals::refuse(16);
+        return answer_types::refuse(16);
     }
     if !adds_up(lengths, bytes.len() as u64) {
-        return refusals::refuse(16);
+        return answer_types::refuse(16);
     }
     if !checks::all_short(lengths) {
-        return refusals::refuse(7);
+        return answer_types::refuse(7);
     }
     Answer::Done
 }
@@ -72,19 +72,19 @@ fn judge_room(
         ⌝ }
 {
     if s != n {
-        return refusals::refuse(8);
+        return answer_types::refuse(8);
     }
     if tree.len() < file_format::sizes::used_tree(n + k) {
-        return refusals::refuse(14);
+        return answer_types::refuse(14);
     }
     if signatures.len() < file_format::sizes::used_signatures(n + k - 1) {
-        return refusals::refuse(14);
+        return answer_types::refuse(14);
     }
     if bitfield.len() < file_format::sizes::used_bitfield(n + k) {
-        return refusals::refuse(14);
+        return answer_types::refuse(14);
     }
     if content.len() - (size as usize) < whole {
-        return refusals::refuse(14);
+        return answer_types::refuse(14);
     }
     Answer::Done
 }
@@ -149,10 +149,10 @@ pub fn judge(
         ⌝ }
 {
     if 1048576 <= n {
-        return refusals::refuse(2);
+        return answer_types::refuse(2);
     }
     if 1048576 - n < (lengths.len() as u64) {
-        return refusals::refuse(2);
+        return answer_types::refuse(2);
     }
     let found = checks::judge_later(tree, signatures, bitfield, content, n, s, size);
     match found {

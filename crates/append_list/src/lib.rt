@@ -3,9 +3,9 @@
 mod judging;
 mod storing;
 
-use refusals::Answer;
+use answer_types::Answer;
 use writing::Appended;
-ghost use Rattle.refusals.specs.Meaning.{said};
+ghost use Rattle.answer_types.specs.Meaning.{said};
 ghost use Rattle.checks.specs.Lent.{registerOf};
 ghost use Rattle.writing.specs.Post.{lent};
 ghost use Rattle.append_list.specs.Post.{ListPost};

@@ -7,7 +7,7 @@ use mathlib.Core.List.{List, [], _∷_, map, map-append}
 use native.Mathlib.Omega.{arith}
 use borrow.Author.Tests.{eq-eqb}
 use lib.ListN.{length}
-use Rattle.refusals.specs.Verdict.{Verdict, done}
+use Rattle.answer_types.specs.Verdict.{Verdict, done}
 use Rattle.byte_strings.specs.Lists.{put, run, total, Bytes}
 use Rattle.byte_strings.proofs.Lists.{length-put, take-put, total-append}
 use Rattle.tree_index.specs.Tree.{entries, completed}

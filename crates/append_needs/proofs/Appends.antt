@@ -6,7 +6,7 @@ use native.Mathlib.Nat.{zero-add, add-zero, zero-mul}
 use native.Mathlib.Numerals.{add-one}
 use native.Mathlib.Omega.{arith}
 use lib.ListN.{length, getD, length-replicate}
-use Rattle.refusals.specs.Verdict.{Verdict}
+use Rattle.answer_types.specs.Verdict.{Verdict}
 use Rattle.byte_strings.specs.Lists.{run, total}
 use Rattle.byte_strings.proofs.Lists.{getD-run, total-append}
 use Rattle.tree_index.specs.Tree.{completed, filledBy}

@@ -4,8 +4,8 @@ use mathlib.Core.Path.{_≡_}
 use mathlib.Core.Bool.{true}
 use mathlib.Core.List.{List}
 use lib.ListN.{length}
-use Rattle.refusals.specs.Verdict.{done}
-use Rattle.refusals.specs.Meaning.{said}
+use Rattle.answer_types.specs.Verdict.{done}
+use Rattle.answer_types.specs.Meaning.{said}
 use Rattle.file_format.specs.Sizes.{mostChunks, longestChunk}
 use Rattle.checks.specs.Lengths.{mostListed, allShort}
 use Rattle.append_needs.specs.Needs.{needOf}

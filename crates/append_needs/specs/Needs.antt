@@ -4,7 +4,7 @@ use Prim.Native.Nat.{ℕ, _+_, _*_}
 use mathlib.Core.List.{List, [], _∷_, map}
 use lib.ListN.{length}
 use lib.Dec.{leb}
-use Rattle.refusals.specs.Verdict.{Verdict, done, unlessRefused}
+use Rattle.answer_types.specs.Verdict.{Verdict, done, unlessRefused}
 use Rattle.byte_strings.specs.Lists.{run, total}
 use Rattle.tree_index.specs.Tree.{completed, roots}
 use Rattle.blake2b.specs.Hash.{blocks}

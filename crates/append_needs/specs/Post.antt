@@ -2,7 +2,7 @@
 use Prim.Native.Nat.{ℕ, _+_}
 use mathlib.Core.Path.{_≡_}
 use mathlib.Core.List.{List}
-use Rattle.refusals.specs.Meaning.{said}
+use Rattle.answer_types.specs.Meaning.{said}
 use Rattle.append_needs.specs.Needs.{Need, needVerdict, needGiven}
 use Rattle.append_needs.specs.declared.Needed.{Needed}
 

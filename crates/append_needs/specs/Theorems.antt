@@ -7,7 +7,7 @@ use Prim.Native.Nat.{ℕ, _+_, _*_, _≤_}
 use mathlib.Core.Path.{_≡_}
 use mathlib.Core.List.{List, [], _∷_, _++_, map}
 use lib.ListN.{length}
-use Rattle.refusals.specs.Verdict.{done}
+use Rattle.answer_types.specs.Verdict.{done}
 use Rattle.byte_strings.specs.Lists.{run, total, Bytes}
 use Rattle.tree_index.specs.Tree.{completed}
 use Rattle.blake2b.specs.Runs.{runs}

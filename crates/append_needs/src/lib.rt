@@ -1,12 +1,12 @@
 // What a job will need: the four file sizes and the compression runs of BLAKE2b, before a chunk is appended. No register is lent, and the work
 // grows with the list alone.
-use refusals::Answer;
+use answer_types::Answer;
 ghost use mathlib.Core.Path.{_≡_};
 ghost use mathlib.Core.List.{map};
 ghost use Prim.Native.Nat.{_+_, _*_, _≤_, _<_};
 ghost use lib.ListN.{length};
 ghost use lib.Dec.{leb};
-ghost use Rattle.refusals.specs.Meaning.{said};
+ghost use Rattle.answer_types.specs.Meaning.{said};
 ghost use Rattle.byte_strings.specs.Lists.{run, total};
 ghost use Rattle.tree_index.specs.Tree.{completed, roots};
 ghost use Rattle.blake2b.specs.Hash.{blocks};
@@ -49,16 +49,16 @@ fn judge(n: u64, size: u64, lengths: &[u64]) -> Answer
     let count = lengths.len() as u64;
     let end = count_after(n, count);
     if 1048576 < end {
-        return refusals::refuse(2);
+        return answer_types::refuse(2);
     }
     if 256 < count {
-        return refusals::refuse(16);
+        return answer_types::refuse(16);
     }
     if !checks::all_short(lengths) {
-        return refusals::refuse(7);
+        return answer_types::refuse(7);
     }
     if 65536 * n < size {
-        return refusals::refuse(9);
+        return answer_types::refuse(9);
     }
     Answer::Done
 }

@@ -4,11 +4,11 @@ use mathlib.Core.Path.{_≡_, refl}
 use mathlib.Core.List.{List}
 use native.Mathlib.Omega.{arith}
 use lib.ListN.{length}
-use Rattle.refusals.specs.Verdict.{done}
-use Rattle.refusals.specs.Meaning.{said}
-use Rattle.refusals.specs.declared.Refusal.{Refusal}
-use Rattle.refusals.specs.declared.Answer.{Answer}
-use Rattle.refusals.specs.declared.Answer.the-variants.{Done, Refused}
+use Rattle.answer_types.specs.Verdict.{done}
+use Rattle.answer_types.specs.Meaning.{said}
+use Rattle.answer_types.specs.declared.Refusal.{Refusal}
+use Rattle.answer_types.specs.declared.Answer.{Answer}
+use Rattle.answer_types.specs.declared.Answer.the-variants.{Done, Refused}
 use Rattle.byte_strings.specs.Lists.{zeros}
 use Rattle.blake2b.specs.Hash.{nodeHash}
 use Rattle.file_format.specs.Stored.{storedRootMessage}

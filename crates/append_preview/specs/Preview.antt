@@ -4,7 +4,7 @@ use Prim.Native.Nat.{ℕ, _+_, _-_}
 use mathlib.Core.Path.{_≡_}
 use mathlib.Core.List.{List, [], _∷_, _++_, map}
 use lib.ListN.{length, take}
-use Rattle.refusals.specs.Verdict.{Verdict}
+use Rattle.answer_types.specs.Verdict.{Verdict}
 use Rattle.tree_index.specs.Tree.{completed, roots}
 use Rattle.blake2b.specs.Hash.{nodeHash}
 use Rattle.file_format.specs.Messages.{rootItem, rootMessage}

@@ -1,12 +1,12 @@
 // "Writing nothing, give what an append would answer on a copy of the lent buffers, length for length: the root hash, or the refusal and
 // its place." All four images and the chunk are lent to be read; none is copied.
+use answer_types::Answer;
 use file_format::roots::Roots;
-use refusals::Answer;
 use writing::Node;
 ghost use mathlib.Core.Path.{_≡_};
 ghost use Prim.Native.Nat.{_+_, _≤_, _<_};
 ghost use lib.ListN.{length};
-ghost use Rattle.refusals.specs.Meaning.{said};
+ghost use Rattle.answer_types.specs.Meaning.{said};
 ghost use Rattle.tree_index.specs.Tree.{completed};
 ghost use Rattle.blake2b.specs.Hash.{nodeHash};
 ghost use Rattle.file_format.specs.Sizes.{usedTree};

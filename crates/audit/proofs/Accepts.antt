@@ -22,13 +22,13 @@ use Rattle.file_format.specs.Messages.{HashFunction, leafMessage}
 use Rattle.file_format.specs.Entries.{Entry, hole, entryBytes, leaf, parentOf, node, treeEntries}
 use Rattle.file_format.specs.Slots.{Slot, held, released, isHeld, slotBytes, contents, heldIn, Within}
 use Rattle.file_format.specs.Images.{dataSize, dataImage, signaturesImage, treeImage, leaves, bitfieldImage, bitfieldOf}
-use Rattle.file_format.specs.Stored.{storedHash, storedSize, storedChunk}
+use Rattle.file_format.specs.Stored.{storedChunk}
 use Rattle.file_format.specs.Belongs.{Register, Lent, Belongs}
 use Rattle.file_format.proofs.Spans.{span, chunk-inside, joined-length}
 use Rattle.file_format.proofs.Slots.{slotAt, contents-length, contents-at, held-at, held-behind, leaves-length, leaf-held}
-use Rattle.file_format.proofs.Nodes.{nodeAt-index, entryAt-hole}
-use Rattle.file_format.proofs.OfImage.{treeHeader-length, bitfieldHeader-length, signaturesHeader-length, bitfieldImage-length, treeImage-length, overs}
-use Rattle.file_format.proofs.OfImage.{stored-entry, stored-node-hash, stored-node-size, stored-leaf-size, stored-start, stored-chunk, stored-total}
+use Rattle.file_format.proofs.Nodes.{entryAt-hole}
+use Rattle.file_format.proofs.OfImage.{treeHeader-length, bitfieldHeader-length, signaturesHeader-length, bitfieldImage-length, treeImage-length, overs, size-at, hash-at}
+use Rattle.file_format.proofs.OfImage.{stored-entry, stored-leaf-size, stored-start, stored-chunk, stored-total}
 pub use Rattle.file_format.proofs.Held.{front-long}
 use Rattle.file_format.proofs.Held.{stored-held}
 use Rattle.file_format.proofs.ToImage.{hole-zeros}
@@ -73,12 +73,6 @@ released-zero (released x) e = zeros-zero (x .size)
 module _ (F : List ℕ → List ℕ) (hf : HashFunction F) (ss : List Slot) (w : Within ss) (r : Register) (b : Belongs F r ss) where
   -- ---- the entries
 
-  size-is : (d k : ℕ) → filled (r .n) (index d k) ≡ true → storedSize (r .tree) (index d k) ≡ node F (leaves F ss) d k .size
-  size-is d k h = stored-node-size F hf ss w r b (index d k) h ∙ ap (λ (e : Entry). e .size) (nodeAt-index F (leaves F ss) d k)
-
-  hash-is : (d k : ℕ) → filled (r .n) (index d k) ≡ true → storedHash (r .tree) (index d k) ≡ node F (leaves F ss) d k .hash
-  hash-is d k h = stored-node-hash F hf ss w r b (index d k) h ∙ ap (λ (e : Entry). e .hash) (nodeAt-index F (leaves F ss) d k)
-
   leaf-is : (k : ℕ) → k < r .n → filled (r .n) (index zero k) ≡ true → LeafRight F (r .tree) (r .content) (r .size) (storedHeld (r .bitfield) k) k
   unfolding index node leaf
   leaf-is k l h =
@@ -86,7 +80,7 @@ module _ (F : List ℕ → List ℕ) (hf : HashFunction F) (ss : List Slot) (w :
         short = subst (λ (z : ℕ). z ≤ longestChunk) (sym (stored-leaf-size F hf ss w r b k l)) (w .short k);
         inside = subst (λ (z : ℕ). z ≤ r .size) (sym (ap₂ _+_ (stored-start F hf ss w r b k (omega arith)) (stored-leaf-size F hf ss w r b k l)))
             (subst (λ (z : ℕ). span (contents ss) 0 k + length (getD (contents ss) k []) ≤ z) (sym (b .total)) (chunk-inside (contents ss) k (omega (arith, below, contents-length ss))));
-        hash = λ e. hash-is zero k h ∙ ap (λ (x : Entry). x .hash) (leaf-held F ss k below (told ∙ e)) ∙ ap (λ (c : List ℕ). F (leafMessage c)) (sym chunk);
+        hash = λ e. hash-at F hf ss w r b zero k h ∙ ap (λ (x : Entry). x .hash) (leaf-held F ss k below (told ∙ e)) ∙ ap (λ (c : List ℕ). F (leafMessage c)) (sym chunk);
         cleared = λ e. ap allZero (chunk ∙ contents-at ss k) ∙ released-zero (slotAt ss k) (sym (held-at ss k below) ∙ told ∙ e);
       }
     where
@@ -105,8 +99,9 @@ module _ (F : List ℕ → List ℕ) (hf : HashFunction F) (ss : List Slot) (w :
       let f : filled (r .n) (index d (2 * k)) ≡ true = filled-left (r .n) d k h in
       let g : filled (r .n) (index d (2 * k + 1)) ≡ true = filled-right (r .n) d k h in
       record {
-        sum = size-is (suc d) k h ∙ sym (ap₂ _+_ (size-is d (2 * k) f) (size-is d (2 * k + 1) g));
-        hash = hash-is (suc d) k h ∙ ap F (sym (overs (size-is d (2 * k) f) (size-is d (2 * k + 1) g) (hash-is d (2 * k) f) (hash-is d (2 * k + 1) g)));
+        sum = size-at F hf ss w r b (suc d) k h ∙ sym (ap₂ _+_ (size-at F hf ss w r b d (2 * k) f) (size-at F hf ss w r b d (2 * k + 1) g));
+        hash = hash-at F hf ss w r b (suc d) k h ∙ ap F
+            (sym (overs (size-at F hf ss w r b d (2 * k) f) (size-at F hf ss w r b d (2 * k + 1) g) (hash-at F hf ss w r b d (2 * k) f) (hash-at F hf ss w r b d (2 * k + 1) g)));
       }
 
   entry-is : (i : ℕ) → i < entries (r .n) → entryRight F (r .tree) (r .bitfield) (r .content) (r .n) (r .size) i ≡ true

@@ -5,56 +5,30 @@ use mathlib.Core.Path.{_≡_, refl, sym, ap, ap₂, _∙_, subst₂}
 use mathlib.Core.Bool.{Bool, true, false, cond, _&&_}
 use mathlib.Core.Logic.{_⊎_, inl, inr}
 use mathlib.Core.List.{List, [], _∷_}
-use native.Mathlib.Nat.{add-zero, add-suc, suc-add, zero-add}
+use native.Mathlib.Nat.{zero-add}
 use native.Mathlib.Omega.{arith}
 use borrow.Author.Tests.{leb-true, eqb-true, le-leb, eq-eqb}
 use lib.ListN.{length, getD, length-replicate}
 use lib.Dec.{leb, eqb}
-use Rattle.refusals.specs.Verdict.{Spot, Verdict, tree, bitfield, done}
+use Rattle.answer_types.specs.Verdict.{Spot, Verdict, tree, bitfield, done}
 use Rattle.byte_strings.specs.Lists.{part, sameList, allZero, zeros}
-use Rattle.byte_strings.proofs.Lists.{same-eq}
+use Rattle.byte_strings.proofs.Lists.{same-eq, same-of}
+use Rattle.byte_strings.proofs.Bools.{both-true, cases}
+use Rattle.byte_strings.proofs.Lowest.{nowhere-right, right-nowhere}
 use Rattle.tree_index.specs.Tree.{index, depth, block, leftChild, rightChild, filled, entries}
 use Rattle.tree_index.proofs.Index.{depth-index, block-index, leftChild-index, rightChild-index}
 use Rattle.bitfield.specs.Release.{storedHeld}
-use Rattle.bitfield.proofs.Bits.{cases}
 use Rattle.file_format.specs.Sizes.{longestChunk, entryPlace, usedBitfield}
 use Rattle.file_format.specs.Messages.{leafMessage, parentMessage}
 use Rattle.file_format.specs.Stored.{storedHash, storedSize, storedStart, storedChunk}
 use Rattle.file_format.specs.Belongs.{Register}
 use Rattle.file_format.proofs.Nodes.{byDepth}
-use Rattle.checks.proofs.Passed.{Passed, passes, passed, same-of}
-use Rattle.audit.specs.Audit.{Lowest, nowhere, first, lowest, parentRight, holeRight, entryRight, wrongEntry, heldBits, wrongByte, byteRight, byteRightBy}
+use Rattle.checks.proofs.Passed.{Passed, passes, passed}
+use Rattle.audit.specs.Audit.{Lowest, nowhere, first, parentRight, holeRight, entryRight, wrongEntry, heldBits, wrongByte, byteRight, byteRightBy}
 use Rattle.audit.specs.Audit.{refusedAt, imagesVerdict, audit, Accepted, leafFrom, leafRight}
 use Rattle.file_format.specs.Images.{bitfieldImage}
 
--- ---- the lowest wrong number
-
-abbrev orElse : Bool → Lowest → ℕ → Lowest
-orElse b l i = elim b [ true ↦ l | false ↦ first i ]
-
-only : (b : Bool) (l : Lowest) (i : ℕ) → orElse b l i ≡ nowhere → (b ≡ true) × (l ≡ nowhere)
-only true l i e = (refl, e)
-only false l i e = let z : _≡_ {A = ℕ} 0 1 = cc in absurd (omega arith)
-
-pub nowhere-right : (right : ℕ → Bool) (i k : ℕ) → lowest right i k ≡ nowhere → (j : ℕ) → j < k → right (i + j) ≡ true
-unfolding lowest
-nowhere-right right i zero e j h = absurd (omega arith)
-nowhere-right right i (suc k) e zero h = ap right (add-zero i) ∙ only (right i) (lowest right (suc i) k) i e .0
-nowhere-right right i (suc k) e (suc j) h =
-    ap right (add-suc i j ∙ sym (suc-add i j)) ∙ nowhere-right right (suc i) k (only (right i) (lowest right (suc i) k) i e .1) j (omega arith)
-
-pub right-nowhere : (right : ℕ → Bool) (i k : ℕ) → ((j : ℕ) → j < k → right (i + j) ≡ true) → lowest right i k ≡ nowhere
-unfolding lowest
-right-nowhere right i zero h = refl
-right-nowhere right i (suc k) h =
-    ap (λ (b : Bool). orElse b (lowest right (suc i) k) i) (ap right (sym (add-zero i)) ∙ h 0 (omega arith))
-    ∙ right-nowhere right (suc i) k (λ j l. ap right (suc-add i j ∙ sym (add-suc i j)) ∙ h (suc j) (omega arith))
-
 -- ---- one entry
-
-and-true : (a b : Bool) → (a && b) ≡ true → (a ≡ true) × (b ≡ true)
-and-true true b e = (refl, e)
-and-true false b e = let z : _≡_ {A = ℕ} 0 1 = cc in absurd (omega arith)
 
 -- zeros, and a list that is tested for them
 pub zero-same : (xs : List ℕ) → allZero xs ≡ sameList xs (zeros (length xs))
@@ -83,8 +57,8 @@ module _ (F : List ℕ → List ℕ) (t content : List ℕ) where
   pub leaf-right : (size : ℕ) (held : Bool) (k : ℕ) → leafRight F t content size held k ≡ true → LeafRight size held k
   unfolding leafFrom storedChunk
   leaf-right size held k e =
-      let a = and-true (leb (storedSize t (2 * k)) longestChunk) (leb (storedStart t k + storedSize t (2 * k)) size && lastTest held k) e in
-      let b = and-true (leb (storedStart t k + storedSize t (2 * k)) size) (lastTest held k) (a .1) in
+      let a = both-true (leb (storedSize t (2 * k)) longestChunk) (leb (storedStart t k + storedSize t (2 * k)) size && lastTest held k) e in
+      let b = both-true (leb (storedStart t k + storedSize t (2 * k)) size) (lastTest held k) (a .1) in
       record {
         short = leb-true (storedSize t (2 * k)) longestChunk (a .0);
         inside = leb-true (storedStart t k + storedSize t (2 * k)) size (b .0);
@@ -111,7 +85,7 @@ module _ (F : List ℕ → List ℕ) (t content : List ℕ) where
   unfolding parentRight
   parent-right i e =
       let m : List ℕ = parentMessage (storedSize t (leftChild i) + storedSize t (rightChild i)) (storedHash t (leftChild i)) (storedHash t (rightChild i)) in
-      let a = and-true (eqb (storedSize t i) (storedSize t (leftChild i) + storedSize t (rightChild i))) (sameList (storedHash t i) (F m)) e in
+      let a = both-true (eqb (storedSize t i) (storedSize t (leftChild i) + storedSize t (rightChild i))) (sameList (storedHash t i) (F m)) e in
       record { sum = eqb-true (storedSize t i) (storedSize t (leftChild i) + storedSize t (rightChild i)) (a .0); hash = same-eq (storedHash t i) (F m) (a .1) }
 
   pub right-parent : (i : ℕ) → ParentRight i (leftChild i) (rightChild i) → parentRight F t i ≡ true

@@ -11,7 +11,7 @@ use borrow.Author.Tests.{eq-eqb, ne-eqb, eqb-true}
 use lib.ListN.{length, getD, take, drop, List·getD-append}
 use lib.Seq.{ext-getD}
 use lib.Dec.{eqb}
-use Rattle.refusals.specs.Verdict.{Verdict, bitfield, done, refused}
+use Rattle.answer_types.specs.Verdict.{Verdict, bitfield, done, refused, andThen}
 use Rattle.byte_strings.specs.Lists.{part, joined}
 use Rattle.byte_strings.proofs.Lists.{getD-behind, getD-part, length-part, part-joined}
 use Rattle.tree_index.specs.Tree.{filled, entries}
@@ -28,7 +28,7 @@ use Rattle.file_format.specs.Headers.{bitfieldHeader}
 use Rattle.file_format.proofs.OfImage.{bitfieldHeader-length}
 use Rattle.audit.specs.Audit.{Lowest, lowest, heldBits, refusedAt, byteRight, byteRightBy}
 use Rattle.audit.specs.BitfieldEntries.{treeBits, entryWith, BitsIn, AtBits}
-use Rattle.audit.proofs.Search.{lowest-on, lowest-off, lowest-end, lowest-agree, andThen, search-parts}
+use Rattle.audit.proofs.Search.{lowest-on, lowest-off, lowest-end, lowest-agree, search-parts}
 use Rattle.file_format.specs.Images.{bitfieldOf}
 
 -- ---- the bytes of an entry

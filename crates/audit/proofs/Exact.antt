@@ -13,10 +13,10 @@ use lib.ListN.{length, getD, take, drop, length-append}
 use lib.Seq.{take-add, take-at, drop-at, ext-getD}
 use Rattle.byte_strings.specs.Lists.{part, run, joined}
 use Rattle.byte_strings.proofs.Lists.{length-part, length-run, getD-run, parts-joined}
+use Rattle.byte_strings.proofs.Bools.{or-right, cases}
 use Rattle.tree_index.specs.Tree.{index, filled}
 use Rattle.tree_index.proofs.Filled.{end-filled}
 use Rattle.bitfield.specs.Release.{storedHeld}
-use Rattle.bitfield.proofs.Bits.{cases}
 use Rattle.file_format.specs.Headers.{signaturesHeader}
 use Rattle.file_format.specs.Sizes.{usedSignatures}
 use Rattle.file_format.specs.Stored.{storedChunk}
@@ -41,10 +41,6 @@ use Rattle.audit.proofs.Only.{pick, storedLeaf, cutAt, cut, accepted-be
 signed-right : (n s : ℕ) → (s ≡ n) ⊎ (s + 1 ≡ n) → signedRight n s ≡ true
 signed-right n s (inl e) = ap (λ (b : Bool). b || eqb (s + 1) n) (eq-eqb s n e)
 signed-right n s (inr e) = or-right (eqb s n) (eqb (s + 1) n) (eq-eqb (s + 1) n e)
-  where
-    or-right : (a b : Bool) → b ≡ true → (a || b) ≡ true
-    or-right true b q = refl
-    or-right false b q = q
 
 right-signed : (n s : ℕ) → signedRight n s ≡ true → (s ≡ n) ⊎ (s + 1 ≡ n)
 right-signed n s = split (eqb s n) refl

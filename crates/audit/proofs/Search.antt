@@ -6,17 +6,16 @@ use mathlib.Core.Bool.{Bool, true, false, cond}
 use mathlib.Core.List.{List, [], _∷_}
 use native.Mathlib.Nat.{add-zero, zero-add, suc-add}
 use native.Mathlib.Omega.{arith}
-use Rattle.refusals.specs.Verdict.{Spot, Verdict, none, done, refused}
-use Rattle.refusals.specs.Meaning.{said}
-use Rattle.refusals.specs.declared.Refusal.{Refusal}
-use Rattle.refusals.specs.declared.Answer.{Answer}
-use Rattle.refusals.specs.declared.Answer.the-variants.{Refused}
+use Rattle.answer_types.specs.Verdict.{Spot, Verdict, none, done, refused, andThen}
+use Rattle.answer_types.specs.Meaning.{said}
+use Rattle.answer_types.specs.declared.Refusal.{Refusal}
+use Rattle.answer_types.specs.declared.Answer.{Answer}
+use Rattle.answer_types.specs.declared.Answer.the-variants.{Refused}
 use Rattle.checks.specs.Checks.{Check, judged}
 use Rattle.byte_strings.specs.Lowest.{Lowest, nowhere, first, lowest}
 use Rattle.byte_strings.proofs.Lowest.{step}
 pub use Rattle.byte_strings.proofs.Lowest.{lowest-on, lowest-off, lowest-end, lowest-agree}
 use Rattle.audit.specs.Audit.{refusedAt}
-pub use Rattle.audit.specs.Audit.{andThen}
 
 -- ---- verdicts one after the other
 

@@ -3,11 +3,11 @@
 use Prim.Native.Nat.{ℕ, _-_}
 use mathlib.Core.Path.{_≡_, refl, sym, ap, _∙_}
 use mathlib.Core.List.{List, []}
-use Rattle.refusals.specs.Verdict.{Verdict, tree, bitfield, done}
-use Rattle.refusals.specs.Meaning.{said}
-use Rattle.refusals.specs.declared.Refusal.{Refusal}
-use Rattle.refusals.specs.declared.Answer.{Answer}
-use Rattle.refusals.specs.declared.Answer.the-variants.{Refused}
+use Rattle.answer_types.specs.Verdict.{Verdict, tree, bitfield, done, andThen}
+use Rattle.answer_types.specs.Meaning.{said}
+use Rattle.answer_types.specs.declared.Refusal.{Refusal}
+use Rattle.answer_types.specs.declared.Answer.{Answer}
+use Rattle.answer_types.specs.declared.Answer.the-variants.{Refused}
 use Rattle.tree_index.specs.Tree.{entries}
 use Rattle.file_format.specs.Sizes.{usedBitfield}
 use Rattle.file_format.specs.Belongs.{Register}
@@ -16,7 +16,7 @@ use Rattle.checks.specs.Lent.{registerOf}
 use Rattle.checks.proofs.Passed.{Passed, passed}
 use Rattle.audit.specs.Audit.{lowest, entryRight, wrongEntry, wrongByte, refusedAt, imagesVerdict, byteRight}
 use Rattle.audit.specs.TreeWalk.{FilesIn}
-use Rattle.audit.proofs.Search.{andThen, stops, judged-then, refused-then}
+use Rattle.audit.proofs.Search.{stops, judged-then, refused-then}
 
 -- ---- the checks 2 to 6, and what comes next
 

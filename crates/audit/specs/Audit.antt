@@ -5,7 +5,7 @@ use mathlib.Core.Bool.{Bool, cond, _&&_}
 use mathlib.Core.List.{List}
 use lib.ListN.{getD}
 use lib.Dec.{leb, ltb, eqb}
-use Rattle.refusals.specs.Verdict.{Spot, Verdict, tree, bitfield, done, refused}
+use Rattle.answer_types.specs.Verdict.{Spot, Verdict, tree, bitfield, done, refused}
 use Rattle.byte_strings.specs.Lists.{part, sameList, allZero, zeros}
 pub use Rattle.byte_strings.specs.Lowest.{Lowest, nowhere, first}
 unfoldable pub use Rattle.byte_strings.specs.Lowest.{lowest}
@@ -75,11 +75,6 @@ wrongByte r = lowest (byteRight (r .bitfield) (r .n)) 32 (usedBitfield (r .n) - 
 unfoldable pub refusedAt : ℕ → (ℕ → Spot) → Lowest → Verdict → Verdict
 refusedAt m at nowhere next = next
 refusedAt m at (first i) next = refused m (at i)
-
--- a verdict, and what comes next where it is "done"
-abbrev pub andThen : Verdict → Verdict → Verdict
-andThen done next = next
-andThen (refused m at) next = refused m at
 
 module _ (F : List ℕ → List ℕ) where
   -- 10 and then 11, of a register that passes the checks 2 to 6

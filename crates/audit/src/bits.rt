@@ -1,13 +1,13 @@
 // The bitfield file, byte by byte against its image. All of these are inner.
+use answer_types::Answer;
 use number_types::ByteOffset;
 use number_types::ChunkNumber;
 use number_types::TreeIndex;
-use refusals::Answer;
 ghost use mathlib.Core.Path.{_≡_};
 ghost use Prim.Native.Nat.{_+_, _*_, _-_, _≤_, _<_};
 ghost use lib.ListN.{getD};
-ghost use Rattle.refusals.specs.Verdict.{bitfield as atByte, done};
-ghost use Rattle.refusals.specs.Meaning.{said};
+ghost use Rattle.answer_types.specs.Verdict.{bitfield as atByte, done};
+ghost use Rattle.answer_types.specs.Meaning.{said};
 ghost use Rattle.bitfield.specs.Bits.{bit, byteOf};
 ghost use Rattle.bitfield.specs.Image.{entryCount};
 ghost use Rattle.file_format.specs.Sizes.{usedBitfield};
@@ -152,7 +152,7 @@ fn wrong_in_entry(xs: &[u8], n: u64, e: u64, partly: bool) -> Answer
     while j < 3328 {
         let place = (at.0 + j) as usize;
         if xs[place] != expected_byte(xs, n, e, j, &index, partly) {
-            return refusals::refuse_byte(11, ByteOffset(at.0 + j));
+            return answer_types::refuse_byte(11, ByteOffset(at.0 + j));
         }
         j += 1;
     }

@@ -2,10 +2,10 @@
 mod bits;
 mod tree;
 
+use answer_types::Answer;
 pub use bits::row_count;
 pub use bits::wrong_byte;
 pub use bits::wrong_in_entries;
-use refusals::Answer;
 pub use tree::entry_count;
 pub use tree::hole_right;
 pub use tree::leaf_right;
@@ -15,7 +15,7 @@ pub use tree::start_behind;
 pub use tree::wrong_between;
 ghost use mathlib.Core.Path.{_≡_};
 ghost use mathlib.Core.List.{[]};
-ghost use Rattle.refusals.specs.Meaning.{said};
+ghost use Rattle.answer_types.specs.Meaning.{said};
 ghost use Rattle.blake2b.specs.Hash.{nodeHash};
 ghost use Rattle.checks.specs.Lent.{registerOf};
 ghost use Rattle.audit.specs.Audit as spec;

@@ -1,14 +1,14 @@
 // The tree file: "a leaf .. is wrong if it is over 65,536, runs past the data or has another hash; a parent if it doesn't follow
 // from its stored children, sums taken in whole numbers; a hole if it isn't zero." The leaf of a released chunk has any hash, and zeros for
 // its data. All of these are inner.
+use answer_types::Answer;
 use number_types::ByteOffset;
 use number_types::ChunkNumber;
 use number_types::TreeIndex;
-use refusals::Answer;
 ghost use mathlib.Core.Path.{_≡_};
 ghost use Prim.Native.Nat.{_+_, _-_, _*_, _≤_, _<_};
-ghost use Rattle.refusals.specs.Verdict.{tree as atTree, done};
-ghost use Rattle.refusals.specs.Meaning.{said};
+ghost use Rattle.answer_types.specs.Verdict.{tree as atTree, done};
+ghost use Rattle.answer_types.specs.Meaning.{said};
 ghost use Rattle.tree_index.specs.Tree.{entries as entriesOf};
 ghost use Rattle.blake2b.specs.Hash.{nodeHash};
 ghost use Rattle.file_format.specs.Stored.{storedStart};
@@ -184,7 +184,7 @@ pub fn wrong_between(
     let mut start = start_at(tree, n, from);
     while i.0 < end.0 {
         if !entry_right(tree, bitfield, content, n, size, i, start) {
-            return refusals::refuse_entry(10, i);
+            return answer_types::refuse_entry(10, i);
         }
         let next = start_behind(tree, i, start);
         start = next;

@@ -15,13 +15,14 @@ use lib.Seq.{length-take-le, take-add}
 use borrow.Author.Tests.{eqb-true, eqb-false, lt-ltb, le-ltb, ltb-true, ltb-false}
 use Rattle.byte_strings.specs.Lists.{part, put, zeros, run, joined, among}
 use Rattle.byte_strings.proofs.Lists.{run-suc, run-ext, around, joined-run-suc}
+use Rattle.byte_strings.proofs.Bools.{cases}
 use Rattle.tree_index.specs.Tree.{index, completed, filledBy, filled}
 use Rattle.tree_index.proofs.Appended.{filled-suc}
 use Rattle.bitfield.specs.Bits.{withDigit, setBit}
 use Rattle.bitfield.specs.Index.{indexBytes}
 use Rattle.bitfield.specs.Image.{dataBytes, treeBytes, entry, entryCount, heldBelow, entriesFor, entriesOf}
 use Rattle.bitfield.specs.Append.{bitsPlace, zeroedIfNew, setDataBit, setTreeBit, setTreeBits, regenerated, withBits, appended}
-use Rattle.bitfield.proofs.Bits.{cases, with-one, sets}
+use Rattle.bitfield.proofs.Bits.{with-one, sets}
 use Rattle.bitfield.proofs.Levels.{same-or, length-index}
 use Rattle.bitfield.proofs.Image.{entryWith, entry-is, data-other, data-file, tree-file, index-file, zero-entry, entry-ext, known-ext, length-entries}
 use Rattle.bitfield.proofs.TreeFacts.{filled-place, width-le, filled-above}
@@ -81,7 +82,7 @@ all-bits n = refl
 -- ---- the bits of a file that holds the entries of n chunks
 
 -- tree indexes whose bits lie in the first k entries
-Under : ℕ → List ℕ → Type 0
+unfoldable pub Under : ℕ → List ℕ → Type 0
 Under k [] = Unit {0}
 Under k (i ∷ is) = (i / 16384 < k) × Under k is
 
@@ -97,7 +98,7 @@ under-filled n small =
     (λ d a b. omega (arith, filled-place n d small (omega arith), width-le n d small (omega arith), pow-pos d))
 
 -- a test, or one of the numbers is
-abbrev or-among : (ℕ → Bool) → List ℕ → ℕ → Bool
+abbrev pub or-among : (ℕ → Bool) → List ℕ → ℕ → Bool
 or-among p is j = p j || among j is
 
 or-none : (b : Bool) → b ≡ (b || false)

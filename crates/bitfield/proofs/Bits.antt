@@ -13,6 +13,7 @@ use lib.Pow.{pow-pos}
 use borrow.Author.Tests.{eqb-true, eqb-false, eq-eqb, ne-eqb, ltb-true, ltb-false}
 use Rattle.byte_strings.specs.Lists.{part, Bytes}
 use Rattle.byte_strings.proofs.Lists.{getD-behind, getD-part}
+use Rattle.byte_strings.proofs.Bools.{cases}
 use Rattle.bitfield.specs.Bits.{bit, byteOf, bytesOf, digit, bitAt, changeBit, withDigit, withoutDigit}
 
 -- the bit number r of a byte, the first the highest
@@ -122,10 +123,6 @@ digit-right r a b c d e f g h = eqb (digit (byte8 a b c d e f g h) (7 - r)) (bit
 digit-table : Table digit-right
 unfolding digit-right digit
 digit-table = record { all = tt }
-
-pub cases : (t : Bool) → (t ≡ true) ⊎ (t ≡ false)
-cases true = inl refl
-cases false = inr refl
 
 -- the same at any bit number
 eqb-add : (b i r : ℕ) → eqb (b + i) (b + r) ≡ eqb i r

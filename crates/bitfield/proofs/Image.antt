@@ -1,14 +1,15 @@
 -- The bitfield's entries: their lengths, their bytes, and what one bit or a new Index does to them. Assumes nothing.
 use mathlib.Core.Path.{_≡_, refl, sym, ap, _∙_, subst}
 use mathlib.Core.Bool.{Bool, false}
-use mathlib.Core.List.{List, _∷_, _++_, append-assoc, append-nil}
+use mathlib.Core.List.{List, _∷_, _++_, append-assoc}
 use Prim.Native.Nat.{ℕ, zero, suc, _+_, _-_, _*_, _/_, _%_, _<_, _≤_}
 use native.Mathlib.Nat.{add-zero, zero-add, add-assoc, mul-comm, suc-mul, mul-le-mul-right}
 use native.Mathlib.Omega.{arith}
 use lib.ListN.{length, take, drop, length-append, replicate-append-replicate}
-use lib.Seq.{take-append-le, drop-append-le, drop-length}
+use lib.Seq.{take-append-le, drop-append-le}
 use Rattle.byte_strings.specs.Lists.{part, put, run, joined, Bytes, zeros}
 use Rattle.byte_strings.proofs.Lists.{take-behind, drop-behind, joined-run-add, length-joined, run-ext, bytes-append, bytes-joined, part-behind, part-left, part-part, part-joined, part-front}
+use Rattle.byte_strings.proofs.Lists.{put-whole}
 use Rattle.tree_index.specs.Tree.{filled, depth, block, trailingOnes}
 use Rattle.bitfield.specs.Bits.{bytesOf, byteOf, changeBit}
 use Rattle.bitfield.specs.Index.{indexBytes, indexByte, node, tuples, tuple, combined, combine, four}
@@ -193,11 +194,6 @@ data-front : (held known : ℕ → Bool) (ix : ℕ → List ℕ) (e : ℕ) → p
 unfolding entryWith
 data-front held known ix e = part-front (dataBytes held e) (treeBytes known e ++ ix e) 1024 (length-data held e)
 
-put-all : (ys zs : List ℕ) → length ys ≡ length zs → put ys 0 zs ≡ zs
-unfolding put
-put-all ys zs e =
-    ap (λ (r : List ℕ). zs ++ r) (ap (λ (n : ℕ). drop n ys) (zero-add (length zs) ∙ sym e) ∙ drop-length ys) ∙ append-nil zs
-
 module _ (held known : ℕ → Bool) (ix : ℕ → List ℕ) (long : (j : ℕ) → length (ix j) ≡ 256) where
   index-there : (e : ℕ) → put (entryWith held known ix e) 3072 (indexBytes (dataBytes held e)) ≡ entry held known e
   unfolding entryWith entry
@@ -206,7 +202,7 @@ module _ (held known : ℕ → Bool) (ix : ℕ → List ℕ) (long : (j : ℕ) �
       put-behind zs (dataBytes held e) (treeBytes known e ++ ix e) 1024 2048 (length-data held e)
       ∙ ap (λ (r : List ℕ). dataBytes held e ++ r)
       (put-behind zs (treeBytes known e) (ix e) 2048 0 (length-tree known e)
-      ∙ ap (λ (r : List ℕ). treeBytes known e ++ r) (put-all (ix e) zs (long e ∙ sym (length-index (dataBytes held e)))))
+      ∙ ap (λ (r : List ℕ). treeBytes known e ++ r) (put-whole (ix e) zs (long e ∙ sym (length-index (dataBytes held e)))))
 
   module _ (head tail : List ℕ) (front : length head ≡ 32) (k e : ℕ) (h : e < k) where
     pub data-part : part (head ++ (joined (run (entryWith held known ix) 0 k) ++ tail)) (32 + e * 3328) 1024 ≡ dataBytes held e

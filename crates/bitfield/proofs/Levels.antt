@@ -14,9 +14,9 @@ use lib.Seq.{set-at, ext-getD, getD-set-same, getD-set-other}
 use borrow.Author.Tests.{eqb-true, eqb-false, eq-eqb, ne-eqb, lt-ltb, le-ltb, ltb-true, ltb-false}
 use Rattle.byte_strings.specs.Lists.{run, joined, zeros, Bytes}
 use Rattle.byte_strings.proofs.Lists.{joined-run-suc, length-joined, length-run, getD-run, run-getD, run-ext, bytes-append, bytes-run}
+use Rattle.byte_strings.proofs.Bools.{and-false, cases}
 use Rattle.tree_index.specs.Tree.{depth, block, trailingOnes}
 use Rattle.bitfield.specs.Index.{uniform, four, tuple, tuples, combine, combined, indexBytes, indexByte, node}
-use Rattle.bitfield.proofs.Bits.{cases}
 use Rattle.bitfield.specs.Levels.{leaves, level, levelByte, among-first, pick}
 
 pub levels : (d : List ℕ)
@@ -104,10 +104,6 @@ leaves-end d k e = ap (λ (n : ℕ). leaves d n ++ zeros (256 - 2 * n)) e ∙ ap
 
 pub same-or : (i p : ℕ) → (i ≡ p) ⊎ (i ≡ p → ⊥)
 same-or i p = ⊎-elim (λ e. inl (eqb-true i p e)) (λ e. inr (eqb-false i p e)) (cases (eqb i p))
-
-and-false : (b : Bool) → b && false ≡ false
-and-false true = refl
-and-false false = refl
 
 off : (half k i : ℕ) → ((i + 1) % (4 * half) ≡ 2 * half → ⊥) → among-first half k i ≡ false
 unfolding among-first

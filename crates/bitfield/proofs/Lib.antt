@@ -5,3 +5,6 @@ pub mod Levels
 pub mod Image
 pub mod Append
 pub mod Release
+pub mod Beside
+pub mod SetBits
+pub mod StoredBits

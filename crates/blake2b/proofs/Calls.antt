@@ -8,8 +8,8 @@ use native.Mathlib.Omega.{arith}
 use lib.Dec.{leb}
 use lib.ListN.{length, replicate}
 use borrow.Author.Tests.{le-leb, lt-leb}
-use Rattle.refusals.specs.Verdict.{Verdict, none, done, refused, unlessRefused}
-use Rattle.refusals.specs.declared.Answer.the-variants.{Done}
+use Rattle.answer_types.specs.Verdict.{Verdict, none, done, refused, unlessRefused}
+use Rattle.answer_types.specs.declared.Answer.the-variants.{Done}
 use Rattle.blake2b.specs.Hash.{input, final, bytes, blake2b}
 use Rattle.blake2b.specs.Digest.{lengthRight, keyRight, verdictIf, verdict, digest}
 use Rattle.blake2b.specs.Post.{Refused, HashedAs}

@@ -4,7 +4,7 @@ use mathlib.Core.Bool.{Bool, true, false}
 use mathlib.Core.List.{List, _++_}
 use lib.ListN.{length, replicate}
 use lib.Dec.{leb}
-use Rattle.refusals.specs.Verdict.{Verdict, none, done, refused, unlessRefused}
+use Rattle.answer_types.specs.Verdict.{Verdict, none, done, refused, unlessRefused}
 use Rattle.blake2b.specs.Hash.{blake2b}
 
 -- "1. The hash length isn't 1 to 64."

@@ -3,8 +3,8 @@ use mathlib.Core.Path.{_≡_}
 use mathlib.Core.List.{List}
 use Prim.Native.Nat.{ℕ}
 use lib.ListN.{length, replicate}
-use Rattle.refusals.specs.Verdict.{refused, none}
-use Rattle.refusals.specs.Meaning.{said}
+use Rattle.answer_types.specs.Verdict.{refused, none}
+use Rattle.answer_types.specs.Meaning.{said}
 use Rattle.blake2b.specs.Digest.{verdict, digest}
 use Rattle.blake2b.specs.declared.Hashed.{Hashed}
 

@@ -2,7 +2,7 @@
 use Prim.Native.Nat.{ℕ}
 use mathlib.Core.Path.{_≡_, ap, ap₂, _∙_}
 use mathlib.Core.List.{List}
-use Rattle.refusals.specs.Verdict.{Verdict, unlessRefused}
+use Rattle.answer_types.specs.Verdict.{Verdict, unlessRefused}
 use Rattle.blake2b.specs.Hash.{nodeHash}
 use Rattle.packet.specs.Post.{madeVerdict, madeBytes}
 use Rattle.packet.specs.declared.making.Made.{Made}

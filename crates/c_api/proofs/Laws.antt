@@ -2,10 +2,10 @@
 use Prim.Native.Nat.{ℕ}
 use mathlib.Core.Path.{_≡_, sym, ap, ap₂, _∙_}
 use mathlib.Core.List.{List, [], _∷_}
-use Rattle.refusals.specs.Verdict.{Verdict, done, unlessRefused}
-use Rattle.refusals.specs.Meaning.{said, refusalOf}
-use Rattle.refusals.specs.declared.Answer.the-variants.{Done, Refused}
-use Rattle.refusals.specs.declared.Refusal.{Refusal}
+use Rattle.answer_types.specs.Verdict.{Verdict, done, unlessRefused}
+use Rattle.answer_types.specs.Meaning.{said, refusalOf}
+use Rattle.answer_types.specs.declared.Answer.the-variants.{Done, Refused}
+use Rattle.answer_types.specs.declared.Refusal.{Refusal}
 use Rattle.blake2b.specs.Hash.{nodeHash}
 use Rattle.file_format.specs.Belongs.{Register}
 use Rattle.lookup.specs.Lookup.{found, foundUnless}

@@ -7,8 +7,8 @@ use mathlib.Core.Option.{Option, none, some}
 use native.Mathlib.Omega.{arith}
 use lib.ListN.{length, getD, drop, replicate, length-append, length-replicate}
 use borrow.Author.Tests.{le-leb}
-use Rattle.refusals.specs.Verdict.{Verdict, done, unlessRefused}
-use Rattle.refusals.specs.Verdict as verdicts
+use Rattle.answer_types.specs.Verdict.{Verdict, done, unlessRefused}
+use Rattle.answer_types.specs.Verdict as verdicts
 use Rattle.byte_strings.specs.Lists.{part, put}
 use Rattle.record_format.specs.Records.{Header, HeaderWithin, headerBytes, Node, NodeWithin, nodeBytes}
 use Rattle.record_format.specs.From.{headerFrom, nodeFrom}

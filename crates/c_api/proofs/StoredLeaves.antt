@@ -2,9 +2,9 @@
 use Prim.Native.Nat.{ℕ}
 use mathlib.Core.Path.{_≡_, sym, ap, ap₂, _∙_}
 use mathlib.Core.List.{List}
-use Rattle.refusals.specs.Verdict.{Verdict, done, unlessRefused}
-use Rattle.refusals.specs.Meaning.{refusalOf}
-use Rattle.refusals.specs.declared.Refusal.{Refusal}
+use Rattle.answer_types.specs.Verdict.{Verdict, done, unlessRefused}
+use Rattle.answer_types.specs.Meaning.{refusalOf}
+use Rattle.answer_types.specs.declared.Refusal.{Refusal}
 use Rattle.stored_leaf.specs.Post.{storedVerdict, storedLength, LeafPost}
 use Rattle.stored_leaf.specs.declared.Stored.{Stored}
 use Rattle.stored_leaf.specs.declared.Stored.the-variants.{Refused, Length}

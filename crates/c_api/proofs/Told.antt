@@ -3,10 +3,10 @@ use Prim.Native.Nat.{ℕ}
 use mathlib.Core.Path.{_≡_, refl, sym, ap, ap₂, _∙_, subst}
 use mathlib.Core.List.{List, [], _∷_, _++_}
 use lib.ListN.{length, getD}
-use Rattle.refusals.specs.Verdict.{Verdict, done, refused, unlessRefused}
-use Rattle.refusals.specs.Meaning.{said, refusalOf}
-use Rattle.refusals.specs.declared.Answer.{Answer}
-use Rattle.refusals.specs.declared.Refusal.{Refusal}
+use Rattle.answer_types.specs.Verdict.{Verdict, done, refused, unlessRefused}
+use Rattle.answer_types.specs.Meaning.{said, refusalOf}
+use Rattle.answer_types.specs.declared.Answer.{Answer}
+use Rattle.answer_types.specs.declared.Refusal.{Refusal}
 use Rattle.record_fields.specs.declared.rows.Part.{Part}
 use Rattle.record_format.specs.Post.{WrittenAs, writeVerdict, lengthUnless, headerTold}
 use Rattle.record_format.specs.declared.answers.Written.{Written}

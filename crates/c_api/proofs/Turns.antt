@@ -3,17 +3,17 @@ use Prim.Native.Nat.{ℕ}
 use mathlib.Core.Path.{_≡_, sym, ap, ap₂, _∙_, subst}
 use mathlib.Core.List.{List, [], _∷_}
 use lib.ListN.{getD}
-use Rattle.refusals.specs.Meaning.{said}
-use Rattle.refusals.specs.declared.Answer.{Answer}
+use Rattle.answer_types.specs.Meaning.{said}
+use Rattle.answer_types.specs.declared.Answer.{Answer}
 use Rattle.blake2b.specs.Hash.{nodeHash}
 use Rattle.file_format.specs.Belongs.{Register}
 use Rattle.lookup.specs.Read.{Name, named}
 use Rattle.lookup.specs.Meaning.{nameOf, readFound}
 use Rattle.lookup.specs.declared.reading.Name.{Name as CodeName}
-use Rattle.station_table.specs.Table.{Read, Turn, nobody, turn, next}
-use Rattle.station_table.specs.Words.{tableOf}
-use Rattle.station_table.specs.Post.{Entered, Left}
-use Rattle.station_serving.specs.Serving.{numberOf, namedBy}
+use Rattle.station_queue.specs.Table.{Read, Turn, nobody, turn, next}
+use Rattle.station_queue.specs.Words.{tableOf}
+use Rattle.station_queue.specs.Post.{Entered, Left}
+use Rattle.station_reads.specs.Serving.{numberOf, namedBy}
 use Rattle.c_encoding.specs.Encoding.{encoded, verdictOf, numbersUnless, Gives, asPart}
 use Rattle.c_encoding.proofs.Laws.{three-of}
 use Rattle.c_api.specs.Waiting.{Enters, Hands, encodedServing, numbersServed}

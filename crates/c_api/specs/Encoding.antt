@@ -2,7 +2,7 @@
 use Prim.Native.Nat.{ℕ, _+_}
 use mathlib.Core.Path.{_≡_}
 use mathlib.Core.List.{List, [], _∷_}
-use Rattle.refusals.specs.Verdict.{done, refused, unlessRefused}
+use Rattle.answer_types.specs.Verdict.{done, refused, unlessRefused}
 use Rattle.blake2b.specs.Hash.{nodeHash}
 use Rattle.file_format.specs.Belongs.{Register}
 use Rattle.append_needs.specs.Needs.{Need, needOf, needVerdict}

@@ -2,7 +2,7 @@
 use Prim.Native.Nat.{ℕ}
 use mathlib.Core.Path.{_≡_}
 use mathlib.Core.List.{List}
-use Rattle.refusals.specs.Verdict.{Verdict, unlessRefused}
+use Rattle.answer_types.specs.Verdict.{Verdict, unlessRefused}
 use Rattle.stored_leaf.specs.StoredLeaf.{leafHash, leafLength}
 use Rattle.stored_leaf.specs.Post.{storedVerdict, storedLength}
 use Rattle.stored_leaf.specs.declared.Stored.{Stored}

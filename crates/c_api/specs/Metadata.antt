@@ -4,7 +4,7 @@ use mathlib.Core.Path.{_≡_}
 use mathlib.Core.Bool.{Bool}
 use mathlib.Core.List.{List, [], _∷_, _++_}
 use lib.ListN.{length, getD, drop}
-use Rattle.refusals.specs.Verdict.{Verdict, none, done, refused, unlessRefused}
+use Rattle.answer_types.specs.Verdict.{Verdict, none, done, refused, unlessRefused}
 use Rattle.byte_strings.specs.Lists.{part, put}
 use Rattle.record_fields.specs.declared.rows.Part.{Part}
 use Rattle.record_format.specs.Records.{HeaderWithin, headerBytes, nodeBytes}

@@ -2,7 +2,7 @@
 use Prim.Native.Nat.{ℕ}
 use mathlib.Core.Path.{_≡_}
 use mathlib.Core.List.{List}
-use Rattle.refusals.specs.Verdict.{unlessRefused}
+use Rattle.answer_types.specs.Verdict.{unlessRefused}
 use Rattle.blake2b.specs.Hash.{nodeHash}
 use Rattle.copy_checks.specs.Copy.{Copy}
 use Rattle.copy_packet.specs.Making.{copyMakeVerdict, copyMadeLength, copyAfterMake}

@@ -2,15 +2,15 @@
 use Prim.Native.Nat.{ℕ}
 use mathlib.Core.Path.{_≡_}
 use mathlib.Core.List.{List, _∷_}
-use Rattle.refusals.specs.Verdict.{done, unlessRefused}
+use Rattle.answer_types.specs.Verdict.{done, unlessRefused}
 use Rattle.blake2b.specs.Hash.{nodeHash}
 use Rattle.file_format.specs.Belongs.{Register}
 use Rattle.lookup.specs.Lookup.{Found}
 use Rattle.lookup.specs.Read.{named}
 use Rattle.lookup.specs.Meaning.{readFound}
-use Rattle.station_table.specs.Table.{Read, Turn, nobody, turn, enterVerdict, entered, next, served}
-use Rattle.station_table.specs.Words.{storedAt, leftAt, tableOf}
-use Rattle.station_serving.specs.Serving.{numberOf, namedBy}
+use Rattle.station_queue.specs.Table.{Read, Turn, nobody, turn, enterVerdict, entered, next, served}
+use Rattle.station_queue.specs.Words.{storedAt, leftAt, tableOf}
+use Rattle.station_reads.specs.Serving.{numberOf, namedBy}
 use Rattle.c_encoding.specs.Encoding.{encoded, verdictOf, numbersUnless, asPart}
 
 -- entering a read of station s: the answer, and the table's numbers before and after

@@ -1,11 +1,11 @@
 // The comparing walk on two registers, and the walk along two packets. Both write nothing.
+use answer_types::Answer;
 use compare::Compared;
 use number_types::ChunkNumber;
 use packet_compare::Walked;
-use refusals::Answer;
 ghost use mathlib.Core.Path.{_≡_};
 ghost use mathlib.Core.List.{_∷_};
-ghost use Rattle.refusals.specs.Meaning.{said as toldBy};
+ghost use Rattle.answer_types.specs.Meaning.{said as toldBy};
 ghost use Rattle.blake2b.specs.Hash.{nodeHash};
 ghost use Rattle.checks.specs.Lent.{registerOf};
 ghost use Rattle.compare.specs.Walk as Walk;

@@ -2,10 +2,10 @@
 ghost use mathlib.Core.Path.{_≡_};
 ghost use mathlib.Core.List.{_++_};
 ghost use lib.ListN.{length as List·length};
-ghost use Rattle.refusals.specs.Verdict.{unlessRefused};
+ghost use Rattle.answer_types.specs.Verdict.{unlessRefused};
 ghost use Rattle.blake2b.specs.Hash.{blake2b as Hash·blake2b};
 ghost use Rattle.blake2b.specs.Digest.{verdict, digest as Call·digest};
-ghost use Rattle.blake2b_label.specs.Label.{labelVerdict, labelBytes};
+ghost use Rattle.root_label.specs.Label.{labelVerdict, labelBytes};
 ghost use Rattle.c_encoding.specs.Number.{numberOf};
 
 // BLAKE2b with `length` bytes of output under a key: these and then zeros in `digest`, 64 bytes in all. It answers 0 or the number of its
@@ -52,7 +52,7 @@ pub extern "C" fn sleep_flat_label(root: &[u8; 32], key: &[u8], out: &mut [u8; 3
     ensures { λ r. ⌜ r ≡ numberOf (labelVerdict (now (key .entry))) ⌝ }
     ensures { λ _. ⌜ now (out .exit) ≡ unlessRefused (labelVerdict (now (key .entry))) (labelBytes (now (key .entry)) (now (root .entry))) (now (out .entry)) ⌝ }
 {
-    let labelled = blake2b_label::label(root, key);
+    let labelled = root_label::label(root, key);
     let bytes = labelled.bytes;
     let answer = labelled.answer;
     let told = c_encoding::give_hash(answer, bytes, out);

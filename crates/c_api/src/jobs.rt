@@ -1,5 +1,5 @@
 // What a job will need. No register is lent.
-use refusals::Answer;
+use answer_types::Answer;
 ghost use Rattle.c_api.specs.Encoding.{Needs};
 
 // What chunks of these `lengths` behind `n` others, with `size` data bytes, will need: the sizes of tree, signatures, bitfield and data

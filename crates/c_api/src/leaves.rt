@@ -1,7 +1,7 @@
 // The stored entry of a chunk's leaf, in a register and in a partial copy: its hash in `hash` and its length in `length`, which are as they were after a
 // refusal. Nothing is audited.
+use answer_types::Answer;
 use number_types::ChunkNumber;
-use refusals::Answer;
 use stored_leaf::Stored;
 ghost use Rattle.checks.specs.Lent.{registerOf};
 ghost use Rattle.copy_checks.specs.Copy.{copyOf};

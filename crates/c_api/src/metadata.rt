@@ -1,17 +1,17 @@
 // The records of a metadata register, and the paths in them. The fields of a Node are numbers alone, whose parts lie in the bytes lent or, of a
 // chunk of a register, in the bytes of the chunk.
+use answer_types::Answer;
 use number_types::ChunkNumber;
 use record_find::Found;
 use record_format::HeaderRead;
 use record_format::Written;
 use record_node::NodeRead;
-use refusals::Answer;
 ghost use mathlib.Core.Path.{_≡_};
 ghost use mathlib.Core.List.{_∷_};
-ghost use Rattle.refusals.specs.Meaning.{said as toldBy};
+ghost use Rattle.answer_types.specs.Meaning.{said as toldBy};
 ghost use Rattle.blake2b.specs.Hash.{nodeHash};
 ghost use Rattle.checks.specs.Lent.{registerOf};
-ghost use Rattle.refusals.specs.Verdict.{none};
+ghost use Rattle.answer_types.specs.Verdict.{none};
 ghost use Rattle.record_format.specs.Post.{headerTold, readHeader};
 ghost use Rattle.record_node.specs.Post.{nodeTold, readNode};
 ghost use Rattle.record_find.specs.ChunkRecords.{headerIn, nodeIn};

@@ -1,6 +1,6 @@
 // Packets: made from a register, and checked against a root hash by whoever has no register.
+use answer_types::Answer;
 use number_types::ChunkNumber;
-use refusals::Answer;
 ghost use Rattle.checks.specs.Lent.{registerOf};
 ghost use Rattle.c_encoding.specs.Encoding.{Gives};
 ghost use Rattle.c_api.specs.Encoding.{Makes, packetPart};

@@ -2,7 +2,7 @@
 // data), and told the chunk count `n` and the data size `size`; it has no signatures.
 use number_types::ChunkNumber;
 ghost use mathlib.Core.Path.{_≡_};
-ghost use Rattle.refusals.specs.Verdict.{unlessRefused};
+ghost use Rattle.answer_types.specs.Verdict.{unlessRefused};
 ghost use Rattle.blake2b.specs.Hash.{nodeHash};
 ghost use Rattle.copy_checks.specs.Copy.{copyOf, filesLent};
 ghost use Rattle.copy_make.specs.Make.{makeVerdict, afterMaking};

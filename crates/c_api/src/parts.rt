@@ -1,7 +1,7 @@
 // Parts of audits and of the comparing walk, for threads and for going on later. All of them write nothing but their answer.
 use number_types::TreeIndex;
 ghost use mathlib.Core.Path.{_≡_};
-ghost use Rattle.refusals.specs.Verdict.{done};
+ghost use Rattle.answer_types.specs.Verdict.{done};
 ghost use Rattle.blake2b.specs.Hash.{nodeHash};
 ghost use Rattle.checks.specs.Lent.{registerOf};
 ghost use Rattle.compare.specs.Walk.{heldThen};

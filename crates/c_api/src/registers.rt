@@ -2,7 +2,7 @@
 // `bitfield` and `content` (the data), and told the chunk count `n`, the signature count `s` and the data size `size`.
 use number_types::ChunkNumber;
 ghost use mathlib.Core.Path.{_≡_};
-ghost use Rattle.refusals.specs.Verdict.{unlessRefused};
+ghost use Rattle.answer_types.specs.Verdict.{unlessRefused};
 ghost use Rattle.blake2b.specs.Hash.{nodeHash};
 ghost use Rattle.checks.specs.Lent.{registerOf};
 ghost use Rattle.audit.specs.Audit as Audit;

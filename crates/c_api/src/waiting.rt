@@ -1,17 +1,17 @@
 // Reads of sixteen stations that wait for their turn, in a table of 161 numbers that the caller lends. Of a serving's registers, what
 // belongs to the metadata register begins with m, to the content register with c.
+use answer_types::Answer;
 use lookup::Name;
 use number_types::ChunkNumber;
-use refusals::Answer;
-use station_table::Turn;
+use station_queue::Turn;
 ghost use mathlib.Core.Path.{_≡_};
-ghost use Rattle.refusals.specs.Verdict.{done};
+ghost use Rattle.answer_types.specs.Verdict.{done};
 ghost use Rattle.blake2b.specs.Hash.{nodeHash};
 ghost use Rattle.checks.specs.Lent.{registerOf};
 ghost use Rattle.lookup.specs.Read.{named};
 ghost use Rattle.lookup.specs.Meaning.{nameOf, readFound};
-ghost use Rattle.station_table.specs.Post.{Begun};
-ghost use Rattle.station_serving.specs.Serving.{numberOf, namedBy};
+ghost use Rattle.station_queue.specs.Post.{Begun};
+ghost use Rattle.station_reads.specs.Serving.{numberOf, namedBy};
 ghost use Rattle.c_encoding.specs.Encoding.{encoded, Gives, asPart};
 ghost use Rattle.c_api.specs.Waiting.{Enters, Hands};
 
@@ -21,7 +21,7 @@ pub extern "C" fn sleep_flat_fresh(table: &mut [u64; 161], answer: &mut [u64; 3]
     ensures answers { λ _. ⌜ now (answer .exit) ≡ encoded done ⌝ }
     ensures begins { λ _. ⌜ Begun (now (table .exit)) ⌝ }
 {
-    let begun = station_table::fresh();
+    let begun = station_queue::fresh();
     *table = begun;
     *answer = c_encoding::encode(Answer::Done);
 }
@@ -40,8 +40,8 @@ pub extern "C" fn sleep_flat_enter(
         Enters station (record { register = numberOf (namedBy name); chunk = chunk }) (now (table .entry)) (now (answer .exit)) (now (table .exit))
         ⌝ }
 {
-    let named = station_serving::named_by(name);
-    *answer = c_encoding::encode(station_serving::enter(table, station, named, ChunkNumber(chunk)));
+    let named = station_reads::named_by(name);
+    *answer = c_encoding::encode(station_reads::enter(table, station, named, ChunkNumber(chunk)));
 }
 
 // A verified read of the register that is named.
@@ -135,14 +135,14 @@ pub extern "C" fn sleep_flat_serve(
         (now (table .entry)) (now (out .entry)) (now (answer .exit)) (now (table .exit)) (now (out .exit))
         ⌝ }
 {
-    let turn = station_table::next(table);
-    station_table::leave(table);
+    let turn = station_queue::next(table);
+    station_queue::leave(table);
     match turn {
         Turn::Nobody => {
             *answer = [0, 0, 0, 0, 0, 0, 0];
         }
         Turn::Of(station, register, chunk) => {
-            let name = station_serving::named_by(register);
+            let name = station_reads::named_by(register);
             let number = chunk.0;
             let mut told = [0, 0, 0];
             read_named(
@@ -165,7 +165,7 @@ pub extern "C" fn sleep_flat_serve(
                 out,
                 &mut told,
             );
-            let named = station_serving::number_of(name);
+            let named = station_reads::number_of(name);
             *answer = [1, station, named, number, told[0], told[1], told[2]];
         }
     }

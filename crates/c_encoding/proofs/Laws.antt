@@ -3,12 +3,12 @@ use Prim.Native.Nat.{ℕ}
 use mathlib.Core.Path.{_≡_, refl, sym, ap, ap₂, _∙_, subst}
 use mathlib.Core.List.{List, [], _∷_}
 use lib.ListN.{getD}
-use Rattle.refusals.specs.Verdict.{Spot, Verdict, done, refused, none, tree, bitfield, unlessRefused}
-use Rattle.refusals.specs.Meaning.{said, refusalOf, spotOf}
-use Rattle.refusals.specs.declared.Place.{Place}
-use Rattle.refusals.specs.declared.Answer.{Answer}
-use Rattle.refusals.specs.declared.Answer.the-variants.{Done, Refused}
-use Rattle.refusals.specs.declared.Refusal.{Refusal}
+use Rattle.answer_types.specs.Verdict.{Spot, Verdict, done, refused, none, tree, bitfield, unlessRefused}
+use Rattle.answer_types.specs.Meaning.{said, refusalOf, spotOf}
+use Rattle.answer_types.specs.declared.Place.{Place}
+use Rattle.answer_types.specs.declared.Answer.{Answer}
+use Rattle.answer_types.specs.declared.Answer.the-variants.{Done, Refused}
+use Rattle.answer_types.specs.declared.Refusal.{Refusal}
 use Rattle.lookup.specs.Lookup.{Found, found}
 use Rattle.lookup.specs.Meaning.{refusedAs}
 use Rattle.packet.specs.Post.{madeVerdict, madeBytes}

@@ -2,7 +2,7 @@
 use Prim.Native.Nat.{ℕ, _-_, _≤_}
 use mathlib.Core.Path.{_≡_}
 use mathlib.Core.List.{List, [], _∷_}
-use Rattle.refusals.specs.Verdict.{Verdict, none, tree, bitfield, done, refused}
+use Rattle.answer_types.specs.Verdict.{Verdict, none, tree, bitfield, done, refused}
 use Rattle.lookup.specs.Lookup.{Found, refusal, found}
 use Rattle.byte_strings.specs.Lowest.{nowhere, first}
 use Rattle.search.specs.Search.{Sought, refusal as unsought, answer as sought}

@@ -1,10 +1,10 @@
 // What C is answered: three numbers.
-use refusals::Answer;
-use refusals::Place;
-use refusals::Refusal;
+use answer_types::Answer;
+use answer_types::Place;
+use answer_types::Refusal;
 ghost use mathlib.Core.Path.{_≡_};
-ghost use Rattle.refusals.specs.Verdict.{unlessRefused};
-ghost use Rattle.refusals.specs.Meaning.{said, refusalOf};
+ghost use Rattle.answer_types.specs.Verdict.{unlessRefused};
+ghost use Rattle.answer_types.specs.Meaning.{said, refusalOf};
 ghost use Rattle.c_encoding.specs.Encoding.{encoded};
 ghost use Rattle.c_encoding.specs.Number.{numberOf};
 

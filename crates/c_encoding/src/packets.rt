@@ -1,8 +1,8 @@
 // What making a packet answers.
+use answer_types::Answer;
 use packet::Made;
-use refusals::Answer;
 ghost use mathlib.Core.Path.{_≡_};
-ghost use Rattle.refusals.specs.Verdict.{unlessRefused};
+ghost use Rattle.answer_types.specs.Verdict.{unlessRefused};
 ghost use Rattle.packet.specs.Post.{madeVerdict, madeBytes};
 ghost use Rattle.c_encoding.specs.Encoding.{encoded};
 

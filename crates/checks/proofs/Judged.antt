@@ -1,10 +1,10 @@
 -- Laws of a list of checks, whatever they test. Assumes nothing.
 use mathlib.Core.Path.{_≡_, refl, sym, ap, _∙_}
-use mathlib.Core.Bool.{Bool, true, false, cond, _&&_}
+use mathlib.Core.Bool.{Bool, true, false, cond}
 use mathlib.Core.List.{List, [], _∷_, _++_}
 use Prim.Native.Nat.{ℕ}
 use native.Mathlib.Omega.{arith}
-use Rattle.refusals.specs.Verdict.{Verdict, Spot, none, done, refused}
+use Rattle.answer_types.specs.Verdict.{Verdict, Spot, none, done, refused}
 use Rattle.checks.specs.Checks.{Check, judged}
 
 -- every check of a list is passed
@@ -12,20 +12,16 @@ abbrev pub AllRight : List Check → Type 0
 AllRight [] = Unit {0}
 AllRight (c ∷ cs) = (c .right ≡ true) × AllRight cs
 
-pub both-right : (a b : Bool) → a && b ≡ true → (a ≡ true) × (b ≡ true)
-both-right true b e = (refl, e)
-both-right false b e = let z : _≡_ {A = ℕ} 0 1 = cc in absurd (omega arith)
-
-pub right-both : (a b : Bool) → a ≡ true → b ≡ true → a && b ≡ true
-right-both true b e f = f
-right-both false b e f = e
+-- no verdict is both
+pub not-both-verdicts : (v : Verdict) (m : ℕ) (at : Spot) → v ≡ done → v ≡ refused m at → ⊥
+not-both-verdicts v m at e f = let z : _≡_ {A = ℕ} 0 1 = cc in omega arith
 
 -- what the first check leaves to the others
-at-right : (c : Check) (cs : List Check) (next : Verdict) → c .right ≡ true → judged (c ∷ cs) next ≡ judged cs next
+pub at-right : (c : Check) (cs : List Check) (next : Verdict) → c .right ≡ true → judged (c ∷ cs) next ≡ judged cs next
 unfolding judged
 at-right c cs next e = ap (λ (b : Bool). cond b (judged cs next) (refused (c .number) none)) e
 
-at-wrong : (c : Check) (cs : List Check) (next : Verdict) → c .right ≡ false → judged (c ∷ cs) next ≡ refused (c .number) none
+pub at-wrong : (c : Check) (cs : List Check) (next : Verdict) → c .right ≡ false → judged (c ∷ cs) next ≡ refused (c .number) none
 unfolding judged
 at-wrong c cs next e = ap (λ (b : Bool). cond b (judged cs next) (refused (c .number) none)) e
 

@@ -9,13 +9,13 @@ use borrow.Author.Tests.{leb-true, le-leb, lt-leb}
 use lib.Dec.{leb}
 use lib.ListN.{length, getD, drop, drop-of-length-le}
 use lib.Seq.{drop-cons}
+use Rattle.byte_strings.proofs.Bools.{both-true}
 use Rattle.file_format.specs.Sizes.{longestChunk}
 use Rattle.checks.specs.Lengths.{allShort}
-use Rattle.checks.proofs.Judged.{both-right}
 
 pub short-head : (l : ℕ) (ls : List ℕ) → allShort (l ∷ ls) ≡ true → (l ≤ longestChunk) × (allShort ls ≡ true)
 unfolding allShort
-short-head l ls e = let b = both-right (leb l longestChunk) (allShort ls) e in (leb-true l longestChunk (b .0), b .1)
+short-head l ls e = let b = both-true (leb l longestChunk) (allShort ls) e in (leb-true l longestChunk (b .0), b .1)
 
 pub short-at : (ls : List ℕ) (i : ℕ) → allShort ls ≡ true → getD ls i 0 ≤ longestChunk
 short-at [] i e = omega arith

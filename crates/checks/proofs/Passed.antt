@@ -1,14 +1,13 @@
 -- What a register is that passes the numbers 2 to 6.
 -- Assumes nothing.
-use Prim.Native.Nat.{ℕ, _≤_}
-use mathlib.Core.Path.{_≡_, sym, ap, _∙_}
+use Prim.Native.Nat.{_≤_}
+use mathlib.Core.Path.{_≡_}
 use mathlib.Core.Bool.{true}
-use mathlib.Core.List.{List}
 use borrow.Author.Tests.{leb-true, le-leb, eq-eqb, eqb-true}
 use lib.ListN.{length, take}
-use Rattle.refusals.specs.Verdict.{Verdict, done}
-use Rattle.byte_strings.specs.Lists.{sameList, total}
-use Rattle.byte_strings.proofs.Lists.{same-refl, same-eq}
+use Rattle.answer_types.specs.Verdict.{Verdict, done}
+use Rattle.byte_strings.specs.Lists.{total}
+use Rattle.byte_strings.proofs.Lists.{same-eq}
 use Rattle.file_format.specs.Headers.{treeHeader, signaturesHeader, bitfieldHeader}
 use Rattle.file_format.specs.Sizes.{mostChunks, usedTree, usedSignatures, usedBitfield}
 use Rattle.file_format.specs.Stored.{storedRootSizes}
@@ -16,6 +15,7 @@ use Rattle.file_format.specs.Belongs.{Register}
 use Rattle.checks.specs.Checks.{judged, signedRight, addsUp, laterChecks, registerChecks}
 -- where every check of a list is passed the verdict is what comes next, and only then it can be done
 pub use Rattle.checks.proofs.Judged.{AllRight, judged-right as all-pass, judged-done as all-must}
+pub use Rattle.byte_strings.proofs.Lists.{same-of}
 
 pub record Passed (r : Register) : Type 0 where
   pub count : r .n ≤ mostChunks
@@ -28,9 +28,6 @@ pub record Passed (r : Register) : Type 0 where
   pub signaturesFront : take 32 (r .signatures) ≡ signaturesHeader
   pub bitfieldFront : take 32 (r .bitfield) ≡ bitfieldHeader
   pub adds : total (storedRootSizes (r .tree) (r .n)) ≡ r .size
-
-pub same-of : (xs ys : List ℕ) → xs ≡ ys → sameList xs ys ≡ true
-same-of xs ys e = ap (sameList xs) (sym e) ∙ same-refl xs
 
 pub all-right : (r : Register) → Passed r → AllRight (registerChecks r)
 unfolding registerChecks laterChecks addsUp

@@ -7,14 +7,14 @@ use native.Mathlib.Omega.{arith}
 use lib.ListN.{length, take}
 use lib.Dec.{eqb}
 use borrow.Author.Tests.{leb-true, le-leb, lt-leb, eqb-true, eq-eqb, ne-eqb}
-use Rattle.refusals.specs.Verdict.{Verdict, none, done, refused}
+use Rattle.answer_types.specs.Verdict.{Verdict, none, done, refused}
 use Rattle.byte_strings.specs.Lists.{sameList, total}
+use Rattle.byte_strings.proofs.Bools.{both-true}
 use Rattle.file_format.specs.Sizes.{mostChunks, usedTree, usedSignatures, usedBitfield}
 use Rattle.file_format.specs.Stored.{storedRootSizes}
 use Rattle.file_format.specs.Belongs.{Register}
 use Rattle.checks.specs.Checks.{judged, signedRight, holds, headed, addsUp, laterChecks, registerChecks}
 use Rattle.checks.specs.Lent.{longRight, headsRight}
-use Rattle.checks.proofs.Judged.{both-right}
 use Rattle.checks.proofs.Later.{ladder, by-number}
 
 -- ---- a row of tests
@@ -66,9 +66,9 @@ pub record Rooms (r : Register) : Type 0 where
 pub rooms : (r : Register) → longRight r ≡ true → Rooms r
 unfolding longRight usedTree usedSignatures usedBitfield
 rooms r e =
-    let a = both-right _ _ e in
-    let b = both-right _ _ (a .1) in
-    let c = both-right _ _ (b .1) in
+    let a = both-true _ _ e in
+    let b = both-true _ _ (a .1) in
+    let c = both-true _ _ (b .1) in
     let t = leb-true (usedTree (r .n)) (length (r .tree)) (a .0) in
     let s = leb-true (usedSignatures (r .s)) (length (r .signatures)) (b .0) in
     let f = leb-true (usedBitfield (r .n)) (length (r .bitfield)) (c .0) in

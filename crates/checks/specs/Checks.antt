@@ -4,7 +4,7 @@ use mathlib.Core.Bool.{Bool, cond, _||_}
 use mathlib.Core.List.{List, [], _∷_}
 use lib.ListN.{length, take}
 use lib.Dec.{leb, eqb}
-use Rattle.refusals.specs.Verdict.{Verdict, none, refused}
+use Rattle.answer_types.specs.Verdict.{Verdict, none, refused}
 use Rattle.byte_strings.specs.Lists.{sameList, total}
 use Rattle.file_format.specs.Headers.{treeHeader, signaturesHeader, bitfieldHeader}
 use Rattle.file_format.specs.Sizes.{mostChunks, usedTree, usedSignatures, usedBitfield}

@@ -1,12 +1,12 @@
 // The checks 2 to 6 of a call on a register: "Checks apply to what the call is given, in this order; images as tree, signatures,
 // bitfield, data." They only read, so that a refused call has changed nothing. And what 7 asks of a list of chunks.
+use answer_types::Answer;
 use number_types::ByteOffset;
-use refusals::Answer;
 ghost use mathlib.Core.Path.{_≡_};
 ghost use Prim.Native.Nat.{_+_, _≤_};
 ghost use lib.ListN.{length};
-ghost use Rattle.refusals.specs.Verdict.{done};
-ghost use Rattle.refusals.specs.Meaning.{said};
+ghost use Rattle.answer_types.specs.Verdict.{done};
+ghost use Rattle.answer_types.specs.Meaning.{said};
 ghost use Rattle.checks.specs.Checks.{signedRight, judged, laterChecks, registerChecks};
 ghost use Rattle.checks.specs.Lent.{registerOf, longRight, headsRight};
 ghost use Rattle.checks.specs.Lengths.{allShort};
@@ -93,16 +93,16 @@ pub fn judge_later(
         ⌝ }
 {
     if !signed_right(n, s) {
-        return refusals::refuse(3);
+        return answer_types::refuse(3);
     }
     if !long_right(tree, signatures, bitfield, content, n, s, size) {
-        return refusals::refuse(4);
+        return answer_types::refuse(4);
     }
     if !heads_right(tree, signatures, bitfield) {
-        return refusals::refuse(5);
+        return answer_types::refuse(5);
     }
     if !file_format::roots::adds_up(tree, n, size) {
-        return refusals::refuse(6);
+        return answer_types::refuse(6);
     }
     Answer::Done
 }
@@ -127,7 +127,7 @@ pub fn judge(
         ⌝ }
 {
     if 1048576 < n {
-        return refusals::refuse(2);
+        return answer_types::refuse(2);
     }
     judge_later(tree, signatures, bitfield, content, n, s, size)
 }

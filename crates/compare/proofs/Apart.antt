@@ -3,7 +3,7 @@
 use Prim.Native.Nat.{ℕ, _<_, _^_}
 use mathlib.Core.Path.{_≡_, sym, ap, _∙_}
 use mathlib.Core.List.{List, _++_, tail-eq-of-cons-eq}
-use lib.ListN.{length, length-append}
+use lib.ListN.{length}
 use Rattle.byte_strings.specs.Numbers.{be, number}
 use Rattle.byte_strings.proofs.Numbers.{length-be, number-be}
 use Rattle.file_format.specs.Messages.{leafMessage, parentMessage, rootItem}
@@ -50,7 +50,3 @@ item-injective h h′ i j s t l l′ e =
     let p = split-append h h′ (be 8 i ++ be 8 s) (be 8 j ++ be 8 t) (l ∙ sym l′) e in
     let q = behind-number i j (be 8 s) (be 8 t) (p .1) in
     record { hash = p .0; place = q .0; size = q .1 }
-
-pub length-item : (h : List ℕ) (i s : ℕ) → length h ≡ 32 → length (rootItem h i s) ≡ 48
-unfolding rootItem
-length-item h i s l = simp (length-append, length-be, l)

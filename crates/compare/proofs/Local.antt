@@ -9,8 +9,7 @@ use native.Mathlib.Nat.{suc-inj, suc-ne-zero}
 use native.Mathlib.Omega.{arith}
 use lib.ListN.{length, getD}
 use Rattle.byte_strings.specs.Lists.{sameList}
-use Rattle.byte_strings.proofs.Lists.{same-eq}
-use Rattle.checks.proofs.Passed.{same-of}
+use Rattle.byte_strings.proofs.Lists.{same-eq, same-of}
 
 -- ---- tests
 

@@ -16,9 +16,10 @@ use Rattle.tree_index.proofs.Cover.{inBlock, roots-cover}
 use Rattle.file_format.specs.Messages.{rootItem, rootMessage}
 use Rattle.file_format.specs.Stored.{storedHash, storedSize, storedRootMessage}
 use Rattle.file_format.specs.Inner.{RootsIn}
+use Rattle.file_format.proofs.ByValue.{item-length}
 use Rattle.audit.proofs.Entries.{entry-in}
 use Rattle.compare.proofs.Local.{split-append, Every}
-use Rattle.compare.proofs.Apart.{be-injective, item-injective, length-item}
+use Rattle.compare.proofs.Apart.{be-injective, item-injective}
 
 -- the roots tell how many chunks lie under them
 pub roots-injective : (n m : ℕ) → n < 2 ^ 21 → m < 2 ^ 21 → roots n ≡ roots m → n ≡ m
@@ -74,7 +75,7 @@ same-count t u n m p q e = roots-injective n m (omega (arith, p .count)) (omega 
     item x i = rootItem (storedHash x i) i (storedSize x i)
 
     wide : (x : List ℕ) (k : ℕ) → RootsIn x k → (i : ℕ) → filled k i ≡ true → length (item x i) ≡ 48
-    wide x k w i f = length-item (storedHash x i) i (storedSize x i) (stored-long x k i w f)
+    wide x k w i f = item-length (storedHash x i) i (storedSize x i) (stored-long x k i w f)
 
     tell : (i j : ℕ) → filled n i ≡ true → filled m j ≡ true → item t i ≡ item u j → i ≡ j
     tell i j f g s =

@@ -14,8 +14,9 @@ use lib.Seq.{take-nil, take-all}
 use lib.Dec.{eqb}
 use Rattle.byte_strings.specs.Lists.{part, sameList, Bytes}
 use Rattle.byte_strings.specs.Numbers.{be}
-use Rattle.byte_strings.proofs.Lists.{length-part, same-eq}
+use Rattle.byte_strings.proofs.Lists.{length-part, same-eq, same-of}
 use Rattle.byte_strings.proofs.Numbers.{eight-lt}
+use Rattle.byte_strings.proofs.Bools.{both-true}
 use Rattle.tree_index.specs.Tree.{index, depth, block, leftChild, rightChild, filled, roots}
 use Rattle.tree_index.proofs.Index.{index-leaf}
 use Rattle.file_format.specs.Sizes.{entryPlace}
@@ -24,8 +25,6 @@ use Rattle.file_format.specs.Stored.{storedHash, storedSize, storedStart, store
 use Rattle.file_format.specs.Inner.{EntryIn}
 use Rattle.file_format.proofs.Nodes.{byDepth}
 use Rattle.file_format.proofs.OfImage.{stored-leaf}
-use Rattle.checks.proofs.Judged.{both-right}
-use Rattle.checks.proofs.Passed.{same-of}
 use Rattle.checks.proofs.Steps.{and-stop, and-pass}
 use Rattle.checks.specs.Capped.{most, capped}
 use Rattle.checks.proofs.Capped.{capped-either}
@@ -107,8 +106,8 @@ same-parents t u i b b′ p q = as-same (sameParent t u i) (parentOf t i) (paren
 
     forth : sameParent t u i ≡ true → parentOf t i ≡ parentOf u i
     forth h =
-        let a = both-right (eqb (sumBelow t i) (sumBelow u i)) (l && r) h in
-        let c = both-right l r (a .1) in
+        let a = both-true (eqb (sumBelow t i) (sumBelow u i)) (l && r) h in
+        let c = both-true l r (a .1) in
         let s : be 8 x ≡ be 8 y = x-in ∙ ap (be 8) (eqb-true (sumBelow t i) (sumBelow u i) (a .0)) ∙ sym y-in in
         let g = same-eq (storedHash t (leftChild i)) (storedHash u (leftChild i)) (c .0) in
         let k = same-eq (storedHash t (rightChild i)) (storedHash u (rightChild i)) (c .1) in

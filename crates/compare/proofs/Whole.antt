@@ -7,13 +7,13 @@ use mathlib.Core.List.{List, []}
 use native.Mathlib.Nat.{zero-add}
 use native.Mathlib.Omega.{arith}
 use lib.ListN.{length}
-use Rattle.refusals.specs.Verdict.{Spot, Verdict, tree, done, refused}
-use Rattle.refusals.specs.Meaning.{said}
-use Rattle.refusals.specs.declared.Refusal.{Refusal}
-use Rattle.refusals.specs.declared.Answer.{Answer}
-use Rattle.refusals.specs.declared.Answer.the-variants.{Refused}
+use Rattle.answer_types.specs.Verdict.{Spot, Verdict, tree, done, refused, andThen}
+use Rattle.answer_types.specs.Meaning.{said}
+use Rattle.answer_types.specs.declared.Refusal.{Refusal}
+use Rattle.answer_types.specs.declared.Answer.{Answer}
+use Rattle.answer_types.specs.declared.Answer.the-variants.{Refused}
 use Rattle.byte_strings.specs.Lowest.{Lowest, nowhere, first, lowest}
-use Rattle.byte_strings.proofs.Lowest.{step, lowest-agree}
+use Rattle.byte_strings.proofs.Lowest.{step, lowest-agree, nowhere-right, right-nowhere}
 use Rattle.tree_index.specs.Tree.{index}
 use Rattle.bitfield.specs.Image.{entryCount}
 use Rattle.bitfield.specs.Append.{bitsPlace}
@@ -28,8 +28,8 @@ use Rattle.checks.specs.Lent.{registerOf}
 use Rattle.checks.proofs.Passed.{passes, passed}
 use Rattle.audit.specs.Audit.{refusedAt, imagesVerdict, audit, Accepted}
 use Rattle.audit.specs.TreeWalk.{FilesIn}
-use Rattle.audit.proofs.Audited.{nowhere-right, right-nowhere, at-must}
-use Rattle.audit.proofs.Search.{andThen, then-assoc, stops, judged-then, refused-then}
+use Rattle.audit.proofs.Audited.{at-must}
+use Rattle.audit.proofs.Search.{then-assoc, stops, judged-then, refused-then}
 use Rattle.audit.proofs.Whole.{checks-refuse, checks-pass, files-in, images-of}
 use Rattle.compare.specs.Walk.{missing, heldThen, wholeVerdict}
 use Rattle.compare.specs.Theorems.{Whole, NeedsWholeForAll}

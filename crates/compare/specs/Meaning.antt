@@ -1,5 +1,5 @@
 -- The answer of the scope that each case of the walk's answer stands for.
-use Rattle.refusals.specs.Meaning.{spotOf}
+use Rattle.answer_types.specs.Meaning.{spotOf}
 use Rattle.compare.specs.Walk.{Comparison, firstRefused, secondRefused, rootsDiffer, atRoots, atIndex, equal}
 use Rattle.compare.specs.declared.Roots.{Roots}
 use Rattle.compare.specs.declared.Roots.the-variants.{Differ, Collide, Same}

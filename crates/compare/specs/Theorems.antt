@@ -8,7 +8,7 @@ use mathlib.Core.Logic.{_↔_}
 use mathlib.Core.Bool.{true}
 use mathlib.Core.List.{List}
 use lib.ListN.{length}
-use Rattle.refusals.specs.Verdict.{tree, done, refused}
+use Rattle.answer_types.specs.Verdict.{tree, done, refused}
 use Rattle.byte_strings.specs.Lowest.{first, lowest}
 use Rattle.tree_index.specs.Tree.{index}
 use Rattle.bitfield.specs.Release.{storedHeld}

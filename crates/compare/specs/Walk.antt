@@ -2,7 +2,7 @@
 use Prim.Native.Nat.{ℕ}
 use mathlib.Core.Bool.{Bool, cond, not, _&&_}
 use mathlib.Core.List.{List}
-use Rattle.refusals.specs.Verdict.{Spot, Verdict, tree, done, refused}
+use Rattle.answer_types.specs.Verdict.{Spot, Verdict, tree, done, refused}
 use Rattle.byte_strings.specs.Lists.{sameList}
 use Rattle.tree_index.specs.Tree.{index, filled, entries}
 use Rattle.bitfield.specs.Release.{storedHeld}

@@ -1,16 +1,16 @@
 // The comparing walk on two registers that hold all their chunks. It reads the lent bytes and changes nothing.
 mod messages;
 
+use answer_types::Answer;
+use answer_types::Refusal;
 use bitfield::Found;
 use number_types::ChunkNumber;
 use number_types::TreeIndex;
-use refusals::Answer;
-use refusals::Refusal;
 ghost use mathlib.Core.Path.{_≡_};
 ghost use mathlib.Core.Bool.{not};
 ghost use Prim.Native.Nat.{_-_, _≤_};
-ghost use Rattle.refusals.specs.Verdict.{done};
-ghost use Rattle.refusals.specs.Meaning.{said};
+ghost use Rattle.answer_types.specs.Verdict.{done};
+ghost use Rattle.answer_types.specs.Meaning.{said};
 ghost use Rattle.tree_index.specs.Tree.{entries};
 ghost use Rattle.blake2b.specs.Hash.{nodeHash};
 ghost use Rattle.file_format.specs.Stored.{storedRootMessage};
@@ -143,7 +143,7 @@ pub fn judge_held(
     };
     let missing = bitfield::first_missing(bitfield, ChunkNumber(0), n);
     if let Found::At(c) = missing {
-        return refusals::refuse_entry(18, tree_index::leaf_index(c));
+        return answer_types::refuse_entry(18, tree_index::leaf_index(c));
     }
     Answer::Done
 }

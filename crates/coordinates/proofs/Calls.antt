@@ -9,10 +9,10 @@ use lib.Dec.{leb}
 use lib.ListN.{length, take, drop, length-drop}
 use lib.Seq.{take-at, take-all}
 use borrow.Author.Tests.{le-leb, lt-leb, leb-true}
-use Rattle.refusals.specs.Verdict.{Verdict, none, done, refused}
-use Rattle.refusals.specs.Meaning.{said, refusalOf}
-use Rattle.refusals.specs.declared.Refusal.{Refusal}
-use Rattle.refusals.specs.declared.Answer.{Answer}
+use Rattle.answer_types.specs.Verdict.{Verdict, none, done, refused}
+use Rattle.answer_types.specs.Meaning.{said, refusalOf}
+use Rattle.answer_types.specs.declared.Refusal.{Refusal}
+use Rattle.answer_types.specs.declared.Answer.{Answer}
 use Rattle.byte_strings.specs.Lists.{put, Bytes}
 use Rattle.byte_strings.proofs.Lists.{put-append}
 use Rattle.coordinates.specs.Post.{longest, verdict, frontUnless, after, Written}

@@ -5,9 +5,9 @@ use mathlib.Core.Bool.{cond}
 use mathlib.Core.List.{List}
 use lib.ListN.{length}
 use lib.Dec.{leb}
-use Rattle.refusals.specs.Verdict.{Verdict, none, done, refused}
-use Rattle.refusals.specs.Meaning.{said}
-use Rattle.refusals.specs.declared.Answer.{Answer}
+use Rattle.answer_types.specs.Verdict.{Verdict, none, done, refused}
+use Rattle.answer_types.specs.Meaning.{said}
+use Rattle.answer_types.specs.declared.Answer.{Answer}
 use Rattle.byte_strings.specs.Lists.{put}
 
 -- "numbers 7 and 14 apply": more than 65,536 bytes, then a buffer that is shorter than the result, which is as long as the bytes given

@@ -5,7 +5,7 @@ use Prim.Native.Nat.{ℕ, _≤_}
 use mathlib.Core.Path.{_≡_}
 use mathlib.Core.List.{List}
 use lib.ListN.{length, take}
-use Rattle.refusals.specs.Verdict.{done}
+use Rattle.answer_types.specs.Verdict.{done}
 use Rattle.byte_strings.specs.Lists.{put, Bytes}
 use Rattle.coordinates.specs.Grouping.{grouped, ungrouped}
 use Rattle.coordinates.specs.Post.{longest, verdict, after}

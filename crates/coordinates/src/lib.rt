@@ -1,10 +1,10 @@
 // Coordinates grouped before storing: words of 4 big-endian bytes become differences from the word before, and then all first bytes stand
 // together, all second bytes, and so on. `ungroup` is the way back. Both are judged before the buffer is written.
-use refusals::Answer;
+use answer_types::Answer;
 ghost use mathlib.Core.Path.{_≡_};
 ghost use Prim.Native.Nat.{_*_, _≤_, _<_};
 ghost use lib.ListN.{length};
-ghost use Rattle.refusals.specs.Meaning.{said};
+ghost use Rattle.answer_types.specs.Meaning.{said};
 ghost use Rattle.byte_strings.specs.Lists.{put};
 ghost use Rattle.coordinates.specs.Grouping.{words, difference, planes, grouped, gathered, restored, ungrouped};
 ghost use Rattle.coordinates.specs.Post.{verdict, Written};
@@ -15,10 +15,10 @@ fn judge(long: usize, room: usize) -> Answer
     ensures { λ r. ⌜ said r ≡ verdict long room ⌝ }
 {
     if 65536 < long {
-        return refusals::refuse(7);
+        return answer_types::refuse(7);
     }
     if room < long {
-        return refusals::refuse(14);
+        return answer_types::refuse(14);
     }
     Answer::Done
 }

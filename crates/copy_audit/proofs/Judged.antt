@@ -8,6 +8,7 @@ use lib.ListN.{length, getD}
 use Rattle.byte_strings.specs.Lists.{run}
 use Rattle.byte_strings.proofs.Lists.{length-run, getD-run}
 use Rattle.byte_strings.specs.Lowest.{Lowest, nowhere, first}
+use Rattle.byte_strings.proofs.Lowest.{never-first}
 use Rattle.tree_index.specs.Tree.{index, depth, block, leftChild, rightChild, filled, entries}
 use Rattle.tree_index.proofs.Index.{index-leaf}
 use Rattle.tree_index.proofs.Words.{leaf-block}
@@ -32,8 +33,16 @@ use Rattle.copy_checks.specs.Descents.{copyToChunk}
 use Rattle.copy_checks.specs.Least.{lowerOf, leastOf}
 use Rattle.copy_checks.proofs.Least.{Lowering, lowering-none, lowering-next, lowering-all}
 use Rattle.copy_audit.specs.Audit.{wrongUnless, heldLeaf, bothKnown, wrongFrom, wrongByLeaf, wrongByParent, wrongByKnown, wrongByUnknown, wrongBy, wrongEntryOfCopy}
-use Rattle.copy_audit.specs.Inner.{heldAt, AtNode, AtFamily}
+use Rattle.copy_audit.specs.Inner.{AtNode, AtFamily}
 use Rattle.copy_audit.specs.Audit.{leafRightFrom}
+
+-- what a test finds wrong
+pub unless-right : (b : Bool) (i : ℕ) → wrongUnless b i ≡ nowhere → b ≡ true
+unless-right true i e = refl
+unless-right false i e = never-first i e
+
+pub right-unless : (b : Bool) (i : ℕ) → b ≡ true → wrongUnless b i ≡ nowhere
+right-unless b i e = ap (λ (x : Bool). wrongUnless x i) e
 
 -- ---- where things lie
 
@@ -64,13 +73,13 @@ module _ (tree bits content : List ℕ) (n size : ℕ) (p : FilesIn tree bits co
 
 -- ---- the tests
 
-pub held-even : (bits : List ℕ) (i k : ℕ) (r : Bool) → i % 2 ≡ 0 → k ≡ block i → r ≡ storedHeld bits k → r ≡ heldAt bits i
-unfolding heldAt
+pub held-even : (bits : List ℕ) (i k : ℕ) (r : Bool) → i % 2 ≡ 0 → k ≡ block i → r ≡ storedHeld bits k → r ≡ heldLeaf bits i
+unfolding heldLeaf
 held-even bits i k r h e q =
     q ∙ ap (storedHeld bits) e ∙ sym (ap (λ (d : ℕ). byDepth d (storedHeld bits (block i)) false) (even-depth i h))
 
-pub held-odd : (bits : List ℕ) (i : ℕ) → (i % 2 ≡ 0 → ⊥) → false ≡ heldAt bits i
-unfolding heldAt
+pub held-odd : (bits : List ℕ) (i : ℕ) → (i % 2 ≡ 0 → ⊥) → false ≡ heldLeaf bits i
+unfolding heldLeaf
 held-odd bits i h =
     let e : depth i ≡ suc (depth i - 1) = omega (arith, odd-depth i h) in
     sym (ap (λ (d : ℕ). byDepth d (storedHeld bits (block i)) false) e)
@@ -137,8 +146,8 @@ module _ (F : List ℕ → List ℕ) (c : Copy) (i : ℕ) where
       ∙ sym (ap (λ (b : Bool). cond b (cond (storedKnown (c .bitfield) i) (wrongByKnown F c i) (wrongByUnknown F c i)) (wrongUnless (holeRight F (c .tree) i) i)) f)
 
   pub by-unknown : (r : Bool) (l : Lowest) → filled (c .n) i ≡ true → storedKnown (c .bitfield) i ≡ false
-      → r ≡ (holeRight F (c .tree) i && not (heldAt (c .bitfield) i)) → l ≡ wrongUnless r i → l ≡ wrongBy F c i
-  unfolding wrongBy wrongByUnknown heldLeaf heldAt
+      → r ≡ (holeRight F (c .tree) i && not (heldLeaf (c .bitfield) i)) → l ≡ wrongUnless r i → l ≡ wrongBy F c i
+  unfolding wrongBy wrongByUnknown heldLeaf
   by-unknown r l f k e q =
       q ∙ ap (λ (b : Bool). wrongUnless b i) e
       ∙ sym (ap₂ (λ (b d : Bool). cond b (cond d (wrongByKnown F c i) (wrongByUnknown F c i)) (wrongUnless (holeRight F (c .tree) i) i)) f k)

@@ -3,7 +3,7 @@ use Prim.Native.Nat.{ℕ, _-_}
 use mathlib.Core.Path.{_≡_, refl, sym, ap, _∙_}
 use mathlib.Core.Bool.{Bool, true}
 use mathlib.Core.List.{List}
-use Rattle.refusals.specs.Verdict.{Spot, Verdict, tree, bitfield, done, refused}
+use Rattle.answer_types.specs.Verdict.{Spot, Verdict, tree, bitfield, done, refused}
 use Rattle.byte_strings.specs.Lowest.{Lowest, nowhere, first, lowest}
 use Rattle.file_format.specs.Sizes.{usedBitfield}
 use Rattle.audit.specs.Audit.{refusedAt, byteRightBy}

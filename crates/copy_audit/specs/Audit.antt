@@ -4,7 +4,7 @@ use Prim.Native.Nat.{ℕ, zero, suc, _-_}
 use mathlib.Core.Path.{_≡_}
 use mathlib.Core.Bool.{Bool, true, false, cond, not, _&&_, _||_}
 use mathlib.Core.List.{List}
-use Rattle.refusals.specs.Verdict.{Verdict, tree, bitfield, done}
+use Rattle.answer_types.specs.Verdict.{Verdict, tree, bitfield, done}
 use Rattle.byte_strings.specs.Lists.{run}
 use Rattle.byte_strings.specs.Lowest.{Lowest, nowhere, first, lowest}
 use Rattle.tree_index.specs.Tree.{index, depth, block, leftChild, rightChild, filled, entries}
@@ -24,8 +24,8 @@ wrongUnless true i = nowhere
 wrongUnless false i = first i
 
 -- "an entry whose tree bit is clear must be zero and its chunk not held": whether the index i is the leaf of a chunk that is held
-unfoldable pub heldLeaf : Copy → ℕ → Bool
-heldLeaf c i = elim (depth i) [ zero ↦ storedHeld (c .bitfield) (block i) | suc d ↦ false ]
+unfoldable pub heldLeaf : List ℕ → ℕ → Bool
+heldLeaf bits i = elim (depth i) [ zero ↦ storedHeld bits (block i) | suc d ↦ false ]
 
 unfoldable pub bothKnown : Copy → ℕ → Bool
 bothKnown c i = known c (leftChild i) && known c (rightChild i)
@@ -55,7 +55,7 @@ module _ (F : List ℕ → List ℕ) where
 
   -- "an entry whose tree bit is clear must be zero and its chunk not held, else this audit gives 10"; "It passes over data of unknown leaves."
   unfoldable pub wrongByUnknown : Copy → ℕ → Lowest
-  wrongByUnknown c i = wrongUnless (holeRight F (c .tree) i && not (heldLeaf c i)) i
+  wrongByUnknown c i = wrongUnless (holeRight F (c .tree) i && not (heldLeaf (c .bitfield) i)) i
 
   -- what the audit finds wrong when it comes to the entry i: this entry, or the one at which the descent to it stops. A hole is zero, whatever its bit says
   unfoldable pub wrongBy : Copy → ℕ → Lowest

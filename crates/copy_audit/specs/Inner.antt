@@ -1,17 +1,11 @@
 -- What the inner functions of a copy's audit require: an entry, a chunk or a parent of n chunks whose entries and bits lie within the files.
-use Prim.Native.Nat.{ℕ, zero, suc, _+_, _/_, _≤_, _<_}
-use mathlib.Core.Bool.{Bool, false}
+use Prim.Native.Nat.{ℕ, _+_, _/_, _≤_, _<_}
 use mathlib.Core.List.{List}
 use lib.ListN.{length}
-use Rattle.tree_index.specs.Tree.{depth, block, leftChild, rightChild, entries}
+use Rattle.tree_index.specs.Tree.{leftChild, rightChild, entries}
 use Rattle.bitfield.specs.Append.{bitsPlace}
-use Rattle.bitfield.specs.Release.{storedHeld}
 use Rattle.audit.specs.BitfieldEntries.{BitsIn}
 use Rattle.audit.specs.TreeWalk.{FilesIn, AtParent}
-
--- whether the index i is the leaf of a chunk whose data bit is 1
-unfoldable pub heldAt : List ℕ → ℕ → Bool
-heldAt bits i = elim (depth i) [ zero ↦ storedHeld bits (block i) | suc d ↦ false ]
 
 -- an entry that n chunks have, whose bits lie within the bitfield file
 pub record AtNode (bits : List ℕ) (n i : ℕ) : Type 0 where

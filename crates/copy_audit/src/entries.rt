@@ -1,6 +1,6 @@
 // The tree entries of a copy, one by one. All of these are inner: they require the files to hold the entries of n chunks and their bits.
-use copy_checks::Found;
 use lookup::Ending;
+use lookup::First;
 use lookup::Sought;
 use number_types::ByteOffset;
 use number_types::ChunkNumber;
@@ -18,24 +18,24 @@ ghost use Rattle.audit.specs.Audit.{parentRight, holeRight, leafFrom};
 ghost use Rattle.audit.specs.TreeWalk.{FilesIn};
 ghost use Rattle.copy_checks.specs.Copy.{copyOf};
 ghost use Rattle.copy_checks.specs.Least.{leastOf};
-ghost use Rattle.copy_checks.specs.Meaning.{foundOf};
-ghost use Rattle.copy_audit.specs.Audit.{wrongUnless, wrongByLeaf, wrongBy, wrongEntryOfCopy};
-ghost use Rattle.copy_audit.specs.Inner.{heldAt, AtNode, AtChunk, AtFamily};
+ghost use Rattle.lookup.specs.Unknown.{firstEntry};
+ghost use Rattle.copy_audit.specs.Audit.{heldLeaf, wrongUnless, wrongByLeaf, wrongBy, wrongEntryOfCopy};
+ghost use Rattle.copy_audit.specs.Inner.{AtNode, AtChunk, AtFamily};
 
 // A tree index, where a test finds its entry wrong.
-fn wrong_unless(right: bool, i: TreeIndex) -> Found
-    ensures { λ r. ⌜ foundOf r ≡ wrongUnless right (i .0) ⌝ }
+fn wrong_unless(right: bool, i: TreeIndex) -> First
+    ensures { λ r. ⌜ firstEntry r ≡ wrongUnless right (i .0) ⌝ }
 {
     if right {
-        return Found::Nothing;
+        return First::Nothing;
     }
-    Found::At(i)
+    First::At(i)
 }
 
 // Whether a tree index is the leaf of a chunk that is held.
 fn held_leaf(bitfield: &[u8], n: u64, i: TreeIndex) -> bool
     requires { ⌜ AtNode (now bitfield) n (i .0) ⌝ }
-    ensures { λ r. ⌜ r ≡ heldAt (now (bitfield .entry)) (i .0) ⌝ }
+    ensures { λ r. ⌜ r ≡ heldLeaf (now (bitfield .entry)) (i .0) ⌝ }
 {
     if i.0 % 2 == 0 {
         return bitfield::is_held(bitfield, tree_index::chunk_of_leaf(i));
@@ -46,7 +46,7 @@ fn held_leaf(bitfield: &[u8], n: u64, i: TreeIndex) -> bool
 // Whether an entry that is not known is right: it is zero, and its chunk not held.
 fn unknown_right(tree: &[u8], bitfield: &[u8], n: u64, i: TreeIndex) -> bool
     requires { ⌜ EntryIn (now tree) (i .0) × AtNode (now bitfield) n (i .0) ⌝ }
-    ensures { λ r. ⌜ r ≡ (holeRight nodeHash (now (tree .entry)) (i .0) && not (heldAt (now (bitfield .entry)) (i .0))) ⌝ }
+    ensures { λ r. ⌜ r ≡ (holeRight nodeHash (now (tree .entry)) (i .0) && not (heldLeaf (now (bitfield .entry)) (i .0))) ⌝ }
 {
     if !audit::hole_right(tree, i) {
         return false;
@@ -105,15 +105,15 @@ fn wrong_by_leaf(
     n: u64,
     size: u64,
     c: ChunkNumber,
-) -> Found
+) -> First
     requires { ⌜ AtChunk (now tree) (now bitfield) (now content) n size (c .0) ⌝ }
     ensures { λ r.
-        ⌜ foundOf r ≡ wrongByLeaf nodeHash (copyOf (now (tree .entry)) (now (bitfield .entry)) (now (content .entry)) n size) (c .0) ⌝ }
+        ⌜ firstEntry r ≡ wrongByLeaf nodeHash (copyOf (now (tree .entry)) (now (bitfield .entry)) (now (content .entry)) n size) (c .0) ⌝ }
 {
     let leaf = tree_index::leaf_index(c);
     match lookup::from_roots(tree, bitfield, true, n, Sought::Chunk(c)) {
-        Ending::Stopped(i) => Found::At(i),
-        Ending::Unknown(_) => Found::At(leaf),
+        Ending::Stopped(i) => First::At(i),
+        Ending::Unknown(_) => First::At(leaf),
         Ending::Reached(_, start) => {
             let right = leaf_right(tree, bitfield, content, n, size, c, start);
             wrong_unless(right, leaf)
@@ -122,10 +122,10 @@ fn wrong_by_leaf(
 }
 
 // What is found wrong when the audit comes to an entry: this one, or the one at which the descent to it stops.
-fn wrong_by(tree: &[u8], bitfield: &[u8], content: &[u8], n: u64, size: u64, i: TreeIndex) -> Found
+fn wrong_by(tree: &[u8], bitfield: &[u8], content: &[u8], n: u64, size: u64, i: TreeIndex) -> First
     requires { ⌜ FilesIn (now tree) (now bitfield) (now content) n size × (i .0 < entriesOf n) ⌝ }
     ensures { λ r.
-        ⌜ foundOf r ≡ wrongBy nodeHash (copyOf (now (tree .entry)) (now (bitfield .entry)) (now (content .entry)) n size) (i .0) ⌝ }
+        ⌜ firstEntry r ≡ wrongBy nodeHash (copyOf (now (tree .entry)) (now (bitfield .entry)) (now (content .entry)) n size) (i .0) ⌝ }
 {
     if !tree_index::is_filled(n, i) {
         return wrong_unless(audit::hole_right(tree, i), i);
@@ -156,17 +156,17 @@ pub fn wrong_between(
     size: u64,
     from: TreeIndex,
     end: TreeIndex,
-) -> Found
+) -> First
     requires { ⌜ FilesIn (now tree) (now bitfield) (now content) n size × (end .0 ≤ entriesOf n) ⌝ }
     ensures { λ r.
         ⌜
-        foundOf r ≡
+        firstEntry r ≡
         leastOf
         (run (wrongBy nodeHash (copyOf (now (tree .entry)) (now (bitfield .entry)) (now (content .entry)) n size)) (from .0)
         (end .0 - from .0))
         ⌝ }
 {
-    let mut found = Found::Nothing;
+    let mut found = First::Nothing;
     let mut i = from;
     while i.0 < end.0 {
         let here = wrong_by(tree, bitfield, content, n, size, i);
@@ -177,10 +177,10 @@ pub fn wrong_between(
 }
 
 // Inner: the lowest of all.
-pub fn wrong_entry(tree: &[u8], bitfield: &[u8], content: &[u8], n: u64, size: u64) -> Found
+pub fn wrong_entry(tree: &[u8], bitfield: &[u8], content: &[u8], n: u64, size: u64) -> First
     requires { ⌜ FilesIn (now tree) (now bitfield) (now content) n size ⌝ }
     ensures { λ r.
-        ⌜ foundOf r ≡ wrongEntryOfCopy nodeHash (copyOf (now (tree .entry)) (now (bitfield .entry)) (now (content .entry)) n size) ⌝ }
+        ⌜ firstEntry r ≡ wrongEntryOfCopy nodeHash (copyOf (now (tree .entry)) (now (bitfield .entry)) (now (content .entry)) n size) ⌝ }
 {
     let end = TreeIndex(audit::entry_count(n));
     wrong_between(tree, bitfield, content, n, size, TreeIndex(0), end)

@@ -2,11 +2,11 @@
 // of the known entries each is judged by what else is known. It only reads.
 mod entries;
 
-use copy_checks::Found;
+use answer_types::Answer;
 pub use entries::wrong_between;
-use refusals::Answer;
+use lookup::First;
 ghost use mathlib.Core.Path.{_≡_};
-ghost use Rattle.refusals.specs.Meaning.{said};
+ghost use Rattle.answer_types.specs.Meaning.{said};
 ghost use Rattle.blake2b.specs.Hash.{nodeHash};
 ghost use Rattle.copy_checks.specs.Copy.{copyOf};
 ghost use Rattle.copy_audit.specs.Audit.{auditCopy};
@@ -19,8 +19,8 @@ pub fn audit(tree: &[u8], bitfield: &[u8], content: &[u8], n: u64, size: u64) ->
     match copy_checks::judge_partly(tree, bitfield, content, n, size) {
         Answer::Refused(refusal) => Answer::Refused(refusal),
         Answer::Done => match entries::wrong_entry(tree, bitfield, content, n, size) {
-            Found::At(i) => refusals::refuse_entry(10, i),
-            Found::Nothing => audit::wrong_byte(bitfield, n, true),
+            First::At(i) => answer_types::refuse_entry(10, i),
+            First::Nothing => audit::wrong_byte(bitfield, n, true),
         },
     }
 }

@@ -5,7 +5,7 @@ use mathlib.Core.Path.{_≡_, refl, sym, ap, _∙_}
 use mathlib.Core.Bool.{Bool, true, false}
 use native.Mathlib.Omega.{arith}
 use lib.Dec.{eqb}
-use Rattle.refusals.specs.Verdict.{tree, done, refused}
+use Rattle.answer_types.specs.Verdict.{tree, done, refused}
 use Rattle.byte_strings.specs.Lowest.{Lowest, nowhere, first}
 use Rattle.audit.specs.Audit.{refusedAt}
 use Rattle.lookup.specs.Descent.{Ending, reached, always, chunkWithin, byteWithin, descent}

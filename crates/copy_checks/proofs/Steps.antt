@@ -6,15 +6,15 @@ use mathlib.Core.List.{List, _++_}
 use native.Mathlib.Omega.{arith}
 use borrow.Author.Tests.{leb-true, le-leb}
 use lib.ListN.{length, take}
-use Rattle.refusals.specs.Verdict.{Spot, Verdict, none, tree, done, refused}
+use Rattle.answer_types.specs.Verdict.{Spot, Verdict, none, tree, done, refused}
 use Rattle.byte_strings.specs.Lowest.{Lowest, nowhere, first}
-use Rattle.byte_strings.proofs.Lists.{same-eq}
+use Rattle.byte_strings.proofs.Lists.{same-eq, same-of}
+use Rattle.byte_strings.proofs.Bools.{both-true}
 use Rattle.file_format.specs.Headers.{treeHeader, bitfieldHeader}
 use Rattle.file_format.specs.Sizes.{mostChunks, usedTree, usedBitfield}
 use Rattle.file_format.specs.Inner.{RootsIn}
 use Rattle.checks.specs.Checks.{Check, judged, countRight, holds, headed, addsUp}
-use Rattle.checks.proofs.Judged.{AllRight, both-right, judged-right, judged-done, judged-refused, judged-append}
-use Rattle.checks.proofs.Passed.{same-of}
+use Rattle.checks.proofs.Judged.{AllRight, judged-right, judged-done, judged-refused, judged-append}
 use Rattle.audit.specs.Audit.{refusedAt}
 use Rattle.audit.specs.BitfieldEntries.{BitsIn}
 use Rattle.copy_checks.specs.Copy.{Copy}
@@ -56,8 +56,8 @@ answered c v a b d e f g w =
 pub heads-room : (c : Copy) → longRight c ≡ true → (32 ≤ length (c .tree)) × (32 ≤ length (c .bitfield))
 unfolding longRight usedTree usedBitfield
 heads-room c e =
-    let a = both-right _ _ e in
-    let b = both-right _ _ (a .1) in
+    let a = both-true _ _ e in
+    let b = both-true _ _ (a .1) in
     let t = leb-true (usedTree (c .n)) (length (c .tree)) (a .0) in
     let f = leb-true (usedBitfield (c .n)) (length (c .bitfield)) (b .0) in
     (omega arith, omega arith)

@@ -1,43 +1,36 @@
 // Partial copies: which of a copy's roots is unknown, and the checks of a call on a copy. They only read, so that a refused call has changed
 // nothing.
-use lookup::Unknown;
-use number_types::TreeIndex;
-use refusals::Answer;
+use answer_types::Answer;
+use lookup::First;
 ghost use mathlib.Core.Path.{_≡_};
 ghost use Prim.Native.Nat.{_≤_};
 ghost use lib.ListN.{length};
-ghost use Rattle.refusals.specs.Verdict.{done};
-ghost use Rattle.refusals.specs.Meaning.{said};
+ghost use Rattle.answer_types.specs.Verdict.{done};
+ghost use Rattle.answer_types.specs.Meaning.{said};
 ghost use Rattle.tree_index.specs.Tree.{roots};
 ghost use Rattle.bitfield.specs.Known.{storedKnown};
 ghost use Rattle.checks.specs.Checks.{judged, addsUp};
 ghost use Rattle.file_format.specs.Inner.{RootsIn};
 ghost use Rattle.audit.specs.BitfieldEntries.{BitsIn};
-ghost use Rattle.lookup.specs.Unknown.{firstUnknown, unknownOf};
+ghost use Rattle.lookup.specs.Unknown.{firstUnknown, firstEntry};
 ghost use Rattle.copy_checks.specs.Copy.{copyOf};
 ghost use Rattle.copy_checks.specs.Least.{lowerOf};
 ghost use Rattle.copy_checks.specs.Checks.{lentChecks, sizeCheck, copyJudged, partlyJudged};
-ghost use Rattle.copy_checks.specs.Meaning.{foundOf, longRight, headsRight};
-
-// The lowest tree index that a search finds.
-pub enum Found {
-    At(TreeIndex),
-    Nothing,
-}
+ghost use Rattle.copy_checks.specs.Meaning.{longRight, headsRight};
 
 // The lower of two.
-pub fn lower_of(a: Found, b: Found) -> Found
-    ensures { λ r. ⌜ foundOf r ≡ lowerOf (foundOf a) (foundOf b) ⌝ }
+pub fn lower_of(a: First, b: First) -> First
+    ensures { λ r. ⌜ firstEntry r ≡ lowerOf (firstEntry a) (firstEntry b) ⌝ }
 {
     match a {
-        Found::Nothing => b,
-        Found::At(i) => match b {
-            Found::Nothing => Found::At(i),
-            Found::At(j) => {
+        First::Nothing => b,
+        First::At(i) => match b {
+            First::Nothing => First::At(i),
+            First::At(j) => {
                 if i.0 < j.0 {
-                    Found::At(i)
+                    First::At(i)
                 } else {
-                    Found::At(j)
+                    First::At(j)
                 }
             }
         },
@@ -45,9 +38,9 @@ pub fn lower_of(a: Found, b: Found) -> Found
 }
 
 // Inner: the first of the roots of n chunks, from the left, that is not known.
-pub fn unknown_root(bitfield: &[u8], n: u64) -> Unknown
+pub fn unknown_root(bitfield: &[u8], n: u64) -> First
     requires { ⌜ BitsIn (now bitfield) n ⌝ }
-    ensures { λ r. ⌜ unknownOf r ≡ firstUnknown (storedKnown (now (bitfield .entry))) (roots n) ⌝ }
+    ensures { λ r. ⌜ firstEntry r ≡ firstUnknown (storedKnown (now (bitfield .entry))) (roots n) ⌝ }
 {
     let count = tree_index::root_count(n);
     let indexes = tree_index::root_indexes(n);
@@ -55,11 +48,11 @@ pub fn unknown_root(bitfield: &[u8], n: u64) -> Unknown
     while j < count {
         let i = indexes[j];
         if !bitfield::is_known(bitfield, i) {
-            return Unknown::At(i);
+            return First::At(i);
         }
         j += 1;
     }
-    Unknown::Nothing
+    First::Nothing
 }
 
 // "4. A buffer is shorter than its used size." Inner: n is no larger than check 2 lets pass.
@@ -94,13 +87,13 @@ fn judge_lent(tree: &[u8], bitfield: &[u8], content: &[u8], n: u64, size: u64) -
     ensures { λ r. ⌜ said r ≡ judged (lentChecks (copyOf (now (tree .entry)) (now (bitfield .entry)) (now (content .entry)) n size)) done ⌝ }
 {
     if 1048576 < n {
-        return refusals::refuse(2);
+        return answer_types::refuse(2);
     }
     if !long_right(tree, bitfield, content, n, size) {
-        return refusals::refuse(4);
+        return answer_types::refuse(4);
     }
     if !heads_right(tree, bitfield) {
-        return refusals::refuse(5);
+        return answer_types::refuse(5);
     }
     Answer::Done
 }
@@ -113,7 +106,7 @@ fn judge_size(tree: &[u8], n: u64, size: u64) -> Answer
     if file_format::roots::adds_up(tree, n, size) {
         return Answer::Done;
     }
-    refusals::refuse(6)
+    answer_types::refuse(6)
 }
 
 // The checks of a call on a copy but the taking in and the audit: 2, 4, 5, 20 at the first unknown root from the left, 6.
@@ -123,8 +116,8 @@ pub fn judge(tree: &[u8], bitfield: &[u8], content: &[u8], n: u64, size: u64) ->
     match judge_lent(tree, bitfield, content, n, size) {
         Answer::Refused(refusal) => Answer::Refused(refusal),
         Answer::Done => match unknown_root(bitfield, n) {
-            Unknown::At(i) => refusals::refuse_entry(20, i),
-            Unknown::Nothing => judge_size(tree, n, size),
+            First::At(i) => answer_types::refuse_entry(20, i),
+            First::Nothing => judge_size(tree, n, size),
         },
     }
 }
@@ -136,8 +129,8 @@ pub fn judge_partly(tree: &[u8], bitfield: &[u8], content: &[u8], n: u64, size: 
     match judge_lent(tree, bitfield, content, n, size) {
         Answer::Refused(refusal) => Answer::Refused(refusal),
         Answer::Done => match unknown_root(bitfield, n) {
-            Unknown::At(_) => Answer::Done,
-            Unknown::Nothing => judge_size(tree, n, size),
+            First::At(_) => Answer::Done,
+            First::Nothing => judge_size(tree, n, size),
         },
     }
 }

@@ -6,7 +6,7 @@ use mathlib.Core.Bool.{Bool, true, false, cond}
 use mathlib.Core.List.{List, [], _∷_}
 use native.Mathlib.Omega.{arith}
 use lib.Dec.{ltb}
-use Rattle.refusals.specs.Verdict.{Spot, Verdict, tree, done, refused}
+use Rattle.answer_types.specs.Verdict.{Spot, Verdict, tree, done, refused, andThen}
 use Rattle.byte_strings.specs.Lists.{sameList}
 use Rattle.tree_index.specs.Tree.{index}
 use Rattle.bitfield.specs.Release.{storedHeld}
@@ -17,7 +17,7 @@ use Rattle.checks.proofs.Judged.{judged-right, judged-done, judged-append}
 use Rattle.checks.proofs.Passed.{passes}
 use Rattle.lookup.specs.Descent.{Ending}
 use Rattle.lookup.specs.Lookup.{Found, found, foundUnless, startOf, stopRefused, toChunk, heldVerdict, heldPlaceOf}
-use Rattle.lookup.specs.Read.{chunkBytes, andThen, readVerdict}
+use Rattle.lookup.specs.Read.{chunkBytes, readVerdict}
 use Rattle.lookup.specs.Meaning.{readFound}
 use Rattle.copy_checks.specs.Copy.{Copy, unsigned}
 use Rattle.copy_checks.specs.Descents.{copyToChunk}

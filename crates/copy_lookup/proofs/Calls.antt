@@ -2,21 +2,18 @@
 -- Assumes nothing.
 use Prim.Native.Nat.{ℕ, _+_, _-_, _^_, _≤_, _<_}
 use mathlib.Core.Path.{_≡_, refl, sym, ap, _∙_}
-use mathlib.Core.Bool.{true, cond}
-use mathlib.Core.List.{List, [], _∷_}
-use lib.Dec.{leb, ltb}
+use mathlib.Core.Bool.{true}
+use mathlib.Core.List.{List, []}
 use lib.ListN.{length, take, drop}
-use Rattle.refusals.specs.Verdict.{Spot, Verdict, tree, done, refused}
+use Rattle.answer_types.specs.Verdict.{Spot, Verdict, done, refused}
+use Rattle.byte_strings.specs.Lists.{part}
 use Rattle.tree_index.specs.Tree.{index}
-use Rattle.bitfield.specs.Release.{storedHeld}
 use Rattle.file_format.specs.Stored.{storedSize}
-use Rattle.checks.specs.Checks.{judged}
 use Rattle.checks.proofs.Passed.{passes}
-use Rattle.lookup.specs.Descent.{Ending}
-use Rattle.lookup.specs.Lookup.{Found, refusal, found, foundUnless, stopRefused, chunkOf, startOf, toChunk}
+use Rattle.lookup.specs.Lookup.{Found, refusal, found, foundUnless, foundBehind, chunkOf, startOf, toChunk}
 use Rattle.lookup.specs.Inner.{SearchedFor, SearchedHeld, placeIn, heldPlaceIn, byteIn}
 use Rattle.lookup.specs.Read.{chunkBytes, partUnless, readPart}
-use Rattle.lookup.specs.Meaning.{PlacedIn, hashJudged}
+use Rattle.lookup.specs.Meaning.{verdictFound, PartIn, bytesFound, PlacedIn, hashJudged}
 use Rattle.lookup.proofs.Calls.{searched, found-refused, placed-in, hash-behind, lying}
 use Rattle.copy_checks.specs.Copy.{Copy, known, unsigned}
 use Rattle.copy_checks.specs.Descents.{copyToChunk, copyToByte}
@@ -29,56 +26,25 @@ use Rattle.copy_lookup.proofs.AsRegister.{held-place-by, held-place-as,
 
 -- ---- behind the checks of a copy
 
-found-refused-before : (c : Copy) (next : Verdict) (a b m : ℕ) (at : Spot) → refused m at ≡ copyJudged c done
-    → refusal m at ≡ foundUnless (copyJudged c next) a b
-found-refused-before c next a b m at e = sym (ap (λ (v : Verdict). foundUnless v a b) (copy-refused-by c next m at (sym e)))
+module _ (c : Copy) (v : Verdict) (e : v ≡ copyJudged c done) where
+  behind : (next : Verdict) (a b : ℕ) → foundBehind v (foundUnless next a b) ≡ foundUnless (copyJudged c next) a b
+  behind next a b = go v e
+    where
+      go : (w : Verdict) → w ≡ copyJudged c done → foundBehind w (foundUnless next a b) ≡ foundUnless (copyJudged c next) a b
+      go done f = ap (λ (x : Verdict). foundUnless x a b) (sym (copy-passes c next (copy-passed c done (sym f) .0)))
+      go (refused m at) f = ap (λ (x : Verdict). foundUnless x a b) (sym (copy-refused-by c next m at (sym f)))
 
-found-passed : (c : Copy) (next : Verdict) (a b : ℕ) → done ≡ copyJudged c done → foundUnless next a b ≡ foundUnless (copyJudged c next) a b
-found-passed c next a b e = sym (ap (λ (v : Verdict). foundUnless v a b) (copy-passes c next (copy-passed c done (sym e) .0)))
-
-module _ (c : Copy) (i : ℕ) where
-  abbrev start : ℕ
-  start = startOf (copyToChunk c i)
-
-  abbrev long : ℕ
-  long = storedSize (c .tree) (index 0 i)
-
-  abbrev placed : Verdict
-  placed = judged (record { number = 9; right = ltb i (c .n) } ∷ []) (stopRefused (copyToChunk c i))
-
-  abbrev held : Verdict
-  held = judged (record { number = 9; right = ltb i (c .n) } ∷ []) (cond (storedHeld (c .bitfield) i) (stopRefused (copyToChunk c i)) (refused 18 (tree (index 0 i))))
-
-  pub place-refused : (m : ℕ) (at : Spot) → refused m at ≡ copyJudged c done → refusal m at ≡ copyPlaceOf c i
-  unfolding copyPlaceOf copyPlaceVerdict
-  place-refused = found-refused-before c placed start long
-
-  pub place-passed : done ≡ copyJudged c done → placeIn (known c) (c .tree) (c .n) i ≡ copyPlaceOf c i
+  pub place-by : (i : ℕ) → foundBehind v (placeIn (known c) (c .tree) (c .n) i) ≡ copyPlaceOf c i
   unfolding copyPlaceOf copyPlaceVerdict placeIn copyToChunk
-  place-passed = found-passed c placed start long
+  place-by i = behind _ (startOf (copyToChunk c i)) (storedSize (c .tree) (index 0 i))
 
-  pub held-refused : (m : ℕ) (at : Spot) → refused m at ≡ copyJudged c done → refusal m at ≡ copyHeldPlaceOf c i
-  unfolding copyHeldPlaceOf copyHeldVerdict
-  held-refused = found-refused-before c held start long
-
-  pub held-passed : done ≡ copyJudged c done → heldPlaceIn (known c) (c .tree) (c .n) (c .bitfield) i ≡ copyHeldPlaceOf c i
+  pub held-by : (i : ℕ) → foundBehind v (heldPlaceIn (known c) (c .tree) (c .n) (c .bitfield) i) ≡ copyHeldPlaceOf c i
   unfolding copyHeldPlaceOf copyHeldVerdict heldPlaceIn copyToChunk
-  held-passed = found-passed c held start long
+  held-by i = behind _ (startOf (copyToChunk c i)) (storedSize (c .tree) (index 0 i))
 
-module _ (c : Copy) (b : ℕ) where
-  abbrev ending : Ending
-  ending = copyToByte c b
-
-  abbrev located : Verdict
-  located = judged (record { number = 9; right = leb b (c .size) } ∷ []) (stopRefused (copyToByte c b))
-
-  pub byte-refused : (m : ℕ) (at : Spot) → refused m at ≡ copyJudged c done → refusal m at ≡ copyByteAt c b
-  unfolding copyByteAt copyByteVerdict
-  byte-refused = found-refused-before c located (chunkOf ending) (b - startOf ending)
-
-  pub byte-passed : done ≡ copyJudged c done → byteIn (known c) (c .tree) (c .n) (c .size) b ≡ copyByteAt c b
+  pub byte-by : (b : ℕ) → foundBehind v (byteIn (known c) (c .tree) (c .n) (c .size) b) ≡ copyByteAt c b
   unfolding copyByteAt copyByteVerdict byteIn copyToByte
-  byte-passed = found-passed c located (chunkOf ending) (b - startOf ending)
+  byte-by b = behind _ (chunkOf (copyToByte c b)) (b - startOf (copyToByte c b))
 
 -- what passes them may be searched
 pub copy-searched : (c : Copy) → done ≡ copyJudged c done → c .size < 2 ^ 64 → SearchedFor true (c .tree) (c .bitfield) (c .n) (c .size)
@@ -134,3 +100,17 @@ module _ (F : List ℕ → List ℕ) (c : Copy) (i : ℕ) where
   copy-nothing m at e =
       let v = found-refused (copyReadVerdict F c i) (startOf (toChunk (unsigned c) i)) (startOf (toChunk (unsigned c) i) + storedSize (c .tree) (index 0 i)) m at e in
       (sym v, sym (ap (λ (x : Verdict). partUnless F x (chunkBytes (unsigned c) i)) v))
+
+  -- so what was verified, p, is what the read answers and hands back
+  pub read-in : (p : Found) → p ≡ copyReadFound F c i → PartIn (c .content) p
+  read-in (refusal m at) e = tt
+  read-in (found from end) e = let l = copy-lying from end e in (l .ordered, l .inside)
+
+  pub read-says : (p : Found) → p ≡ copyReadFound F c i → verdictFound p ≡ copyReadVerdict F c i
+  read-says (refusal m at) e = copy-nothing m at e .0
+  read-says (found from end) e = copy-lying from end e .verdict
+
+  pub read-bytes : (p : Found) → p ≡ copyReadFound F c i → bytesFound (c .content) p ≡ copyReadPart F c i
+  unfolding part
+  read-bytes (refusal m at) e = copy-nothing m at e .1
+  read-bytes (found from end) e = copy-lying from end e .same

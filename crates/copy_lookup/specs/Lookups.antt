@@ -3,7 +3,7 @@ use Prim.Native.Nat.{ℕ, _-_}
 use mathlib.Core.Bool.{cond}
 use mathlib.Core.List.{[], _∷_}
 use lib.Dec.{leb, ltb}
-use Rattle.refusals.specs.Verdict.{Verdict, tree, refused}
+use Rattle.answer_types.specs.Verdict.{Verdict, tree, refused}
 use Rattle.tree_index.specs.Tree.{index}
 use Rattle.bitfield.specs.Release.{storedHeld}
 use Rattle.file_format.specs.Stored.{storedSize}

@@ -2,13 +2,13 @@
 use Prim.Native.Nat.{ℕ, _+_}
 use mathlib.Core.Bool.{cond}
 use mathlib.Core.List.{List}
-use Rattle.refusals.specs.Verdict.{Verdict, tree, done, refused}
+use Rattle.answer_types.specs.Verdict.{Verdict, tree, done, refused, andThen}
 use Rattle.byte_strings.specs.Lists.{sameList}
 use Rattle.tree_index.specs.Tree.{index}
 use Rattle.file_format.specs.Messages.{leafMessage}
 use Rattle.file_format.specs.Stored.{storedHash, storedSize}
 use Rattle.lookup.specs.Lookup.{Found, foundUnless, startOf, toChunk}
-use Rattle.lookup.specs.Read.{chunkBytes, andThen, partUnless}
+use Rattle.lookup.specs.Read.{chunkBytes, partUnless}
 use Rattle.copy_checks.specs.Copy.{Copy, unsigned}
 use Rattle.copy_lookup.specs.Lookups.{copyHeldVerdict}
 

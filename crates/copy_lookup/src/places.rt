@@ -4,7 +4,6 @@ use lookup::Located;
 use lookup::Placed;
 use number_types::ByteOffset;
 use number_types::ChunkNumber;
-use refusals::Answer;
 ghost use mathlib.Core.Path.{_≡_};
 ghost use Rattle.lookup.specs.Meaning.{placedOf, locatedOf};
 ghost use Rattle.copy_checks.specs.Copy.{copyOf};
@@ -25,10 +24,8 @@ pub fn place(
         copyPlaceOf (copyOf (now (tree .entry)) (now (bitfield .entry)) (now (content .entry)) n size) (chunk .0)
         ⌝ }
 {
-    match copy_checks::judge(tree, bitfield, content, n, size) {
-        Answer::Refused(refusal) => Placed::Refused(refusal),
-        Answer::Done => lookup::place_in(tree, bitfield, true, n, chunk),
-    }
+    let checked = copy_checks::judge(tree, bitfield, content, n, size);
+    lookup::place_behind(checked, tree, bitfield, true, n, chunk)
 }
 
 // Start and length of a chunk that is held: what a read and a release decide by. The place lookup's refusals, with 18 just after 9.
@@ -46,10 +43,8 @@ pub fn held_place(
         copyHeldPlaceOf (copyOf (now (tree .entry)) (now (bitfield .entry)) (now (content .entry)) n size) (chunk .0)
         ⌝ }
 {
-    match copy_checks::judge(tree, bitfield, content, n, size) {
-        Answer::Refused(refusal) => Placed::Refused(refusal),
-        Answer::Done => lookup::held_place_in(tree, bitfield, true, n, chunk),
-    }
+    let checked = copy_checks::judge(tree, bitfield, content, n, size);
+    lookup::held_place_behind(checked, tree, bitfield, true, n, chunk)
 }
 
 // The chunk whose bytes contain an offset, and the offset less its start; never an empty chunk. At the data size n and 0.
@@ -67,8 +62,6 @@ pub fn locate(
         copyByteAt (copyOf (now (tree .entry)) (now (bitfield .entry)) (now (content .entry)) n size) (offset .0)
         ⌝ }
 {
-    match copy_checks::judge(tree, bitfield, content, n, size) {
-        Answer::Refused(refusal) => Located::Refused(refusal),
-        Answer::Done => lookup::locate_in(tree, bitfield, true, n, size, offset),
-    }
+    let checked = copy_checks::judge(tree, bitfield, content, n, size);
+    lookup::locate_behind(checked, tree, bitfield, true, n, size, offset)
 }

@@ -1,9 +1,9 @@
 // The verified read on a copy.
+use answer_types::Answer;
 use lookup::Verified;
 use number_types::ChunkNumber;
-use refusals::Answer;
 ghost use mathlib.Core.Path.{_≡_};
-ghost use Rattle.refusals.specs.Meaning.{said};
+ghost use Rattle.answer_types.specs.Meaning.{said};
 ghost use Rattle.blake2b.specs.Hash.{nodeHash};
 ghost use Rattle.lookup.specs.Meaning.{verifiedOf};
 ghost use Rattle.copy_checks.specs.Copy.{copyOf};
@@ -43,14 +43,8 @@ pub fn read<'a>(
         copyReadPart nodeHash (copyOf (now (tree .entry)) (now (bitfield .entry)) (now (content .entry)) n size) (chunk .0)
         ⌝ }
 {
-    match verify(tree, bitfield, content, n, size, chunk) {
-        Verified::Part(start, end) => {
-            let from = start.0 as usize;
-            let to = end.0 as usize;
-            &content[from..to]
-        }
-        Verified::Refused(_) => &content[0..0],
-    }
+    let verified = verify(tree, bitfield, content, n, size, chunk);
+    lookup::bytes_of(content, verified)
 }
 
 // Beside a read: whether it is done, or its refusal.
@@ -68,8 +62,6 @@ pub fn read_answer(
         copyReadVerdict nodeHash (copyOf (now (tree .entry)) (now (bitfield .entry)) (now (content .entry)) n size) (chunk .0)
         ⌝ }
 {
-    match verify(tree, bitfield, content, n, size, chunk) {
-        Verified::Part(_, _) => Answer::Done,
-        Verified::Refused(refusal) => Answer::Refused(refusal),
-    }
+    let verified = verify(tree, bitfield, content, n, size, chunk);
+    lookup::answer_of(verified)
 }

@@ -6,7 +6,7 @@ use mathlib.Core.List.{List, _++_}
 use native.Mathlib.Omega.{arith}
 use borrow.Author.Tests.{leb-true}
 use lib.ListN.{length}
-use Rattle.refusals.specs.Verdict.{Spot, Verdict, none, done, refused, unlessRefused}
+use Rattle.answer_types.specs.Verdict.{Spot, Verdict, none, done, refused, unlessRefused}
 use Rattle.byte_strings.specs.Lists.{put, zeros}
 use Rattle.byte_strings.proofs.Lists.{put-append}
 use Rattle.tree_index.specs.Tree.{entries}

@@ -3,7 +3,7 @@ use Prim.Native.Nat.{_+_, _*_, _≤_}
 use mathlib.Core.Path.{_≡_}
 use mathlib.Core.List.{List, [], _∷_, _++_}
 use lib.ListN.{length}
-use Rattle.refusals.specs.Verdict.{Verdict, done, unlessRefused}
+use Rattle.answer_types.specs.Verdict.{Verdict, done, unlessRefused}
 use Rattle.byte_strings.specs.Lists.{put, zeros}
 use Rattle.tree_index.specs.Tree.{entries}
 use Rattle.bitfield.specs.Image.{entryCount}

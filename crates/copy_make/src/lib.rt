@@ -1,10 +1,10 @@
 // Making a partial copy: "headers, zero entries, zero bits and zero data". Everything is judged before a byte is written.
-use refusals::Answer;
+use answer_types::Answer;
 ghost use mathlib.Core.Path.{_≡_};
 ghost use mathlib.Core.List.{_++_};
 ghost use Prim.Native.Nat.{_+_, _≤_};
 ghost use lib.ListN.{length};
-ghost use Rattle.refusals.specs.Meaning.{said};
+ghost use Rattle.answer_types.specs.Meaning.{said};
 ghost use Rattle.byte_strings.specs.Lists.{put, zeros};
 ghost use Rattle.copy_checks.specs.Copy.{filesOf, filesLent, copyOf};
 ghost use Rattle.copy_make.specs.Make.{makeVerdict, madeCopy, MakePost, Roomy};
@@ -14,10 +14,10 @@ fn judge(tree: &[u8], bitfield: &[u8], content: &[u8], n: u64, size: u64) -> Ans
     ensures { λ r. ⌜ said r ≡ makeVerdict (copyOf (now (tree .entry)) (now (bitfield .entry)) (now (content .entry)) n size) ⌝ }
 {
     if 1048576 < n {
-        return refusals::refuse(2);
+        return answer_types::refuse(2);
     }
     if !copy_checks::long_right(tree, bitfield, content, n, size) {
-        return refusals::refuse(14);
+        return answer_types::refuse(14);
     }
     Answer::Done
 }

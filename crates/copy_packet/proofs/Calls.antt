@@ -3,12 +3,12 @@ use Prim.Native.Nat.{ℕ, _-_}
 use mathlib.Core.Path.{_≡_, sym, ap, _∙_}
 use mathlib.Core.List.{List}
 use lib.ListN.{length, take, drop}
-use Rattle.refusals.specs.Verdict.{Verdict, done, unlessRefused}
-use Rattle.refusals.specs.Meaning.{refusalOf}
-use Rattle.refusals.specs.declared.Refusal.{Refusal}
+use Rattle.answer_types.specs.Verdict.{Verdict, done, unlessRefused, andThen}
+use Rattle.answer_types.specs.Meaning.{refusalOf}
+use Rattle.answer_types.specs.declared.Refusal.{Refusal}
 use Rattle.checks.specs.Checks.{holds}
 use Rattle.lookup.specs.Lookup.{found, toChunk}
-use Rattle.lookup.specs.Read.{chunkBytes, andThen}
+use Rattle.lookup.specs.Read.{chunkBytes}
 use Rattle.lookup.proofs.Calls.{Lying, lying}
 use Rattle.packet.specs.Packet.{packetOf, roomOr14, makeVerdict, madeLength, afterMake, packetWith}
 use Rattle.packet.specs.Post.{MadeOf}

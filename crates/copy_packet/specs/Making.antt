@@ -2,9 +2,8 @@
 use Prim.Native.Nat.{ℕ}
 use mathlib.Core.List.{List}
 use lib.ListN.{length}
-use Rattle.refusals.specs.Verdict.{Verdict, unlessRefused}
+use Rattle.answer_types.specs.Verdict.{Verdict, unlessRefused, andThen}
 use Rattle.checks.specs.Checks.{holds}
-use Rattle.lookup.specs.Read.{andThen}
 use Rattle.packet.specs.Packet.{packetOf, roomOr14}
 use Rattle.copy_checks.specs.Copy.{Copy, unsigned}
 use Rattle.byte_strings.specs.Lists.{put}

@@ -2,7 +2,7 @@
 use Prim.Native.Nat.{ℕ}
 use mathlib.Core.Bool.{Bool}
 use mathlib.Core.List.{List}
-use Rattle.refusals.specs.Verdict.{Verdict, done}
+use Rattle.answer_types.specs.Verdict.{Verdict, done}
 use Rattle.record_fields.specs.declared.rows.Part.{Part}
 use Rattle.record_node.specs.declared.reading.Node.{Node as CodeNode}
 use Rattle.record_find.specs.ChunkRecords.{headerAfter, nodeAfter, pathAfter}

@@ -3,7 +3,7 @@ use Prim.Native.Nat.{ℕ, suc}
 use mathlib.Core.Path.{_≡_}
 use mathlib.Core.List.{List}
 use lib.ListN.{length}
-use Rattle.refusals.specs.Verdict.{done}
+use Rattle.answer_types.specs.Verdict.{done}
 use Rattle.record_format.specs.Records.{Header, Node}
 use Rattle.record_find.specs.Theorems.{Highest, Reading}
 use Rattle.copy_checks.specs.Copy.{Copy}

@@ -1,10 +1,10 @@
 // The record of a chunk of a copy: the read's own refusals, then number 15 at the leaf's tree index.
+use answer_types::Answer;
 use lookup::Verified;
 use number_types::ChunkNumber;
 use record_find::Compared;
 use record_format::HeaderRead;
 use record_node::NodeRead;
-use refusals::Answer;
 ghost use Rattle.blake2b.specs.Hash.{nodeHash};
 ghost use Rattle.copy_checks.specs.Copy.{copyOf};
 ghost use mathlib.Core.Path.{_≡_};

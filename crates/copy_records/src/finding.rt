@@ -1,9 +1,9 @@
 // A path sought among the records of a copy.
+use answer_types::Answer;
 use number_types::ChunkNumber;
 use record_find::Compared;
 use record_find::Found;
 use record_format::HeaderRead;
-use refusals::Answer;
 ghost use mathlib.Core.Path.{_≡_};
 ghost use Prim.Native.Nat.{_-_};
 ghost use Rattle.blake2b.specs.Hash.{nodeHash};

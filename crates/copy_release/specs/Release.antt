@@ -1,6 +1,6 @@
 -- The release on a copy.
 use Prim.Native.Nat.{ℕ}
-use Rattle.refusals.specs.Verdict.{Verdict, unlessRefused}
+use Rattle.answer_types.specs.Verdict.{Verdict, unlessRefused}
 use Rattle.release.specs.Release.{releasedRegister}
 use Rattle.copy_checks.specs.Copy.{Copy, Files, filesOf, unsigned, lentAsCopy}
 use Rattle.copy_lookup.specs.Lookups.{copyHeldVerdict}

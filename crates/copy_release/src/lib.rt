@@ -1,8 +1,7 @@
 // Releasing a chunk of a partial copy. Everything is judged before a byte is written.
-use lookup::Placed;
+use answer_types::Answer;
 use number_types::ChunkNumber;
-use refusals::Answer;
-ghost use Rattle.refusals.specs.Meaning.{said};
+ghost use Rattle.answer_types.specs.Meaning.{said};
 ghost use Rattle.copy_checks.specs.Copy.{copyOf, filesLent};
 ghost use Rattle.copy_release.specs.Post.{ReleasePost};
 
@@ -21,12 +20,6 @@ pub fn release(
         (filesLent (now (tree .exit)) (now (bitfield .exit)) (now (content .exit)))
         ⌝ }
 {
-    let found = copy_lookup::held_place(tree, bitfield, content, n, size, chunk);
-    match found {
-        Placed::Refused(refusal) => Answer::Refused(refusal),
-        Placed::At(start, length) => {
-            release::clear_chunk(bitfield, content, chunk, start, length);
-            Answer::Done
-        }
-    }
+    let placed = copy_lookup::held_place(tree, bitfield, content, n, size, chunk);
+    release::release_placed(bitfield, content, chunk, placed)
 }

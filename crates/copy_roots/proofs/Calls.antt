@@ -4,8 +4,7 @@ use mathlib.Core.Path.{_≡_, sym, ap, _∙_}
 use mathlib.Core.List.{List}
 use native.Mathlib.Omega.{arith}
 use borrow.Author.Tests.{le-leb}
-use Rattle.refusals.specs.Verdict.{Spot, Verdict, tree, done, refused}
-use Rattle.byte_strings.specs.Lowest.{Lowest}
+use Rattle.answer_types.specs.Verdict.{Spot, Verdict, tree, done, refused}
 use Rattle.tree_index.specs.Tree.{roots, entries}
 use Rattle.blake2b.specs.Hash.{nodeHash}
 use Rattle.bitfield.specs.Image.{entryCount}
@@ -15,17 +14,17 @@ use Rattle.checks.specs.Checks.{judged}
 use Rattle.checks.proofs.Judged.{judged-right, judged-done, judged-refused}
 use Rattle.audit.specs.Audit.{refusedAt}
 use Rattle.audit.specs.BitfieldEntries.{BitsIn}
-use Rattle.prefix_root.specs.PrefixRoot.{ownChecks, ownVerdict}
+use Rattle.prefix_root.specs.PrefixRoot.{ownChecks, ownVerdict, rootUnless, RootedPost}
 use Rattle.prefix_root.proofs.Calls.{own-passed}
-use Rattle.search.specs.Search.{firstMissing, refusal, answer, soughtUnless}
+use Rattle.search.specs.Search.{firstMissing, soughtUnless}
 use Rattle.search.specs.Inner.{DataIn}
 use Rattle.search.proofs.Steps.{data-in}
 use Rattle.copy_checks.specs.Copy.{Copy, known}
 use Rattle.lookup.specs.Unknown.{firstUnknown}
 use Rattle.copy_checks.specs.Checks.{copyJudged}
 use Rattle.copy_checks.proofs.Steps.{Knowing, copy-passed, copy-passes, copy-refused-by, roots-in}
-use Rattle.copy_roots.specs.Roots.{copyRootVerdict, copyPrefixVerdict, rootUnless, copyRootAnswer, copyPrefixRoot, copySearch}
-use Rattle.copy_roots.specs.Post.{RootPost, PrefixRootPost, RootedPost}
+use Rattle.copy_roots.specs.Roots.{copyRootVerdict, copyPrefixVerdict, copyRootAnswer, copyPrefixRoot, copySearch}
+use Rattle.copy_roots.specs.Post.{RootPost, PrefixRootPost}
 
 -- ---- the root hash
 
@@ -90,15 +89,9 @@ module _ (c : Copy) (m : ℕ) where
 -- ---- the search
 
 module _ (c : Copy) (from : ℕ) where
-  by : (v : Verdict) → v ≡ copyJudged c done → soughtUnless v (firstMissing (c .bitfield) (c .n) from) ≡ copySearch c from
+  pub search-by : (v : Verdict) → v ≡ copyJudged c done → soughtUnless v (firstMissing (c .bitfield) (c .n) from) ≡ copySearch c from
   unfolding copySearch
-  by v e = ap (λ (x : Verdict). soughtUnless x (firstMissing (c .bitfield) (c .n) from)) e
-
-  pub search-refused : (m : ℕ) (at : Spot) → refused m at ≡ copyJudged c done → refusal m at ≡ copySearch c from
-  search-refused m at e = by (refused m at) e
-
-  pub search-passed : done ≡ copyJudged c done → (l : Lowest) → l ≡ firstMissing (c .bitfield) (c .n) from → answer l ≡ copySearch c from
-  search-passed e l f = ap answer f ∙ by done e
+  search-by v e = ap (λ (x : Verdict). soughtUnless x (firstMissing (c .bitfield) (c .n) from)) e
 
   pub search-room : done ≡ copyJudged c done → (c .n ≤ mostChunks) × DataIn (c .bitfield) (c .n)
   search-room e = let p = copy-passed c done (sym e) .0 .lent in (p .count, data-in (c .bitfield) (c .n) (p .bitfield))

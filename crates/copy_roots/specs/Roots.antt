@@ -1,13 +1,11 @@
 -- The root hash, root hashes of earlier years and the search on a copy.
 use Prim.Native.Nat.{ℕ}
 use mathlib.Core.List.{List}
-use Rattle.refusals.specs.Verdict.{Verdict, tree, done, unlessRefused}
-use Rattle.byte_strings.specs.Lists.{zeros}
+use Rattle.answer_types.specs.Verdict.{Verdict, tree, done}
 use Rattle.tree_index.specs.Tree.{roots}
-use Rattle.file_format.specs.Stored.{storedRootMessage}
 use Rattle.checks.specs.Checks.{judged}
 use Rattle.audit.specs.Audit.{refusedAt}
-use Rattle.prefix_root.specs.PrefixRoot.{ownChecks}
+use Rattle.prefix_root.specs.PrefixRoot.{ownChecks, rootUnless}
 use Rattle.search.specs.Search.{Sought, firstMissing, soughtUnless}
 use Rattle.copy_checks.specs.Copy.{Copy, known}
 use Rattle.lookup.specs.Unknown.{firstUnknown}
@@ -22,15 +20,11 @@ unfoldable pub copyPrefixVerdict : Copy → ℕ → Verdict
 copyPrefixVerdict c m = copyJudged c (judged (ownChecks (c .n) m) (refusedAt 20 tree (firstUnknown (known c) (roots m)) done))
 
 module _ (F : List ℕ → List ℕ) where
-  -- the hash of the root message that the stored roots of the first m chunks of a tree file give; zeros after a refusal
-  abbrev pub rootUnless : Verdict → List ℕ → ℕ → List ℕ
-  rootUnless v t m = unlessRefused v (F (storedRootMessage t m)) (zeros 32)
-
   unfoldable pub copyRootAnswer : Copy → List ℕ
-  copyRootAnswer c = rootUnless (copyRootVerdict c) (c .tree) (c .n)
+  copyRootAnswer c = rootUnless F (copyRootVerdict c) (c .tree) (c .n)
 
   unfoldable pub copyPrefixRoot : Copy → ℕ → List ℕ
-  copyPrefixRoot c m = rootUnless (copyPrefixVerdict c m) (c .tree) m
+  copyPrefixRoot c m = rootUnless F (copyPrefixVerdict c m) (c .tree) m
 
 -- the search reads data bits and the Index alone; 20 at a root is judged all the same, since 6 reads the roots
 unfoldable pub copySearch : Copy → ℕ → Sought

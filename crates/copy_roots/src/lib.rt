@@ -1,40 +1,21 @@
 // The root hash, root hashes of earlier years and the search on a partial copy. Its files are lent to be read.
-use bitfield::Found;
-use lookup::Unknown;
+use answer_types::Answer;
+use lookup::First;
 use number_types::ChunkNumber;
-use refusals::Answer;
 use search::Searched;
 use writing::Rooted;
 ghost use mathlib.Core.Path.{_≡_};
-ghost use Rattle.refusals.specs.Verdict.{tree, done};
-ghost use Rattle.refusals.specs.Meaning.{said};
+ghost use Rattle.answer_types.specs.Verdict.{tree, done};
+ghost use Rattle.answer_types.specs.Meaning.{said};
 ghost use Rattle.tree_index.specs.Tree.{roots};
 ghost use Rattle.bitfield.specs.Known.{storedKnown};
-ghost use Rattle.file_format.specs.Inner.{RootsIn};
 ghost use Rattle.audit.specs.Audit.{refusedAt};
 ghost use Rattle.audit.specs.BitfieldEntries.{BitsIn};
 ghost use Rattle.search.specs.Meaning.{searchedOf};
 ghost use Rattle.copy_checks.specs.Copy.{copyOf};
 ghost use Rattle.lookup.specs.Unknown.{firstUnknown};
 ghost use Rattle.copy_roots.specs.Roots.{copyPrefixVerdict, copySearch};
-ghost use Rattle.copy_roots.specs.Post.{RootPost, PrefixRootPost, RootedPost};
-
-// Inner: an answer, and beside it, where it is done, the root hash that the stored roots of the first m chunks give; zeros after a refusal.
-fn rooted(found: Answer, tree: &[u8], m: u64) -> Rooted
-    requires { ⌜ (said found ≡ done → RootsIn (now tree) m) ⌝ }
-    ensures { λ r. ⌜ RootedPost (said found) (now (tree .entry)) m (said (r .answer)) (r .root) ⌝ }
-{
-    match found {
-        Answer::Refused(refusal) => Rooted {
-            answer: Answer::Refused(refusal),
-            root: [0u8; 32],
-        },
-        Answer::Done => Rooted {
-            answer: Answer::Done,
-            root: file_format::roots::stored_root_hash(tree, m),
-        },
-    }
-}
+ghost use Rattle.copy_roots.specs.Post.{RootPost, PrefixRootPost};
 
 // The root hash that the stored roots of a copy give.
 pub fn root_hash(tree: &[u8], bitfield: &[u8], content: &[u8], n: u64, size: u64) -> Rooted
@@ -44,7 +25,7 @@ pub fn root_hash(tree: &[u8], bitfield: &[u8], content: &[u8], n: u64, size: u64
         ⌝ }
 {
     let found = copy_checks::judge(tree, bitfield, content, n, size);
-    rooted(found, tree, n)
+    prefix_root::rooted(found, tree, n)
 }
 
 // Inner: 20 at the first of the roots of m chunks, from the left, that is not known.
@@ -53,8 +34,8 @@ fn roots_known(bitfield: &[u8], m: u64) -> Answer
     ensures { λ r. ⌜ said r ≡ refusedAt 20 tree (firstUnknown (storedKnown (now (bitfield .entry))) (roots m)) done ⌝ }
 {
     match copy_checks::unknown_root(bitfield, m) {
-        Unknown::At(i) => refusals::refuse_entry(20, i),
-        Unknown::Nothing => Answer::Done,
+        First::At(i) => answer_types::refuse_entry(20, i),
+        First::Nothing => Answer::Done,
     }
 }
 
@@ -89,7 +70,7 @@ pub fn prefix_root_hash(
         ⌝ }
 {
     let found = judge_old(tree, bitfield, content, n, size, m);
-    rooted(found, tree, m)
+    prefix_root::rooted(found, tree, m)
 }
 
 // The first chunk of a copy that is not held, from a given number on.
@@ -106,11 +87,6 @@ pub fn search(
         searchedOf r ≡ copySearch (copyOf (now (tree .entry)) (now (bitfield .entry)) (now (content .entry)) n size) (from .0)
         ⌝ }
 {
-    match copy_checks::judge(tree, bitfield, content, n, size) {
-        Answer::Refused(refusal) => Searched::Refused(refusal),
-        Answer::Done => match search::by_runs(bitfield, from.0, n) {
-            Found::At(chunk) => Searched::At(chunk),
-            Found::Nothing => Searched::Nothing,
-        },
-    }
+    let checked = copy_checks::judge(tree, bitfield, content, n, size);
+    search::search_behind(checked, bitfield, n, from)
 }

@@ -3,7 +3,7 @@ use Prim.Native.Nat.{ℕ, _-_, _≤_}
 use mathlib.Core.Path.{_≡_, sym, ap}
 use mathlib.Core.Bool.{true}
 use lib.ListN.{length}
-use Rattle.refusals.specs.Verdict.{Verdict, done}
+use Rattle.answer_types.specs.Verdict.{Verdict, done}
 use Rattle.byte_strings.specs.Lowest.{lowest}
 use Rattle.bitfield.specs.Image.{entryCount}
 use Rattle.bitfield.specs.Append.{bitsPlace}
@@ -11,7 +11,8 @@ use Rattle.bitfield.specs.Release.{storedHeld}
 use Rattle.file_format.specs.Sizes.{usedBitfield}
 use Rattle.lookup.specs.Inner.{FilesIn}
 use Rattle.search.specs.Search.{soughtUnless}
-use Rattle.short_lookup.specs.ShortLookup.{shortPlaceIn, shortByteIn, foundBehind}
+use Rattle.lookup.specs.Lookup.{foundBehind}
+use Rattle.short_lookup.specs.ShortLookup.{shortPlaceIn, shortByteIn}
 use Rattle.copy_checks.specs.Copy.{Copy, known}
 use Rattle.copy_checks.specs.Checks.{copyJudged}
 use Rattle.copy_checks.proofs.Steps.{copy-passed, roots-in}

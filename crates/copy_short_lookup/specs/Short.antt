@@ -1,11 +1,11 @@
 -- The short lookups and the short search on a copy: a register's, behind the checks of a copy, which read the leaves that it knows.
 use Prim.Native.Nat.{ℕ, _-_}
-use Rattle.refusals.specs.Verdict.{done}
+use Rattle.answer_types.specs.Verdict.{done}
 use Rattle.byte_strings.specs.Lowest.{lowest}
 use Rattle.bitfield.specs.Release.{storedHeld}
-use Rattle.lookup.specs.Lookup.{Found}
+use Rattle.lookup.specs.Lookup.{Found, foundBehind}
 use Rattle.search.specs.Search.{Sought, soughtUnless}
-use Rattle.short_lookup.specs.ShortLookup.{shortPlaceIn, shortByteIn, foundBehind}
+use Rattle.short_lookup.specs.ShortLookup.{shortPlaceIn, shortByteIn}
 use Rattle.copy_checks.specs.Copy.{Copy, known}
 use Rattle.copy_checks.specs.Checks.{copyJudged}
 

@@ -16,7 +16,7 @@ use Rattle.file_format.specs.RootsByValue.{padded}
 use Rattle.file_format.proofs.Nodes.{Proper, entryBytes-length}
 use Rattle.packet.specs.Check.{entryIn, entriesIn, ordered, Step, stepsAbove, steps}
 use Rattle.packet.specs.Inner.{stepBytes, pathRow}
-use Rattle.packet.proofs.Climb.{ordered-size, left-first, right-first, odd}
+use Rattle.packet.proofs.Climb.{ordered-size, left-first, right-first, odd, steps-count}
 use Rattle.packet.proofs.Pieces.{entry-in}
 use Rattle.packet.proofs.Rows.{half}
 use Rattle.copy_take_in.specs.TakeIn.{Given, givenAt, ledTo}
@@ -51,11 +51,6 @@ led-given [] = refl
 led-given (s ∷ ss) = ap (λ (r : List Given). ledTo s ∷ r) (led-given ss)
 
 module _ (F : List ℕ → List ℕ) where
-  steps-many : (d k : ℕ) (e : Entry) (ss : List Entry) → length (stepsAbove F d k e ss) ≡ length ss
-  unfolding stepsAbove
-  steps-many d k e [] = refl
-  steps-many d k e (s ∷ ss) = ap suc (steps-many (d + 1) (k / 2) (ordered k (parentOf F) e s) ss)
-
   steps-at : (c d k : ℕ) (e : Entry) (ss : List Entry) → k ≡ c / 2 ^ d
       → map (λ (s : Step). s .at) (stepsAbove F d k e ss) ≡ run (λ h. index (h + 1) (c / 2 ^ (h + 1))) d (length ss)
   unfolding stepsAbove run
@@ -132,7 +127,7 @@ module _ (c : ℕ) (e : Entry) (ss : List Entry) (path is : List ℕ) (k : ℕ) 
 
   ups-many : length ups ≡ length ss
   unfolding ups
-  ups-many = map-many (λ (s : Step). s .entry) (stepsAbove nodeHash 0 c e ss) ∙ steps-many nodeHash 0 c e ss
+  ups-many = map-many (λ (s : Step). s .entry) (stepsAbove nodeHash 0 c e ss) ∙ steps-count nodeHash 0 c e ss
 
   up-proper : (j : ℕ) → j < length ss → Proper (getD ups j hole)
   unfolding ups

@@ -2,4 +2,12 @@
 pub mod Entries
 pub mod Paths
 pub mod Brings
-pub mod Calls
+pub mod Places
+pub mod Totals
+pub mod Knowable
+pub mod BroughtRows
+pub mod LowestFound
+pub mod Start
+pub mod HeldBytes
+pub mod Stages
+pub mod Written

@@ -1,10 +1,7 @@
 -- Laws of the way up and of its row. Assumes nothing.
-use Prim.Native.Nat.{ℕ, _+_, _-_}
+use Prim.Native.Nat.{ℕ, _-_}
 use mathlib.Core.Path.{_≡_, sym, ap, ap₂, _∙_}
-use mathlib.Core.List.{List, _++_, append-nil}
-use native.Mathlib.Omega.{arith}
-use lib.ListN.{length, drop, drop-of-length-le}
-use Rattle.byte_strings.specs.Lists.{put}
+use lib.ListN.{length}
 use Rattle.tree_index.specs.Tree.{roots}
 use Rattle.tree_index.specs.Numbers.{numbers}
 use Rattle.file_format.specs.RootsByValue.{padded}
@@ -16,11 +13,6 @@ use Rattle.copy_take_in.specs.Inner.{aboveRow, WayOf}
 use Rattle.copy_take_in.specs.declared.way.Way.{Way}
 
 -- ---- lists
-
-pub put-whole : (xs ys : List ℕ) → length xs ≡ length ys → put xs 0 ys ≡ ys
-unfolding put
-put-whole xs ys e =
-    ap (λ (r : List ℕ). ys ++ r) (drop-of-length-le xs {i = 0 + length ys} (omega arith)) ∙ append-nil ys
 
 -- ---- the way
 

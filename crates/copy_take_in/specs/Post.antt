@@ -3,10 +3,9 @@ use Prim.Native.Nat.{ℕ}
 use mathlib.Core.Path.{_≡_}
 use mathlib.Core.List.{List, [], _∷_}
 use lib.Dec.{eqb}
-use Rattle.refusals.specs.Verdict.{Verdict, tree, done, unlessRefused}
+use Rattle.answer_types.specs.Verdict.{Verdict, tree, done, unlessRefused, andThen}
 use Rattle.checks.specs.Checks.{judged}
 use Rattle.audit.specs.Audit.{refusedAt}
-use Rattle.lookup.specs.Read.{andThen}
 use Rattle.packet.specs.Check.{packetTotal, packetVerdict}
 use Rattle.copy_checks.specs.Copy.{Copy, Files, filesOf}
 use Rattle.copy_checks.specs.Checks.{partlyJudged}

@@ -5,7 +5,7 @@ use mathlib.Core.Bool.{cond}
 use mathlib.Core.List.{List, [], _∷_, _++_, map}
 use lib.Dec.{ltb, eqb}
 use lib.ListN.{length}
-use Rattle.refusals.specs.Verdict.{Verdict, tree, done, unlessRefused}
+use Rattle.answer_types.specs.Verdict.{Verdict, tree, done, unlessRefused, andThen}
 use Rattle.byte_strings.specs.Lists.{part, put, total, sameList}
 use Rattle.byte_strings.specs.Lowest.{Lowest, nowhere, first}
 use Rattle.tree_index.specs.Tree.{index}
@@ -16,7 +16,6 @@ use Rattle.file_format.specs.Sizes.{entryPlace}
 use Rattle.file_format.specs.Entries.{Entry, entryBytes}
 use Rattle.checks.specs.Checks.{judged}
 use Rattle.audit.specs.Audit.{refusedAt}
-use Rattle.lookup.specs.Read.{andThen}
 use Rattle.packet.specs.Packet.{siblings, otherRoots}
 use Rattle.packet.specs.Check.{packetChunk, siblingEntries, otherEntries, packetTotal, Step, steps, packetVerdict}
 use Rattle.copy_checks.specs.Copy.{Copy, Files, filesOf}

@@ -3,23 +3,23 @@
 mod rows;
 mod way;
 
-use copy_checks::Found;
+use answer_types::Answer;
+use lookup::First;
 use number_types::ChunkNumber;
 use packet::Checked;
 use packet::Node;
-use refusals::Answer;
 use way::Way;
 ghost use mathlib.Core.Path.{_≡_};
 ghost use Prim.Native.Nat.{_+_, _≤_};
 ghost use lib.Dec.{eqb};
 ghost use lib.ListN.{length};
-ghost use Rattle.refusals.specs.Verdict.{unlessRefused};
-ghost use Rattle.refusals.specs.Meaning.{said};
+ghost use Rattle.answer_types.specs.Verdict.{unlessRefused};
+ghost use Rattle.answer_types.specs.Meaning.{said};
 ghost use Rattle.blake2b.specs.Hash.{nodeHash};
 ghost use Rattle.packet.specs.Check.{packetTotal, siblingsPlace};
 ghost use Rattle.packet.specs.Inner.{handed, unhanded, handedOn};
 ghost use Rattle.copy_checks.specs.Copy.{copyOf, filesOf, filesLent};
-ghost use Rattle.copy_checks.specs.Meaning.{foundOf};
+ghost use Rattle.lookup.specs.Unknown.{firstEntry};
 ghost use Rattle.copy_take_in.specs.TakeIn.{brought, packetStart, contradictsBytes, contradiction, takenIn};
 ghost use Rattle.copy_take_in.specs.Inner.{WayOf, WithGiven, Fits, Room, Held, Ready};
 ghost use Rattle.copy_take_in.specs.Post.{TakePost, OwnPost, totalVerdict, sizeVerdict};
@@ -66,7 +66,7 @@ fn judge_packet(packet: &[u8], n: u64, size: u64, chunk: ChunkNumber, root: &[u8
             if total_right(packet, n, chunk, size) {
                 checked
             } else {
-                packet::unhashed(refusals::refuse(6))
+                packet::unhashed(answer_types::refuse(6))
             }
         }
     }
@@ -127,21 +127,21 @@ fn bytes_contradiction(
     chunk: ChunkNumber,
     start: usize,
     bytes: &[u8],
-) -> Found
+) -> First
     requires { ⌜ Held (now bitfield) (now content) (chunk .0) start (now bytes) ⌝ }
     ensures { λ r.
         ⌜
-        foundOf r ≡ contradictsBytes (now (bitfield .entry)) (now (content .entry)) (chunk .0) start (now (bytes .entry))
+        firstEntry r ≡ contradictsBytes (now (bitfield .entry)) (now (content .entry)) (chunk .0) start (now (bytes .entry))
         ⌝ }
 {
     if !bitfield::is_held(bitfield, chunk) {
-        return Found::Nothing;
+        return First::Nothing;
     }
     let end = start + bytes.len();
     if byte_strings::same(&content[start..end], bytes) {
-        return Found::Nothing;
+        return First::Nothing;
     }
-    Found::At(tree_index::leaf_index(chunk))
+    First::At(tree_index::leaf_index(chunk))
 }
 
 // Inner: the lowest tree index at which a packet contradicts what a copy knows.
@@ -156,11 +156,11 @@ fn contradiction_of(
     start: usize,
     row: &[u8],
     path: &[u8],
-) -> Found
+) -> First
     requires { ⌜ Ready (now tree) (now bitfield) (now content) (now packet) n (chunk .0) way start (now row) (now path) ⌝ }
     ensures { λ r.
         ⌜
-        foundOf r ≡
+        firstEntry r ≡
         contradiction nodeHash (copyOf (now (tree .entry)) (now (bitfield .entry)) (now (content .entry)) n 0) (now (packet .entry)) (chunk .0)
         ⌝ }
 {
@@ -288,8 +288,8 @@ fn take_checked(
         path,
     );
     match found {
-        Found::At(i) => refusals::refuse_entry(19, i),
-        Found::Nothing => {
+        First::At(i) => answer_types::refuse_entry(19, i),
+        First::Nothing => {
             write_all(
                 tree,
                 bitfield,

@@ -1,6 +1,6 @@
 // Rows of entries, 40 bytes each, one behind the other, with a tree index for each: compared with the known entries, written, and added up.
 // All of these are inner: they require the entries to lie within the row and the files.
-use copy_checks::Found;
+use lookup::First;
 use number_types::TreeIndex;
 ghost use mathlib.Core.Path.{_≡_};
 ghost use mathlib.Core.List.{[], _∷_, map};
@@ -9,25 +9,25 @@ ghost use lib.ListN.{length};
 ghost use Rattle.byte_strings.specs.Lists.{total};
 ghost use Rattle.tree_index.specs.Numbers.{numbers};
 ghost use Rattle.copy_checks.specs.Least.{lowerOf, leastOf};
-ghost use Rattle.copy_checks.specs.Meaning.{foundOf};
+ghost use Rattle.lookup.specs.Unknown.{firstEntry};
 ghost use Rattle.copy_take_in.specs.TakeIn.{contradicts, leftSize};
 ghost use Rattle.copy_take_in.specs.Inner.{lies, rowGiven, KnowableIn, RowFor, WithGiven, Addable};
 
 // Whether the entry at a place of a row contradicts the known entry of a tree index.
-pub fn contradiction_at(tree: &[u8], bitfield: &[u8], i: TreeIndex, row: &[u8], at: usize) -> Found
+pub fn contradiction_at(tree: &[u8], bitfield: &[u8], i: TreeIndex, row: &[u8], at: usize) -> First
     requires { ⌜ KnowableIn (now tree) (now bitfield) (i .0) × at + 40 ≤ length (now row) ⌝ }
-    ensures { λ r. ⌜ foundOf r ≡ contradicts (now (tree .entry)) (now (bitfield .entry)) (lies (now (row .entry)) at (i .0)) ⌝ }
+    ensures { λ r. ⌜ firstEntry r ≡ contradicts (now (tree .entry)) (now (bitfield .entry)) (lies (now (row .entry)) at (i .0)) ⌝ }
 {
     if !bitfield::is_known(bitfield, i) {
-        return Found::Nothing;
+        return First::Nothing;
     }
     let start = file_format::entries::entry_place(i);
     let end = start + 40;
     let to = at + 40;
     if byte_strings::same(&tree[start..end], &row[at..to]) {
-        return Found::Nothing;
+        return First::Nothing;
     }
-    Found::At(i)
+    First::At(i)
 }
 
 // The lowest index of a row whose entry contradicts, or what was found before, if that is lower.
@@ -38,13 +38,13 @@ pub fn lowest_in_row(
     at: usize,
     indexes: [TreeIndex; 20],
     count: usize,
-    before: Found,
-) -> Found
+    before: First,
+) -> First
     requires { ⌜ RowFor (now tree) (now bitfield) (now row) at (numbers indexes) count ⌝ }
     ensures { λ r.
         ⌜
-        foundOf r ≡
-        lowerOf (foundOf before)
+        firstEntry r ≡
+        lowerOf (firstEntry before)
         (leastOf (map (contradicts (now (tree .entry)) (now (bitfield .entry))) (rowGiven (now (row .entry)) at (numbers indexes) count)))
         ⌝ }
 {

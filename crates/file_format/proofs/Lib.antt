@@ -11,3 +11,4 @@ pub mod ByValue
 pub mod Written
 pub mod ImageBytes
 pub mod Hashed
+pub mod Shown

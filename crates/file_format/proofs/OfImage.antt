@@ -6,11 +6,11 @@ use mathlib.Core.Bool.{Bool, true}
 use mathlib.Core.List.{List, [], map}
 use native.Mathlib.Nat.{mul-one, mul-comm, zero-add, add-zero}
 use native.Mathlib.Omega.{arith}
-use lib.ListN.{length, getD, take, length-append}
+use lib.ListN.{length, getD, length-append}
 use lib.Seq.{take-all}
 use Rattle.byte_strings.specs.Lists.{part, total}
 use Rattle.byte_strings.specs.Numbers.{be, number}
-use Rattle.byte_strings.proofs.Lists.{part-part, part-behind, part-front, part-joined, length-joined, run-ext}
+use Rattle.byte_strings.proofs.Lists.{part-part, part-behind, part-front, part-joined, length-joined, run-ext, part-take}
 use Rattle.byte_strings.proofs.Numbers.{length-be, number-be}
 use Rattle.tree_index.specs.Tree.{index, block, filled, leftChild, rightChild, roots, entries}
 use Rattle.tree_index.proofs.Index.{depth-index, block-index, by-coordinates, leftChild-index, rightChild-index}
@@ -18,7 +18,7 @@ use Rattle.tree_index.proofs.Filled.{filled-below, filled-end, end-filled, fill
 use Rattle.tree_index.proofs.Roots.{root-filled}
 use Rattle.bitfield.proofs.Image.{length-entries}
 use Rattle.file_format.specs.Headers.{front, header, treeHeader, signaturesHeader, bitfieldHeader}
-use Rattle.file_format.specs.Sizes.{entryPlace, usedTree, usedBitfield}
+use Rattle.file_format.specs.Sizes.{entryPlace, usedTree, usedSignatures, usedBitfield}
 use Rattle.file_format.specs.Messages.{HashFunction, leafMessage, parentMessage, rootItem, rootMessage}
 use Rattle.file_format.specs.Entries.{Entry, entryBytes, node, nodeAt, entryAt, treeEntries, rootMessageOf}
 use Rattle.file_format.specs.Images.{dataImage, treeImage, leaves, messageFor, rootMessageFor, bitfieldImage, bitfieldOf}
@@ -48,10 +48,10 @@ pub bitfieldImage-length : (held : ℕ → Bool) (n : ℕ) → length (bitfieldI
 unfolding bitfieldOf usedBitfield
 bitfieldImage-length held n = length-append bitfieldHeader (entriesOf held n) ∙ ap₂ _+_ bitfieldHeader-length (length-entries held n)
 
--- a part that lies within the front of a list
-pub part-take : (xs : List ℕ) (m a k : ℕ) → a + k ≤ m → part (take m xs) a k ≡ part xs a k
-unfolding part
-part-take xs m a k h = part-part xs 0 m a k h ∙ ap (λ (p : ℕ). part xs p k) (zero-add a)
+-- the header of the signatures file is used
+pub signatures-32 : (s : ℕ) → 32 ≤ usedSignatures s
+unfolding usedSignatures
+signatures-32 s = omega arith
 
 pub entry-inside : (i n : ℕ) → i < entries n → entryPlace i + 40 ≤ usedTree n
 unfolding entryPlace usedTree
@@ -159,15 +159,15 @@ module _ (F : List ℕ → List ℕ) (hf : HashFunction F) (ss : List Slot) (w :
         (subst (λ (t : ℕ). span (contents ss) 0 k + length (getD (contents ss) k []) ≤ t) (sym (b .total)) (chunk-inside (contents ss) k l)))
         ∙ ap (λ (l : List ℕ). part l (span (contents ss) 0 k) (length (getD (contents ss) k []))) (b .content) ∙ part-chunk (contents ss) k l
 
+    pub size-at : (d k : ℕ) → filled (r .n) (index d k) ≡ true → storedSize (r .tree) (index d k) ≡ node F (leaves F ss) d k .size
+    size-at d k h = stored-node-size (index d k) h ∙ ap (λ (e : Entry). e .size) (nodeAt-index F (leaves F ss) d k)
+
+    pub hash-at : (d k : ℕ) → filled (r .n) (index d k) ≡ true → storedHash (r .tree) (index d k) ≡ node F (leaves F ss) d k .hash
+    hash-at d k h = stored-node-hash (index d k) h ∙ ap (λ (e : Entry). e .hash) (nodeAt-index F (leaves F ss) d k)
+
     pub stored-message : (i : ℕ) → filled (r .n) i ≡ true → storedMessage (r .tree) (r .content) i ≡ messageFor F ss i
     stored-message = by-coordinates (λ i. filled (r .n) i ≡ true → storedMessage (r .tree) (r .content) i ≡ messageFor F ss i) go
       where
-        sizes : (d k : ℕ) → filled (r .n) (index d k) ≡ true → storedSize (r .tree) (index d k) ≡ node F (leaves F ss) d k .size
-        sizes d k h = stored-node-size (index d k) h ∙ ap (λ (e : Entry). e .size) (nodeAt-index F (leaves F ss) d k)
-
-        hashes : (d k : ℕ) → filled (r .n) (index d k) ≡ true → storedHash (r .tree) (index d k) ≡ node F (leaves F ss) d k .hash
-        hashes d k h = stored-node-hash (index d k) h ∙ ap (λ (e : Entry). e .hash) (nodeAt-index F (leaves F ss) d k)
-
         go : (d k : ℕ) → filled (r .n) (index d k) ≡ true → storedMessage (r .tree) (r .content) (index d k) ≡ messageFor F ss (index d k)
         go zero k h =
             stored-leaf (r .tree) (r .content) k
@@ -176,7 +176,7 @@ module _ (F : List ℕ → List ℕ) (hf : HashFunction F) (ss : List Slot) (w :
             let f : filled (r .n) (index d (2 * k)) ≡ true = filled-left (r .n) d k h in
             let g : filled (r .n) (index d (2 * k + 1)) ≡ true = filled-right (r .n) d k h in
             stored-parent (r .tree) (r .content) d k
-            ∙ overs (sizes d (2 * k) f) (sizes d (2 * k + 1) g) (hashes d (2 * k) f) (hashes d (2 * k + 1) g)
+            ∙ overs (size-at d (2 * k) f) (size-at d (2 * k + 1) g) (hash-at d (2 * k) f) (hash-at d (2 * k + 1) g)
             ∙ sym (message-parent F ss d k)
 
     pub stored-root-message : storedRootMessage (r .tree) (r .n) ≡ rootMessageFor F ss

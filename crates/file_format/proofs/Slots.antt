@@ -9,7 +9,8 @@ use native.Mathlib.Omega.{arith}
 use borrow.Author.Tests.{ltb-true, ltb-false, lt-ltb, le-ltb, eqb-true, eqb-false, eq-eqb, ne-eqb}
 use lib.ListN.{length, getD, length-map, length-replicate}
 use lib.Dec.{ltb, eqb}
-use Rattle.bitfield.proofs.Bits.{cases, with-one}
+use Rattle.byte_strings.proofs.Bools.{cases}
+use Rattle.bitfield.proofs.Bits.{with-one}
 use Rattle.file_format.specs.Entries.{hole, leaf}
 use Rattle.file_format.specs.Slots.{Slot, held, released, isHeld, slotBytes, slotEntry, allHeld, contents, heldIn}
 use Rattle.file_format.specs.Images.{leaves}

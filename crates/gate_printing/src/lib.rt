@@ -34,17 +34,17 @@ fn digit(value: u8) -> u8
 }
 
 // A refusal: its number, and its place if it has one.
-pub fn refusal(r: refusals::Refusal) {
+pub fn refusal(r: answer_types::Refusal) {
     text(b"refused ");
     number(r.number);
     let place = r.place;
     match place {
-        refusals::Place::Nowhere => {}
-        refusals::Place::Tree(i) => {
+        answer_types::Place::Nowhere => {}
+        answer_types::Place::Tree(i) => {
             text(b" tree ");
             number(i.0);
         }
-        refusals::Place::Bitfield(b) => {
+        answer_types::Place::Bitfield(b) => {
             text(b" bitfield ");
             number(b.0);
         }
@@ -52,9 +52,9 @@ pub fn refusal(r: refusals::Refusal) {
 }
 
 // An answer that gives nothing but its being done.
-pub fn answer(a: refusals::Answer) {
+pub fn answer(a: answer_types::Answer) {
     match a {
-        refusals::Answer::Done => text(b"done"),
-        refusals::Answer::Refused(r) => refusal(r),
+        answer_types::Answer::Done => text(b"done"),
+        answer_types::Answer::Refused(r) => refusal(r),
     }
 }

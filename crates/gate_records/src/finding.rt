@@ -3,11 +3,11 @@ use super::given::Told;
 use super::given::behind;
 use super::given::first;
 use super::given::number;
+use answer_types::Answer;
 use number_types::ChunkNumber;
 use record_find::Found;
 use record_format::HeaderRead;
 use record_parts::Field;
-use refusals::Answer;
 
 // A path sought: it stands behind the numbers.
 pub fn found(

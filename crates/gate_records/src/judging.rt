@@ -2,9 +2,9 @@
 use super::given::Told;
 use super::given::behind;
 use super::given::number;
+use answer_types::Answer;
 use record_format::HeaderRead;
 use record_format::Written;
-use refusals::Answer;
 ghost use Prim.Native.Nat.{_≤_};
 
 pub fn taken(step: &[u8], told: Told, kind: u8) -> Told {

@@ -1,5 +1,7 @@
-// The calls that write nothing.
-use super::parts::Both;
+// The calls that write nothing, on the first register or copy.
+use super::partial;
+use super::parts;
+use super::parts::Register;
 use super::reading::Line;
 use super::words;
 use gate_samples::Told;
@@ -9,6 +11,7 @@ use number_types::ByteOffset;
 use number_types::ChunkNumber;
 use packet::Made;
 use search::Searched;
+use writing::Rooted;
 
 pub fn by(
     tree: &[u8],
@@ -17,83 +20,19 @@ pub fn by(
     data: &[u8],
     text: &[u8],
     line: Line,
-    both: Both,
+    first: Register,
 ) {
-    let word = line.word;
-    if words::sets(word) {
-        return;
-    }
+    let lent = first.lent;
     gate_printing::text(b": ");
-    if words::on_packets(word) {
-        super::packets::by(text, line);
-        return;
-    }
-    on_registers(tree, signatures, bitfield, data, text, line, both);
-}
-
-fn on_registers(
-    tree: &[u8],
-    signatures: &[u8],
-    bitfield: &[u8],
-    data: &[u8],
-    text: &[u8],
-    line: Line,
-    both: Both,
-) {
-    let lent = both.first.lent;
-    with_first(
-        super::parts::of(tree, lent.tree),
-        super::parts::of(signatures, lent.signatures),
-        super::parts::of(bitfield, lent.bitfield),
-        super::parts::of(data, lent.data),
-        tree,
-        signatures,
-        bitfield,
-        data,
+    called(
+        parts::of(tree, lent.tree),
+        parts::of(signatures, lent.signatures),
+        parts::of(bitfield, lent.bitfield),
+        parts::of(data, lent.data),
         text,
         line,
-        both,
+        first.told,
     );
-}
-
-fn with_first<'a>(
-    tree: &[u8],
-    signatures: &[u8],
-    bitfield: &[u8],
-    data: &'a [u8],
-    tree2: &[u8],
-    signatures2: &[u8],
-    bitfield2: &[u8],
-    data2: &'a [u8],
-    text: &[u8],
-    line: Line,
-    both: Both,
-) {
-    let word = line.word;
-    if words::on_pairs(word) {
-        super::pairs::by(
-            tree,
-            signatures,
-            bitfield,
-            data,
-            tree2,
-            signatures2,
-            bitfield2,
-            data2,
-            line,
-            both,
-        );
-    } else {
-        called(
-            tree,
-            signatures,
-            bitfield,
-            data,
-            text,
-            line,
-            both.first.told,
-        );
-    }
 }
 
 fn called(
@@ -105,59 +44,30 @@ fn called(
     line: Line,
     told: Told,
 ) {
-    if words::on_copies(line.word) {
-        super::partial::ask(tree, bitfield, data, text, line, told);
-    } else {
-        on_one(tree, signatures, bitfield, data, text, line, told);
-    }
-    super::ways::by(tree, signatures, bitfield, data, line, told);
-}
-
-fn on_one(
-    tree: &[u8],
-    signatures: &[u8],
-    bitfield: &[u8],
-    data: &[u8],
-    text: &[u8],
-    line: Line,
-    told: Told,
-) {
-    let word = line.word;
-    if word == words::AUDIT {
-        audited(tree, signatures, bitfield, data, told);
-    }
-    if word == words::CUT {
-        super::cuts::audited(tree, signatures, bitfield, data, line, told);
-    }
-    if word == words::ROOT {
-        root(tree, signatures, bitfield, data, told);
-    }
-    if word == words::OLD {
-        old(tree, signatures, bitfield, data, line, told);
-    }
-    if word == words::PREVIEW {
-        previewed(tree, signatures, bitfield, data, text, line, told);
-    }
-    found(tree, signatures, bitfield, data, line, told);
-}
-
-fn found(tree: &[u8], signatures: &[u8], bitfield: &[u8], data: &[u8], line: Line, told: Told) {
-    let word = line.word;
     let x = line.numbers;
-    if word == words::ENTRY {
-        super::leaves::of_register(tree, signatures, bitfield, data, told, x[1]);
-    }
-    if word == words::SEARCH {
-        searched(tree, signatures, bitfield, data, told, x[1]);
-    }
-    if word == words::PLACE {
-        place(tree, signatures, bitfield, data, told, x[1]);
-    }
-    if word == words::BYTE {
-        byte(tree, signatures, bitfield, data, told, x[1]);
-    }
-    if word == words::PACKET {
-        packed(tree, signatures, bitfield, data, line, told);
+    let word = line.word;
+    match word {
+        words::AUDIT => audited(tree, signatures, bitfield, data, told),
+        words::CUT => super::cuts::audited(tree, signatures, bitfield, data, line, told),
+        words::ROOT => root(tree, signatures, bitfield, data, told),
+        words::OLD => old(tree, signatures, bitfield, data, told, x[1]),
+        words::PREVIEW => previewed(tree, signatures, bitfield, data, text, line, told),
+        words::ENTRY => super::leaves::of_register(tree, signatures, bitfield, data, told, x[1]),
+        words::SEARCH => searched(tree, signatures, bitfield, data, told, x[1]),
+        words::PLACE => place(tree, signatures, bitfield, data, told, x[1]),
+        words::BYTE => byte(tree, signatures, bitfield, data, told, x[1]),
+        words::PACKET => packed(tree, signatures, bitfield, data, told, x[1], x[2]),
+        words::COPY_AUDIT => partial::audited(tree, bitfield, data, told),
+        words::COPY_CUT => super::cuts::copied(tree, bitfield, data, line, told),
+        words::COPY_ROOT => partial::root(tree, bitfield, data, told),
+        words::COPY_OLD => partial::old(tree, bitfield, data, told, x[1]),
+        words::COPY_ENTRY => super::leaves::of_copy(tree, bitfield, data, told, x[1]),
+        words::COPY_GET => partial::got(tree, bitfield, data, told, x[1]),
+        words::COPY_PACKET => partial::packed(tree, bitfield, data, told, x[1], x[2]),
+        words::COPY_FIND => partial::found(tree, bitfield, data, text, told, x[1], x[2]),
+        words::COPY_NODE => partial::record(tree, bitfield, data, told, x[1]),
+        // The words of both ways. Any other word does nothing there.
+        _ => super::ways::all(tree, signatures, bitfield, data, line, told),
     }
 }
 
@@ -174,16 +84,12 @@ fn audited(tree: &[u8], signatures: &[u8], bitfield: &[u8], data: &[u8], told: T
 }
 
 fn root(tree: &[u8], signatures: &[u8], bitfield: &[u8], data: &[u8], told: Told) {
-    let r = writing::root_hash(tree, signatures, bitfield, data, told.n, told.s, told.size);
-    let answer = r.answer;
-    let root = r.root;
-    super::written::rooted(answer, root);
+    say_root(writing::root_hash(tree, signatures, bitfield, data, told.n, told.s, told.size));
 }
 
 // The root hash of the first chunks.
-fn old(tree: &[u8], signatures: &[u8], bitfield: &[u8], data: &[u8], line: Line, told: Told) {
-    let x = line.numbers;
-    let r = prefix_root::prefix_root(
+fn old(tree: &[u8], signatures: &[u8], bitfield: &[u8], data: &[u8], told: Told, count: u64) {
+    say_root(prefix_root::prefix_root(
         tree,
         signatures,
         bitfield,
@@ -191,8 +97,11 @@ fn old(tree: &[u8], signatures: &[u8], bitfield: &[u8], data: &[u8], line: Line,
         told.n,
         told.s,
         told.size,
-        x[1],
-    );
+        count,
+    ));
+}
+
+pub fn say_root(r: Rooted) {
     let answer = r.answer;
     let root = r.root;
     super::written::rooted(answer, root);
@@ -217,7 +126,7 @@ fn previewed(
         told.n,
         told.s,
         told.size,
-        super::parts::of(text, super::parts::between(x[1], x[2])),
+        parts::of(text, parts::between(x[1], x[2])),
     );
     let answer = r.answer;
     let root = r.root;
@@ -299,22 +208,38 @@ fn pair(a: u64, b: u64) {
 }
 
 // A packet made in a buffer of some bytes that held others before, a sum of the buffer, and the packet's check.
-fn packed(tree: &[u8], signatures: &[u8], bitfield: &[u8], data: &[u8], line: Line, told: Told) {
-    let x = line.numbers;
+fn packed(
+    tree: &[u8],
+    signatures: &[u8],
+    bitfield: &[u8],
+    data: &[u8],
+    told: Told,
+    chunk: u64,
+    room: u64,
+) {
     let mut out = [0xeeu8; 1200];
-    let room = super::parts::between(0, x[2]);
-    let made = made(tree, signatures, bitfield, data, told, x[1], &mut out, room);
+    let part = parts::between(0, room);
+    let made = made(
+        tree,
+        signatures,
+        bitfield,
+        data,
+        told,
+        chunk,
+        &mut out,
+        part,
+    );
     let r = writing::root_hash(tree, signatures, bitfield, data, told.n, told.s, told.size);
     let root = r.root;
-    say_packet(made, &out, told.n, x[1], &root);
+    say_packet(made, &out, told.n, chunk, &root);
 }
 
 pub fn say_packet(made: Made, out: &[u8], n: u64, chunk: u64, root: &[u8; 32]) {
     say_made(made);
     super::written::sum(out);
     gate_printing::text(b" ");
-    let part = super::parts::between(0, length_of(made));
-    super::packets::check(super::parts::of(out, part), n, chunk, root);
+    let part = parts::between(0, length_of(made));
+    super::packets::check(parts::of(out, part), n, chunk, root);
 }
 
 pub fn made(
@@ -325,7 +250,7 @@ pub fn made(
     told: Told,
     chunk: u64,
     out: &mut [u8],
-    room: super::parts::Part,
+    room: parts::Part,
 ) -> Made {
     packet::make(
         tree,
@@ -336,7 +261,7 @@ pub fn made(
         told.s,
         told.size,
         ChunkNumber(chunk),
-        super::parts::of_mut(out, room),
+        parts::of_mut(out, room),
     )
 }
 

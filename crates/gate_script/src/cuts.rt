@@ -1,8 +1,8 @@
 // Parts of audits and of the comparing walk, each with its answer.
 use super::reading::Line;
+use answer_types::Answer;
 use gate_samples::Told;
 use number_types::TreeIndex;
-use refusals::Answer;
 
 // A part of the tree entries and one of the bitfield's entries, and what the two say together.
 pub fn audited(

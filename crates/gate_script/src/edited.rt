@@ -37,23 +37,20 @@ fn change(file: &mut [u8], line: Line, from: u64) {
 fn count(line: Line) -> u64 {
     let x = line.numbers;
     let word = line.word;
-    if word == words::FLIP {
-        return 1;
+    match word {
+        words::FLIP => 1,
+        words::PUT => 8,
+        _ => x[3],
     }
-    if word == words::PUT { 8 } else { x[3] }
 }
 
 fn changed(bytes: &mut [u8], line: Line) {
     let x = line.numbers;
     let word = line.word;
-    if word == words::FLIP {
-        flip(bytes, (x[3] % 256) as u8);
-    } else {
-        if word == words::PUT {
-            put(bytes, x[3]);
-        } else {
-            fill(bytes, (x[4] % 256) as u8, (x[5] % 256) as u8);
-        }
+    match word {
+        words::FLIP => flip(bytes, (x[3] % 256) as u8),
+        words::PUT => put(bytes, x[3]),
+        _ => fill(bytes, (x[4] % 256) as u8, (x[5] % 256) as u8),
     }
 }
 

@@ -1,5 +1,4 @@
 // The stored entry of a leaf, in a register and in a copy: its length, or why none is told, and what the bytes lent for its hash then hold.
-use super::reading::Line;
 use gate_samples::Told;
 use number_types::ChunkNumber;
 use stored_leaf::Stored;
@@ -27,17 +26,15 @@ pub fn of_register(
     say(found, &hash);
 }
 
-pub fn of_copy(tree: &[u8], bitfield: &[u8], data: &[u8], line: Line, told: Told) {
-    let x = line.numbers;
+pub fn of_copy(tree: &[u8], bitfield: &[u8], data: &[u8], told: Told, chunk: u64) {
     let mut hash = [0xeeu8; 32];
-    let chunk = ChunkNumber(x[1]);
     let found = copy_stored_leaf::stored_leaf(
         tree,
         bitfield,
         data,
         told.n,
         told.size,
-        chunk,
+        ChunkNumber(chunk),
         &mut hash,
     );
     say(found, &hash);

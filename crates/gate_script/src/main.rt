@@ -64,7 +64,7 @@ fn lines(
     }
 }
 
-// One line: bytes are changed by hand, or a call is made.
+// One line: bytes are changed by hand, or a call is made. What is lent and told is set already, and a remark says nothing.
 fn run(
     tree: &mut [u8],
     signatures: &mut [u8],
@@ -76,8 +76,9 @@ fn run(
     let line = turn.line;
     let both = turn.both;
     let word = line.word;
-    if words::edits(word) {
-        edited::by(
+    match word {
+        words::LEND | words::TOLD | words::SWAP | words::REMARK => {}
+        words::FLIP | words::PUT | words::FILL => edited::by(
             tree,
             signatures,
             bitfield,
@@ -85,30 +86,24 @@ fn run(
             text,
             line,
             both.first.lent,
-        );
-    } else {
-        call(tree, signatures, bitfield, data, text, line, both);
-    }
-}
-
-// A packet is brought, or a call is made, which may write or does not.
-fn call(
-    tree: &mut [u8],
-    signatures: &mut [u8],
-    bitfield: &mut [u8],
-    data: &mut [u8],
-    text: &mut [u8],
-    line: reading::Line,
-    both: parts::Both,
-) {
-    let word = line.word;
-    if word == words::BRING {
-        packets::bring(tree, signatures, bitfield, data, text, line, both.second);
-    } else {
-        if words::writes(word) {
-            written::by(tree, signatures, bitfield, data, text, line, both.first);
-        } else {
-            asked::by(tree, signatures, bitfield, data, text, line, both);
+        ),
+        words::BRING => packets::bring(tree, signatures, bitfield, data, text, line, both.second),
+        words::CHECK => packets::checked(text, line),
+        words::WALK => packets::walked(text, line),
+        words::COMPARE | words::PAIR_CUT | words::GET => {
+            pairs::by(tree, signatures, bitfield, data, line, both)
         }
+        words::START
+        | words::GROW
+        | words::APPEND
+        | words::LIST
+        | words::SIGN
+        | words::RELEASE
+        | words::MAKE
+        | words::TAKE
+        | words::COPY_RELEASE => {
+            written::by(tree, signatures, bitfield, data, text, line, both.first)
+        }
+        _ => asked::by(tree, signatures, bitfield, data, text, line, both.first),
     }
 }

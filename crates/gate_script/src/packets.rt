@@ -1,26 +1,33 @@
 // Packets that are lent, with the root hash: n, the chunk number, where the root hash lies, and from and to where the packets lie.
 use super::parts;
 use super::reading::Line;
-use super::words;
 use number_types::ChunkNumber;
 use packet_compare::Walked;
 
-pub fn by(text: &[u8], line: Line) {
+pub fn checked(text: &[u8], line: Line) {
     let x = line.numbers;
     let root = root_at(text, x[3]);
-    let first = parts::between(x[4], x[5]);
-    let word = line.word;
-    if word == words::CHECK {
-        check(parts::of(text, first), x[1], x[2], &root);
-    } else {
-        let second = parts::between(x[6], x[7]);
-        walk(
-            parts::of(text, first),
-            parts::of(text, second),
-            x[1],
-            x[2],
-            &root,
-        );
+    gate_printing::text(b": ");
+    check(
+        parts::of(text, parts::between(x[4], x[5])),
+        x[1],
+        x[2],
+        &root,
+    );
+}
+
+pub fn walked(text: &[u8], line: Line) {
+    let x = line.numbers;
+    let root = root_at(text, x[3]);
+    gate_printing::text(b": ");
+    let first = parts::of(text, parts::between(x[4], x[5]));
+    let second = parts::of(text, parts::between(x[6], x[7]));
+    match packet_compare::compare_packets(first, second, x[1], ChunkNumber(x[2]), &root) {
+        Walked::SameChunk => gate_printing::text(b"same chunk"),
+        Walked::AtRoots => gate_printing::text(b"collision at the roots"),
+        Walked::AtIndex(index) => super::pairs::collision(index),
+        Walked::FirstRefused(refusal) => super::pairs::first_refused(refusal),
+        Walked::SecondRefused(refusal) => super::pairs::second_refused(refusal),
     }
 }
 
@@ -68,14 +75,4 @@ pub fn check(packet: &[u8], n: u64, chunk: u64, root: &[u8; 32]) {
     gate_printing::answer(packet::check_answer(packet, n, ChunkNumber(chunk), root));
     gate_printing::text(b":");
     gate_printing::hex(packet::check(packet, n, ChunkNumber(chunk), root));
-}
-
-fn walk(first: &[u8], second: &[u8], n: u64, chunk: u64, root: &[u8; 32]) {
-    match packet_compare::compare_packets(first, second, n, ChunkNumber(chunk), root) {
-        Walked::SameChunk => gate_printing::text(b"same chunk"),
-        Walked::AtRoots => gate_printing::text(b"collision at the roots"),
-        Walked::AtIndex(index) => super::pairs::collision(index),
-        Walked::FirstRefused(refusal) => super::pairs::first_refused(refusal),
-        Walked::SecondRefused(refusal) => super::pairs::second_refused(refusal),
-    }
 }

@@ -3,37 +3,27 @@ use super::parts;
 use super::parts::Both;
 use super::reading::Line;
 use super::words;
+use answer_types::Refusal;
 use compare::Compared;
 use gate_samples::Told;
 use lookup::Name;
 use number_types::ChunkNumber;
 use number_types::TreeIndex;
-use refusals::Refusal;
 
-// The first register, and the arrays that the second is a part of.
-pub fn by<'a>(
-    tree: &[u8],
-    signatures: &[u8],
-    bitfield: &[u8],
-    data: &'a [u8],
-    tree2: &[u8],
-    signatures2: &[u8],
-    bitfield2: &[u8],
-    data2: &'a [u8],
-    line: Line,
-    both: Both,
-) {
-    let lent = both.second.lent;
+pub fn by(tree: &[u8], signatures: &[u8], bitfield: &[u8], data: &[u8], line: Line, both: Both) {
+    let lent = both.first.lent;
+    let lent2 = both.second.lent;
+    gate_printing::text(b": ");
     called(
-        tree,
-        signatures,
-        bitfield,
-        data,
+        parts::of(tree, lent.tree),
+        parts::of(signatures, lent.signatures),
+        parts::of(bitfield, lent.bitfield),
+        parts::of(data, lent.data),
         both.first.told,
-        parts::of(tree2, lent.tree),
-        parts::of(signatures2, lent.signatures),
-        parts::of(bitfield2, lent.bitfield),
-        parts::of(data2, lent.data),
+        parts::of(tree, lent2.tree),
+        parts::of(signatures, lent2.signatures),
+        parts::of(bitfield, lent2.bitfield),
+        parts::of(data, lent2.data),
         both.second.told,
         line,
     );
@@ -53,8 +43,8 @@ fn called<'a>(
     line: Line,
 ) {
     let word = line.word;
-    if word == words::COMPARE {
-        compared(
+    match word {
+        words::COMPARE => compared(
             tree,
             signatures,
             bitfield,
@@ -65,23 +55,8 @@ fn called<'a>(
             bitfield2,
             data2,
             told2,
-        );
-    } else if word == words::PAIR_CUT {
-        super::cuts::walked(
-            tree,
-            signatures,
-            bitfield,
-            data,
-            told,
-            tree2,
-            signatures2,
-            bitfield2,
-            data2,
-            told2,
-            line,
-        );
-    } else {
-        get(
+        ),
+        words::PAIR_CUT => super::cuts::walked(
             tree,
             signatures,
             bitfield,
@@ -93,7 +68,20 @@ fn called<'a>(
             data2,
             told2,
             line,
-        );
+        ),
+        _ => get(
+            tree,
+            signatures,
+            bitfield,
+            data,
+            told,
+            tree2,
+            signatures2,
+            bitfield2,
+            data2,
+            told2,
+            line,
+        ),
     }
 }
 
@@ -235,23 +223,6 @@ fn read<'a>(
         chunk,
     ));
     gate_printing::text(b":");
-    bytes(name, mt, ms, mb, md, m, ct, cs, cb, cd, c, chunk);
-}
-
-fn bytes<'a>(
-    name: Name,
-    mt: &[u8],
-    ms: &[u8],
-    mb: &[u8],
-    md: &'a [u8],
-    m: Told,
-    ct: &[u8],
-    cs: &[u8],
-    cb: &[u8],
-    cd: &'a [u8],
-    c: Told,
-    chunk: ChunkNumber,
-) {
     gate_printing::hex(lookup::read(
         name,
         mt,

@@ -83,35 +83,23 @@ fn set(line: Line, both: Both) -> Both {
     let word = line.word;
     let first = both.first;
     let second = both.second;
-    if word == words::SWAP {
-        return Both {
+    match word {
+        words::SWAP => Both {
             first: second,
             second: first,
-        };
-    }
-    Both {
-        first: first_set(line, first),
-        second,
+        },
+        words::LEND => with(lent_in(line), first.told, second),
+        words::TOLD => with(first.lent, told_in(line), second),
+        _ => both,
     }
 }
 
-fn first_set(line: Line, first: Register) -> Register {
-    let word = line.word;
-    let lent = first.lent;
-    let told = first.told;
-    if word == words::LEND {
-        return Register {
-            lent: lent_in(line),
-            told,
-        };
+// What is lent and told of the first register, and the second.
+fn with(lent: Lent, told: Told, second: Register) -> Both {
+    Both {
+        first: Register { lent, told },
+        second,
     }
-    if word == words::TOLD {
-        return Register {
-            lent,
-            told: told_in(line),
-        };
-    }
-    first
 }
 
 fn lent_in(line: Line) -> Lent {

@@ -1,19 +1,14 @@
 // The quick way, a stroke, and the short way, of each of some numbers.
+use super::asked;
+use super::copy_ways;
 use super::reading::Line;
 use super::words;
 use gate_samples::Told;
 use number_types::ByteOffset;
 use number_types::ChunkNumber;
 
-pub fn by(tree: &[u8], signatures: &[u8], bitfield: &[u8], data: &[u8], line: Line, told: Told) {
-    let word = line.word;
-    if words::both_ways(word) {
-        all(tree, signatures, bitfield, data, line, told);
-    }
-}
-
 // A number, and how many from there on.
-fn all(tree: &[u8], signatures: &[u8], bitfield: &[u8], data: &[u8], line: Line, told: Told) {
+pub fn all(tree: &[u8], signatures: &[u8], bitfield: &[u8], data: &[u8], line: Line, told: Told) {
     let x = line.numbers;
     let first = x[1];
     let count = super::written::most(x[2], 64);
@@ -34,21 +29,27 @@ fn one(
     told: Told,
     number: u64,
 ) {
-    if words::on_copies(word) {
-        super::copy_ways::one(tree, bitfield, data, word, told, number);
-    } else if word == words::BOTH_PLACES {
-        place(tree, signatures, bitfield, data, told, number);
-    } else if word == words::BOTH_BYTES {
-        byte(tree, signatures, bitfield, data, told, number);
-    } else {
-        searched(tree, signatures, bitfield, data, told, number);
+    match word {
+        words::BOTH_PLACES => place(tree, signatures, bitfield, data, told, number),
+        words::BOTH_BYTES => byte(tree, signatures, bitfield, data, told, number),
+        words::BOTH_SEARCHES => searched(tree, signatures, bitfield, data, told, number),
+        words::COPY_PLACES => copy_ways::place(tree, bitfield, data, told, ChunkNumber(number)),
+        words::COPY_BYTES => copy_ways::byte(tree, bitfield, data, told, ByteOffset(number)),
+        words::COPY_SEARCHES => copy_ways::searched(
+            tree,
+            bitfield,
+            data,
+            told,
+            ChunkNumber(number),
+        ),
+        _ => {}
     }
 }
 
 fn place(tree: &[u8], signatures: &[u8], bitfield: &[u8], data: &[u8], told: Told, chunk: u64) {
-    super::asked::place(tree, signatures, bitfield, data, told, chunk);
+    asked::place(tree, signatures, bitfield, data, told, chunk);
     gate_printing::text(b"|");
-    super::asked::say_place(short_lookup::place(
+    asked::say_place(short_lookup::place(
         tree,
         signatures,
         bitfield,
@@ -62,9 +63,9 @@ fn place(tree: &[u8], signatures: &[u8], bitfield: &[u8], data: &[u8], told: Tol
 }
 
 fn byte(tree: &[u8], signatures: &[u8], bitfield: &[u8], data: &[u8], told: Told, offset: u64) {
-    super::asked::byte(tree, signatures, bitfield, data, told, offset);
+    asked::byte(tree, signatures, bitfield, data, told, offset);
     gate_printing::text(b"|");
-    super::asked::say_byte(short_lookup::locate(
+    asked::say_byte(short_lookup::locate(
         tree,
         signatures,
         bitfield,
@@ -78,9 +79,9 @@ fn byte(tree: &[u8], signatures: &[u8], bitfield: &[u8], data: &[u8], told: Told
 }
 
 fn searched(tree: &[u8], signatures: &[u8], bitfield: &[u8], data: &[u8], told: Told, number: u64) {
-    super::asked::searched(tree, signatures, bitfield, data, told, number);
+    asked::searched(tree, signatures, bitfield, data, told, number);
     gate_printing::text(b"|");
-    super::asked::say_search(short_lookup::search(
+    asked::say_search(short_lookup::search(
         tree,
         signatures,
         bitfield,

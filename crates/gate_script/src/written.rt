@@ -1,10 +1,13 @@
-// The calls that may write, on the first register. Behind the answer stands a sum of each lent part.
+// The calls that may write, on the first register or copy. Behind the answer stands a sum of each lent part.
+use super::partial;
+use super::parts;
 use super::parts::Register;
 use super::reading::Line;
 use super::words;
+use answer_types::Answer;
 use gate_samples::Told;
 use number_types::ChunkNumber;
-use refusals::Answer;
+use writing::Appended;
 ghost use Prim.Native.Nat.{_≤_};
 
 pub fn by(
@@ -19,14 +22,18 @@ pub fn by(
     let lent = first.lent;
     gate_printing::text(b": ");
     called(
-        super::parts::of_mut(tree, lent.tree),
-        super::parts::of_mut(signatures, lent.signatures),
-        super::parts::of_mut(bitfield, lent.bitfield),
-        super::parts::of_mut(data, lent.data),
+        parts::of_mut(tree, lent.tree),
+        parts::of_mut(signatures, lent.signatures),
+        parts::of_mut(bitfield, lent.bitfield),
+        parts::of_mut(data, lent.data),
         text,
         line,
         first.told,
     );
+    sum(parts::of(tree, lent.tree));
+    sum(parts::of(signatures, lent.signatures));
+    sum(parts::of(bitfield, lent.bitfield));
+    sum(parts::of(data, lent.data));
 }
 
 fn called(
@@ -38,84 +45,23 @@ fn called(
     line: Line,
     told: Told,
 ) {
-    act(tree, signatures, bitfield, data, text, line, told);
-    sums(tree, signatures, bitfield, data);
-}
-
-fn act(
-    tree: &mut [u8],
-    signatures: &mut [u8],
-    bitfield: &mut [u8],
-    data: &mut [u8],
-    text: &[u8],
-    line: Line,
-    told: Told,
-) {
+    let x = line.numbers;
     let word = line.word;
-    if words::on_copies(word) {
-        super::partial::write(tree, bitfield, data, text, line, told);
-    } else {
-        on_register(tree, signatures, bitfield, data, text, line, told);
+    match word {
+        words::START => started(tree, signatures, bitfield, data),
+        words::GROW => grown(tree, signatures, bitfield, data, told, x[1], x[2]),
+        words::APPEND => appended(tree, signatures, bitfield, data, text, line, told),
+        words::LIST => listed(tree, signatures, bitfield, data, text, line, told),
+        words::SIGN => signed(tree, signatures, bitfield, data, text, told, x[1]),
+        words::RELEASE => released(tree, signatures, bitfield, data, told, x[1]),
+        words::MAKE => partial::make(tree, bitfield, data, told),
+        words::TAKE => partial::take(tree, bitfield, data, text, line, told),
+        _ => partial::release(tree, bitfield, data, told, x[1]),
     }
 }
 
-fn on_register(
-    tree: &mut [u8],
-    signatures: &mut [u8],
-    bitfield: &mut [u8],
-    data: &mut [u8],
-    text: &[u8],
-    line: Line,
-    told: Told,
-) {
-    let word = line.word;
-    if word == words::START {
-        gate_printing::answer(writing::start(tree, signatures, bitfield, data));
-    } else {
-        if word == words::LIST {
-            listed(tree, signatures, bitfield, data, text, line, told);
-        } else {
-            add(tree, signatures, bitfield, data, text, line, told);
-        }
-    }
-}
-
-fn add(
-    tree: &mut [u8],
-    signatures: &mut [u8],
-    bitfield: &mut [u8],
-    data: &mut [u8],
-    text: &[u8],
-    line: Line,
-    told: Told,
-) {
-    let word = line.word;
-    if word == words::APPEND {
-        appended(tree, signatures, bitfield, data, text, line, told);
-    } else {
-        if word == words::GROW {
-            grown(tree, signatures, bitfield, data, line, told);
-        } else {
-            store(tree, signatures, bitfield, data, text, line, told);
-        }
-    }
-}
-
-fn store(
-    tree: &[u8],
-    signatures: &mut [u8],
-    bitfield: &mut [u8],
-    data: &mut [u8],
-    text: &[u8],
-    line: Line,
-    told: Told,
-) {
-    let word = line.word;
-    if word == words::SIGN {
-        signed(tree, signatures, bitfield, data, text, line, told);
-    } else {
-        released(tree, signatures, bitfield, data, line, told);
-    }
+fn started(tree: &mut [u8], signatures: &mut [u8], bitfield: &mut [u8], data: &mut [u8]) {
+    gate_printing::answer(writing::start(tree, signatures, bitfield, data));
 }
 
 // Chunks and signatures of the samples, up to a count.
@@ -124,12 +70,12 @@ fn grown(
     signatures: &mut [u8],
     bitfield: &mut [u8],
     data: &mut [u8],
-    line: Line,
     told: Told,
+    count: u64,
+    step: u64,
 ) {
-    let x = line.numbers;
-    let upto = most(x[1], 20000);
-    let span = span_of(x[2]);
+    let upto = most(count, 20000);
+    let span = span_of(step);
     gate_samples::grow(tree, signatures, bitfield, data, told, upto, span);
     gate_printing::text(b"done");
 }
@@ -160,7 +106,7 @@ fn appended(
     told: Told,
 ) {
     let x = line.numbers;
-    let a = writing::append(
+    say_appended(writing::append(
         tree,
         signatures,
         bitfield,
@@ -168,8 +114,11 @@ fn appended(
         told.n,
         told.s,
         told.size,
-        super::parts::of(text, super::parts::between(x[1], x[2])),
-    );
+        parts::of(text, parts::between(x[1], x[2])),
+    ));
+}
+
+fn say_appended(a: Appended) {
     let answer = a.answer;
     let root = a.root;
     rooted(answer, root);
@@ -187,7 +136,7 @@ fn listed(
 ) {
     let x = line.numbers;
     let lengths = lengths_in(x);
-    let a = append_list::append_list(
+    say_appended(append_list::append_list(
         tree,
         signatures,
         bitfield,
@@ -196,11 +145,8 @@ fn listed(
         told.s,
         told.size,
         front(&lengths, x[3]),
-        super::parts::of(text, super::parts::between(x[1], x[2])),
-    );
-    let answer = a.answer;
-    let root = a.root;
-    rooted(answer, root);
+        parts::of(text, parts::between(x[1], x[2])),
+    ));
 }
 
 fn lengths_in(x: [u64; 16]) -> [u64; 257] {
@@ -246,11 +192,10 @@ fn signed(
     bitfield: &[u8],
     data: &[u8],
     text: &[u8],
-    line: Line,
     told: Told,
+    at: u64,
 ) {
-    let x = line.numbers;
-    let signature = signature_at(text, x[1]);
+    let signature = signature_at(text, at);
     gate_printing::answer(writing::store_signature(
         tree,
         signatures,
@@ -266,10 +211,7 @@ fn signed(
 fn signature_at(text: &[u8], at: u64) -> [u8; 64] {
     let mut signature = [0u8; 64];
     let end = std::num::wrapping_add_u64(at, 64);
-    copied(
-        &mut signature,
-        super::parts::of(text, super::parts::between(at, end)),
-    );
+    copied(&mut signature, parts::of(text, parts::between(at, end)));
     signature
 }
 
@@ -284,10 +226,9 @@ fn released(
     signatures: &[u8],
     bitfield: &mut [u8],
     data: &mut [u8],
-    line: Line,
     told: Told,
+    chunk: u64,
 ) {
-    let x = line.numbers;
     gate_printing::answer(release::release(
         tree,
         signatures,
@@ -296,15 +237,8 @@ fn released(
         told.n,
         told.s,
         told.size,
-        ChunkNumber(x[1]),
+        ChunkNumber(chunk),
     ));
-}
-
-fn sums(tree: &[u8], signatures: &[u8], bitfield: &[u8], data: &[u8]) {
-    sum(tree);
-    sum(signatures);
-    sum(bitfield);
-    sum(data);
 }
 
 // A sum: the first 8 bytes of the hash.

@@ -70,10 +70,10 @@ fn metadata(s: u64) -> Told {
 }
 
 pub fn entered(table: &mut [u64; 161], station: u64, register: u64, chunk: u64, t: Tally) -> Tally {
-    let answer = station_serving::enter(
+    let answer = station_reads::enter(
         table,
         station,
-        station_serving::named_by(register),
+        station_reads::named_by(register),
         ChunkNumber(chunk),
     );
     let show = t.show;
@@ -98,7 +98,7 @@ fn served<'a>(
     c: Told,
     t: Tally,
 ) -> Tally {
-    let said = station_serving::serve_answer(
+    let said = station_reads::serve_answer(
         table,
         mt,
         ms,
@@ -115,7 +115,7 @@ fn served<'a>(
         c.s,
         c.size,
     );
-    let part = station_serving::serve(
+    let part = station_reads::serve(
         table,
         mt,
         ms,

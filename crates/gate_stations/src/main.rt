@@ -73,7 +73,7 @@ fn planned(
     cd: &mut [u8],
     c: Told,
 ) {
-    let mut table = station_table::fresh();
+    let mut table = station_queue::fresh();
     let s = calls::all(&mut table, mt, ms, mb, md, ct, cs, cb, cd, c, plan::start());
     changed(&mut table, mt, ms, mb, md, ct, cs, cb, cd, c, s);
 }

@@ -10,7 +10,7 @@ pub enum How {
 
 pub fn made(table: &mut [u64; 161], how: How, t: Tally) -> Tally {
     match how {
-        How::Fresh => *table = station_table::fresh(),
+        How::Fresh => *table = station_queue::fresh(),
         How::Full => fill(table),
         How::Spoilt(seed) => spoil(table, seed),
     }

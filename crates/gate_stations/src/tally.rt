@@ -1,6 +1,6 @@
 // What is printed of a call, and counted of many.
-use refusals::Answer;
-use station_serving::Served;
+use answer_types::Answer;
+use station_reads::Served;
 
 // Whether each call is printed; what the answers fold to, and how many of each kind there were.
 pub struct Tally {

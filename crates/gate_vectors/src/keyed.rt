@@ -122,8 +122,8 @@ fn refusal(output: usize, kk: usize)
 }
 
 // The number of a refusal, and the line's end.
-fn refused(answer: refusals::Answer) {
-    if let refusals::Answer::Refused(refusal) = answer {
+fn refused(answer: answer_types::Answer) {
+    if let answer_types::Answer::Refused(refusal) = answer {
         io::write_all(1, b"refused ");
         io::print_decimal(1, refusal.number);
         io::write_all(1, b"\n");
@@ -147,9 +147,9 @@ fn label(kk: usize)
     io::print_decimal(1, kk as u64);
     io::write_all(1, b": ");
     let key = filled(kk, 1, 7);
-    let labelled = blake2b_label::label(&ROOT, part(&key, 0, kk));
+    let labelled = root_label::label(&ROOT, part(&key, 0, kk));
     let answer = labelled.answer;
-    if let refusals::Answer::Done = answer {
+    if let answer_types::Answer::Done = answer {
         let bytes = labelled.bytes;
         gate_printing::hex(&bytes);
         io::write_all(1, b"\n");

@@ -185,7 +185,7 @@ fn parts_line(message: &[u8; 1024], prefix: usize, end: usize)
 fn refusal(output: usize) {
     let hashed = blake2b::hash(output, b"", b"");
     let answer = hashed.answer;
-    if let refusals::Answer::Refused(refusal) = answer {
+    if let answer_types::Answer::Refused(refusal) = answer {
         io::write_all(1, b"refused ");
         number(output);
         io::print_decimal(1, refusal.number);

@@ -9,20 +9,21 @@ use lib.ListN.{length, take, drop, length-drop}
 use lib.Dec.{eqb, leb, ltb}
 use borrow.Author.Tests.{eq-eqb, ne-eqb, leb-true, lt-ltb, le-ltb}
 use Rattle.byte_strings.specs.Lists.{sameList}
+use Rattle.byte_strings.proofs.Bools.{both-true}
 use Rattle.blake2b.specs.Hash.{blake2b, nodeHash}
 use Rattle.journal.specs.Places.{oldAt, newAt, fileAt, kindAt, startAt, sizeAt, behind, whole, lengthRight, bodyLength, newPlace, numbersAt}
 use Rattle.journal.specs.Reading.{whether, isDone, andThen, begins, ownLength, table, read, nextSaid, ifDone, statesSaid}
 use Rattle.journal.specs.declared.Said.{Said}
 use Rattle.journal.specs.declared.Said.the-variants.{Done, Length, First, OwnLength, Range, Hash, Unfit}
-use Rattle.journal.proofs.Behind.{both, end-twice, behind-least}
+use Rattle.journal.proofs.Behind.{end-twice, behind-least}
 
 pub right-least : (n : ℕ) → lengthRight n ≡ true → 216 ≤ n
 unfolding lengthRight
-right-least n e = leb-true _ _ (both (leb 216 n) _ e .0)
+right-least n e = leb-true _ _ (both-true (leb 216 n) _ e .0)
 
 pub right-most : (n : ℕ) → lengthRight n ≡ true → n ≤ 268435456
 unfolding lengthRight
-right-most n e = leb-true _ _ (both (leb 216 n) _ e .1)
+right-most n e = leb-true _ _ (both-true (leb 216 n) _ e .1)
 
 -- ---- what is lent
 

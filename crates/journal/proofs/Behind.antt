@@ -7,11 +7,8 @@ use mathlib.Core.Bool.{Bool, true, false, _&&_}
 use mathlib.Core.List.{List}
 use lib.Dec.{eqb, leb}
 use borrow.Author.Tests.{eq-eqb, ne-eqb, le-leb, lt-leb, leb-true}
+use Rattle.byte_strings.proofs.Bools.{both-true}
 use Rattle.journal.specs.Places.{kindAt, sizeAt, timesLong, behind, whole, bytesEnd, placeBehind}
-
-pub both : (a b : Bool) → a && b ≡ true → (a ≡ true) × (b ≡ true)
-both true b e = (refl, e)
-both false b e = let z : _≡_ {A = ℕ} 0 1 = cc in absurd (omega arith)
 
 module _ (kind size from : ℕ) where
   pub end-twice : kind ≡ 1 → from + timesLong kind * size ≡ from + size + size
@@ -91,7 +88,7 @@ module _ (j : List ℕ) (m q r : ℕ) where
 
   pub whole-end : whole j m q ≡ true → behind j q ≤ m
   unfolding whole
-  whole-end e = leb-true _ _ (both (leb 1 (kindAt j q) && leb (kindAt j q) 4) (leb (behind j q) m) (both (leb (q + 18) m) _ e .1) .1)
+  whole-end e = leb-true _ _ (both-true (leb 1 (kindAt j q) && leb (kindAt j q) 4) (leb (behind j q) m) (both-true (leb (q + 18) m) _ e .1) .1)
 
   pub behind-some : r ≡ placeBehind j m q → (r ≡ 0 → ⊥) → Whole j m q r
   behind-some d z = go (whole j m q) refl

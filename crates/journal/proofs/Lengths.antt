@@ -1,10 +1,15 @@
 -- The lengths that files can have, test by test. Assumes nothing.
-use Prim.Native.Nat.{ℕ, _-_, _%_, _≤_, _<_}
-use mathlib.Core.Path.{_≡_, _∙_}
+use Prim.Native.Nat.{ℕ, _-_, _*_, _%_, _≤_, _<_}
+use mathlib.Core.Path.{_≡_, refl, _∙_}
 use mathlib.Core.Bool.{Bool, true, false}
+use mathlib.Core.List.{List, [], _∷_}
+use native.Mathlib.Omega.{arith}
 use lib.Dec.{eqb, leb}
+use lib.ListN.{length, length-append}
 use borrow.Author.Tests.{eq-eqb, ne-eqb, le-leb, lt-leb}
-use Rattle.journal.specs.Form.{treeLength, signaturesLength, bitfieldLength, dataLength, keyLength, rightLength, statesRight}
+use Rattle.byte_strings.specs.Numbers.{be}
+use Rattle.byte_strings.proofs.Numbers.{length-be}
+use Rattle.journal.specs.Form.{words, treeLength, signaturesLength, bitfieldLength, dataLength, keyLength, rightLength, statesRight}
 use Rattle.journal.specs.Places.{lengthRight}
 
 module _ (n : ℕ) where
@@ -78,3 +83,10 @@ module _ (i old new : ℕ) where
   pub there : (r : Bool) → old ≤ new → (new ≡ 0 → ⊥) → r ≡ rightLength i (new - 1) → r ≡ statesRight i old new
   unfolding statesRight
   there r h e d = d ∙ rw (le-leb old new h, ne-eqb new 0 e)
+
+-- ---- words
+
+pub words-length : (xs : List ℕ) → length (words xs) ≡ 8 * length xs
+unfolding words
+words-length [] = refl
+words-length (x ∷ xs) = length-append (be 8 x) (words xs) ∙ omega (arith, length-be 8 x, words-length xs)

@@ -10,6 +10,7 @@ use borrow.Author.Tests.{eq-eqb, ne-eqb, le-leb, lt-leb, leb-true, lt-ltb, le-lt
 use Rattle.byte_strings.specs.Lists.{run, Bytes}
 use Rattle.byte_strings.proofs.Numbers.{eight-lt}
 use Rattle.byte_strings.specs.Lowest.{Lowest, lowest}
+use Rattle.byte_strings.proofs.Bools.{both-true}
 use Rattle.journal.specs.Form.{lengthOf, statesRight}
 use Rattle.journal.specs.Places.{oldAt, newAt, fileAt, kindAt, startAt, sizeAt, behind, whole}
 use Rattle.journal.specs.Reading.{placeOf, whether, numbersRight, reachOf, follows, rangeRight, stopAt, coveredBy, isFull, gapSays, walk, walked, oldLengths, table, statesSay, stateRight}
@@ -17,12 +18,12 @@ use Rattle.journal.specs.declared.Place.{Place}
 use Rattle.journal.specs.declared.Place.the-variants.{At, Nowhere}
 use Rattle.journal.specs.declared.Said.{Said}
 use Rattle.journal.specs.declared.Said.the-variants.{Done, State, Range, Gap}
-use Rattle.journal.proofs.Behind.{both, Whole}
+use Rattle.journal.proofs.Behind.{Whole}
 
 -- ---- the test by numbers
 
 -- the last part of it
-abbrev lastly : Bool → ℕ → ℕ → ℕ → ℕ → Bool
+abbrev pub lastly : Bool → ℕ → ℕ → ℕ → ℕ → Bool
 lastly b at size old p = elim b as (λ x. Bool) [ true ↦ leb at p | false ↦ leb (at + size) old ]
 
 module _ (kind at size old new a p : ℕ) where
@@ -51,7 +52,7 @@ module _ (kind at size old new a p : ℕ) where
 
 pub inside : (kind at size old new a p : ℕ) → numbersRight kind at size old new a p ≡ true → at + size ≤ new
 unfolding numbersRight
-inside kind at size old new a p e = leb-true _ _ (both (leb (at + size) new) _ (both (leb a at) _ e .1) .0)
+inside kind at size old new a p e = leb-true _ _ (both-true (leb (at + size) new) _ (both-true (leb a at) _ e .1) .0)
 
 module _ (file last reach : ℕ) where
   pub reach-same : file ≡ last → reach ≡ reachOf file last reach
@@ -165,9 +166,9 @@ module _ (j : List ℕ) (last reach : ℕ) (covered : List ℕ) (q : ℕ) where
   pub follows-has : follows j last reach covered q ≡ true → Follows j last q
   unfolding follows
   follows-has e =
-      let x = both (ltb (fileAt j q) 10) _ e in
-      let y = both (leb last (fileAt j q)) _ (x .1) in
-      let z = both (leb 1 (sizeAt j q)) _ (y .1) in
+      let x = both-true (ltb (fileAt j q) 10) _ e in
+      let y = both-true (leb last (fileAt j q)) _ (x .1) in
+      let z = both-true (leb 1 (sizeAt j q)) _ (y .1) in
       record { file = ltb-true _ _ (x .0); above = leb-true _ _ (y .0); some = leb-true _ _ (z .0); ends = inside _ _ _ _ _ _ _ (z .1) }
 
   -- so its end is a number of 64 bits

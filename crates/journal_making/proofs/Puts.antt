@@ -11,6 +11,7 @@ use Rattle.byte_strings.specs.Numbers.{be}
 use Rattle.byte_strings.proofs.Lists.{put-append, put-nil, length-put}
 use Rattle.byte_strings.proofs.Numbers.{length-be}
 use Rattle.journal.specs.Form.{magic, words, header}
+use Rattle.journal.proofs.Lengths.{words-length}
 use Rattle.journal_making.specs.Making.{rangeBytes}
 
 -- bytes put behind others
@@ -51,11 +52,6 @@ words-append : (xs ys : List ℕ) → words (xs ++ ys) ≡ words xs ++ words ys
 unfolding words
 words-append [] ys = refl
 words-append (x ∷ xs) ys = ap (λ (z : List ℕ). be 8 x ++ z) (words-append xs ys) ∙ sym (append-assoc (be 8 x) (words xs) (words ys))
-
-words-length : (xs : List ℕ) → length (words xs) ≡ 8 * length xs
-unfolding words
-words-length [] = refl
-words-length (x ∷ xs) = length-append (be 8 x) (words xs) ∙ omega (arith, length-be 8 x, words-length xs)
 
 pub words-none : (j : List ℕ) (q : ℕ) (xs : List ℕ) → j ≡ put j q (words (take 0 xs))
 unfolding words

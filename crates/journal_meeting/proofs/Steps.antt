@@ -20,18 +20,18 @@ use Rattle.journal_meeting.specs.Between.{metRange, orByte, isOf, met, s
 
 module _ (j : List ℕ) (m i : ℕ) (f : List ℕ) where
   -- no range of the file at q
-  stops : (k q : ℕ) → isOf j m i q ≡ false → met j m i f k q ≡ Done q
+  pub stops : (k q : ℕ) → isOf j m i q ≡ false → met j m i f k q ≡ Done q
   unfolding met whether
   stops zero q e = refl
   stops (suc k) q e = ap (λ (b : Bool). whether b (orByte (metRange f (rangeAt j q)) (met j m i f k (behind j q))) (Done q)) e
 
-  goes : (k q : ℕ) (l : Lowest) → isOf j m i q ≡ true → l ≡ metRange f (rangeAt j q) → met j m i f (suc k) q ≡ orByte l (met j m i f k (behind j q))
+  pub goes : (k q : ℕ) (l : Lowest) → isOf j m i q ≡ true → l ≡ metRange f (rangeAt j q) → met j m i f (suc k) q ≡ orByte l (met j m i f k (behind j q))
   unfolding met whether
   goes k q l e d =
       ap (λ (b : Bool). whether b (orByte (metRange f (rangeAt j q)) (met j m i f k (behind j q))) (Done q)) e
       ∙ ap (λ (x : Lowest). orByte x (met j m i f k (behind j q))) (sym d)
 
-  past : (q : ℕ) → m ≤ q → isOf j m i q ≡ false
+  pub past : (q : ℕ) → m ≤ q → isOf j m i q ≡ false
   unfolding isOf whole
   past q h = ap (λ (b : Bool). (b && ((leb 1 (kindAt j q) && leb (kindAt j q) 4) && leb (behind j q) m)) && eqb (fileAt j q) i) (lt-leb (q + 18) m (omega arith))
 
@@ -39,11 +39,11 @@ module _ (j : List ℕ) (m i : ℕ) (f : List ℕ) where
   unfolding isOf
   cut q e = ap (λ (b : Bool). b && eqb (fileAt j q) i) e
 
-  other : (q : ℕ) → whole j m q ≡ true → (fileAt j q ≡ i → ⊥) → isOf j m i q ≡ false
+  pub other : (q : ℕ) → whole j m q ≡ true → (fileAt j q ≡ i → ⊥) → isOf j m i q ≡ false
   unfolding isOf
   other q e n = ap₂ (λ (a b : Bool). a && b) e (ne-eqb (fileAt j q) i n)
 
-  of-it : (q : ℕ) → whole j m q ≡ true → fileAt j q ≡ i → isOf j m i q ≡ true
+  pub of-it : (q : ℕ) → whole j m q ≡ true → fileAt j q ≡ i → isOf j m i q ≡ true
   unfolding isOf
   of-it q e d = ap₂ (λ (a b : Bool). a && b) e (eq-eqb (fileAt j q) i d)
 

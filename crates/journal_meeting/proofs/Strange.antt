@@ -2,13 +2,15 @@
 use Prim.Native.Nat.{ℕ, _+_, _-_, _≤_, _<_}
 use native.Mathlib.Omega.{arith}
 use native.Mathlib.Decide.{decLe, ℕ-discrete}
-use mathlib.Core.Path.{_≡_, refl, sym, ap, ap₂, _∙_}
+use mathlib.Core.Path.{_≡_, sym, ap, ap₂, _∙_}
 use mathlib.Core.Bool.{Bool, true, false, _&&_, _||_}
 use mathlib.Core.List.{List}
 use lib.ListN.{getD}
 use lib.Dec.{eqb, leb}
 use borrow.Author.Tests.{eq-eqb, ne-eqb, le-leb, lt-leb}
 use Rattle.byte_strings.specs.Lowest.{Lowest, nowhere, first}
+use Rattle.byte_strings.proofs.Bools.{and-false}
+use Rattle.byte_strings.proofs.Tests.{and-true}
 use Rattle.journal.specs.Form.{stateOf}
 use Rattle.journal.specs.Places.{oldAt, newAt}
 use Rattle.journal_meeting.specs.Between.{rightAt, shifted, stateMet}
@@ -33,10 +35,6 @@ unfolding shifted
 shifted-none at l e = sym (ap (shifted at) e)
 
 -- ---- a file's state
-
-and-false : (b : Bool) → (b && false) ≡ false
-and-false true = refl
-and-false false = refl
 
 leb-less : (a b : ℕ) → (a ≡ 0 → ⊥) → leb (a - 1) b ≡ leb a (b + 1)
 leb-less a b n = go (decLe a (b + 1))
@@ -67,10 +65,6 @@ module _ (j : List ℕ) (i : ℕ) (there : Bool) (long o n : ℕ) (x : o ≡ old
 
   pub met-old : there ≡ true → long < n → (o ≡ 0 → ⊥) → leb (o - 1) long ≡ stateMet j i (stateOf there long)
   met-old t h e = leb-less o long e ∙ sym (is-there t ∙ ap (λ (b : Bool). leb o (long + 1) && b) (le-leb (long + 1) n (omega arith)) ∙ and-true (leb o (long + 1)))
-    where
-      and-true : (b : Bool) → (b && true) ≡ b
-      and-true true = refl
-      and-true false = refl
 
   pub met-absent : there ≡ false → eqb o 0 ≡ stateMet j i (stateOf there long)
   unfolding stateMet
@@ -78,7 +72,3 @@ module _ (j : List ℕ) (i : ℕ) (there : Bool) (long o n : ℕ) (x : o ≡ old
       leb-none o
       ∙ sym (ap (λ (b : Bool). leb (oldAt j i) (stateOf b long) && leb (stateOf b long) (newAt j i)) t
       ∙ ap₂ (λ (a : ℕ) (b : Bool). leb a 0 && b) (sym x) (le-leb 0 (newAt j i) (omega arith)) ∙ and-true (leb o 0))
-    where
-      and-true : (b : Bool) → (b && true) ≡ b
-      and-true true = refl
-      and-true false = refl

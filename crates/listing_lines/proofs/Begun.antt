@@ -8,7 +8,7 @@ use native.Mathlib.Omega.{arith}
 use borrow.Author.Tests.{le-leb, lt-leb}
 use lib.Dec.{leb}
 use lib.ListN.{length, drop}
-use Rattle.refusals.specs.Verdict.{Verdict, unlessRefused}
+use Rattle.answer_types.specs.Verdict.{Verdict, unlessRefused}
 use Rattle.blake2b.specs.Hash.{nodeHash}
 use Rattle.byte_strings.specs.Lists.{part}
 use Rattle.byte_strings.specs.Numbers.{number}

@@ -11,7 +11,7 @@ use lib.ListN.{length, take, drop, length-drop}
 use lib.Seq.{take-all, length-take-le}
 use Rattle.byte_strings.specs.Lists.{part}
 use Rattle.byte_strings.specs.Numbers.{number}
-use Rattle.checks.proofs.Judged.{both-right}
+use Rattle.byte_strings.proofs.Bools.{both-true}
 use Rattle.listing_lines.specs.Input.{other, chunks, before, nextLength, chunkStands, chunksIn, inputOf}
 use Rattle.listing_lines.specs.Lines.{linesFor, listing}
 use Rattle.listing_lines.specs.Limits.{Limits}
@@ -22,8 +22,8 @@ shorter : (k : ℕ) (xs : List ℕ) (left : ℕ) → 4 * suc k + left < length x
     → 4 * k + (left - nextLength xs) < length (drop (4 + nextLength xs) xs)
 unfolding chunkStands
 shorter k xs left h e =
-    let a = both-right (leb 4 (length xs)) (leb (nextLength xs) left && leb (4 + nextLength xs) (length xs)) e in
-    let b = both-right (leb (nextLength xs) left) (leb (4 + nextLength xs) (length xs)) (a .1) in
+    let a = both-true (leb 4 (length xs)) (leb (nextLength xs) left && leb (4 + nextLength xs) (length xs)) e in
+    let b = both-true (leb (nextLength xs) left) (leb (4 + nextLength xs) (length xs)) (a .1) in
     omega (arith, length-drop (4 + nextLength xs) xs, leb-true (nextLength xs) left (b .0), leb-true (4 + nextLength xs) (length xs) (b .1))
 
 long-step : (k : ℕ) (xs : List ℕ) (left : ℕ) → ((ys : List ℕ) (m : ℕ) → 4 * k + m < length ys → chunksIn k ys m ≡ other)

@@ -1,17 +1,18 @@
 -- A chunk added to the listing's register by an append and a stored signature.
 -- Assumes nothing.
 use Prim.Native.Nat.{ℕ, _+_, _≤_, _<_}
-use mathlib.Core.Path.{_≡_, refl, sym, ap, _∙_, subst}
-use mathlib.Core.Bool.{Bool, true, false, _||_}
+use mathlib.Core.Path.{_≡_, sym, ap, _∙_, subst}
+use mathlib.Core.Bool.{Bool, true, _||_}
 use mathlib.Core.List.{List, [], _∷_, _++_, map-append}
 use native.Mathlib.Omega.{arith}
 use borrow.Author.Tests.{eq-eqb}
 use lib.Dec.{eqb}
 use lib.ListN.{length, take}
-use Rattle.refusals.specs.Verdict.{Verdict, done}
+use Rattle.answer_types.specs.Verdict.{Verdict, done}
 use Rattle.blake2b.specs.Hash.{nodeHash}
 use Rattle.byte_strings.specs.Lists.{Bytes}
 use Rattle.byte_strings.proofs.Lists.{length-put, take-put}
+use Rattle.byte_strings.proofs.Bools.{or-right}
 use Rattle.tree_index.specs.Tree.{entries}
 use Rattle.bitfield.specs.Image.{entryCount, entriesOf}
 use Rattle.bitfield.proofs.Bits.{with-one}
@@ -21,6 +22,7 @@ use Rattle.file_format.specs.Sizes.{usedTree, usedSignatures, usedBitfield}
 use Rattle.file_format.specs.Slots.{Slot, held, allHeld, heldIn, Within}
 use Rattle.file_format.specs.Belongs.{Buffers, Register, buffersOf, Belongs}
 use Rattle.file_format.proofs.Hashed.{hash-function}
+use Rattle.file_format.proofs.OfImage.{signatures-32}
 use Rattle.checks.specs.Checks.{signedRight}
 use Rattle.checks.specs.Lent.{registerOf}
 use Rattle.checks.proofs.Passed.{Passed}
@@ -56,14 +58,6 @@ sigs-room s h = omega arith
 sigs-end : (s : ℕ) → s < 64 → usedSignatures s + 64 ≤ 4160
 unfolding usedSignatures
 sigs-end s h = omega arith
-
-sigs-behind : (s : ℕ) → 32 ≤ usedSignatures s
-unfolding usedSignatures
-sigs-behind s = omega arith
-
-or-right : (a b : Bool) → b ≡ true → (a || b) ≡ true
-or-right true b q = refl
-or-right false b q = q
 
 -- the numbers 2 to 6 are passed by a register that belongs to chunks
 passed-of : (r : Register) (ss : List Slot) → Within ss → Belongs nodeHash r ss → signedRight (r .n) (r .s) ≡ true
@@ -132,7 +126,7 @@ module _ (r : Register) (c : List ℕ) (p : Bytes c) (few : r .n < 64) (small : 
           within = wide;
           belongs = sign-belongs nodeHash next sig (allHeld (cs ++ (c ∷ []))) next-belongs;
           paid = ap (λ (k : ℕ). k + 1) (y .paid);
-          front = take-put 32 (r .signatures) (usedSignatures (r .s)) sig (sigs-behind (r .s)) (omega (arith, sigs-end (r .s) (omega (arith, y .paid, few)), y .signatures)) ∙ y .front;
+          front = take-put 32 (r .signatures) (usedSignatures (r .s)) sig (signatures-32 (r .s)) (omega (arith, sigs-end (r .s) (omega (arith, y .paid, few)), y .signatures)) ∙ y .front;
           tree = appended-length nodeHash hash-function (allHeld cs) (y .within) r (y .belongs) c wider (fits .tree) ∙ y .tree;
           signatures = length-put (r .signatures) (usedSignatures (r .s)) sig (omega (arith, long, sigs-end (r .s) (omega (arith, y .paid, few)), y .signatures)) ∙ y .signatures;
           bitfield = ap length (bits-put (r .bitfield) (heldIn (allHeld cs)) (r .n) (none-from nodeHash (allHeld cs) r (y .belongs)) (fits .fewer) (fits .bitfield) (y .belongs .bitfield))

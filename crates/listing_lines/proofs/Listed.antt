@@ -9,8 +9,8 @@ use native.Mathlib.Omega.{arith}
 use borrow.Author.Tests.{leb-true, le-leb, lt-leb}
 use lib.Dec.{leb}
 use lib.ListN.{length, getD, take, drop}
-use Rattle.refusals.specs.Verdict.{Verdict, none, done, refused, unlessRefused}
-use Rattle.refusals.specs.declared.Place.the-variants.{Nowhere}
+use Rattle.answer_types.specs.Verdict.{Verdict, none, done, refused, unlessRefused}
+use Rattle.answer_types.specs.declared.Place.the-variants.{Nowhere}
 use Rattle.blake2b.specs.Hash.{nodeHash}
 use Rattle.checks.specs.Checks.{judged}
 use Rattle.byte_strings.specs.Lists.{part, put, run, joined, total}

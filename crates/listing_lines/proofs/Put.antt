@@ -7,8 +7,7 @@ use native.Mathlib.Nat.{le-refl, add-zero, div-eq-of-lt}
 use native.Mathlib.Omega.{arith}
 use lib.ListN.{length, take, length-append}
 use Rattle.byte_strings.specs.Lists.{put}
-use Rattle.byte_strings.proofs.Lists.{length-put}
-use Rattle.writing.proofs.Written.{take-put-end}
+use Rattle.byte_strings.proofs.Lists.{length-put, take-put-end}
 use Rattle.listing_lines.specs.Lines.{digits, decimal, line, chunksWord, bytesWord, rootsWord}
 use Rattle.listing_lines.specs.Inner.{Put, rootsOf, firstOf}
 

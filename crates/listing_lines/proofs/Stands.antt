@@ -10,7 +10,7 @@ use lib.Dec.{leb}
 use lib.ListN.{length, drop, length-drop}
 use Rattle.byte_strings.specs.Lists.{part}
 use Rattle.byte_strings.specs.Numbers.{number}
-use Rattle.checks.proofs.Judged.{both-right}
+use Rattle.byte_strings.proofs.Bools.{both-true}
 use Rattle.listing_lines.specs.Input.{nextLength, chunkStands}
 
 module _ (input : List ℕ) (at room : ℕ) (h : at ≤ length input) where
@@ -44,8 +44,8 @@ module _ (input : List ℕ) (at room : ℕ) (h : at ≤ length input) where
 pub stands-facts : (input : List ℕ) (at room : ℕ) → at ≤ length input → chunkStands (drop at input) room ≡ true
     → (4 ≤ length input - at) × (number (part input at 4) ≤ room) × (4 + number (part input at 4) ≤ length input - at)
 stands-facts input at room h e =
-    let a = both-right _ _ (sym (stood input at room h) ∙ e) in
-    let b = both-right _ _ (a .1) in
+    let a = both-true _ _ (sym (stood input at room h) ∙ e) in
+    let b = both-true _ _ (a .1) in
     (leb-true _ _ (a .0), leb-true _ _ (b .0), leb-true _ _ (b .1))
 
 -- where the test of a chunk did not fail: the chunk ends within the input, and within 4,096 bytes

@@ -3,8 +3,8 @@ use Prim.Native.Nat.{ℕ, _≤_}
 use mathlib.Core.Path.{_≡_}
 use mathlib.Core.List.{List, [], _∷_}
 use lib.ListN.{length}
-use Rattle.refusals.specs.Verdict.{Verdict, done, unlessRefused}
-use Rattle.refusals.specs.Meaning.{refusalOf}
+use Rattle.answer_types.specs.Verdict.{Verdict, done, unlessRefused}
+use Rattle.answer_types.specs.Meaning.{refusalOf}
 use Rattle.byte_strings.specs.Lists.{put}
 use Rattle.checks.specs.Checks.{judged, holds}
 use Rattle.listing_lines.specs.Lines.{listing}

@@ -9,7 +9,7 @@ use native.Mathlib.Omega.{arith}
 use borrow.Author.Tests.{lt-ltb, le-ltb, le-leb, lt-leb, eq-eqb, ne-eqb}
 use lib.ListN.{length, getD, take, length-take}
 use lib.Seq.{getD-take}
-use Rattle.refusals.specs.Verdict.{Verdict, none, tree, done, refused}
+use Rattle.answer_types.specs.Verdict.{Verdict, none, tree, done, refused, andThen}
 use Rattle.byte_strings.specs.Lists.{part, total, sameList}
 use Rattle.byte_strings.proofs.Lists.{length-part, run-ext}
 use Rattle.tree_index.specs.Tree.{index, filled}
@@ -33,7 +33,7 @@ use Rattle.checks.proofs.Judged.{judged-append}
 use Rattle.checks.proofs.Passed.{Passed, passes, passed, same-of}
 use Rattle.lookup.specs.Descent.{Ending, stopped, reached, unknown, always, chunkWithin, byteWithin, descent}
 use Rattle.lookup.specs.Lookup.{refusal, found, stopRefused, foundUnless, chunkOf, startOf, toChunk, byteEnding, toByte, placeVerdict, heldVerdict, byteVerdict, placeOf, byteAt}
-use Rattle.lookup.specs.Read.{chunkBytes, andThen, partUnless, readVerdict, readPart}
+use Rattle.lookup.specs.Read.{chunkBytes, partUnless, readVerdict, readPart}
 use Rattle.lookup.specs.Theorems.{startIn, HasByte, Answers, AnswersForAll, Right, HoldsChunk, HoldsByte, Lies, Stops, LookupsStayInside, LookupsStayInsideForAll}
 use Rattle.lookup.proofs.Descents.{Steps, Landed, Halted, Ends, ends, chunk-order, byte-order, left-first, right-end, left-inside, twice}
 

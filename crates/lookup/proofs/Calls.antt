@@ -9,7 +9,7 @@ use native.Mathlib.Omega.{arith}
 use borrow.Author.Tests.{lt-ltb, le-ltb, le-leb, lt-leb, ltb-true}
 use lib.Dec.{leb, ltb}
 use lib.ListN.{length, take, drop}
-use Rattle.refusals.specs.Verdict.{Spot, Verdict, none, tree, done, refused}
+use Rattle.answer_types.specs.Verdict.{Spot, Verdict, none, tree, done, refused, andThen}
 use Rattle.byte_strings.specs.Lists.{part, sameList}
 use Rattle.tree_index.specs.Tree.{index}
 use Rattle.tree_index.proofs.Filled.{end-filled}
@@ -25,12 +25,12 @@ use Rattle.checks.specs.Checks.{Check, judged, registerChecks}
 use Rattle.checks.proofs.Judged.{judged-append, judged-refused}
 use Rattle.checks.proofs.Passed.{all-must, all-pass, passes, passed}
 use Rattle.lookup.specs.Descent.{Ending, stopped, reached, unknown, always, chunkWithin, byteWithin, descent}
-use Rattle.lookup.specs.Lookup.{Found, refusal, found, stopRefused, foundUnless, chunkOf, startOf, toChunk, byteEnding, toByte, placeVerdict, heldVerdict}
-use Rattle.lookup.specs.Lookup.{byteVerdict, placeOf, heldPlaceOf, byteAt}
+use Rattle.lookup.specs.Lookup.{Found, refusal, found, stopRefused, foundUnless, foundBehind, chunkOf, startOf, toChunk, byteEnding, toByte, placeVerdict}
+use Rattle.lookup.specs.Lookup.{heldVerdict, byteVerdict, placeOf, heldPlaceOf, byteAt}
 use Rattle.lookup.specs.Inner.{Searched, SearchedFor, SearchedHeld, placeIn, heldPlaceIn, byteIn}
 use Rattle.lookup.specs.Capped.{cappedEnding}
-use Rattle.lookup.specs.Read.{chunkBytes, andThen, partUnless, readVerdict, readPart}
-use Rattle.lookup.specs.Meaning.{LiesAt, PlacedIn, hashJudged, readFound}
+use Rattle.lookup.specs.Read.{chunkBytes, partUnless, readVerdict, readPart}
+use Rattle.lookup.specs.Meaning.{verdictFound, PartIn, bytesFound, LiesAt, PlacedIn, hashJudged, readFound}
 use Rattle.lookup.proofs.Descents.{Ends, ends, chunk-order, byte-order}
 use Rattle.lookup.proofs.Visits.{filled-entry}
 use Rattle.checks.proofs.Capped.{capped-low}
@@ -38,53 +38,36 @@ use Rattle.lookup.proofs.Answers.{any-start, at-end, not-at-end, stays-
 
 -- ---- after the checks 2 to 6
 
--- what they refuse is refused, whatever comes behind them
-found-refused-before : (r : Register) (cs : List Check) (next : Verdict) (a b m : ℕ) (at : Spot) → refused m at ≡ judged (registerChecks r) done
-    → refusal m at ≡ foundUnless (judged (registerChecks r ++ cs) next) a b
-found-refused-before r cs next a b m at e =
-    sym
-    (ap (λ (v : Verdict). foundUnless v a b)
-    (judged-append (registerChecks r) cs next ∙ judged-refused (registerChecks r) (judged cs next) m at (sym e)))
-
--- and what passes them is judged by the checks behind them
-found-passed : (r : Register) (cs : List Check) (next : Verdict) (a b : ℕ) → done ≡ judged (registerChecks r) done
-    → foundUnless (judged cs next) a b ≡ foundUnless (judged (registerChecks r ++ cs) next) a b
-found-passed r cs next a b e =
-    sym (ap (λ (v : Verdict). foundUnless v a b) (judged-append (registerChecks r) cs next ∙ passes r (judged cs next) (passed r done (sym e) .0)))
-
-pub place-refused : (r : Register) (c m : ℕ) (at : Spot) → refused m at ≡ judged (registerChecks r) done → refusal m at ≡ placeOf r c
-unfolding placeOf placeVerdict
-place-refused r c =
-    found-refused-before r (record { number = 9; right = ltb c (r .n) } ∷ []) (stopRefused (toChunk r c)) (startOf (toChunk r c)) (storedSize (r .tree) (index 0 c))
-
-pub place-passed : (r : Register) (c : ℕ) → done ≡ judged (registerChecks r) done → placeIn always (r .tree) (r .n) c ≡ placeOf r c
-unfolding placeOf placeVerdict placeIn toChunk
-place-passed r c =
-    found-passed r (record { number = 9; right = ltb c (r .n) } ∷ []) (stopRefused (toChunk r c)) (startOf (toChunk r c)) (storedSize (r .tree) (index 0 c))
-
 -- what comes behind 9 for a chunk that must be held
 abbrev held-next : Register → ℕ → Verdict
 held-next r c = cond (storedHeld (r .bitfield) c) (stopRefused (toChunk r c)) (refused 18 (tree (index 0 c)))
 
-pub held-refused : (r : Register) (c m : ℕ) (at : Spot) → refused m at ≡ judged (registerChecks r) done → refusal m at ≡ heldPlaceOf r c
-unfolding heldPlaceOf heldVerdict
-held-refused r c =
-    found-refused-before r (record { number = 9; right = ltb c (r .n) } ∷ []) (held-next r c) (startOf (toChunk r c)) (storedSize (r .tree) (index 0 c))
+module _ (r : Register) (v : Verdict) (e : v ≡ judged (registerChecks r) done) where
+  -- what they refuse is refused, whatever comes behind them, and what passes them is judged by the checks behind them
+  behind : (cs : List Check) (next : Verdict) (a b : ℕ)
+      → foundBehind v (foundUnless (judged cs next) a b) ≡ foundUnless (judged (registerChecks r ++ cs) next) a b
+  behind cs next a b = go v e ∙ ap (λ (w : Verdict). foundUnless w a b) (sym (judged-append (registerChecks r) cs next))
+    where
+      go : (w : Verdict) → w ≡ judged (registerChecks r) done
+          → foundBehind w (foundUnless (judged cs next) a b) ≡ foundUnless (judged (registerChecks r) (judged cs next)) a b
+      go done f = ap (λ (x : Verdict). foundUnless x a b) (sym (passes r (judged cs next) (passed r done (sym f) .0)))
+      go (refused m at) f = ap (λ (x : Verdict). foundUnless x a b) (sym (judged-refused (registerChecks r) (judged cs next) m at (sym f)))
 
-pub held-passed : (r : Register) (c : ℕ) → done ≡ judged (registerChecks r) done → heldPlaceIn always (r .tree) (r .n) (r .bitfield) c ≡ heldPlaceOf r c
-unfolding heldPlaceOf heldVerdict heldPlaceIn toChunk
-held-passed r c =
-    found-passed r (record { number = 9; right = ltb c (r .n) } ∷ []) (held-next r c) (startOf (toChunk r c)) (storedSize (r .tree) (index 0 c))
+  module _ (c : ℕ) where
+    abbrev nine : List Check
+    nine = record { number = 9; right = ltb c (r .n) } ∷ []
 
-pub byte-refused : (r : Register) (b m : ℕ) (at : Spot) → refused m at ≡ judged (registerChecks r) done → refusal m at ≡ byteAt r b
-unfolding byteAt byteVerdict
-byte-refused r b =
-    found-refused-before r (record { number = 9; right = leb b (r .size) } ∷ []) (stopRefused (toByte r b)) (chunkOf (toByte r b)) (b - startOf (toByte r b))
+    pub place-by : foundBehind v (placeIn always (r .tree) (r .n) c) ≡ placeOf r c
+    unfolding placeOf placeVerdict placeIn toChunk
+    place-by = behind nine (stopRefused (toChunk r c)) (startOf (toChunk r c)) (storedSize (r .tree) (index 0 c))
 
-pub byte-passed : (r : Register) (b : ℕ) → done ≡ judged (registerChecks r) done → byteIn always (r .tree) (r .n) (r .size) b ≡ byteAt r b
-unfolding byteAt byteVerdict byteIn toByte
-byte-passed r b =
-    found-passed r (record { number = 9; right = leb b (r .size) } ∷ []) (stopRefused (toByte r b)) (chunkOf (toByte r b)) (b - startOf (toByte r b))
+    pub held-by : foundBehind v (heldPlaceIn always (r .tree) (r .n) (r .bitfield) c) ≡ heldPlaceOf r c
+    unfolding heldPlaceOf heldVerdict heldPlaceIn toChunk
+    held-by = behind nine (held-next r c) (startOf (toChunk r c)) (storedSize (r .tree) (index 0 c))
+
+  pub byte-by : (b : ℕ) → foundBehind v (byteIn always (r .tree) (r .n) (r .size) b) ≡ byteAt r b
+  unfolding byteAt byteVerdict byteIn toByte
+  byte-by b = behind (record { number = 9; right = leb b (r .size) } ∷ []) (stopRefused (toByte r b)) (chunkOf (toByte r b)) (b - startOf (toByte r b))
 
 -- a register's bits are asked for by 18 alone
 pub searched : (r : Register) → done ≡ judged (registerChecks r) done → r .size < 2 ^ 64 → SearchedFor false (r .tree) (r .bitfield) (r .n) (r .size)
@@ -416,6 +399,21 @@ module _ (F : List ℕ → List ℕ) (r : Register) (c : ℕ) where
   nothing m at e =
       let v = found-refused (readVerdict F r c) (startOf (toChunk r c)) (startOf (toChunk r c) + storedSize (r .tree) (index 0 c)) m at e in
       (sym v, sym (ap (λ (x : Verdict). partUnless F x (chunkBytes r c)) v))
+
+module _ (F : List ℕ → List ℕ) (r : Register) (c : ℕ) where
+  -- so what was verified, p, is what the read answers and hands back
+  pub read-in : (p : Found) → p ≡ readFound F r c → PartIn (r .content) p
+  read-in (refusal m at) e = tt
+  read-in (found from end) e = let l = lying F r c from end e in (l .ordered, l .inside)
+
+  pub read-says : (p : Found) → p ≡ readFound F r c → verdictFound p ≡ readVerdict F r c
+  read-says (refusal m at) e = nothing F r c m at e .0
+  read-says (found from end) e = lying F r c from end e .verdict
+
+  pub read-bytes : (p : Found) → p ≡ readFound F r c → bytesFound (r .content) p ≡ readPart F r c
+  unfolding part
+  read-bytes (refusal m at) e = nothing F r c m at e .1
+  read-bytes (found from end) e = lying F r c from end e .same
 
 -- a part that is given by its start and its end
 pub as-part : (xs : List ℕ) (start size : ℕ) → take (start + size - start) (drop start xs) ≡ part xs start size

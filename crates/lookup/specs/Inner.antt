@@ -5,7 +5,7 @@ use mathlib.Core.Bool.{Bool, true, false, cond}
 use mathlib.Core.List.{List, [], _∷_}
 use lib.ListN.{length}
 use lib.Dec.{leb, ltb}
-use Rattle.refusals.specs.Verdict.{tree as atTree, refused}
+use Rattle.answer_types.specs.Verdict.{tree as atTree, refused}
 use Rattle.byte_strings.specs.Lists.{total}
 use Rattle.tree_index.specs.Tree.{index, depth, block, leftChild, rightChild, filled}
 use Rattle.bitfield.specs.Append.{bitsPlace}

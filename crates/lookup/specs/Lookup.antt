@@ -3,7 +3,7 @@ use Prim.Native.Nat.{ℕ, _-_}
 use mathlib.Core.Bool.{Bool, true, false, cond}
 use mathlib.Core.List.{List, [], _∷_, _++_}
 use lib.Dec.{leb, ltb, eqb}
-use Rattle.refusals.specs.Verdict.{Spot, Verdict, tree, done, refused}
+use Rattle.answer_types.specs.Verdict.{Spot, Verdict, tree, done, refused}
 use Rattle.tree_index.specs.Tree.{index}
 use Rattle.bitfield.specs.Release.{storedHeld}
 use Rattle.file_format.specs.Stored.{storedSize}
@@ -26,6 +26,11 @@ stopRefused (unknown i) = refused 20 (tree i)
 abbrev pub foundUnless : Verdict → ℕ → ℕ → Found
 foundUnless done a b = found a b
 foundUnless (refused m at) a b = refusal m at
+
+-- what a lookup finds, behind the verdict of the checks
+abbrev pub foundBehind : Verdict → Found → Found
+foundBehind done f = f
+foundBehind (refused m at) f = refusal m at
 
 -- the chunk and the start that a descent came to
 abbrev pub chunkOf : Ending → ℕ

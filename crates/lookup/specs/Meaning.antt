@@ -1,11 +1,11 @@
 -- The number and the values that each case of an answer stands for.
-use Prim.Native.Nat.{ℕ, _+_, _≤_, _<_}
+use Prim.Native.Nat.{ℕ, _+_, _-_, _≤_, _<_}
 use mathlib.Core.Bool.{cond}
-use mathlib.Core.List.{List}
+use mathlib.Core.List.{List, []}
 use lib.ListN.{length}
-use Rattle.refusals.specs.Verdict.{tree as atTree}
-use Rattle.refusals.specs.Meaning.{spotOf}
-use Rattle.refusals.specs.declared.Refusal.{Refusal}
+use Rattle.answer_types.specs.Verdict.{Verdict, tree as atTree, done, refused}
+use Rattle.answer_types.specs.Meaning.{spotOf}
+use Rattle.answer_types.specs.declared.Refusal.{Refusal}
 use Rattle.byte_strings.specs.Lists.{part, sameList}
 use Rattle.tree_index.specs.Tree.{index}
 use Rattle.file_format.specs.Messages.{leafMessage}
@@ -41,6 +41,21 @@ nameOf Content = contents
 abbrev pub verifiedOf : Verified → Found
 verifiedOf (NoPart r) = refusedAs r
 verifiedOf (Part start end) = found (start .0) (end .0)
+
+-- what is found as a verdict
+abbrev pub verdictFound : Found → Verdict
+verdictFound (refusal m at) = refused m at
+verdictFound (found a b) = done
+
+-- a part that is found, from a start to an end, lies within the data
+abbrev pub PartIn : List ℕ → Found → Type 0
+PartIn content (refusal m at) = Unit {0}
+PartIn content (found start end) = (start ≤ end) × (end ≤ length content)
+
+-- its bytes; nothing after a refusal
+abbrev pub bytesFound : List ℕ → Found → List ℕ
+bytesFound content (refusal m at) = []
+bytesFound content (found start end) = part content start (end - start)
 
 -- what the checks of a read find: its refusal, or where the chunk's bytes begin and end
 unfoldable pub readFound : (List ℕ → List ℕ) → Register → ℕ → Found

@@ -3,7 +3,7 @@
 use Prim.Native.Nat.{ℕ}
 use mathlib.Core.Bool.{cond}
 use mathlib.Core.List.{List, []}
-use Rattle.refusals.specs.Verdict.{Verdict, tree, done, refused}
+use Rattle.answer_types.specs.Verdict.{Verdict, tree, done, refused, andThen}
 use Rattle.byte_strings.specs.Lists.{part, sameList}
 use Rattle.tree_index.specs.Tree.{index}
 use Rattle.file_format.specs.Messages.{leafMessage}
@@ -14,11 +14,6 @@ use Rattle.lookup.specs.Lookup.{startOf, toChunk, heldVerdict}
 -- the bytes of chunk c, by its place
 unfoldable pub chunkBytes : Register → ℕ → List ℕ
 chunkBytes r c = part (r .content) (startOf (toChunk r c)) (storedSize (r .tree) (index 0 c))
-
--- what comes next where a verdict is done
-abbrev pub andThen : Verdict → Verdict → Verdict
-andThen done next = next
-andThen (refused m at) next = refused m at
 
 module _ (F : List ℕ → List ℕ) where
   -- the refusals of a place lookup, with 18 for a chunk that is not held; then "10. .. a read finds another leaf hash"

@@ -7,7 +7,7 @@ use mathlib.Core.Path.{_≡_}
 use mathlib.Core.Bool.{true, false}
 use mathlib.Core.List.{List, [], _∷_, _++_, map}
 use lib.ListN.{length, getD, take}
-use Rattle.refusals.specs.Verdict.{none, tree, done, refused}
+use Rattle.answer_types.specs.Verdict.{none, tree, done, refused}
 use Rattle.byte_strings.specs.Lists.{total}
 use Rattle.tree_index.specs.Tree.{index, roots}
 use Rattle.file_format.specs.Sizes.{longestChunk}

@@ -4,8 +4,8 @@ use mathlib.Core.Bool.{Bool, cond}
 use mathlib.Core.List.{List, [], _∷_}
 use Rattle.byte_strings.specs.Lowest.{Lowest, nowhere, first}
 use Rattle.tree_index.specs.Tree.{leftChild, rightChild}
-use Rattle.lookup.specs.declared.descent.Unknown.{Unknown}
-use Rattle.lookup.specs.declared.descent.Unknown.the-variants.{At, Nothing}
+use Rattle.lookup.specs.declared.descent.First.{First}
+use Rattle.lookup.specs.declared.descent.First.the-variants.{At, Nothing}
 
 -- the first of the indexes is that is not known
 unfoldable pub firstUnknown : (ℕ → Bool) → List ℕ → Lowest
@@ -18,6 +18,6 @@ childrenRead zero i = []
 childrenRead (suc d) i = leftChild i ∷ rightChild i ∷ []
 
 -- what each case stands for
-abbrev pub unknownOf : Unknown → Lowest
-unknownOf (At i) = first (i .0)
-unknownOf Nothing = nowhere
+abbrev pub firstEntry : First → Lowest
+firstEntry (At i) = first (i .0)
+firstEntry Nothing = nowhere

@@ -7,7 +7,7 @@ ghost use mathlib.Core.Path.{_≡_};
 ghost use Prim.Native.Nat.{_+_, _^_, _<_};
 ghost use Rattle.tree_index.specs.Tree.{depth, block};
 ghost use Rattle.lookup.specs.Descent as spec;
-ghost use Rattle.lookup.specs.Unknown.{firstUnknown, childrenRead, unknownOf};
+ghost use Rattle.lookup.specs.Unknown.{firstUnknown, childrenRead, firstEntry};
 ghost use Rattle.lookup.specs.Inner.{withinOf, endingOf, knownIf, BitIn, ChildrenIn, FilesIn, Standing, StandsAt, Visited};
 ghost use Rattle.lookup.specs.Capped.{cappedEnding, movedBy, Passed, Behind};
 
@@ -24,8 +24,8 @@ pub enum Ending {
     Unknown(TreeIndex),
 }
 
-// What a search for an entry that is not known finds.
-pub enum Unknown {
+// The first entry that a search finds, by its tree index.
+pub enum First {
     At(TreeIndex),
     Nothing,
 }
@@ -75,8 +75,8 @@ fn visit(tree: &[u8], sought: Sought, i: TreeIndex, start: ByteOffset) -> Step
     Step::Down(right, ByteOffset(start.0 + first))
 }
 
-// Whether an entry may be read.
-fn is_known(bitfield: &[u8], partly: bool, i: TreeIndex) -> bool
+// Inner: whether an entry may be read, of a copy one whose tree bit is 1. A register's bits are not asked for.
+pub fn is_known(bitfield: &[u8], partly: bool, i: TreeIndex) -> bool
     requires { ⌜ BitIn partly (now bitfield) (i .0) ⌝ }
     ensures { λ r. ⌜ r ≡ knownIf partly (now (bitfield .entry)) (i .0) ⌝ }
 {
@@ -87,26 +87,26 @@ fn is_known(bitfield: &[u8], partly: bool, i: TreeIndex) -> bool
 }
 
 // The first unknown of a node's children, the left before the right; a leaf has none. A register's bits are not asked for.
-fn unknown_child(bitfield: &[u8], partly: bool, i: TreeIndex) -> Unknown
+fn unknown_child(bitfield: &[u8], partly: bool, i: TreeIndex) -> First
     requires { ⌜ ChildrenIn partly (now bitfield) (i .0) ⌝ }
     ensures { λ r.
-        ⌜ unknownOf r ≡ firstUnknown (knownIf partly (now (bitfield .entry))) (childrenRead (depth (i .0)) (i .0)) ⌝ }
+        ⌜ firstEntry r ≡ firstUnknown (knownIf partly (now (bitfield .entry))) (childrenRead (depth (i .0)) (i .0)) ⌝ }
 {
     if !partly {
-        return Unknown::Nothing;
+        return First::Nothing;
     }
     if tree_index::depth(i) == 0 {
-        return Unknown::Nothing;
+        return First::Nothing;
     }
     let left = tree_index::left_child(i);
     if !is_known(bitfield, partly, left) {
-        return Unknown::At(left);
+        return First::At(left);
     }
     let right = tree_index::right_child(i);
     if !is_known(bitfield, partly, right) {
-        return Unknown::At(right);
+        return First::At(right);
     }
-    Unknown::Nothing
+    First::Nothing
 }
 
 // From a node down to a leaf: the depth falls at each call.
@@ -126,8 +126,8 @@ fn descend(
         ⌝ }
 {
     match unknown_child(bitfield, partly, i) {
-        Unknown::At(child) => Ending::Unknown(child),
-        Unknown::Nothing => match visit(tree, sought, i, start) {
+        First::At(child) => Ending::Unknown(child),
+        First::Nothing => match visit(tree, sought, i, start) {
             Step::End(ending) => ending,
             Step::Down(child, from) => descend(tree, bitfield, partly, sought, child, from),
         },

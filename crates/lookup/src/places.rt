@@ -1,14 +1,16 @@
 // The place lookup, of any chunk and of one that is held, and the byte lookup.
 use super::descent::Ending;
 use super::descent::Sought;
+use answer_types::Answer;
+use answer_types::Place;
+use answer_types::Refusal;
 use number_types::ByteOffset;
 use number_types::ChunkNumber;
-use refusals::Answer;
-use refusals::Place;
-use refusals::Refusal;
 ghost use mathlib.Core.Path.{_≡_};
+ghost use Rattle.answer_types.specs.Verdict.{done};
+ghost use Rattle.answer_types.specs.Meaning.{said};
 ghost use Rattle.checks.specs.Lent.{registerOf};
-ghost use Rattle.lookup.specs.Lookup.{placeOf, heldPlaceOf, byteAt};
+ghost use Rattle.lookup.specs.Lookup.{foundBehind, placeOf, heldPlaceOf, byteAt};
 ghost use Rattle.lookup.specs.Inner.{knownIf, Searched, SearchedFor, SearchedHeld, placeIn, heldPlaceIn, byteIn};
 ghost use Rattle.lookup.specs.Meaning.{placedOf, locatedOf};
 
@@ -25,8 +27,8 @@ pub enum Located {
     In(ChunkNumber, u64),
 }
 
-// Inner: the place of a chunk, in a register that passes the checks 2 to 6 or a copy that passes its own.
-pub fn place_in(tree: &[u8], bitfield: &[u8], partly: bool, n: u64, chunk: ChunkNumber) -> Placed
+// The place of a chunk, in a register that passes the checks 2 to 6 or a copy that passes its own.
+fn place_in(tree: &[u8], bitfield: &[u8], partly: bool, n: u64, chunk: ChunkNumber) -> Placed
     requires { ⌜ Searched partly (now tree) (now bitfield) n ⌝ }
     ensures { λ r. ⌜ placedOf r ≡ placeIn (knownIf partly (now (bitfield .entry))) (now (tree .entry)) n (chunk .0) ⌝ }
 {
@@ -52,6 +54,29 @@ pub fn place_in(tree: &[u8], bitfield: &[u8], partly: bool, n: u64, chunk: Chunk
     }
 }
 
+// Inner: the same, behind the answer of these checks.
+pub fn place_behind(
+    checked: Answer,
+    tree: &[u8],
+    bitfield: &[u8],
+    partly: bool,
+    n: u64,
+    chunk: ChunkNumber,
+) -> Placed
+    requires { ⌜ (said checked ≡ done → Searched partly (now tree) (now bitfield) n) ⌝ }
+    ensures { λ r.
+        ⌜
+        placedOf r ≡
+        foundBehind (said checked)
+        (placeIn (knownIf partly (now (bitfield .entry))) (now (tree .entry)) n (chunk .0))
+        ⌝ }
+{
+    match checked {
+        Answer::Refused(refusal) => Placed::Refused(refusal),
+        Answer::Done => place_in(tree, bitfield, partly, n, chunk),
+    }
+}
+
 // Start and length of a chunk.
 pub fn place(
     tree: &[u8],
@@ -71,21 +96,13 @@ pub fn place(
         (chunk .0)
         ⌝ }
 {
-    match checks::judge(tree, signatures, bitfield, content, n, s, size) {
-        Answer::Refused(refusal) => Placed::Refused(refusal),
-        Answer::Done => place_in(tree, bitfield, false, n, chunk),
-    }
+    let checked = checks::judge(tree, signatures, bitfield, content, n, s, size);
+    place_behind(checked, tree, bitfield, false, n, chunk)
 }
 
-// Inner: the place of a chunk that is held, in a register that passes the checks 2 to 6 or a copy that passes its own. Its data bit is looked at behind 9,
+// The place of a chunk that is held, in a register that passes the checks 2 to 6 or a copy that passes its own. Its data bit is looked at behind 9,
 // so that it lies within the bitfield file, and before anything is walked.
-pub fn held_place_in(
-    tree: &[u8],
-    bitfield: &[u8],
-    partly: bool,
-    n: u64,
-    chunk: ChunkNumber,
-) -> Placed
+fn held_place_in(tree: &[u8], bitfield: &[u8], partly: bool, n: u64, chunk: ChunkNumber) -> Placed
     requires { ⌜ SearchedHeld partly (now tree) (now bitfield) n ⌝ }
     ensures { λ r.
         ⌜
@@ -108,6 +125,29 @@ pub fn held_place_in(
     place_in(tree, bitfield, partly, n, chunk)
 }
 
+// Inner: the same, behind the answer of these checks.
+pub fn held_place_behind(
+    checked: Answer,
+    tree: &[u8],
+    bitfield: &[u8],
+    partly: bool,
+    n: u64,
+    chunk: ChunkNumber,
+) -> Placed
+    requires { ⌜ (said checked ≡ done → SearchedHeld partly (now tree) (now bitfield) n) ⌝ }
+    ensures { λ r.
+        ⌜
+        placedOf r ≡
+        foundBehind (said checked)
+        (heldPlaceIn (knownIf partly (now (bitfield .entry))) (now (tree .entry)) n (now (bitfield .entry)) (chunk .0))
+        ⌝ }
+{
+    match checked {
+        Answer::Refused(refusal) => Placed::Refused(refusal),
+        Answer::Done => held_place_in(tree, bitfield, partly, n, chunk),
+    }
+}
+
 // Start and length of a chunk that is held: what a read and a release decide by. The place lookup's refusals, with 18 just after 9.
 pub fn held_place(
     tree: &[u8],
@@ -127,14 +167,12 @@ pub fn held_place(
         (chunk .0)
         ⌝ }
 {
-    match checks::judge(tree, signatures, bitfield, content, n, s, size) {
-        Answer::Refused(refusal) => Placed::Refused(refusal),
-        Answer::Done => held_place_in(tree, bitfield, false, n, chunk),
-    }
+    let checked = checks::judge(tree, signatures, bitfield, content, n, s, size);
+    held_place_behind(checked, tree, bitfield, false, n, chunk)
 }
 
-// Inner: the chunk of a byte, in a register that passes the checks 2 to 6 or a copy that passes its own. At the data size nothing is walked.
-pub fn locate_in(
+// The chunk of a byte, in a register that passes the checks 2 to 6 or a copy that passes its own. At the data size nothing is walked.
+fn locate_in(
     tree: &[u8],
     bitfield: &[u8],
     partly: bool,
@@ -168,6 +206,30 @@ pub fn locate_in(
     }
 }
 
+// Inner: the same, behind the answer of these checks.
+pub fn locate_behind(
+    checked: Answer,
+    tree: &[u8],
+    bitfield: &[u8],
+    partly: bool,
+    n: u64,
+    size: u64,
+    offset: ByteOffset,
+) -> Located
+    requires { ⌜ (said checked ≡ done → SearchedFor partly (now tree) (now bitfield) n size) ⌝ }
+    ensures { λ r.
+        ⌜
+        locatedOf r ≡
+        foundBehind (said checked)
+        (byteIn (knownIf partly (now (bitfield .entry))) (now (tree .entry)) n size (offset .0))
+        ⌝ }
+{
+    match checked {
+        Answer::Refused(refusal) => Located::Refused(refusal),
+        Answer::Done => locate_in(tree, bitfield, partly, n, size, offset),
+    }
+}
+
 // The chunk whose bytes contain an offset, and the offset less its start; never an empty chunk. At the data size n and 0, also in an empty
 // register.
 pub fn locate(
@@ -188,8 +250,6 @@ pub fn locate(
         (offset .0)
         ⌝ }
 {
-    match checks::judge(tree, signatures, bitfield, content, n, s, size) {
-        Answer::Refused(refusal) => Located::Refused(refusal),
-        Answer::Done => locate_in(tree, bitfield, false, n, size, offset),
-    }
+    let checked = checks::judge(tree, signatures, bitfield, content, n, s, size);
+    locate_behind(checked, tree, bitfield, false, n, size, offset)
 }

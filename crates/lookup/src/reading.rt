@@ -1,16 +1,16 @@
 // The verified read, of one of two registers.
 use super::places::Placed;
+use answer_types::Answer;
+use answer_types::Place;
+use answer_types::Refusal;
 use number_types::ByteOffset;
 use number_types::ChunkNumber;
-use refusals::Answer;
-use refusals::Place;
-use refusals::Refusal;
 ghost use mathlib.Core.Path.{_≡_};
-ghost use Rattle.refusals.specs.Meaning.{said};
+ghost use Rattle.answer_types.specs.Meaning.{said};
 ghost use Rattle.blake2b.specs.Hash.{nodeHash};
 ghost use Rattle.checks.specs.Lent.{registerOf};
 ghost use Rattle.lookup.specs.Read.{named, readVerdict, readPart};
-ghost use Rattle.lookup.specs.Meaning.{nameOf, placedOf, verifiedOf, readFound, PlacedIn, hashJudged};
+ghost use Rattle.lookup.specs.Meaning.{nameOf, placedOf, verifiedOf, verdictFound, PartIn, bytesFound, readFound, PlacedIn, hashJudged};
 
 // Which of the two registers a read names.
 pub enum Name {
@@ -74,6 +74,31 @@ pub fn verify(
     verify_placed(tree, content, chunk, placed)
 }
 
+// Inner: the bytes of a part that was verified; none after a refusal.
+pub fn bytes_of<'a>(content: &'a [u8], verified: Verified) -> &'a [u8]
+    requires { ⌜ PartIn (now content) (verifiedOf verified) ⌝ }
+    ensures { λ r. ⌜ now r ≡ bytesFound (now (content .entry)) (verifiedOf verified) ⌝ }
+{
+    match verified {
+        Verified::Part(start, end) => {
+            let from = start.0 as usize;
+            let to = end.0 as usize;
+            &content[from..to]
+        }
+        Verified::Refused(_) => &content[0..0],
+    }
+}
+
+// Whether a part was verified, or the refusal.
+pub fn answer_of(verified: Verified) -> Answer
+    ensures { λ r. ⌜ said r ≡ verdictFound (verifiedOf verified) ⌝ }
+{
+    match verified {
+        Verified::Part(_, _) => Answer::Done,
+        Verified::Refused(refusal) => Answer::Refused(refusal),
+    }
+}
+
 // A read of one register.
 pub fn read_one<'a>(
     tree: &[u8],
@@ -93,18 +118,12 @@ pub fn read_one<'a>(
         (chunk .0)
         ⌝ }
 {
-    match verify(tree, signatures, bitfield, content, n, s, size, chunk) {
-        Verified::Part(start, end) => {
-            let from = start.0 as usize;
-            let to = end.0 as usize;
-            &content[from..to]
-        }
-        Verified::Refused(_) => &content[0..0],
-    }
+    let verified = verify(tree, signatures, bitfield, content, n, s, size, chunk);
+    bytes_of(content, verified)
 }
 
 // What a read of one register answers: done, or its refusal.
-pub fn answer_one(
+fn answer_one(
     tree: &[u8],
     signatures: &[u8],
     bitfield: &[u8],
@@ -122,10 +141,8 @@ pub fn answer_one(
         (chunk .0)
         ⌝ }
 {
-    match verify(tree, signatures, bitfield, content, n, s, size, chunk) {
-        Verified::Part(_, _) => Answer::Done,
-        Verified::Refused(refusal) => Answer::Refused(refusal),
-    }
+    let verified = verify(tree, signatures, bitfield, content, n, s, size, chunk);
+    answer_of(verified)
 }
 
 // A read names the metadata or the content register, checks only the one named, and hands back that register's own bytes; nothing

@@ -15,21 +15,19 @@ use lib.Pow.{shr-shr}
 use borrow.Author.Tests.{ltb-true, ltb-false, lt-ltb, le-ltb, leb-true, leb-false, eq-eqb, ne-eqb}
 use Rattle.byte_strings.specs.Lists.{run}
 use Rattle.byte_strings.proofs.Lists.{getD-behind, length-run, getD-run}
+use Rattle.byte_strings.proofs.Bools.{chosen}
 use Rattle.number_types.specs.declared.TreeIndex.{TreeIndex}
 use Rattle.tree_index.specs.Tree.{index, depth, block, filled, entries, rootOf, rootsBelow, roots}
 use Rattle.tree_index.specs.Numbers.{numbers}
-use Rattle.tree_index.proofs.Numbers.{number-in}
 use Rattle.file_format.specs.Sizes.{mostChunks}
 use Rattle.tree_index.proofs.Index.{depth-index, block-index, pow-twice}
 use Rattle.tree_index.proofs.Filled.{end-filled, end-hole}
 use Rattle.tree_index.proofs.Roots.{bit, no-root, one-root, root-at, root-below, length-roots-le}
+use Rattle.lookup.proofs.Capped.{root-of}
 use Rattle.packet.specs.Packet.{rootAbove, siblings, without, otherRoots, placeAbove}
 use Rattle.packet.specs.Inner.{ChunkOf, skipped}
 
 -- ---- the place of the root above a chunk
-
-abbrev chosen : {A : Type 0} → Bool → A → A → A
-chosen b x y = elim b [ true ↦ x | false ↦ y ]
 
 pub place-root : (is : List ℕ) (c : ℕ) → rootAbove is c ≡ getD is (placeAbove is c) 0
 unfolding rootAbove placeAbove
@@ -246,14 +244,10 @@ few-others n c h = omega (arith, other-count n c h, length-roots-le n (h .count)
 
 -- ---- the roots in the code's array
 
-pub root-in : (is : List TreeIndex) (n j : ℕ) → numbers is ≡ roots n ++ replicate (20 - length (roots n)) 0 → j < length (roots n)
-    → getD is j (record { 0 = 0 }) .0 ≡ getD (roots n) j 0
-root-in is n j e h = number-in is (roots n) (replicate (20 - length (roots n)) 0) j (record { 0 = 0 }) e h
-
 pub root-small : (is : List TreeIndex) (n j : ℕ) → n ≤ mostChunks → numbers is ≡ roots n ++ replicate (20 - length (roots n)) 0
     → j < length (roots n) → getD is j (record { 0 = 0 }) .0 < 4194304
 unfolding entries
-root-small is n j s e h = omega (arith, root-in is n j e h, root-below n j h)
+root-small is n j s e h = omega (arith, root-of is n j e h, root-below n j h)
 
 -- ---- the root's block holds the chunk
 

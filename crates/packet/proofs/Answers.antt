@@ -11,9 +11,10 @@ use lib.Dec.{leb, ltb, eqb}
 use lib.ListN.{length, getD, take, drop, length-map}
 use lib.Seq.{ext-getD}
 use borrow.Author.Tests.{ltb-true, ltb-false, le-ltb, eqb-true, eqb-false, le-leb}
-use Rattle.refusals.specs.Verdict.{Verdict, done}
+use Rattle.answer_types.specs.Verdict.{Verdict, done, andThen}
 use Rattle.byte_strings.specs.Lists.{part, run, total, sameList}
 use Rattle.byte_strings.proofs.Lists.{length-run, getD-run, run-ext, same-refl}
+use Rattle.byte_strings.proofs.Bools.{true-both}
 use Rattle.tree_index.specs.Tree.{index, depth, filled, roots}
 use Rattle.tree_index.proofs.Filled.{filled-below}
 use Rattle.tree_index.proofs.Roots.{bit, root-filled}
@@ -29,8 +30,7 @@ use Rattle.file_format.proofs.Slots.{contents-length, leaves-length, leaf-held}
 use Rattle.file_format.proofs.Nodes.{nodeAt-index, entryAt-filled, nodeAt-proper}
 use Rattle.file_format.proofs.OfImage.{stored-entry, stored-node-size, stored-total}
 use Rattle.checks.specs.Checks.{judged, registerChecks, holds}
-use Rattle.checks.proofs.Judged.{right-both}
-use Rattle.lookup.specs.Read.{andThen, chunkBytes, readVerdict}
+use Rattle.lookup.specs.Read.{chunkBytes, readVerdict}
 use Rattle.lookup.specs.Theorems.{Answers}
 use Rattle.lookup.proofs.Answers.{answers}
 use Rattle.packet.specs.Packet.{rootAbove, beside, siblings, otherRoots, packetOf, roomOr14, makeVerdict, packetWith, placeAbove}
@@ -49,7 +49,7 @@ use Rattle.packet.proofs.Pieces.{entry-in, length-back, chunk-back, sha
 -- ---- the climb along the nodes
 
 module _ (F : List ℕ → List ℕ) (es : List Entry) where
-  step-node : (d k : ℕ) → ordered k (parentOf F) (node F es d k) (node F es d (beside k)) ≡ node F es (suc d) (k / 2)
+  pub step-node : (d k : ℕ) → ordered k (parentOf F) (node F es d k) (node F es d (beside k)) ≡ node F es (suc d) (k / 2)
   unfolding node
   step-node d k = pick (bit k)
     where
@@ -152,7 +152,7 @@ module _ (F : List ℕ → List ℕ) (hf : HashFunction F) (ss : List Slot) (w :
       (subst (λ (q : List ℕ). part q (4 + length bytes + 1 + 40 * j) 40 ≡ part (r .tree) (entryPlace (getD (siblings (r .n) c) j 0)) 40) packet-is
       (sibling-at (r .tree) (r .n) c (chunkBytes r c) read j l))
 
-  other-node : (j : ℕ) → j < length (otherRoots (r .n) c) → entryIn p (at + 40 * j) ≡ nodeAt F es (getD (otherRoots (r .n) c) j 0)
+  pub other-node : (j : ℕ) → j < length (otherRoots (r .n) c) → entryIn p (at + 40 * j) ≡ nodeAt F es (getD (otherRoots (r .n) c) j 0)
   other-node j l =
       node-in (getD (otherRoots (r .n) c) j 0) (at + 40 * j) (others-filled (r .n) c (read .chunk) j l)
       (subst (λ (q : List ℕ). part q (at + 40 * j) 40 ≡ part (r .tree) (entryPlace (getD (otherRoots (r .n) c) j 0)) 40) packet-is
@@ -251,7 +251,7 @@ module _ (F : List ℕ → List ℕ) (hf : HashFunction F) (ss : List Slot) (w :
       (λ j l. let g : j < length (roots (r .n)) = subst (λ (m : ℕ). j < m) (length-all p at (r .n) c top (read .chunk)) l in
       entry-at p at (r .n) c top (read .chunk) j g ∙ in-its-turn j g ∙ sym (mapped-at (nodeAt F es) (roots (r .n)) hole j g))
 
-  others-place : othersPlace p (r .n) c + 1 ≡ at
+  pub others-place : othersPlace p (r .n) c + 1 ≡ at
   unfolding othersPlace siblingsPlace
   others-place = ap (λ (l : ℕ). 4 + l + 1 + 40 * length (siblings (r .n) c) + 1) size-back
 
@@ -302,7 +302,7 @@ module _ (F : List ℕ → List ℕ) (hf : HashFunction F) (ss : List Slot) (w :
   passes =
       verdict-done F p (r .n) c (rootHashFor F ss) done (read .chunk .count) (read .chunk .below)
       (subst (λ (q : List ℕ). shapeRight q (r .n) c ≡ true) packet-is (shape-right (r .tree) (r .n) c (chunkBytes r c) read))
-      (right-both _ _ (le-leb (packetTotal p (r .n) c) 68719476736 sum-fits)
+      (true-both _ _ (le-leb (packetTotal p (r .n) c) 68719476736 sum-fits)
       (ap (λ (m : List ℕ). sameList (F m) (F (rootMessageFor F ss))) the-message ∙ same-refl (F (rootMessageFor F ss)))) refl
 
   pub answered : PacketAnswers F r ss c

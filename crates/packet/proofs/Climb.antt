@@ -9,6 +9,7 @@ use native.Mathlib.Nat.{add-comm}
 use native.Mathlib.Numerals.{add-one}
 use native.Mathlib.Omega.{arith}
 use lib.Dec.{eqb}
+use lib.ListN.{length}
 use borrow.Author.Tests.{lt-ltb, le-ltb, eq-eqb, ne-eqb}
 use Rattle.byte_strings.specs.Lists.{run, total}
 use Rattle.tree_index.proofs.Roots.{bit}
@@ -131,6 +132,11 @@ module _ (F : List ℕ → List ℕ) where
   unfolding lastEntry stepsAbove climbed
   steps-climb d k e [] = refl
   steps-climb d k e (s ∷ ss) = steps-climb (d + 1) (k / 2) (ordered k (parentOf F) e s) ss
+
+  pub steps-count : (d k : ℕ) (e : Entry) (ss : List Entry) → length (stepsAbove F d k e ss) ≡ length ss
+  unfolding stepsAbove
+  steps-count d k e [] = refl
+  steps-count d k e (s ∷ ss) = ap suc (steps-count (d + 1) (k / 2) (ordered k (parentOf F) e s) ss)
 
 -- ---- a row with one put in
 

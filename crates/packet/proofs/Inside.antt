@@ -2,7 +2,7 @@
 use mathlib.Core.Path.{ap}
 use mathlib.Core.List.{[]}
 use native.Mathlib.Omega.{arith}
-use Rattle.refusals.specs.Verdict.{Verdict, done, unlessRefused}
+use Rattle.answer_types.specs.Verdict.{Verdict, done, unlessRefused}
 use Rattle.checks.proofs.Passed.{all-must}
 use Rattle.packet.specs.Check.{packetChunk, packetVerdict, checkedChunk}
 use Rattle.packet.specs.Theorems.{PartStaysInsideForAll}

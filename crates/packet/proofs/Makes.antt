@@ -8,10 +8,10 @@ use native.Mathlib.Omega.{arith}
 use lib.Dec.{leb, ltb}
 use lib.ListN.{length}
 use borrow.Author.Tests.{le-leb, lt-leb, ltb-true}
-use Rattle.refusals.specs.Verdict.{Verdict, none, done, unlessRefused}
-use Rattle.refusals.specs.Meaning.{refusalOf}
-use Rattle.refusals.specs.declared.Refusal.{Refusal}
-use Rattle.refusals.specs.declared.Place.the-variants.{Nowhere}
+use Rattle.answer_types.specs.Verdict.{Verdict, none, done, unlessRefused, andThen}
+use Rattle.answer_types.specs.Meaning.{refusalOf}
+use Rattle.answer_types.specs.declared.Refusal.{Refusal}
+use Rattle.answer_types.specs.declared.Place.the-variants.{Nowhere}
 use Rattle.byte_strings.specs.Lists.{put}
 use Rattle.tree_index.specs.Tree.{index}
 use Rattle.file_format.specs.Sizes.{longestChunk}
@@ -21,7 +21,7 @@ use Rattle.checks.specs.Checks.{Check, judged, registerChecks, holds}
 use Rattle.checks.proofs.Judged.{judged-append}
 use Rattle.checks.proofs.Passed.{passed, all-must}
 use Rattle.lookup.specs.Lookup.{stopRefused, toChunk, placeVerdict, heldVerdict}
-use Rattle.lookup.specs.Read.{andThen, chunkBytes, readVerdict, readPart, partUnless}
+use Rattle.lookup.specs.Read.{chunkBytes, readVerdict, readPart, partUnless}
 use Rattle.lookup.proofs.Answers.{stays-inside}
 use Rattle.lookup.proofs.Calls.{done-reached, done-first, held-done}
 use Rattle.packet.specs.Packet.{packetOf, roomOr14, makeVerdict, madeLength, afterMake, packetWith}

@@ -8,7 +8,7 @@ use native.Mathlib.Omega.{arith}
 use lib.Dec.{leb, ltb}
 use lib.ListN.{length}
 use borrow.Author.Tests.{leb-true, leb-false, le-leb, lt-leb, lt-ltb, le-ltb}
-use Rattle.refusals.specs.Verdict.{Verdict, none, done, refused, unlessRefused}
+use Rattle.answer_types.specs.Verdict.{Verdict, none, done, refused, unlessRefused}
 use Rattle.byte_strings.specs.Lists.{part, run, total, sameList}
 use Rattle.byte_strings.proofs.Lists.{length-part}
 use Rattle.file_format.specs.Sizes.{mostChunks}

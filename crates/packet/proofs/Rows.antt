@@ -27,6 +27,7 @@ use Rattle.file_format.proofs.ByValue.{gathered}
 use Rattle.file_format.proofs.Places.{put-next}
 use Rattle.lookup.proofs.Visits.{filled-entry}
 use Rattle.packet.specs.Packet.{rootAbove, beside, siblings, otherRoots, section, packetWith, placeAbove}
+use Rattle.packet.specs.Check.{siblingEntries, entriesIn}
 use Rattle.packet.specs.Inner.{ChunkOf, skipped, siblingRow, otherRow, entriesAt, Readable}
 use Rattle.packet.proofs.Above.{place-root, place-below, root-spans, others-cut, cut-run, other-count, few-siblings, few-others}
 
@@ -292,3 +293,8 @@ lent-entry t start place e =
 
 pub lent-length : (t : List ℕ) (start : ℕ) → start + 40 ≤ length t → length (take (start + 40 - start) (drop start t)) ≡ 40
 lent-length t start h = ap length (lent-entry t start start refl) ∙ length-part t start 40 h
+
+-- a packet has as many siblings' entries as there are siblings
+pub siblings-count : (p : List ℕ) (n c : ℕ) → length (siblingEntries p n c) ≡ length (siblings n c)
+unfolding siblingEntries entriesIn
+siblings-count p n c = length-run _ 0 (length (siblings n c))

@@ -7,7 +7,7 @@ use mathlib.Core.List.{List}
 use lib.Dec.{leb, eqb}
 use lib.ListN.{length, getD}
 use borrow.Author.Tests.{leb-true, le-leb, lt-leb, eqb-true, eq-eqb, ne-eqb}
-use Rattle.checks.proofs.Judged.{both-right}
+use Rattle.byte_strings.proofs.Bools.{both-true}
 use Rattle.checks.proofs.Steps.{and-stop, and-pass}
 use Rattle.packet.specs.Packet.{siblings, otherRoots}
 use Rattle.packet.specs.Check.{chunkLength, siblingsPlace, othersPlace, wholeLength, shapeRight}
@@ -61,7 +61,7 @@ pub record Sized (p : List ℕ) (n c : ℕ) : Type 0 where
 pub sized : (p : List ℕ) (n c : ℕ) → shapeRight p n c ≡ true → Sized p n c
 unfolding shapeRight wholeLength othersPlace siblingsPlace
 sized p n c e =
-    let a = both-right _ _ e in
-    let b = both-right _ _ (a .1) in
-    let d = both-right _ _ (b .1) in
+    let a = both-true _ _ e in
+    let b = both-true _ _ (a .1) in
+    let d = both-true _ _ (b .1) in
     record { front = leb-true _ _ (a .0); chunk = leb-true _ _ (b .0); whole = eqb-true _ _ (d .0) }

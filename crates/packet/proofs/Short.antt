@@ -8,7 +8,7 @@ use native.Mathlib.Nat.{eq-or-lt-of-le, min-le-left, le-trans, suc-mul}
 use native.Mathlib.Omega.{arith}
 use borrow.Author.Tests.{le-leb}
 use lib.ListN.{length, getD, drop, length-append, length-take}
-use Rattle.refusals.specs.Verdict.{Verdict, done, refused}
+use Rattle.answer_types.specs.Verdict.{Verdict, done, refused, andThen}
 use Rattle.byte_strings.specs.Lists.{part, joined}
 use Rattle.byte_strings.specs.Numbers.{be}
 use Rattle.byte_strings.proofs.Numbers.{length-be}
@@ -17,7 +17,7 @@ use Rattle.tree_index.proofs.Index.{depth-index}
 use Rattle.tree_index.proofs.Roots.{root-at}
 use Rattle.file_format.specs.Sizes.{entryPlace}
 use Rattle.file_format.specs.Belongs.{Register}
-use Rattle.lookup.specs.Read.{andThen, chunkBytes, readVerdict}
+use Rattle.lookup.specs.Read.{chunkBytes, readVerdict}
 use Rattle.packet.specs.Packet.{siblings, otherRoots, section, packetOf, packetExtra, roomOr14, makeVerdict, packetWith, placeAbove}
 use Rattle.packet.specs.Inner.{ChunkOf}
 use Rattle.packet.specs.Theorems.{PacketStaysShortForAll}

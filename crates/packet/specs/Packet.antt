@@ -5,14 +5,14 @@ use mathlib.Core.Bool.{Bool, true, false}
 use mathlib.Core.List.{List, [], _∷_, _++_, map}
 use lib.ListN.{length}
 use lib.Dec.{ltb, eqb}
-use Rattle.refusals.specs.Verdict.{Verdict, none, done, refused, unlessRefused}
+use Rattle.answer_types.specs.Verdict.{Verdict, none, done, refused, unlessRefused, andThen}
 use Rattle.byte_strings.specs.Lists.{part, put, run, joined}
 use Rattle.byte_strings.specs.Numbers.{be}
 use Rattle.tree_index.specs.Tree.{index, depth, block, roots}
 use Rattle.file_format.specs.Sizes.{entryPlace}
 use Rattle.file_format.specs.Belongs.{Register}
 use Rattle.checks.specs.Checks.{holds}
-use Rattle.lookup.specs.Read.{chunkBytes, andThen, readVerdict}
+use Rattle.lookup.specs.Read.{chunkBytes, readVerdict}
 
 -- the root above chunk c: the first of the roots whose block ends behind it. There is one where c is below n
 unfoldable pub rootAbove : List ℕ → ℕ → ℕ

@@ -3,8 +3,8 @@ use Prim.Native.Nat.{ℕ}
 use mathlib.Core.Path.{_≡_}
 use mathlib.Core.List.{List}
 use lib.ListN.{length}
-use Rattle.refusals.specs.Verdict.{Verdict, done, unlessRefused}
-use Rattle.refusals.specs.Meaning.{refusalOf}
+use Rattle.answer_types.specs.Verdict.{Verdict, done, unlessRefused}
+use Rattle.answer_types.specs.Meaning.{refusalOf}
 use Rattle.file_format.specs.Belongs.{Register}
 use Rattle.checks.specs.Checks.{holds}
 use Rattle.packet.specs.Packet.{roomOr14, makeVerdict, madeLength, afterMake, packetWith}

@@ -1,15 +1,15 @@
 // The check of a packet: "takes packet, n, i and root hash; it answers the chunk's part of the packet unless 2, 9, 12 or 13 holds".
 // Any bytes may be lent as a packet: its counts and lengths are judged before anything is read at them.
+use answer_types::Answer;
 use file_format::roots::Roots;
 use number_types::ChunkNumber;
-use refusals::Answer;
 ghost use mathlib.Core.Path.{_≡_};
 ghost use mathlib.Core.List.{_++_};
 ghost use mathlib.Core.Bool.{true};
 ghost use Prim.Native.Nat.{_+_, _-_, _*_, _≤_, _<_};
 ghost use lib.ListN.{length};
-ghost use Rattle.refusals.specs.Verdict.{unlessRefused};
-ghost use Rattle.refusals.specs.Meaning.{said};
+ghost use Rattle.answer_types.specs.Verdict.{unlessRefused};
+ghost use Rattle.answer_types.specs.Meaning.{said};
 ghost use Rattle.byte_strings.specs.Lists.{put, total, zeros};
 ghost use Rattle.byte_strings.specs.Numbers.{be};
 ghost use Rattle.blake2b.specs.Hash.{nodeHash};
@@ -316,17 +316,17 @@ pub fn check_hashing(packet: &[u8], n: u64, chunk: ChunkNumber, root: &[u8; 32])
         ⌝ }
 {
     if 1048576 < n {
-        return unhashed(refusals::refuse(2));
+        return unhashed(answer_types::refuse(2));
     }
     if n <= chunk.0 {
-        return unhashed(refusals::refuse(9));
+        return unhashed(answer_types::refuse(9));
     }
     if !shape_right(packet, n, chunk) {
-        return unhashed(refusals::refuse(12));
+        return unhashed(answer_types::refuse(12));
     }
     let hashed = root_right(packet, n, chunk, root);
     if !hashed.right {
-        return unhashed(refusals::refuse(13));
+        return unhashed(answer_types::refuse(13));
     }
     let leaf = hashed.leaf;
     let row = hashed.row;

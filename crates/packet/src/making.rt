@@ -1,10 +1,10 @@
 // Making a packet: "a 4-byte chunk length and the chunk; a 1-byte sibling count and siblings from the leaf upward; a 1-byte count of other
 // roots, these from the left". Everything is judged before the buffer is written.
+use answer_types::Place;
+use answer_types::Refusal;
 use lookup::Verified;
 use number_types::ChunkNumber;
 use number_types::TreeIndex;
-use refusals::Place;
-use refusals::Refusal;
 ghost use mathlib.Core.Path.{_≡_};
 ghost use mathlib.Core.List.{_∷_};
 ghost use Prim.Native.Nat.{_+_, _*_, _≤_, _<_};

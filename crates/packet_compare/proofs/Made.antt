@@ -9,7 +9,7 @@ use native.Mathlib.Nat.{div-one, zero-add, not-suc-le-zero, le-of-suc-le-suc}
 use native.Mathlib.Numerals.{add-one}
 use native.Mathlib.Omega.{arith}
 use lib.ListN.{length, getD}
-use Rattle.refusals.specs.Verdict.{done}
+use Rattle.answer_types.specs.Verdict.{done}
 use Rattle.byte_strings.specs.Lists.{run}
 use Rattle.byte_strings.proofs.Lists.{length-run}
 use Rattle.tree_index.specs.Tree.{index, depth, roots}

@@ -15,8 +15,9 @@ use Rattle.byte_strings.proofs.Lists.{length-part, bytes-part}
 use Rattle.tree_index.specs.Tree.{roots}
 use Rattle.file_format.specs.Messages.{rootItem, rootMessage}
 use Rattle.file_format.specs.Entries.{Entry, hole}
+use Rattle.file_format.proofs.ByValue.{item-length}
 use Rattle.compare.proofs.Local.{split-append}
-use Rattle.compare.proofs.Apart.{item-injective, length-item}
+use Rattle.compare.proofs.Apart.{item-injective}
 use Rattle.packet.specs.Packet.{siblings, otherRoots, placeAbove}
 use Rattle.packet.specs.Check.{chunkLength, siblingsPlace, othersPlace, entryIn, entriesIn, siblingEntries, otherEntries, inTurn, items, packetRoot, packetRootMessage}
 use Rattle.packet.specs.Inner.{ChunkOf, turned, turnEntry}
@@ -51,7 +52,7 @@ first-items : (i : ℕ) (is : List ℕ) (e f : Entry) (es fs : List Entry) → l
 first-items i is e f es fs x y q =
     let w =
     split-append (rootItem (e .hash) i (e .size)) (rootItem (f .hash) i (f .size)) (joined (items is es)) (joined (items is fs))
-    (length-item (e .hash) i (e .size) x ∙ sym (length-item (f .hash) i (f .size) y)) q in
+    (item-length (e .hash) i (e .size) x ∙ sym (item-length (f .hash) i (f .size) y)) q in
     (item-injective (e .hash) (f .hash) i i (e .size) (f .size) x y (w .0) .hash, w .1)
 
 same-hashes : (is : List ℕ) (es fs : List Entry) → length es ≡ length is → length fs ≡ length is → Longs es → Longs fs

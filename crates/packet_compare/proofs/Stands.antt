@@ -18,12 +18,12 @@ use Rattle.tree_index.proofs.Roots.{bit, root-filled}
 use Rattle.file_format.specs.Messages.{leafMessage}
 use Rattle.file_format.specs.Entries.{Entry, hole, leaf, parentOf}
 use Rattle.packet.specs.Packet.{rootAbove, beside, siblings, placeAbove}
-use Rattle.packet.specs.Check.{Step, ordered, parentMessageOf, packetChunk, entriesIn, siblingEntries, stepsAbove, steps}
+use Rattle.packet.specs.Check.{Step, ordered, parentMessageOf, packetChunk, siblingEntries, stepsAbove, steps}
 use Rattle.packet.specs.Inner.{ChunkOf}
 use Rattle.packet.proofs.Above.{place-root, place-below, root-spans}
-use Rattle.packet.proofs.Rows.{beside-even, beside-odd, half}
+use Rattle.packet.proofs.Rows.{beside-even, beside-odd, half, siblings-count}
 use Rattle.packet_compare.specs.Theorems.{stepAt, StandsForAll}
-use Rattle.packet.proofs.Climb.{arranged}
+use Rattle.packet.proofs.Climb.{arranged, steps-count}
 use Rattle.packet_compare.proofs.Up.{ordered-hash}
 
 -- ---- the blocks around a chunk are filled up to its root
@@ -62,11 +62,6 @@ module _ (n c : ℕ) (h : ChunkOf n c) where
 -- ---- the steps above a block of 2^d chunks around chunk c
 
 module _ (F : List ℕ → List ℕ) (c : ℕ) where
-  pub above-count : (d k : ℕ) (e : Entry) (ss : List Entry) → length (stepsAbove F d k e ss) ≡ length ss
-  unfolding stepsAbove
-  above-count d k e [] = refl
-  above-count d k e (s ∷ ss) = ap suc (above-count (d + 1) (k / 2) (ordered k (parentOf F) e s) ss)
-
   -- the steps behind the first, by coordinates
   pub rest-is : (d : ℕ) (a : Entry) (ss : List Entry) → stepsAbove F (d + 1) (c / 2 ^ d / 2) a ss ≡ stepsAbove F (suc d) (c / 2 ^ suc d) a ss
   rest-is d a ss = ap₂ (λ (x y : ℕ). stepsAbove F x y a ss) (add-one d) (half c d)
@@ -92,12 +87,12 @@ module _ (F : List ℕ → List ℕ) (c : ℕ) where
   above-hash d k e (s ∷ ss) (suc j) l = above-hash (d + 1) (k / 2) (ordered k (parentOf F) e s) ss j (le-of-suc-le-suc l)
 
   -- the entry below the step j: that of the block itself, or of the step before
-  abbrev under : ℕ → Entry → List Entry → ℕ → Entry
+  abbrev pub under : ℕ → Entry → List Entry → ℕ → Entry
   under d e ss zero = e
   under d e ss (suc j) = stepAt (stepsAbove F d (c / 2 ^ d) e ss) j .entry
 
   -- the same, counted from the step above
-  under-shift : (d : ℕ) (e s : Entry) (ss : List Entry) (i : ℕ)
+  pub under-shift : (d : ℕ) (e s : Entry) (ss : List Entry) (i : ℕ)
       → under (suc d) (ordered (c / 2 ^ d) (parentOf F) e s) ss i ≡ under d e (s ∷ ss) (suc i)
   unfolding stepsAbove
   under-shift d e s ss zero = refl
@@ -124,17 +119,13 @@ module _ (F : List ℕ → List ℕ) (p : List ℕ) (n c : ℕ) where
   abbrev pub sides : List Entry
   sides = siblingEntries p n c
 
-  pub sides-count : length (siblingEntries p n c) ≡ length (siblings n c)
-  unfolding siblingEntries entriesIn
-  sides-count = length-run _ 0 (length (siblings n c))
-
   -- the chunk is its own block of one
   pub from-chunk : stepsAbove F 0 c low sides ≡ stepsAbove F 0 (c / 2 ^ 0) low sides
   from-chunk = ap (λ (k : ℕ). stepsAbove F 0 k low sides) (sym (div-one c))
 
   pub all-count : length (steps F p n c) ≡ suc (length (siblings n c))
   unfolding steps
-  all-count = ap suc (above-count F c 0 c low sides ∙ sides-count)
+  all-count = ap suc (steps-count F 0 c low sides ∙ siblings-count p n c)
 
   pub all-at : (d : ℕ) → d < length (steps F p n c) → stepAt (steps F p n c) d .at ≡ index d (c / 2 ^ d)
   unfolding steps
@@ -142,12 +133,12 @@ module _ (F : List ℕ → List ℕ) (p : List ℕ) (n c : ℕ) where
   all-at (suc j) l =
       let q : suc (0 + j) ≡ suc j = omega arith in
       ap (λ (xs : List Step). stepAt xs j .at) from-chunk
-      ∙ above-at F c 0 low sides j (omega (arith, above-count F c 0 c low sides)) ∙ ap (λ (x : ℕ). index x (c / 2 ^ x)) q
+      ∙ above-at F c 0 low sides j (omega (arith, steps-count F 0 c low sides)) ∙ ap (λ (x : ℕ). index x (c / 2 ^ x)) q
 
   all-hash : (d : ℕ) → d < length (steps F p n c) → stepAt (steps F p n c) d .entry .hash ≡ F (stepAt (steps F p n c) d .message)
   unfolding steps leaf
   all-hash zero l = refl
-  all-hash (suc j) l = above-hash F c 0 c low sides j (omega (arith, above-count F c 0 c low sides))
+  all-hash (suc j) l = above-hash F c 0 c low sides j (omega (arith, steps-count F 0 c low sides))
 
   all-filled : ChunkOf n c → (d : ℕ) → d < length (steps F p n c) → filled n (index d (c / 2 ^ d)) ≡ true
   unfolding siblings
@@ -156,7 +147,7 @@ module _ (F : List ℕ → List ℕ) (p : List ℕ) (n c : ℕ) where
       way-filled n c h (depth (rootAbove (roots n) c) - d) d (omega (arith, all-count, q))
 
   -- the entry below a step is that of the step before
-  under-step : (j : ℕ) → under F c 0 low sides j ≡ stepAt (steps F p n c) j .entry
+  pub under-step : (j : ℕ) → under F c 0 low sides j ≡ stepAt (steps F p n c) j .entry
   unfolding steps
   under-step zero = refl
   under-step (suc j) = ap (λ (xs : List Step). stepAt xs j .entry) (sym from-chunk)
@@ -165,7 +156,7 @@ module _ (F : List ℕ → List ℕ) (p : List ℕ) (n c : ℕ) where
       → stepAt (steps F p n c) (suc d) .message ≡ ordered (c / 2 ^ d) parentMessageOf (stepAt (steps F p n c) d .entry) (getD sides d hole)
   unfolding steps
   all-message d l =
-      ap (λ (xs : List Step). stepAt xs d .message) from-chunk ∙ above-message F c 0 low sides d (omega (arith, sides-count))
+      ap (λ (xs : List Step). stepAt xs d .message) from-chunk ∙ above-message F c 0 low sides d (omega (arith, siblings-count p n c))
       ∙ ap₂ (λ (x : ℕ) (y : Entry). ordered (c / 2 ^ x) parentMessageOf y (getD sides d hole)) (zero-add d) (under-step d)
 
   -- the sibling stands beside the block

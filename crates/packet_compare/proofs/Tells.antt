@@ -7,10 +7,10 @@ use mathlib.Core.Bool.{Bool, true, cond}
 use mathlib.Core.List.{List, [], _∷_}
 use borrow.Author.Tests.{leb-true, ltb-true}
 use lib.Dec.{ltb}
-use lib.ListN.{length}
-use Rattle.refusals.specs.Verdict.{Spot, Verdict, done, refused}
-use Rattle.byte_strings.specs.Lists.{Bytes, run}
-use Rattle.byte_strings.proofs.Lists.{same-eq, bytes-part, length-run}
+use Rattle.answer_types.specs.Verdict.{Spot, Verdict, done, refused}
+use Rattle.byte_strings.specs.Lists.{Bytes}
+use Rattle.byte_strings.proofs.Lists.{same-eq, bytes-part, same-of}
+use Rattle.byte_strings.proofs.Bools.{both-true}
 use Rattle.tree_index.specs.Tree.{index}
 use Rattle.blake2b.specs.Hash.{nodeHash}
 use Rattle.file_format.specs.Sizes.{mostChunks}
@@ -19,15 +19,14 @@ use Rattle.file_format.specs.Entries.{Entry, leaf}
 use Rattle.file_format.proofs.Nodes.{leafMessage-bytes}
 use Rattle.file_format.proofs.Hashed.{hash-function}
 use Rattle.checks.specs.Checks.{Check, countRight}
-use Rattle.checks.proofs.Judged.{both-right, judged-done}
-use Rattle.checks.proofs.Passed.{same-of}
+use Rattle.checks.proofs.Judged.{judged-done}
 use Rattle.compare.proofs.Local.{false-same}
 use Rattle.compare.proofs.Apart.{leaf-injective}
-use Rattle.packet.specs.Packet.{siblings}
-use Rattle.packet.specs.Check.{Step, chunkLength, shapeRight, packetChunk, entriesIn, siblingEntries, packetTotal, stepsAbove, steps, lastEntry, packetRoot}
+use Rattle.packet.specs.Check.{Step, chunkLength, shapeRight, packetChunk, siblingEntries, packetTotal, stepsAbove, steps, lastEntry, packetRoot}
 use Rattle.packet.specs.Check.{packetRootMessage, rootRight, packetVerdict}
 use Rattle.packet.specs.Inner.{ChunkOf}
 use Rattle.packet.proofs.Shape.{Sized, sized}
+use Rattle.packet.proofs.Rows.{siblings-count}
 use Rattle.packet_compare.specs.Walk.{sameChunk, firstPair, rootPair, walk, unlessRefused, comparePackets, atRoots, neither, pair}
 use Rattle.packet_compare.specs.Theorems.{Pair, Names, byIndex, byRoots, Tells, TellsForAll, RefusesForAll}
 use Rattle.packet_compare.specs.Inner.{Whole}
@@ -50,7 +49,7 @@ pub held : (F : List ℕ → List ℕ) (p : List ℕ) (n c : ℕ) (root : List �
 unfolding packetVerdict rootRight
 held F p n c root e =
     let w = judged-done (checksOf F p n c root) done e .0 in
-    let v = both-right _ _ (w .1 .1 .1 .0) in
+    let v = both-true _ _ (w .1 .1 .1 .0) in
     record {
       chunk = record { count = leb-true n mostChunks (w .0); below = ltb-true c n (w .1 .0) };
       sizes = sized p n c (w .1 .1 .0);
@@ -64,10 +63,6 @@ module _ (F : List ℕ → List ℕ) (H : HashFunction F) (n c : ℕ) where
   low-whole p b =
       let m : Bytes (leafMessage (packetChunk p)) = leafMessage-bytes (packetChunk p) (bytes-part p 4 (chunkLength p) b) in
       record { long = H .size (leafMessage (packetChunk p)) m; bytes = H .byte (leafMessage (packetChunk p)) m }
-
-  pub sides-count : (p : List ℕ) → length (siblingEntries p n c) ≡ length (siblings n c)
-  unfolding siblingEntries entriesIn
-  sides-count p = length-run _ 0 (length (siblings n c))
 
   top-whole : (p : List ℕ) → Bytes p → Sized p n c → Whole (packetRoot F p n c)
   unfolding packetRoot steps lastEntry
@@ -86,7 +81,7 @@ module _ (F : List ℕ → List ℕ) (H : HashFunction F) (n c : ℕ) where
         (lastEntry e (stepsAbove F 0 c e (siblingEntries p n c))) (lastEntry f (stepsAbove F 0 c f (siblingEntries q n c)))
         (λ x. ne (leaf-injective (packetChunk p) (packetChunk q) x))
         (λ y. walk-up F H 0 c e f (siblingEntries p n c) (siblingEntries q n c) (low-whole p b) (low-whole q d) (siblings-whole p n c b (h .sizes))
-        (siblings-whole q n c d (g .sizes)) (sides-count p ∙ sym (sides-count q)) y)
+        (siblings-whole q n c d (g .sizes)) (siblings-count p n c ∙ sym (siblings-count q n c)) y)
 
     -- at the top the hashes differ, so the root messages do, and they have one hash
     pub at-the-roots : packetRoot F p n c .hash ≢ packetRoot F q n c .hash → Pair F (packetRootMessage F p n c) (packetRootMessage F q n c)

@@ -9,11 +9,12 @@ use native.Mathlib.Nat.{suc-inj, not-suc-le-zero, zero-lt-suc, le-of-suc-le-suc}
 use native.Mathlib.Omega.{arith}
 use lib.ListN.{length}
 use Rattle.byte_strings.specs.Lists.{Bytes, run, sameList}
+use Rattle.byte_strings.proofs.Lists.{same-of}
+use Rattle.byte_strings.proofs.Bools.{and-false}
 use Rattle.tree_index.specs.Tree.{index}
 use Rattle.file_format.specs.Messages.{HashFunction}
 use Rattle.file_format.specs.Entries.{Entry, parentOf}
 use Rattle.file_format.proofs.Nodes.{parentMessage-bytes}
-use Rattle.checks.proofs.Passed.{same-of}
 use Rattle.compare.proofs.Local.{Told, told, false-same}
 use Rattle.compare.proofs.Apart.{parent-injective}
 use Rattle.packet.specs.Check.{Step, ordered, parentMessageOf, stepsAbove, lastEntry}
@@ -72,10 +73,6 @@ module _ (F : List ℕ → List ℕ) (H : HashFunction F) where
 -- ---- one step
 
 module _ (F : List ℕ → List ℕ) where
-  and-false : (b : Bool) → (b && false) ≡ false
-  and-false true = refl
-  and-false false = refl
-
   pub pair-true : (m₁ m₂ : List ℕ) → m₁ ≢ m₂ → F m₁ ≡ F m₂ → pair F m₁ m₂ ≡ true
   unfolding pair
   pair-true m₁ m₂ d e = λ t. not (false-same m₁ m₂ d t) && same-of (F m₁) (F m₂) e t

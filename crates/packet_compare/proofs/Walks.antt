@@ -21,11 +21,12 @@ use Rattle.packet.specs.Check.{Step, chunkLength, siblingsPlace, packetChunk, e
 use Rattle.packet.specs.Inner.{sizesIn, Climbable}
 use Rattle.packet.proofs.Above.{few-siblings}
 use Rattle.packet.proofs.Right.{map-run}
+use Rattle.packet.proofs.Rows.{siblings-count}
 use Rattle.packet_compare.specs.Walk.{Walk, sameChunk, atIndex, atRoots, firstPair, rootPair, walk}
 use Rattle.packet_compare.specs.Inner.{Framed, Whole, Climbable2, upAlong}
 use Rattle.packet_compare.proofs.Up.{Outcome, found, through, stops, passes-on, walk-up}
 use Rattle.packet_compare.proofs.Roots.{siblings-whole}
-use Rattle.packet_compare.proofs.Tells.{Held, low-whole, sides-count, root-named, walks, same-said}
+use Rattle.packet_compare.proofs.Tells.{Held, low-whole, root-named, walks, same-said}
 
 -- ---- one packet
 
@@ -135,7 +136,7 @@ module _ (p q : List ℕ) (n c : ℕ) (root : List ℕ) (h : Held nodeHash p n c
           way =
               walk-up nodeHash hash-function 0 c e f (siblingEntries p n c) (siblingEntries q n c) (low-whole nodeHash hash-function n c p b)
               (low-whole nodeHash hash-function n c q d) (siblings-whole p n c b (h .sizes)) (siblings-whole q n c d (g .sizes))
-              (sides-count nodeHash hash-function n c p ∙ sym (sides-count nodeHash hash-function n c q)) (differ apart)
+              (siblings-count p n c ∙ sym (siblings-count q n c)) (differ apart)
 
           go : Outcome nodeHash over over2 (lastEntry e over) (lastEntry f over2)
               → firstPair nodeHash over over2 (rootPair nodeHash p q n c) ≡ firstPair nodeHash over over2 atRoots

@@ -1,5 +1,5 @@
 -- The answer of the papers that each case of the walk's answer stands for.
-use Rattle.refusals.specs.Meaning.{spotOf}
+use Rattle.answer_types.specs.Meaning.{spotOf}
 use Rattle.packet_compare.specs.Walk.{Walk, firstRefused, secondRefused, sameChunk, atIndex, atRoots}
 use Rattle.packet_compare.specs.declared.Walked.{Walked}
 use Rattle.packet_compare.specs.declared.Walked.the-variants.{FirstRefused, SecondRefused, SameChunk, AtIndex, AtRoots}

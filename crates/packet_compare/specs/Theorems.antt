@@ -9,7 +9,7 @@ use mathlib.Core.Logic.{_≢_}
 use mathlib.Core.Bool.{true}
 use mathlib.Core.List.{List, []}
 use lib.ListN.{length, getD}
-use Rattle.refusals.specs.Verdict.{Spot, done, refused}
+use Rattle.answer_types.specs.Verdict.{Spot, done, refused}
 use Rattle.byte_strings.specs.Lists.{Bytes}
 use Rattle.tree_index.specs.Tree.{index, leftChild, rightChild, filled}
 use Rattle.file_format.specs.Messages.{HashFunction, leafMessage}

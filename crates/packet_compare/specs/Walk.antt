@@ -4,7 +4,7 @@
 use Prim.Native.Nat.{ℕ}
 use mathlib.Core.Bool.{Bool, cond}
 use mathlib.Core.List.{List, [], _∷_}
-use Rattle.refusals.specs.Verdict.{Spot, Verdict, done, refused}
+use Rattle.answer_types.specs.Verdict.{Spot, Verdict, done, refused}
 use Rattle.byte_strings.specs.Lists.{sameList}
 use Rattle.compare.specs.Walk.{collides}
 use Rattle.packet.specs.Check.{Step, packetChunk, steps, packetRootMessage, packetVerdict}

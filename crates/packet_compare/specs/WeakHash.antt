@@ -4,7 +4,7 @@ use Prim.Native.Nat.{ℕ, _%_}
 use mathlib.Core.Path.{_≡_}
 use mathlib.Core.List.{List, [], _∷_, _++_}
 use lib.ListN.{length, replicate}
-use Rattle.refusals.specs.Verdict.{none}
+use Rattle.answer_types.specs.Verdict.{none}
 use Rattle.byte_strings.specs.Lists.{joined, total}
 use Rattle.byte_strings.specs.Numbers.{be}
 use Rattle.packet_compare.specs.Walk.{Walk, firstRefused, secondRefused, sameChunk, atIndex, atRoots, comparePackets}

@@ -1,11 +1,11 @@
 // A walk along two packets of one chunk: "the first such pair from the leaf upward, by its tree index or as "at the roots"". Where the chunks
 // differ, the messages of each step differ as long as the hashes below did, so the first step with one hash is the pair, and no message is
 // compared. It reads the lent bytes and changes nothing.
+use answer_types::Answer;
+use answer_types::Refusal;
 use number_types::ChunkNumber;
 use number_types::TreeIndex;
 use packet::Node;
-use refusals::Answer;
-use refusals::Refusal;
 ghost use mathlib.Core.Path.{_≡_};
 ghost use Rattle.blake2b.specs.Hash.{nodeHash};
 ghost use Rattle.file_format.specs.Entries.{parentOf};

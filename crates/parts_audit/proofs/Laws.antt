@@ -6,11 +6,11 @@ use mathlib.Core.List.{List}
 use native.Mathlib.Omega.{arith}
 use borrow.Author.Tests.{ltb-true, lt-ltb, le-ltb, eq-eqb, ne-eqb}
 use lib.Dec.{ltb, eqb}
-use Rattle.refusals.specs.Verdict.{Spot, Verdict, tree, bitfield, done, refused}
-use Rattle.refusals.specs.Meaning.{said}
-use Rattle.refusals.specs.declared.Refusal.{Refusal}
-use Rattle.refusals.specs.declared.Answer.{Answer}
-use Rattle.refusals.specs.declared.Answer.the-variants.{Refused}
+use Rattle.answer_types.specs.Verdict.{Spot, Verdict, tree, bitfield, done, refused}
+use Rattle.answer_types.specs.Meaning.{said}
+use Rattle.answer_types.specs.declared.Refusal.{Refusal}
+use Rattle.answer_types.specs.declared.Answer.{Answer}
+use Rattle.answer_types.specs.declared.Answer.the-variants.{Refused}
 use Rattle.tree_index.specs.Tree.{entries}
 use Rattle.bitfield.specs.Image.{entryCount}
 use Rattle.file_format.specs.Belongs.{Register}

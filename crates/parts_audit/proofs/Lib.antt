@@ -1,2 +1,3 @@
 -- Laws of parts.
 pub mod Laws
+pub mod ByTest

@@ -2,7 +2,7 @@
 -- audit does. What lies wrong outside the range changes nothing.
 use Prim.Native.Nat.{ℕ, _+_, _*_}
 use mathlib.Core.List.{List}
-use Rattle.refusals.specs.Verdict.{Verdict, tree, bitfield, done}
+use Rattle.answer_types.specs.Verdict.{Verdict, tree, bitfield, done}
 use Rattle.tree_index.specs.Tree.{entries}
 use Rattle.bitfield.specs.Image.{entryCount}
 use Rattle.file_format.specs.Belongs.{Register}

@@ -3,7 +3,7 @@ use Prim.Native.Nat.{ℕ}
 use mathlib.Core.Bool.{Bool, cond, _&&_, _||_}
 use mathlib.Core.List.{List, [], _∷_}
 use lib.Dec.{ltb, eqb}
-use Rattle.refusals.specs.Verdict.{Spot, none, tree, bitfield, Verdict, done, refused}
+use Rattle.answer_types.specs.Verdict.{Spot, none, tree, bitfield, Verdict, done, refused}
 
 -- a place as a number
 abbrev pub placeNumber : Spot → ℕ

@@ -1,9 +1,9 @@
 // What the answers of two parts say together.
-use refusals::Answer;
-use refusals::Place;
-use refusals::Refusal;
+use answer_types::Answer;
+use answer_types::Place;
+use answer_types::Refusal;
 ghost use mathlib.Core.Path.{_≡_};
-ghost use Rattle.refusals.specs.Meaning.{said, spotOf};
+ghost use Rattle.answer_types.specs.Meaning.{said, spotOf};
 ghost use Rattle.parts_audit.specs.Together as spec;
 
 // A place as a number.

@@ -3,12 +3,12 @@
 mod answers;
 mod ranges;
 
+use answer_types::Answer;
 pub use answers::earlier;
 use number_types::TreeIndex;
 pub use ranges::lesser;
-use refusals::Answer;
 ghost use mathlib.Core.Path.{_≡_};
-ghost use Rattle.refusals.specs.Meaning.{said};
+ghost use Rattle.answer_types.specs.Meaning.{said};
 ghost use Rattle.blake2b.specs.Hash.{nodeHash};
 ghost use Rattle.checks.specs.Lent.{registerOf};
 ghost use Rattle.parts_audit.specs.Part.{treePart, bitfieldPart};

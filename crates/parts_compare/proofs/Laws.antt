@@ -7,11 +7,11 @@ use native.Mathlib.Omega.{arith}
 use borrow.Author.Tests.{eq-eqb, ne-eqb, ltb-true}
 use lib.Dec.{eqb, ltb}
 use lib.ListN.{length, take}
-use Rattle.refusals.specs.Verdict.{Verdict, done}
-use Rattle.refusals.specs.Meaning.{said, spotOf}
-use Rattle.refusals.specs.declared.Refusal.{Refusal}
-use Rattle.refusals.specs.declared.Answer.{Answer}
-use Rattle.refusals.specs.declared.Answer.the-variants.{Done, Refused}
+use Rattle.answer_types.specs.Verdict.{Verdict, done}
+use Rattle.answer_types.specs.Meaning.{said, spotOf}
+use Rattle.answer_types.specs.declared.Refusal.{Refusal}
+use Rattle.answer_types.specs.declared.Answer.{Answer}
+use Rattle.answer_types.specs.declared.Answer.the-variants.{Done, Refused}
 use Rattle.tree_index.specs.Tree.{entries}
 use Rattle.file_format.specs.Belongs.{Register}
 use Rattle.file_format.specs.Inner.{RootsIn}

@@ -5,7 +5,7 @@ use mathlib.Core.Bool.{cond, not}
 use mathlib.Core.List.{List}
 use lib.Dec.{eqb}
 use lib.ListN.{take}
-use Rattle.refusals.specs.Verdict.{done}
+use Rattle.answer_types.specs.Verdict.{done}
 use Rattle.tree_index.specs.Tree.{entries}
 use Rattle.file_format.specs.Stored.{storedRootMessage}
 use Rattle.file_format.specs.Belongs.{Register}

@@ -1,8 +1,8 @@
 // The comparing walk in parts. They only read.
+use answer_types::Answer;
 use compare::Compared;
 use compare::Roots;
 use number_types::TreeIndex;
-use refusals::Answer;
 ghost use mathlib.Core.Path.{_≡_};
 ghost use Rattle.blake2b.specs.Hash.{nodeHash};
 ghost use Rattle.checks.specs.Lent.{registerOf};

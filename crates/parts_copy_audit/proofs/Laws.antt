@@ -3,17 +3,17 @@ use Prim.Native.Nat.{ℕ, _+_, _-_, _*_}
 use mathlib.Core.Path.{_≡_, sym, ap, ap₂, _∙_}
 use mathlib.Core.Bool.{Bool, true}
 use mathlib.Core.List.{List}
-use Rattle.refusals.specs.Verdict.{Verdict, tree, bitfield, done, refused}
-use Rattle.refusals.specs.Meaning.{said}
-use Rattle.refusals.specs.declared.Refusal.{Refusal}
-use Rattle.refusals.specs.declared.Answer.{Answer}
-use Rattle.refusals.specs.declared.Answer.the-variants.{Refused}
+use Rattle.answer_types.specs.Verdict.{Verdict, tree, bitfield, done, refused, andThen}
+use Rattle.answer_types.specs.Meaning.{said}
+use Rattle.answer_types.specs.declared.Refusal.{Refusal}
+use Rattle.answer_types.specs.declared.Answer.{Answer}
+use Rattle.answer_types.specs.declared.Answer.the-variants.{Refused}
 use Rattle.byte_strings.specs.Lists.{run}
 use Rattle.byte_strings.specs.Lowest.{Lowest, nowhere, first, lowest}
 use Rattle.tree_index.specs.Tree.{entries}
 use Rattle.bitfield.specs.Image.{entryCount}
 use Rattle.checks.specs.Checks.{judged, addsUp}
-use Rattle.audit.specs.Audit.{refusedAt, andThen, byteRightBy}
+use Rattle.audit.specs.Audit.{refusedAt, byteRightBy}
 use Rattle.audit.specs.BitfieldEntries.{treeBits}
 use Rattle.audit.proofs.Search.{then-assoc, stops, judged-then}
 use Rattle.copy_checks.specs.Copy.{Copy}

@@ -2,7 +2,7 @@
 -- range, or the bitfield's entries of one, as that audit does.
 use Prim.Native.Nat.{ℕ, _+_, _*_}
 use mathlib.Core.List.{List}
-use Rattle.refusals.specs.Verdict.{Verdict, tree, bitfield, done}
+use Rattle.answer_types.specs.Verdict.{Verdict, tree, bitfield, done}
 use Rattle.byte_strings.specs.Lists.{run}
 use Rattle.byte_strings.specs.Lowest.{lowest}
 use Rattle.tree_index.specs.Tree.{entries}

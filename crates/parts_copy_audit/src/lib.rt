@@ -1,9 +1,9 @@
 // The audit of a copy in parts. It only reads.
-use copy_checks::Found;
+use answer_types::Answer;
+use lookup::First;
 use number_types::TreeIndex;
-use refusals::Answer;
 ghost use mathlib.Core.Path.{_≡_};
-ghost use Rattle.refusals.specs.Meaning.{said};
+ghost use Rattle.answer_types.specs.Meaning.{said};
 ghost use Rattle.blake2b.specs.Hash.{nodeHash};
 ghost use Rattle.copy_checks.specs.Copy.{copyOf};
 ghost use Rattle.parts_copy_audit.specs.Part.{copyTreePart, copyBitfieldPart};
@@ -31,8 +31,8 @@ pub fn tree_part(
     };
     let end = TreeIndex(parts_audit::lesser(to.0, audit::entry_count(n)));
     match copy_audit::wrong_between(tree, bitfield, content, n, size, from, end) {
-        Found::At(i) => refusals::refuse_entry(10, i),
-        Found::Nothing => Answer::Done,
+        First::At(i) => answer_types::refuse_entry(10, i),
+        First::Nothing => Answer::Done,
     }
 }
 

@@ -6,7 +6,7 @@ use mathlib.Core.List.{List, [], _∷_}
 use native.Mathlib.Nat.{le-refl}
 use native.Mathlib.Omega.{arith}
 use lib.ListN.{take}
-use Rattle.refusals.specs.Verdict.{Spot, Verdict, done, refused, unlessRefused}
+use Rattle.answer_types.specs.Verdict.{Spot, Verdict, done, refused, unlessRefused}
 use Rattle.byte_strings.specs.Lists.{zeros, joined}
 use Rattle.tree_index.specs.Tree.{roots, rootsBelow, rootOf}
 use Rattle.bitfield.specs.Release.{storedHeld}

@@ -5,22 +5,20 @@ use mathlib.Core.Bool.{Bool, cond}
 use mathlib.Core.List.{List}
 use native.Mathlib.Omega.{arith}
 use borrow.Author.Tests.{leb-true, le-leb, lt-leb}
-use Rattle.refusals.specs.Verdict.{Verdict, none, done, refused, unlessRefused}
-use Rattle.refusals.specs.Meaning.{said, spotOf}
-use Rattle.refusals.specs.declared.Refusal.{Refusal}
-use Rattle.refusals.specs.declared.Answer.{Answer}
-use Rattle.refusals.specs.declared.Answer.the-variants.{Done, Refused}
-use Rattle.byte_strings.specs.Lists.{zeros}
+use Rattle.answer_types.specs.Verdict.{Verdict, none, done, refused}
+use Rattle.answer_types.specs.Meaning.{said, spotOf}
+use Rattle.answer_types.specs.declared.Refusal.{Refusal}
+use Rattle.answer_types.specs.declared.Answer.{Answer}
+use Rattle.answer_types.specs.declared.Answer.the-variants.{Done, Refused}
 use Rattle.tree_index.specs.Tree.{entries}
 use Rattle.blake2b.specs.Hash.{nodeHash}
 use Rattle.file_format.specs.Sizes.{usedTree}
-use Rattle.file_format.specs.Stored.{storedRootMessage}
 use Rattle.file_format.specs.Inner.{RootsIn}
 use Rattle.file_format.specs.Belongs.{Register}
 use Rattle.checks.specs.Checks.{judged, registerChecks}
 use Rattle.checks.proofs.Judged.{judged-append, judged-refused, judged-done}
 use Rattle.checks.proofs.Passed.{Passed, passes, passed}
-use Rattle.prefix_root.specs.PrefixRoot.{ownChecks, ownVerdict, prefixVerdict, prefixRoot, PrefixRootPost}
+use Rattle.prefix_root.specs.PrefixRoot.{ownChecks, ownVerdict, prefixVerdict, rootUnless, prefixRoot, RootedPost, PrefixRootPost}
 
 -- ---- the check of its own
 
@@ -71,21 +69,14 @@ module _ (r : Register) (m : ℕ) (a : Answer) (e : said a ≡ judged (registerC
   pub behind-checks : a ≡ Done → (v : Verdict) → v ≡ ownVerdict (r .n) m → v ≡ prefixVerdict r m
   behind-checks p v w = w ∙ sym (behind r m (passed r done (sym e ∙ ap said p) .0))
 
-module _ (r : Register) (m : ℕ) (a : Answer) (e : said a ≡ prefixVerdict r m) where
-  pub old-fits : a ≡ Done → RootsIn (r .tree) m
+module _ (r : Register) (m : ℕ) where
+  pub old-fits : prefixVerdict r m ≡ done → RootsIn (r .tree) m
   unfolding usedTree entries
-  old-fits p =
-      let w = old-passed r m (sym e ∙ ap said p) in
+  old-fits e =
+      let w = old-passed r m e in
       record { count = omega (arith, w .checked .count, w .upTo); inside = omega (arith, w .checked .tree, w .upTo) }
 
-  pub old-not : (x : Refusal) → a ≡ Refused x → PrefixRootPost r m (said (Refused x)) (zeros 32)
+  pub old-post : (a v : Verdict) (h : List ℕ) → a ≡ prefixVerdict r m → RootedPost a (r .tree) m v h → PrefixRootPost r m v h
   unfolding prefixRoot
-  old-not x p =
-      let w : said (Refused x) ≡ prefixVerdict r m = sym (ap said p) ∙ e in
-      record { answer = w; root = ap (λ (v : Verdict). unlessRefused v (nodeHash (storedRootMessage (r .tree) m)) (zeros 32)) w }
-
-  pub old-done : (h : List ℕ) → a ≡ Done → h ≡ nodeHash (storedRootMessage (r .tree) m) → PrefixRootPost r m done h
-  unfolding prefixRoot
-  old-done h p q =
-      let w : done ≡ prefixVerdict r m = sym (ap said p) ∙ e in
-      record { answer = w; root = q ∙ ap (λ (v : Verdict). unlessRefused v (nodeHash (storedRootMessage (r .tree) m)) (zeros 32)) w }
+  old-post a v h e w =
+      record { answer = w .answer ∙ e; root = w .root ∙ ap (λ (x : Verdict). rootUnless nodeHash x (r .tree) m) e }

@@ -3,7 +3,7 @@ use Prim.Native.Nat.{ℕ}
 use mathlib.Core.Path.{_≡_}
 use mathlib.Core.List.{List, [], _∷_, _++_}
 use lib.Dec.{leb}
-use Rattle.refusals.specs.Verdict.{Verdict, done, unlessRefused}
+use Rattle.answer_types.specs.Verdict.{Verdict, done, unlessRefused}
 use Rattle.byte_strings.specs.Lists.{zeros}
 use Rattle.blake2b.specs.Hash.{nodeHash}
 use Rattle.file_format.specs.Stored.{storedRootMessage}
@@ -21,9 +21,17 @@ ownVerdict n m = judged (ownChecks n m) done
 unfoldable pub prefixVerdict : Register → ℕ → Verdict
 prefixVerdict r m = judged (registerChecks r ++ ownChecks (r .n) m) done
 
--- the hash of the root message that the stored roots of the first m chunks give; zeros after a refusal
+-- the hash of the root message that the stored roots of the first m chunks of a tree file give; zeros after a refusal
+abbrev pub rootUnless : (List ℕ → List ℕ) → Verdict → List ℕ → ℕ → List ℕ
+rootUnless F v t m = unlessRefused v (F (storedRootMessage t m)) (zeros 32)
+
 unfoldable pub prefixRoot : (List ℕ → List ℕ) → Register → ℕ → List ℕ
-prefixRoot F r m = unlessRefused (prefixVerdict r m) (F (storedRootMessage (r .tree) m)) (zeros 32)
+prefixRoot F r m = rootUnless F (prefixVerdict r m) (r .tree) m
+
+-- what the inner step ensures: a verdict handed on, and that root hash beside it
+pub record RootedPost (found : Verdict) (t : List ℕ) (m : ℕ) (v : Verdict) (h : List ℕ) : Type 0 where
+  pub answer : v ≡ found
+  pub root : h ≡ rootUnless nodeHash found t m
 
 -- what the call ensures, on every input
 pub record PrefixRootPost (r : Register) (m : ℕ) (v : Verdict) (h : List ℕ) : Type 0 where

@@ -8,7 +8,7 @@ use mathlib.Core.Path.{_≡_}
 use mathlib.Core.Bool.{true}
 use mathlib.Core.List.{List, [], _∷_}
 use lib.ListN.{take}
-use Rattle.refusals.specs.Verdict.{Spot, none, done, refused}
+use Rattle.answer_types.specs.Verdict.{Spot, none, done, refused}
 use Rattle.byte_strings.specs.Lists.{zeros}
 use Rattle.bitfield.specs.Release.{storedHeld}
 use Rattle.file_format.specs.Messages.{HashFunction}

@@ -6,12 +6,12 @@ use mathlib.Core.List.{List}
 use mathlib.Core.Option.{none, some}
 use native.Mathlib.Omega.{arith}
 use lib.ListN.{length, take, drop}
-use Rattle.refusals.specs.Verdict.{Spot, Verdict, tree, done, refused}
-use Rattle.refusals.specs.Verdict as verdicts
-use Rattle.refusals.specs.Meaning.{refusalOf, spotOf}
-use Rattle.refusals.specs.declared.Refusal.{Refusal}
-use Rattle.refusals.specs.declared.Answer.{Answer}
-use Rattle.refusals.specs.declared.Answer.the-variants.{Done, Refused}
+use Rattle.answer_types.specs.Verdict.{Spot, Verdict, tree, done, refused}
+use Rattle.answer_types.specs.Verdict as verdicts
+use Rattle.answer_types.specs.Meaning.{refusalOf, spotOf}
+use Rattle.answer_types.specs.declared.Refusal.{Refusal}
+use Rattle.answer_types.specs.declared.Answer.{Answer}
+use Rattle.answer_types.specs.declared.Answer.the-variants.{Done, Refused}
 use Rattle.byte_strings.specs.Lists.{part, sameList}
 use Rattle.tree_index.specs.Tree.{index}
 use Rattle.file_format.specs.Belongs.{Register}

@@ -8,7 +8,7 @@ use mathlib.Core.Option.{some}
 use borrow.Author.Tests.{lt-ltb}
 use native.Mathlib.Omega.{arith}
 use lib.ListN.{length, getD}
-use Rattle.refusals.specs.Verdict.{Verdict, tree, done}
+use Rattle.answer_types.specs.Verdict.{Verdict, tree, done}
 use Rattle.byte_strings.specs.Lists.{sameList}
 use Rattle.byte_strings.proofs.Lists.{same-eq, same-refl}
 use Rattle.tree_index.specs.Tree.{index}

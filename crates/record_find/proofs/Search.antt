@@ -3,9 +3,9 @@ use Prim.Native.Nat.{ℕ, suc, _-_, _<_, _≤_}
 use mathlib.Core.Path.{_≡_, refl, sym, ap, _∙_, subst}
 use mathlib.Core.Bool.{Bool}
 use native.Mathlib.Omega.{arith}
-use Rattle.refusals.specs.Verdict.{Spot, Verdict, done, refused}
-use Rattle.refusals.specs.Meaning.{spotOf}
-use Rattle.refusals.specs.declared.Refusal.{Refusal}
+use Rattle.answer_types.specs.Verdict.{Spot, Verdict, done, refused}
+use Rattle.answer_types.specs.Meaning.{spotOf}
+use Rattle.answer_types.specs.declared.Refusal.{Refusal}
 use Rattle.record_fields.specs.declared.rows.Part.{Part}
 use Rattle.record_format.specs.Post.{headerTold}
 use Rattle.record_format.specs.declared.headers.HeaderRead.{HeaderRead}

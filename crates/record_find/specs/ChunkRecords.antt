@@ -2,8 +2,8 @@
 use Prim.Native.Nat.{ℕ}
 use mathlib.Core.Bool.{Bool, true, false}
 use mathlib.Core.List.{List}
-use Rattle.refusals.specs.Verdict.{Spot, Verdict, tree, done, refused}
-use Rattle.refusals.specs.Meaning.{refusalOf}
+use Rattle.answer_types.specs.Verdict.{Spot, Verdict, tree, done, refused}
+use Rattle.answer_types.specs.Meaning.{refusalOf}
 use Rattle.byte_strings.specs.Lists.{sameList}
 use Rattle.tree_index.specs.Tree.{index}
 use Rattle.file_format.specs.Belongs.{Register}

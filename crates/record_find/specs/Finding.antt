@@ -2,8 +2,8 @@
 use Prim.Native.Nat.{ℕ, zero, suc}
 use mathlib.Core.Bool.{Bool, cond}
 use mathlib.Core.List.{List}
-use Rattle.refusals.specs.Verdict.{Spot, Verdict, done, refused}
-use Rattle.refusals.specs.Meaning.{spotOf}
+use Rattle.answer_types.specs.Verdict.{Spot, Verdict, done, refused}
+use Rattle.answer_types.specs.Meaning.{spotOf}
 use Rattle.file_format.specs.Belongs.{Register}
 use Rattle.checks.specs.Checks.{judged, registerChecks}
 use Rattle.record_find.specs.ChunkRecords.{headerIn, pathIn}

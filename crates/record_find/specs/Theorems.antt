@@ -4,7 +4,7 @@ use mathlib.Core.Path.{_≡_}
 use mathlib.Core.List.{List, [], _∷_, map}
 use mathlib.Core.Option.{none}
 use lib.ListN.{length, getD}
-use Rattle.refusals.specs.Verdict.{Verdict, done}
+use Rattle.answer_types.specs.Verdict.{Verdict, done}
 use Rattle.file_format.specs.Messages.{HashFunction}
 use Rattle.file_format.specs.Slots.{allHeld, Within}
 use Rattle.file_format.specs.Belongs.{Register, Belongs}

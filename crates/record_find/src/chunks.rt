@@ -1,15 +1,15 @@
 // The record of a chunk of a register: the read's own refusals, then number 15 at the leaf's tree index.
+use answer_types::Answer;
+use answer_types::Place;
+use answer_types::Refusal;
 use lookup::Verified;
 use number_types::ChunkNumber;
 use record_format::HeaderRead;
 use record_node::NodeRead;
-use refusals::Answer;
-use refusals::Place;
-use refusals::Refusal;
 ghost use mathlib.Core.Path.{_≡_};
 ghost use Prim.Native.Nat.{_<_};
-ghost use Rattle.refusals.specs.Verdict.{tree, refused};
-ghost use Rattle.refusals.specs.Meaning.{refusalOf};
+ghost use Rattle.answer_types.specs.Verdict.{tree, refused};
+ghost use Rattle.answer_types.specs.Meaning.{refusalOf};
 ghost use Rattle.tree_index.specs.Tree.{index};
 ghost use Rattle.blake2b.specs.Hash.{nodeHash};
 ghost use Rattle.checks.specs.Lent.{registerOf};

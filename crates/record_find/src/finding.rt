@@ -1,9 +1,9 @@
 // A path sought among the records of a register.
 use super::chunks::Compared;
+use answer_types::Answer;
+use answer_types::Refusal;
 use number_types::ChunkNumber;
 use record_format::HeaderRead;
-use refusals::Answer;
-use refusals::Refusal;
 ghost use mathlib.Core.Path.{_≡_};
 ghost use Prim.Native.Nat.{_-_};
 ghost use Rattle.blake2b.specs.Hash.{nodeHash};

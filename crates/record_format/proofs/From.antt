@@ -8,6 +8,7 @@ use native.Mathlib.Omega.{arith}
 use lib.ListN.{length}
 use Rattle.byte_strings.specs.Lists.{sameList}
 use Rattle.byte_strings.proofs.Lists.{same-refl, same-eq}
+use Rattle.byte_strings.proofs.Bools.{both-true, true-both}
 use Rattle.record_fields.specs.Fields.{numberField, partField, Most, Longest}
 use Rattle.record_fields.specs.Fronts.{frontNumber, frontPart, orNothing}
 use Rattle.record_fields.proofs.Fields.{later-nil}
@@ -18,7 +19,7 @@ use Rattle.record_format.specs.Records.{WriterWithin, writerBytes, Node,
 use Rattle.record_format.specs.From.{frontHeader, frontRows, statOfRows, frontStat, frontValue, frontWriter, oneMore, frontWriters, behindPath}
 use Rattle.record_format.specs.From.{behindValue, behindTrie, behindWriters, frontNode, headerTest, nodeTest, asWritten, headerFrom, nodeFrom}
 use Rattle.record_format.specs.Theorems.{Accepted, Rejected, Reads, EachRead}
-use Rattle.record_format.proofs.Tests.{both-true, true-both, header-in, in-header, node-in, in-node}
+use Rattle.record_format.proofs.Tests.{header-in, in-header, node-in, in-node}
 use Rattle.record_format.proofs.Unique.{row-word, rows-later, writer-size, Untagged, later-untagged, same-header, same-writer, same-node, named}
 use Rattle.record_format.proofs.Unique.{value-sized, value-later, trie-later, last-later}
 

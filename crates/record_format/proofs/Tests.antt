@@ -1,7 +1,7 @@
 -- The tests decide the bounds. Assumes nothing.
 use Prim.Native.Nat.{ℕ, suc}
 use mathlib.Core.Path.{_≡_, refl, ap, _∙_}
-use mathlib.Core.Bool.{Bool, true, false, _&&_}
+use mathlib.Core.Bool.{true, _&&_}
 use mathlib.Core.List.{List, [], _∷_}
 use mathlib.Core.Option.{Option, none, some}
 use native.Mathlib.Omega.{arith}
@@ -10,17 +10,10 @@ use lib.ListN.{length, getD}
 use borrow.Author.Tests.{leb-true, le-leb, eqb-true, eq-eqb}
 use Rattle.byte_strings.specs.Lists.{sameList}
 use Rattle.byte_strings.proofs.Lists.{same-refl, same-eq}
+use Rattle.byte_strings.proofs.Bools.{both-true, true-both}
 use Rattle.record_fields.specs.Fields.{Most, Longest}
 use Rattle.record_format.specs.Records.{Header, HeaderWithin, hyperdrive, Stat, rowsOf, mostOf, RowsWithin, Given, Writer, WritersWithin, Node, NodeWithin, PathWithin, ValueWithin}
 use Rattle.record_format.specs.From.{numberTest, partTest, headerTest, pathTest, givenTest, rowsTest, valueTest, writersTest, nodeTest}
-
-pub both-true : (a b : Bool) → a && b ≡ true → (a ≡ true) × (b ≡ true)
-both-true true b e = (refl, e)
-both-true false b e = absurd (let z : _≡_ {A = ℕ} 0 1 = cc in omega arith)
-
-pub true-both : (a b : Bool) → a ≡ true → b ≡ true → a && b ≡ true
-true-both true b e f = f
-true-both false b e f = e
 
 -- ---- from a test that is passed
 

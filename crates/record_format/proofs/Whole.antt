@@ -8,10 +8,10 @@ use native.Mathlib.Omega.{arith}
 use lib.ListN.{length, take, drop, length-append, length-drop, take-append-drop}
 use lib.Seq.{take-at}
 use borrow.Author.Tests.{le-leb, lt-leb}
-use Rattle.refusals.specs.Verdict.{Spot, Verdict, done, refused}
-use Rattle.refusals.specs.Verdict as verdicts
-use Rattle.refusals.specs.Meaning.{refusalOf}
-use Rattle.refusals.specs.declared.Refusal.{Refusal}
+use Rattle.answer_types.specs.Verdict.{Spot, Verdict, done, refused}
+use Rattle.answer_types.specs.Verdict as verdicts
+use Rattle.answer_types.specs.Meaning.{refusalOf}
+use Rattle.answer_types.specs.declared.Refusal.{Refusal}
 use Rattle.byte_strings.specs.Lists.{part, put, sameList}
 use Rattle.byte_strings.proofs.Lists.{part-at, put-append, same-eq, same-refl}
 use Rattle.record_fields.specs.Varints.{digits, varint}

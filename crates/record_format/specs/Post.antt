@@ -6,8 +6,8 @@ use mathlib.Core.List.{List, [], _∷_, _++_}
 use lib.ListN.{length}
 use lib.Dec.{leb}
 use mathlib.Core.Option.{Option, none as absent, some}
-use Rattle.refusals.specs.Verdict.{Spot, Verdict, none, done, refused}
-use Rattle.refusals.specs.Meaning.{refusalOf}
+use Rattle.answer_types.specs.Verdict.{Spot, Verdict, none, done, refused}
+use Rattle.answer_types.specs.Meaning.{refusalOf}
 use Rattle.byte_strings.specs.Lists.{put}
 use Rattle.record_fields.specs.Inner.{numberOf, numberTold, partOf, Inside}
 use Rattle.record_format.specs.Records.{Header, headerBytes, hyperdrive, HeaderWithin, Stat as StatFields, StatWithin, statBytes}

@@ -1,9 +1,9 @@
 // What the calls on records answer.
-use refusals::Place;
-use refusals::Refusal;
+use answer_types::Place;
+use answer_types::Refusal;
 ghost use mathlib.Core.Path.{_≡_};
-ghost use Rattle.refusals.specs.Verdict.{none, refused};
-ghost use Rattle.refusals.specs.Meaning.{refusalOf};
+ghost use Rattle.answer_types.specs.Verdict.{none, refused};
+ghost use Rattle.answer_types.specs.Meaning.{refusalOf};
 ghost use Rattle.record_format.specs.Post.{GivenAs};
 
 // What writing answers: a refusal, or the number of bytes written.

@@ -1,9 +1,9 @@
 // The Header, chunk 0: type "hyperdrive" and 32 content bytes.
 use super::answers::Written;
+use answer_types::Refusal;
 use record_fields::Part;
-use refusals::Refusal;
 ghost use mathlib.Core.Path.{_≡_};
-ghost use Rattle.refusals.specs.Verdict.{none};
+ghost use Rattle.answer_types.specs.Verdict.{none};
 ghost use Rattle.record_format.specs.Post.{headerStart, headerTold, readHeader, HeaderWrittenAs};
 
 // What reading a Header answers: a refusal, or where its content bytes are.

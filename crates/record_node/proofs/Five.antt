@@ -5,10 +5,10 @@ use mathlib.Core.List.{List, [], _++_, append-assoc, append-nil}
 use mathlib.Core.Option.{Option, none, some}
 use native.Mathlib.Omega.{arith}
 use lib.ListN.{length, take, drop, length-append, length-drop, drop-of-length-le}
-use Rattle.refusals.specs.Verdict.{Verdict, refused}
-use Rattle.refusals.specs.Verdict as verdicts
-use Rattle.refusals.specs.declared.Answer.{Answer}
-use Rattle.refusals.specs.declared.Answer.the-variants.{Done}
+use Rattle.answer_types.specs.Verdict.{Verdict, refused}
+use Rattle.answer_types.specs.Verdict as verdicts
+use Rattle.answer_types.specs.declared.Answer.{Answer}
+use Rattle.answer_types.specs.declared.Answer.the-variants.{Done}
 use Rattle.byte_strings.specs.Lists.{part}
 use Rattle.record_fields.specs.Reading.{BeginsNot, both, Both}
 use Rattle.record_fields.specs.Fields.{numberField, partField, Most, Longest, Later}

@@ -5,7 +5,7 @@ use mathlib.Core.List.{List, [], _∷_, _++_, append-assoc}
 use mathlib.Core.Option.{Option, none, some}
 use native.Mathlib.Omega.{arith}
 use lib.ListN.{length, getD, replicate, length-append, List·getD-append}
-use Rattle.refusals.specs.Verdict as verdicts
+use Rattle.answer_types.specs.Verdict as verdicts
 use Rattle.byte_strings.specs.Lists.{run, put}
 use Rattle.byte_strings.proofs.Lists.{run-ext, run-getD}
 use Rattle.record_fields.specs.Fields.{numberField, partField, givenField}

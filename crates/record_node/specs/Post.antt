@@ -4,9 +4,9 @@ use mathlib.Core.List.{List, [], _∷_, _++_}
 use mathlib.Core.Option.{Option, none as absent, some}
 use lib.ListN.{length, getD, replicate}
 use Rattle.byte_strings.specs.Lists.{run}
-use Rattle.refusals.specs.Verdict.{Spot, Verdict}
-use Rattle.refusals.specs.Meaning.{said}
-use Rattle.refusals.specs.declared.Answer.{Answer}
+use Rattle.answer_types.specs.Verdict.{Spot, Verdict}
+use Rattle.answer_types.specs.Meaning.{said}
+use Rattle.answer_types.specs.declared.Answer.{Answer}
 use Rattle.record_fields.specs.declared.rows.Number.the-variants.{Absent as NoNumber}
 use Rattle.record_fields.specs.declared.rows.Bytes.the-variants.{Absent as NoBytes}
 use Rattle.record_fields.specs.Fields.{partField, givenField}

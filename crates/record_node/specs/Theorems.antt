@@ -4,8 +4,8 @@ use mathlib.Core.Path.{_≡_}
 use mathlib.Core.List.{List}
 use mathlib.Core.Option.{some}
 use lib.ListN.{length}
-use Rattle.refusals.specs.Verdict.{none}
-use Rattle.refusals.specs.declared.Answer.the-variants.{Done}
+use Rattle.answer_types.specs.Verdict.{none}
+use Rattle.answer_types.specs.declared.Answer.the-variants.{Done}
 use Rattle.byte_strings.specs.Lists.{put}
 use Rattle.record_format.specs.Records.{Node, NodeWithin, nodeBytes}
 use Rattle.record_format.specs.From.{nodeFrom}

@@ -1,6 +1,7 @@
 // A Node, read of lent bytes.
 use super::writers::Row;
 use super::writers::Writers;
+use answer_types::Answer;
 use record_fields::Bytes;
 use record_fields::BytesRow;
 use record_fields::Number;
@@ -8,12 +9,11 @@ use record_fields::NumberRow;
 use record_fields::Part;
 use record_format::Stat;
 use record_format::StatRead;
-use refusals::Answer;
 ghost use mathlib.Core.Path.{_≡_};
 ghost use Prim.Native.Nat.{_≤_};
 ghost use lib.ListN.{length};
 ghost use Rattle.record_fields.specs.Inner.{numberOf, BytesInside};
-ghost use Rattle.refusals.specs.Verdict.{none, refused};
+ghost use Rattle.answer_types.specs.Verdict.{none, refused};
 ghost use Rattle.record_node.specs.Post.{noWriters, noNode, nodeTold, readNode};
 ghost use Rattle.record_node.specs.Inner.{PartsRead, TailRead, RawRead, RawAt, WithPathAs, ValueReadAs};
 
@@ -216,7 +216,7 @@ pub fn no_node() -> NodeRead
         sequence: Number::Absent,
     };
     NodeRead {
-        answer: refusals::refuse(15),
+        answer: answer_types::refuse(15),
         node,
     }
 }

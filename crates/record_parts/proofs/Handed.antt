@@ -9,12 +9,12 @@ use native.Mathlib.Nat.{zero-add}
 use lib.Dec.{ltb}
 use lib.ListN.{length, getD, take, drop, List·getD-eq-default}
 use borrow.Author.Tests.{lt-ltb, le-ltb}
-use Rattle.refusals.specs.Verdict.{Verdict}
-use Rattle.refusals.specs.Verdict as verdicts
-use Rattle.refusals.specs.Meaning.{spotOf}
-use Rattle.refusals.specs.declared.Answer.{Answer}
-use Rattle.refusals.specs.declared.Answer.the-variants.{Done, Refused}
-use Rattle.refusals.specs.declared.Refusal.{Refusal}
+use Rattle.answer_types.specs.Verdict.{Verdict}
+use Rattle.answer_types.specs.Verdict as verdicts
+use Rattle.answer_types.specs.Meaning.{spotOf}
+use Rattle.answer_types.specs.declared.Answer.{Answer}
+use Rattle.answer_types.specs.declared.Answer.the-variants.{Done, Refused}
+use Rattle.answer_types.specs.declared.Refusal.{Refusal}
 use Rattle.byte_strings.specs.Lists.{part, run}
 use Rattle.byte_strings.proofs.Lists.{getD-run, length-run}
 use Rattle.record_fields.specs.Varints.{digits}

@@ -8,9 +8,9 @@ use native.Mathlib.Nat.{mul-one}
 use native.Mathlib.Omega.{arith}
 use lib.ListN.{length, getD, set, take, drop, length-replicate, take-append-drop}
 use lib.Seq.{length-take-le, take-at}
-use Rattle.refusals.specs.Verdict.{tree, done}
+use Rattle.answer_types.specs.Verdict.{tree, done}
 use Rattle.byte_strings.specs.Lists.{put, zeros}
-use Rattle.byte_strings.proofs.Lists.{take-behind, length-put, drop-put, bytes-put, bytes-zeros}
+use Rattle.byte_strings.proofs.Lists.{length-put, drop-put, bytes-put, bytes-zeros, take-put-end}
 use Rattle.tree_index.specs.Tree.{index}
 use Rattle.tree_index.proofs.Filled.{end-filled}
 use Rattle.bitfield.specs.Image.{entryCount, entriesOf}
@@ -51,13 +51,6 @@ front-put xs m at ys h l =
     ap (λ (x : List ℕ). take m (put x at ys)) (sym (take-append-drop m xs))
     ∙ ap (take m) (put-local ys .within (take m xs) (drop m xs) at (omega arith))
     ∙ take-at (put (take m xs) at ys) (drop m xs) m (length-put (take m xs) at ys (omega arith) ∙ n)
-
--- what stands before a place and what is put there
-put-end : (xs : List ℕ) (at m : ℕ) (ys : List ℕ) → length ys ≡ m → at ≤ length xs → take (at + m) (put xs at ys) ≡ take at xs ++ ys
-unfolding put
-put-end xs at m ys e l =
-    take-behind (take at xs) (ys ++ drop (at + length ys) xs) at m (length-take-le at xs l)
-    ∙ ap (λ (r : List ℕ). take at xs ++ r) (take-at ys (drop (at + length ys) xs) m e)
 
 -- ---- every register on which it is done
 
@@ -167,7 +160,7 @@ module _ (F : List ℕ → List ℕ) (hf : HashFunction F) (ss : List Slot) (w :
         let cut = bits-cut F ss r b in
         let room = bits-room F ss r b in
         ap (take (32 + 3328 * entryCount (r .n))) (released-image (r .bitfield) (heldIn ss) (r .n) room (cut .1) c below)
-        ∙ put-end (r .bitfield) 32 (3328 * entryCount (r .n)) (entriesOf (without-one (heldIn ss) c) (r .n)) (length-entries (without-one (heldIn ss) c) (r .n)) (omega (arith, room))
+        ∙ take-put-end (r .bitfield) 32 (3328 * entryCount (r .n)) (entriesOf (without-one (heldIn ss) c) (r .n)) (length-entries (without-one (heldIn ss) c) (r .n)) (omega (arith, room))
         ∙ ap₂ _++_ (cut .0) (entries-ext (without-one (heldIn ss) c) (heldIn (set ss c (released (leafEntry r c)))) (r .n) (held-ts ss c (leafEntry r c) below-ss))
 
     image : put (take (r .size) (r .content)) (startOf (toChunk r c)) gone ≡ dataImage (contents (releasedIn r ss c))

@@ -1,5 +1,5 @@
 -- A release in any bitfield file: it writes within the used bytes of n chunks, leaves the header, and reads nothing behind them. Assumes nothing.
-use Prim.Native.Nat.{ℕ, zero, suc, _+_, _-_, _*_, _/_, _%_, _^_, _≤_, _<_}
+use Prim.Native.Nat.{ℕ, _+_, _-_, _*_, _/_, _%_, _^_, _≤_, _<_}
 use mathlib.Core.Path.{_≡_, sym, ap, _∙_, subst}
 use mathlib.Core.List.{List, [], _∷_, _++_}
 use native.Mathlib.Omega.{arith}
@@ -7,6 +7,7 @@ use lib.ListN.{length, getD, set, take, drop, length-set, take-append-drop}
 use lib.Seq.{length-take-le, take-at, drop-at, take-set-le}
 use Rattle.byte_strings.specs.Lists.{part, put, Bytes}
 use Rattle.byte_strings.proofs.Lists.{part-left, length-put, take-put, put-one, bytes-put}
+use Rattle.byte_strings.proofs.Numbers.{bytes-one}
 use Rattle.bitfield.specs.Bits.{digit, changeBit, withoutDigit}
 use Rattle.bitfield.specs.Index.{indexBytes}
 use Rattle.bitfield.specs.Append.{bitsPlace, regenerated}
@@ -15,10 +16,6 @@ use Rattle.bitfield.proofs.Levels.{length-index, bytes-index}
 use Rattle.bitfield.proofs.Image.{bit-local, put-local}
 use Rattle.bitfield.proofs.Release.{entry-below}
 use Rattle.file_format.specs.Sizes.{usedBitfield}
-
-one-byte : (v : ℕ) → v < 256 → Bytes (v ∷ [])
-one-byte v h zero = h
-one-byte v h (suc i) = omega arith
 
 module _ (xs : List ℕ) (k : ℕ) (room : bitsPlace (k / 8192 + 1) ≤ length xs) where
   abbrev at : ℕ
@@ -58,7 +55,7 @@ module _ (xs : List ℕ) (k : ℕ) (room : bitsPlace (k / 8192 + 1) ≤ length x
   cleared-bytes p =
       let i : ℕ = at + k % 8192 / 8 in
       let v : ℕ = getD xs i 0 - 2 ^ (7 - k % 8192 % 8) * digit (getD xs i 0) (7 - k % 8192 % 8) in
-      subst Bytes (sym (put-one xs i v (omega (arith, inside)))) (bytes-put xs i (v ∷ []) p (one-byte v (omega (arith, p i))))
+      subst Bytes (sym (put-one xs i v (omega (arith, inside)))) (bytes-put xs i (v ∷ []) p (bytes-one v (omega (arith, p i))))
 
   pub bits-bytes : Bytes xs → Bytes (releasedBits xs k)
   unfolding releasedBits regenerated

@@ -6,7 +6,7 @@ use mathlib.Core.List.{List, [], _∷_, _++_}
 use native.Mathlib.Omega.{arith}
 use lib.Dec.{ltb}
 use borrow.Author.Tests.{ltb-true}
-use Rattle.refusals.specs.Verdict.{Spot, Verdict, tree, done, refused, unlessRefused}
+use Rattle.answer_types.specs.Verdict.{Verdict, tree, done, refused, unlessRefused}
 use Rattle.byte_strings.specs.Lists.{put, zeros}
 use Rattle.tree_index.specs.Tree.{index}
 use Rattle.bitfield.specs.Release.{storedHeld}
@@ -15,11 +15,11 @@ use Rattle.file_format.specs.Belongs.{Register, buffersOf}
 use Rattle.checks.specs.Checks.{Check, judged, registerChecks}
 use Rattle.checks.proofs.Judged.{judged-append}
 use Rattle.checks.proofs.Passed.{Passed, all-must, passed}
-use Rattle.lookup.specs.Lookup.{refusal, found, startOf, stopRefused, toChunk, placeVerdict, heldVerdict, heldPlaceOf}
+use Rattle.lookup.specs.Lookup.{Found, refusal, found, startOf, stopRefused, toChunk, placeVerdict, heldVerdict, heldPlaceOf}
 use Rattle.lookup.proofs.Calls.{placing, found-refused, done-reached, held-done}
 use Rattle.lookup.proofs.Answers.{stays-inside}
 use Rattle.release.specs.Release.{releaseVerdict, releasedRegister, afterRelease}
-use Rattle.release.specs.Post.{lent, Clears, Cleared, ReleasePost}
+use Rattle.release.specs.Post.{lent, ClearsAt, ReleasedPost, ReleasePost}
 use Rattle.release.proofs.Bits.{bit-room}
 
 -- a chunk of which the place was found is one of a register that passes the checks 2 to 6
@@ -46,26 +46,30 @@ release-inside r c e =
     omega arith
 
 module _ (r : Register) (c : ℕ) where
-  pub release-fits : (start size : ℕ) → found start size ≡ heldPlaceOf r c → Clears (r .bitfield) (r .content) c start size
-  release-fits start size e =
+  pub release-fits : (p : Found) → p ≡ heldPlaceOf r c → ClearsAt (r .bitfield) (r .content) c p
+  release-fits (refusal m at) e = tt
+  release-fits (found start size) e =
       let p = placing r c start size e in
       let q = held-passed r c (p .verdict) in
       record { entry = bit-room (r .bitfield) (r .n) c (q .0 .bitfield) (q .1); inside = p .inside }
 
-  pub release-not : (m : ℕ) (at : Spot) → refusal m at ≡ heldPlaceOf r c → ReleasePost r c (refused m at) (buffersOf r)
-  unfolding releaseVerdict afterRelease heldPlaceOf
-  release-not m at e =
-      let v = found-refused (heldVerdict r c) (startOf (toChunk r c)) (storedSize (r .tree) (index 0 c)) m at e in
-      record { answer = sym v; buffers = sym (ap (λ (x : Verdict). unlessRefused x (buffersOf (releasedRegister r c)) (buffersOf r)) v) }
-
-  pub release-done : (start size : ℕ) (bits content : List ℕ) → found start size ≡ heldPlaceOf r c
-      → Cleared (r .bitfield) (r .content) c start size bits content → ReleasePost r c done (lent (r .tree) (r .signatures) bits content)
-  unfolding releaseVerdict afterRelease releasedRegister
-  release-done start size bits content e w =
-      let p = placing r c start size e in
-      record {
-        answer = sym (p .verdict);
-        buffers =
-            ap₂ (lent (r .tree) (r .signatures)) (w .bitfield) (w .content ∙ ap₂ (λ (x y : ℕ). put (r .content) x (zeros y)) (p .starts) (p .long))
-            ∙ sym (ap (λ (x : Verdict). unlessRefused x (buffersOf (releasedRegister r c)) (buffersOf r)) (p .verdict));
-      }
+  module _ (v : Verdict) (bits content : List ℕ) where
+    pub release-post : (p : Found) → p ≡ heldPlaceOf r c → ReleasedPost (r .bitfield) (r .content) c p v bits content
+        → ReleasePost r c v (lent (r .tree) (r .signatures) bits content)
+    unfolding releaseVerdict afterRelease releasedRegister heldPlaceOf
+    release-post (refusal m at) e w =
+        let x = found-refused (heldVerdict r c) (startOf (toChunk r c)) (storedSize (r .tree) (index 0 c)) m at e in
+        record {
+          answer = w .answer ∙ sym x;
+          buffers =
+              ap₂ (lent (r .tree) (r .signatures)) (w .bitfield) (w .content)
+              ∙ sym (ap (λ (y : Verdict). unlessRefused y (buffersOf (releasedRegister r c)) (buffersOf r)) x);
+        }
+    release-post (found start size) e w =
+        let p = placing r c start size e in
+        record {
+          answer = w .answer ∙ sym (p .verdict);
+          buffers =
+              ap₂ (lent (r .tree) (r .signatures)) (w .bitfield) (w .content ∙ ap₂ (λ (x y : ℕ). put (r .content) x (zeros y)) (p .starts) (p .long))
+              ∙ sym (ap (λ (y : Verdict). unlessRefused y (buffersOf (releasedRegister r c)) (buffersOf r)) (p .verdict));
+        }

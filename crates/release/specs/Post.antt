@@ -3,11 +3,13 @@ use Prim.Native.Nat.{ℕ, _+_, _/_, _≤_}
 use mathlib.Core.Path.{_≡_}
 use mathlib.Core.List.{List}
 use lib.ListN.{length}
-use Rattle.refusals.specs.Verdict.{Verdict}
+use Rattle.answer_types.specs.Verdict.{Verdict}
 use Rattle.byte_strings.specs.Lists.{put, zeros}
 use Rattle.bitfield.specs.Append.{bitsPlace}
 use Rattle.bitfield.specs.Release.{releasedBits}
 use Rattle.file_format.specs.Belongs.{Buffers, Register}
+use Rattle.lookup.specs.Lookup.{Found, refusal, found}
+use Rattle.lookup.specs.Meaning.{verdictFound}
 use Rattle.release.specs.Release.{releaseVerdict, afterRelease}
 
 -- four lent buffers
@@ -27,3 +29,22 @@ pub record Clears (bits bytes : List ℕ) (c start size : ℕ) : Type 0 where
 pub record Cleared (bits bytes : List ℕ) (c start size : ℕ) (bits' bytes' : List ℕ) : Type 0 where
   pub bitfield : bits' ≡ releasedBits bits c
   pub content : bytes' ≡ put bytes start (zeros size)
+
+-- where a chunk's place was found, both of these
+abbrev pub ClearsAt : List ℕ → List ℕ → ℕ → Found → Type 0
+ClearsAt bits bytes c (refusal m at) = Unit {0}
+ClearsAt bits bytes c (found start size) = Clears bits bytes c start size
+
+-- the inner step: what was found as a verdict, and both files cleared at the place that was found; after a refusal as they were
+abbrev pub bitsCleared : List ℕ → ℕ → Found → List ℕ
+bitsCleared bits c (refusal m at) = bits
+bitsCleared bits c (found start size) = releasedBits bits c
+
+abbrev pub bytesCleared : List ℕ → Found → List ℕ
+bytesCleared bytes (refusal m at) = bytes
+bytesCleared bytes (found start size) = put bytes start (zeros size)
+
+pub record ReleasedPost (bits bytes : List ℕ) (c : ℕ) (p : Found) (v : Verdict) (bits' bytes' : List ℕ) : Type 0 where
+  pub answer : v ≡ verdictFound p
+  pub bitfield : bits' ≡ bitsCleared bits c p
+  pub content : bytes' ≡ bytesCleared bytes p

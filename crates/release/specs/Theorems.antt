@@ -7,7 +7,7 @@ use mathlib.Core.Path.{_≡_}
 use mathlib.Core.Bool.{true, false}
 use mathlib.Core.List.{List}
 use lib.ListN.{length, drop, set}
-use Rattle.refusals.specs.Verdict.{none, tree, done, refused}
+use Rattle.answer_types.specs.Verdict.{none, tree, done, refused}
 use Rattle.tree_index.specs.Tree.{index}
 use Rattle.file_format.specs.Sizes.{usedBitfield}
 use Rattle.file_format.specs.Messages.{HashFunction}

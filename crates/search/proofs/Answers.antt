@@ -8,9 +8,9 @@ use native.Mathlib.Nat.{zero-add}
 use native.Mathlib.Omega.{arith}
 use lib.ListN.{length}
 use lib.Seq.{take-all}
-use Rattle.refusals.specs.Verdict.{Spot, Verdict, done, refused}
+use Rattle.answer_types.specs.Verdict.{Verdict, done}
 use Rattle.byte_strings.specs.Lists.{part, run, joined}
-use Rattle.byte_strings.specs.Lowest.{Lowest, lowest}
+use Rattle.byte_strings.specs.Lowest.{lowest}
 use Rattle.byte_strings.proofs.Lists.{part-part, part-front, part-behind, part-joined}
 use Rattle.byte_strings.proofs.Lowest.{lowest-agree}
 use Rattle.tree_index.specs.Tree.{filled}
@@ -26,7 +26,7 @@ use Rattle.file_format.specs.Belongs.{Register, Belongs}
 use Rattle.file_format.proofs.Held.{bits-cut, stored-held}
 use Rattle.checks.specs.Checks.{judged, registerChecks}
 use Rattle.checks.proofs.Passed.{passed}
-use Rattle.search.specs.Search.{firstMissing, refusal, answer, soughtUnless, searchFor}
+use Rattle.search.specs.Search.{firstMissing, answer, soughtUnless, searchFor}
 use Rattle.search.specs.Inner.{DataIn}
 use Rattle.search.specs.Theorems.{IndexFollows, SearchAnswersForAll}
 use Rattle.search.proofs.Steps.{data-in}
@@ -35,15 +35,9 @@ use Rattle.search.proofs.Follows.{search-follows}
 -- ---- the call
 
 module _ (r : Register) (from : ℕ) where
-  by : (v : Verdict) → v ≡ judged (registerChecks r) done → soughtUnless v (firstMissing (r .bitfield) (r .n) from) ≡ searchFor r from
+  pub search-by : (v : Verdict) → v ≡ judged (registerChecks r) done → soughtUnless v (firstMissing (r .bitfield) (r .n) from) ≡ searchFor r from
   unfolding searchFor
-  by v e = ap (λ (x : Verdict). soughtUnless x (firstMissing (r .bitfield) (r .n) from)) e
-
-  pub search-refused : (m : ℕ) (at : Spot) → refused m at ≡ judged (registerChecks r) done → refusal m at ≡ searchFor r from
-  search-refused m at e = by (refused m at) e
-
-  pub search-passed : done ≡ judged (registerChecks r) done → (l : Lowest) → l ≡ firstMissing (r .bitfield) (r .n) from → answer l ≡ searchFor r from
-  search-passed e l f = ap answer f ∙ by done e
+  search-by v e = ap (λ (x : Verdict). soughtUnless x (firstMissing (r .bitfield) (r .n) from)) e
 
   pub search-room : done ≡ judged (registerChecks r) done → (r .n ≤ mostChunks) × DataIn (r .bitfield) (r .n)
   search-room e = let p = passed r done (sym e) .0 in (p .count, data-in (r .bitfield) (r .n) (p .bitfield))
@@ -102,4 +96,4 @@ module _ (F : List ℕ → List ℕ) (ss : List Slot) (r : Register) (b : Belong
       ∙ ap (λ (m : ℕ). lowest (heldIn ss) from (m - from)) (b .count)
 
 pub search-answers : SearchAnswersForAll
-search-answers F ss r b e from = sym (search-passed r from (sym e) (lowest (heldIn ss) from (length ss - from)) (sym (search-held F ss r b from)))
+search-answers F ss r b e from = sym (search-by r from done (sym e)) ∙ ap answer (search-held F ss r b from)

@@ -1,5 +1,5 @@
 -- The number and the values that each case of an answer stands for.
-use Rattle.refusals.specs.Meaning.{spotOf}
+use Rattle.answer_types.specs.Meaning.{spotOf}
 use Rattle.byte_strings.specs.Lowest.{nowhere, first}
 use Rattle.search.specs.Search.{Sought, refusal, answer}
 use Rattle.search.specs.declared.Searched.{Searched}

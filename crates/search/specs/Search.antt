@@ -5,7 +5,7 @@ use mathlib.Core.Bool.{Bool, _||_}
 use mathlib.Core.List.{List}
 use lib.ListN.{getD}
 use lib.Dec.{eqb}
-use Rattle.refusals.specs.Verdict.{Spot, Verdict, done, refused}
+use Rattle.answer_types.specs.Verdict.{Spot, Verdict, done, refused}
 use Rattle.byte_strings.specs.Lowest.{Lowest, lowest}
 use Rattle.bitfield.specs.Append.{bitsPlace}
 use Rattle.bitfield.specs.Release.{storedHeld}

@@ -21,7 +21,7 @@ fn tuples_place(chunk: ChunkNumber) -> ByteOffset
 }
 
 // Inner: the Index byte of the run of 64 chunks that has a chunk, whose bitfield entry lies in the file.
-pub fn run_tuples(xs: &[u8], chunk: ChunkNumber) -> u8
+fn run_tuples(xs: &[u8], chunk: ChunkNumber) -> u8
     requires { ⌜ bitsPlace (chunk .0 / 8192 + 1) ≤ length (now xs) ⌝ }
     ensures { λ r. ⌜ r ≡ storedTuples (now (xs .entry)) (chunk .0 / 64) ⌝ }
 {
@@ -31,7 +31,7 @@ pub fn run_tuples(xs: &[u8], chunk: ChunkNumber) -> u8
 }
 
 // The tuple of the group of 16 chunks that has a chunk, out of the Index byte of its run: the first tuple is the highest.
-pub fn group_tuple(byte: u8, chunk: ChunkNumber) -> u8
+fn group_tuple(byte: u8, chunk: ChunkNumber) -> u8
     ensures { λ r. ⌜ r ≡ tupleIn byte (chunk .0 / 16) ⌝ }
 {
     match chunk.0 / 16 % 4 {
@@ -43,14 +43,14 @@ pub fn group_tuple(byte: u8, chunk: ChunkNumber) -> u8
 }
 
 // The smaller of two numbers.
-pub fn smaller_of(a: u64, b: u64) -> u64
+fn smaller_of(a: u64, b: u64) -> u64
     ensures { λ r. ⌜ Smaller a b r ⌝ }
 {
     if a < b { a } else { b }
 }
 
 // Inner: the first chunk that is not passed over and not held, from one up to an end, within a group, which is passed over where its tuple is 11.
-pub fn in_group(xs: &[u8], tuple: u8, from: u64, end: u64) -> Found
+fn in_group(xs: &[u8], tuple: u8, from: u64, end: u64) -> Found
     requires { ⌜ InGroup (now xs) tuple from end ⌝ }
     ensures { λ r. ⌜ foundAt r ≡ lowest (notMissing (now (xs .entry))) from (end - from) ⌝ }
 {
@@ -61,7 +61,7 @@ pub fn in_group(xs: &[u8], tuple: u8, from: u64, end: u64) -> Found
 }
 
 // Inner: the same within a run, group by group.
-pub fn by_groups(xs: &[u8], tuples: u8, from: u64, end: u64) -> Found
+fn by_groups(xs: &[u8], tuples: u8, from: u64, end: u64) -> Found
     requires { ⌜ InRun (now xs) tuples from end ⌝ }
     ensures { λ r. ⌜ foundAt r ≡ lowest (notMissing (now (xs .entry))) from (end - from) ⌝ }
 {
@@ -79,7 +79,7 @@ pub fn by_groups(xs: &[u8], tuples: u8, from: u64, end: u64) -> Found
 }
 
 // Inner: the same within a run, all of which is passed over at once where each of its tuples is 11.
-pub fn in_run(xs: &[u8], from: u64, end: u64) -> Found
+fn in_run(xs: &[u8], from: u64, end: u64) -> Found
     requires { ⌜ (from < end) × InRun (now xs) (storedTuples (now xs) (from / 64)) from end ⌝ }
     ensures { λ r. ⌜ foundAt r ≡ lowest (notMissing (now (xs .entry))) from (end - from) ⌝ }
 {

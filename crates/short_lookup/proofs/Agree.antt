@@ -5,7 +5,7 @@ use mathlib.Core.List.{List}
 use native.Mathlib.Nat.{mul-one}
 use native.Mathlib.Decide.{decLt}
 use native.Mathlib.Omega.{arith}
-use Rattle.refusals.specs.Verdict.{Verdict, tree, done, refused}
+use Rattle.answer_types.specs.Verdict.{Verdict, tree, done, refused}
 use Rattle.byte_strings.specs.Lists.{total}
 use Rattle.tree_index.specs.Tree.{index}
 use Rattle.tree_index.proofs.Filled.{end-filled}
@@ -14,7 +14,7 @@ use Rattle.file_format.specs.Stored.{storedSize, storedStart, storedRootSizes}
 use Rattle.checks.specs.Checks.{judged, registerChecks}
 use Rattle.checks.proofs.Passed.{passed}
 use Rattle.lookup.specs.Descent.{Ending, stopped, reached, unknown, chunkWithin, byteWithin, descent, always}
-use Rattle.lookup.specs.Lookup.{placeOf, byteAt}
+use Rattle.lookup.specs.Lookup.{placeOf, byteAt, foundBehind}
 use Rattle.lookup.specs.Inner.{placeIn, byteIn}
 use Rattle.lookup.specs.Theorems.{Right}
 use Rattle.lookup.proofs.Descents.{Steps, Halted, Ends, ends, chunk-order, byte-order, left-first, right-end, left-inside}
@@ -22,7 +22,7 @@ use Rattle.lookup.proofs.Answers.{never-unknown}
 use Rattle.lookup.proofs.Calls as quick
 use Rattle.search.specs.Search.{soughtUnless, searchFor}
 use Rattle.search.proofs.Follows.{search-follows}
-use Rattle.short_lookup.specs.ShortLookup.{shortPlaceIn, shortByteIn, shortPlaceOf, shortByteAt, shortSearchFor, foundBehind}
+use Rattle.short_lookup.specs.ShortLookup.{shortPlaceIn, shortByteIn, shortPlaceOf, shortByteAt, shortSearchFor}
 use Rattle.short_lookup.specs.Theorems.{LeavesFit, LengthsRight, AgreeIn, AgreeInForAll, LookupsAgreeForAll, SearchAgreesForAll}
 use Rattle.short_lookup.proofs.Walks.{start-next, start-none, place-nine, place-there, byte-nine, byte-end, byte-there}
 use Rattle.short_lookup.proofs.Answers.{fits-right, byte-at, place-at}
@@ -133,12 +133,12 @@ lookups-agree r right =
     agreed e = let p = passed r done (sym e) .0 in agree-in (r .tree) (r .n) (r .size) (p .count) (p .adds) right
 
     place : (c : ℕ) (v : Verdict) → v ≡ judged (registerChecks r) done → foundBehind v (shortPlaceIn always (r .tree) (r .n) c) ≡ placeOf r c
-    place c done e = agreed e .place c ∙ quick.place-passed r c e
-    place c (refused m at) e = quick.place-refused r c m at e
+    place c done e = agreed e .place c ∙ quick.place-by r done e c
+    place c (refused m at) e = quick.place-by r (refused m at) e c
 
     byte : (b : ℕ) (v : Verdict) → v ≡ judged (registerChecks r) done → foundBehind v (shortByteIn always (r .tree) (r .n) (r .size) b) ≡ byteAt r b
-    byte b done e = agreed e .byte b ∙ quick.byte-passed r b e
-    byte b (refused m at) e = quick.byte-refused r b m at e
+    byte b done e = agreed e .byte b ∙ quick.byte-by r done e b
+    byte b (refused m at) e = quick.byte-by r (refused m at) e b
 
 pub search-agrees : SearchAgreesForAll
 unfolding shortSearchFor searchFor

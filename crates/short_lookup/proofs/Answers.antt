@@ -8,7 +8,7 @@ use native.Mathlib.Nat.{le-dest}
 use native.Mathlib.Omega.{arith}
 use borrow.Author.Tests.{leb-true, leb-false}
 use lib.Dec.{leb}
-use Rattle.refusals.specs.Verdict.{tree, done}
+use Rattle.answer_types.specs.Verdict.{tree, done}
 use Rattle.byte_strings.specs.Lowest.{Lowest, nowhere, first, lowest}
 use Rattle.byte_strings.proofs.Lowest.{lowest-off, lowest-for-all}
 use Rattle.tree_index.specs.Tree.{index}

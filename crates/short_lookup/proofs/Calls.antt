@@ -3,7 +3,7 @@ use Prim.Native.Nat.{ℕ, _-_, _≤_}
 use mathlib.Core.Path.{_≡_, sym, ap}
 use mathlib.Core.Bool.{false}
 use lib.ListN.{length}
-use Rattle.refusals.specs.Verdict.{Verdict, done}
+use Rattle.answer_types.specs.Verdict.{Verdict, done}
 use Rattle.byte_strings.specs.Lowest.{lowest}
 use Rattle.bitfield.specs.Image.{entryCount}
 use Rattle.bitfield.specs.Append.{bitsPlace}
@@ -15,7 +15,8 @@ use Rattle.checks.proofs.Passed.{passed}
 use Rattle.lookup.specs.Descent.{always}
 use Rattle.lookup.specs.Inner.{FilesIn}
 use Rattle.search.specs.Search.{soughtUnless}
-use Rattle.short_lookup.specs.ShortLookup.{shortPlaceIn, shortByteIn, shortPlaceOf, shortByteAt, shortSearchFor, foundBehind}
+use Rattle.lookup.specs.Lookup.{foundBehind}
+use Rattle.short_lookup.specs.ShortLookup.{shortPlaceIn, shortByteIn, shortPlaceOf, shortByteAt, shortSearchFor}
 
 module _ (r : Register) (v : Verdict) (e : v ≡ judged (registerChecks r) done) where
   pub place-by : (c : ℕ) → foundBehind v (shortPlaceIn always (r .tree) (r .n) c) ≡ shortPlaceOf r c

@@ -8,7 +8,7 @@ use native.Mathlib.Numerals.{add-one}
 use native.Mathlib.Omega.{arith}
 use borrow.Author.Tests.{ltb-true}
 use lib.Dec.{leb, ltb, eqb}
-use Rattle.refusals.specs.Verdict.{none, tree}
+use Rattle.answer_types.specs.Verdict.{none, tree}
 use Rattle.byte_strings.specs.Lowest.{Lowest, nowhere, first, lowest}
 use Rattle.byte_strings.proofs.Lowest.{lowest-agree, lowest-for-all}
 use Rattle.tree_index.specs.Tree.{index}

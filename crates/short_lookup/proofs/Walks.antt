@@ -8,7 +8,7 @@ use native.Mathlib.Nat.{mul-one}
 use native.Mathlib.Omega.{arith}
 use borrow.Author.Tests.{le-leb, lt-leb, lt-ltb, le-ltb, eq-eqb, ne-eqb}
 use lib.Dec.{leb, eqb}
-use Rattle.refusals.specs.Verdict.{none, tree}
+use Rattle.answer_types.specs.Verdict.{none, tree}
 use Rattle.byte_strings.specs.Lists.{total, run}
 use Rattle.byte_strings.specs.Lowest.{Lowest, nowhere, first, lowest}
 use Rattle.byte_strings.proofs.Lowest.{lowest-on, lowest-off, lowest-end}

@@ -4,7 +4,7 @@ use Prim.Native.Nat.{ℕ, _+_, _-_}
 use mathlib.Core.Bool.{Bool, cond, _&&_}
 use mathlib.Core.List.{List}
 use lib.Dec.{leb, ltb, eqb}
-use Rattle.refusals.specs.Verdict.{Verdict, none, tree, done, refused}
+use Rattle.answer_types.specs.Verdict.{none, tree, done}
 use Rattle.byte_strings.specs.Lowest.{nowhere, first, lowest}
 use Rattle.tree_index.specs.Tree.{index}
 use Rattle.bitfield.specs.Release.{storedHeld}
@@ -13,7 +13,7 @@ use Rattle.file_format.specs.Stored.{storedSize, storedStart}
 use Rattle.file_format.specs.Belongs.{Register}
 use Rattle.checks.specs.Checks.{judged, registerChecks}
 use Rattle.lookup.specs.Descent.{always}
-use Rattle.lookup.specs.Lookup.{Found, refusal, found}
+use Rattle.lookup.specs.Lookup.{Found, refusal, found, foundBehind}
 use Rattle.search.specs.Search.{Sought, soughtUnless}
 
 -- `known` is the test for the entries that may be read: of a register all, of a copy those that it knows
@@ -51,11 +51,6 @@ module _ (known : ℕ → Bool) (t : List ℕ) where
   -- 9 for offsets above the data size. "At the data size it too answers n and 0, reading no leaf."
   unfoldable pub shortByteIn : ℕ → ℕ → ℕ → Found
   shortByteIn n size b = cond (ltb size b) (refusal 9 none) (cond (eqb b size) (found n 0) (byteByLeaves n b))
-
--- what a lookup finds, behind the verdict of the checks
-abbrev pub foundBehind : Verdict → Found → Found
-foundBehind done f = f
-foundBehind (refused m at) f = refusal m at
 
 -- the numbers 2 to 6, and then the lookups and the search
 unfoldable pub shortPlaceOf : Register → ℕ → Found

@@ -7,7 +7,7 @@ use Prim.Native.Nat.{ℕ, _+_, _-_, _≤_, _<_}
 use mathlib.Core.Path.{_≡_}
 use mathlib.Core.Bool.{true}
 use mathlib.Core.List.{List}
-use Rattle.refusals.specs.Verdict.{none, tree, done}
+use Rattle.answer_types.specs.Verdict.{none, tree, done}
 use Rattle.byte_strings.specs.Lists.{total}
 use Rattle.tree_index.specs.Tree.{index, filled}
 use Rattle.file_format.specs.Sizes.{mostChunks, longestChunk}

@@ -1,27 +1,16 @@
 // The lookups leaf by leaf, in a register that passes the checks 2 to 6 or a copy that passes its own; `partly` says that the files are a copy's. The leaf of
 // chunk k stands at tree index 2k. Each leaf is judged before its length is added, so that no sum can wrap: 1,048,576 lengths of at most 65,536.
+use answer_types::Place;
+use answer_types::Refusal;
 use lookup::Located;
 use lookup::Placed;
 use number_types::ByteOffset;
 use number_types::ChunkNumber;
 use number_types::TreeIndex;
-use refusals::Place;
-use refusals::Refusal;
 ghost use mathlib.Core.Path.{_≡_};
-ghost use Rattle.lookup.specs.Inner.{knownIf, BitIn, FilesIn};
+ghost use Rattle.lookup.specs.Inner.{knownIf, FilesIn};
 ghost use Rattle.lookup.specs.Meaning.{placedOf, locatedOf};
 ghost use Rattle.short_lookup.specs.ShortLookup.{shortPlaceIn, shortByteIn};
-
-// Whether an entry may be read: of a copy one whose tree bit is 1. A register's bits are not asked for.
-fn is_known(bitfield: &[u8], partly: bool, i: TreeIndex) -> bool
-    requires { ⌜ BitIn partly (now bitfield) (i .0) ⌝ }
-    ensures { λ r. ⌜ r ≡ knownIf partly (now (bitfield .entry)) (i .0) ⌝ }
-{
-    if partly {
-        return bitfield::is_known(bitfield, i);
-    }
-    true
-}
 
 // Inner: start and length of a chunk. The files hold the entries of n chunks.
 pub fn place_in(tree: &[u8], bitfield: &[u8], partly: bool, n: u64, chunk: ChunkNumber) -> Placed
@@ -38,7 +27,7 @@ pub fn place_in(tree: &[u8], bitfield: &[u8], partly: bool, n: u64, chunk: Chunk
     let mut start = ByteOffset(0);
     loop {
         let leaf = tree_index::leaf_index(k);
-        if !is_known(bitfield, partly, leaf) {
+        if !lookup::is_known(bitfield, partly, leaf) {
             return Placed::Refused(Refusal {
                 number: 20,
                 place: Place::Tree(leaf),
@@ -86,7 +75,7 @@ pub fn locate_in(
     let mut leaf = TreeIndex(0);
     while k.0 < n {
         leaf = tree_index::leaf_index(k);
-        if !is_known(bitfield, partly, leaf) {
+        if !lookup::is_known(bitfield, partly, leaf) {
             return Located::Refused(Refusal {
                 number: 20,
                 place: Place::Tree(leaf),

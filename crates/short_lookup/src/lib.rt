@@ -1,28 +1,29 @@
 // The short way for a later reader: the simplest programs that someone with the files would write.
 mod leaves;
 
+use answer_types::Answer;
 use bitfield::Found;
 use lookup::Located;
 use lookup::Placed;
 use number_types::ByteOffset;
 use number_types::ChunkNumber;
-use refusals::Answer;
 use search::Searched;
 ghost use mathlib.Core.Path.{_≡_};
 ghost use Prim.Native.Nat.{_-_, _≤_};
 ghost use lib.ListN.{length};
-ghost use Rattle.refusals.specs.Verdict.{done};
-ghost use Rattle.refusals.specs.Meaning.{said};
+ghost use Rattle.answer_types.specs.Verdict.{done};
+ghost use Rattle.answer_types.specs.Meaning.{said};
 ghost use Rattle.byte_strings.specs.Lowest.{lowest};
 ghost use Rattle.bitfield.specs.Image.{entryCount};
 ghost use Rattle.bitfield.specs.Append.{bitsPlace};
 ghost use Rattle.bitfield.specs.Release.{storedHeld};
 ghost use Rattle.checks.specs.Lent.{registerOf};
+ghost use Rattle.lookup.specs.Lookup.{foundBehind};
 ghost use Rattle.lookup.specs.Inner.{knownIf, FilesIn};
 ghost use Rattle.lookup.specs.Meaning.{placedOf, locatedOf};
 ghost use Rattle.search.specs.Search.{soughtUnless};
 ghost use Rattle.search.specs.Meaning.{searchedOf};
-ghost use Rattle.short_lookup.specs.ShortLookup.{shortPlaceIn, shortByteIn, shortPlaceOf, shortByteAt, shortSearchFor, foundBehind};
+ghost use Rattle.short_lookup.specs.ShortLookup.{shortPlaceIn, shortByteIn, shortPlaceOf, shortByteAt, shortSearchFor};
 
 // Inner: start and length of a chunk, behind the answer of a register's checks 2 to 6 or of a copy's own. `partly` says that the files
 // are a copy's.

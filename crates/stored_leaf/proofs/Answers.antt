@@ -6,7 +6,7 @@ use mathlib.Core.List.{List, []}
 use native.Mathlib.Nat.{mul-one}
 use native.Mathlib.Omega.{arith}
 use lib.ListN.{length, getD}
-use Rattle.refusals.specs.Verdict.{Verdict, done}
+use Rattle.answer_types.specs.Verdict.{Verdict, done, andThen}
 use Rattle.tree_index.specs.Tree.{index, filled}
 use Rattle.tree_index.proofs.Filled.{end-filled}
 use Rattle.file_format.specs.Messages.{HashFunction}
@@ -21,7 +21,6 @@ use Rattle.file_format.proofs.OfImage.{stored-node-hash, stored-node-size}
 use Rattle.checks.specs.Checks.{judged, registerChecks}
 use Rattle.checks.proofs.Passed.{passes}
 use Rattle.lookup.specs.Descent.{always}
-use Rattle.lookup.specs.Read.{andThen}
 use Rattle.release.specs.Release.{releaseVerdict, releasedRegister}
 use Rattle.release.proofs.Calls.{held-passed}
 use Rattle.release.proofs.Answers.{release-stays}

@@ -8,9 +8,9 @@ use native.Mathlib.Omega.{arith}
 use borrow.Author.Tests.{lt-ltb, le-ltb, ltb-true}
 use lib.Dec.{ltb}
 use lib.ListN.{length}
-use Rattle.refusals.specs.Verdict.{Verdict, none, tree, done, refused, unlessRefused}
-use Rattle.refusals.specs.Meaning.{refusalOf}
-use Rattle.refusals.specs.declared.Refusal.{Refusal}
+use Rattle.answer_types.specs.Verdict.{Verdict, none, tree, done, refused, unlessRefused, andThen}
+use Rattle.answer_types.specs.Meaning.{refusalOf}
+use Rattle.answer_types.specs.declared.Refusal.{Refusal}
 use Rattle.tree_index.specs.Tree.{index, entries}
 use Rattle.tree_index.proofs.Filled.{end-filled, filled-below}
 use Rattle.bitfield.specs.Append.{bitsPlace}
@@ -21,7 +21,6 @@ use Rattle.file_format.specs.Belongs.{Register}
 use Rattle.checks.specs.Checks.{Check, judged, registerChecks}
 use Rattle.checks.proofs.Judged.{judged-same, judged-done}
 use Rattle.checks.proofs.Passed.{passed}
-use Rattle.lookup.specs.Read.{andThen}
 use Rattle.lookup.specs.Inner.{FilesIn}
 use Rattle.stored_leaf.specs.StoredLeaf.{leafIn, leafHash, leafLength}
 use Rattle.stored_leaf.specs.Post.{LeafPost}

@@ -2,8 +2,8 @@
 use Prim.Native.Nat.{ℕ}
 use mathlib.Core.Path.{_≡_}
 use mathlib.Core.List.{List}
-use Rattle.refusals.specs.Verdict.{Verdict, done}
-use Rattle.refusals.specs.Meaning.{refusalOf}
+use Rattle.answer_types.specs.Verdict.{Verdict, done}
+use Rattle.answer_types.specs.Meaning.{refusalOf}
 use Rattle.stored_leaf.specs.StoredLeaf.{leafHash, leafLength}
 use Rattle.stored_leaf.specs.declared.Stored.{Stored}
 use Rattle.stored_leaf.specs.declared.Stored.the-variants.{Refused, Length}

@@ -4,13 +4,12 @@ use Prim.Native.Nat.{ℕ}
 use mathlib.Core.Bool.{Bool, cond}
 use mathlib.Core.List.{List, [], _∷_}
 use lib.Dec.{ltb}
-use Rattle.refusals.specs.Verdict.{Verdict, tree, done, refused, unlessRefused}
+use Rattle.answer_types.specs.Verdict.{Verdict, tree, done, refused, unlessRefused, andThen}
 use Rattle.tree_index.specs.Tree.{index}
 use Rattle.file_format.specs.Stored.{storedHash, storedSize}
 use Rattle.file_format.specs.Belongs.{Register}
 use Rattle.checks.specs.Checks.{judged, registerChecks}
 use Rattle.lookup.specs.Descent.{always}
-use Rattle.lookup.specs.Read.{andThen}
 
 -- behind the checks of a call: "9. The chunk number is not below n"; then, of a copy, "20 another call on such a copy that would read an unknown entry, which
 -- is the place"

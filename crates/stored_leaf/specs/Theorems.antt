@@ -6,7 +6,7 @@ use Prim.Native.Nat.{ℕ, _≤_, _<_}
 use mathlib.Core.Path.{_≡_}
 use mathlib.Core.List.{List, []}
 use lib.ListN.{length, getD}
-use Rattle.refusals.specs.Verdict.{Verdict, none, done, refused}
+use Rattle.answer_types.specs.Verdict.{Verdict, none, done, refused}
 use Rattle.file_format.specs.Messages.{HashFunction}
 use Rattle.file_format.specs.Entries.{Entry}
 use Rattle.file_format.specs.Slots.{Slot, held, slotEntry, Within}

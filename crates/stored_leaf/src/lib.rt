@@ -1,12 +1,11 @@
 // The stored entry of a chunk's leaf, of a held chunk and of a released one. Nothing is audited.
+use answer_types::Answer;
+use answer_types::Refusal;
 use number_types::ChunkNumber;
-use refusals::Answer;
-use refusals::Refusal;
 ghost use mathlib.Core.Path.{_≡_};
-ghost use Rattle.refusals.specs.Verdict.{done};
-ghost use Rattle.refusals.specs.Meaning.{said};
+ghost use Rattle.answer_types.specs.Verdict.{done, andThen};
+ghost use Rattle.answer_types.specs.Meaning.{said};
 ghost use Rattle.checks.specs.Lent.{registerOf};
-ghost use Rattle.lookup.specs.Read.{andThen};
 ghost use Rattle.lookup.specs.Inner.{knownIf, FilesIn};
 ghost use Rattle.stored_leaf.specs.StoredLeaf.{leafIn, leafVerdict};
 ghost use Rattle.stored_leaf.specs.Post.{LeafPost};
@@ -23,7 +22,7 @@ fn judge_leaf(tree: &[u8], bitfield: &[u8], partly: bool, n: u64, chunk: ChunkNu
     ensures { λ r. ⌜ said r ≡ leafIn (knownIf partly (now (bitfield .entry))) n (chunk .0) ⌝ }
 {
     if n <= chunk.0 {
-        return refusals::refuse(9);
+        return answer_types::refuse(9);
     }
     if !partly {
         return Answer::Done;
@@ -32,7 +31,7 @@ fn judge_leaf(tree: &[u8], bitfield: &[u8], partly: bool, n: u64, chunk: ChunkNu
     if bitfield::is_known(bitfield, leaf) {
         return Answer::Done;
     }
-    refusals::refuse_entry(20, leaf)
+    answer_types::refuse_entry(20, leaf)
 }
 
 // Inner: behind the checks of a call, whose answer is `found`.

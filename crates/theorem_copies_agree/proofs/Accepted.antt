@@ -1,20 +1,20 @@
 -- In a copy that its audit accepts every known entry is right, and the Index follows from the data bits: the proof of `CopyShortAgreesForAll`.
 -- Assumes nothing.
 use Prim.Native.Nat.{ℕ, zero, suc, _+_, _-_, _*_, _≤_, _<_}
-use mathlib.Core.Path.{_≡_, refl, sym, ap, ap₂, _∙_}
-use mathlib.Core.Bool.{Bool, true, false, cond, not, _&&_, _||_}
+use mathlib.Core.Path.{_≡_, sym, ap, ap₂, _∙_}
+use mathlib.Core.Bool.{Bool, true, cond, not, _&&_, _||_}
 use mathlib.Core.List.{List}
 use native.Mathlib.Nat.{zero-add, mul-comm}
 use native.Mathlib.Omega.{arith}
 use borrow.Author.Tests.{leb-true, eqb-true}
 use lib.Dec.{leb}
 use lib.ListN.{length, getD}
-use Rattle.refusals.specs.Verdict.{tree, bitfield, done}
+use Rattle.answer_types.specs.Verdict.{tree, bitfield, done}
 use Rattle.byte_strings.specs.Lists.{run, joined}
 use Rattle.byte_strings.proofs.Lists.{length-joined}
 use Rattle.byte_strings.specs.Lowest.{Lowest, nowhere, first}
-use Rattle.byte_strings.proofs.Bools.{where-true}
-use Rattle.byte_strings.proofs.Lowest.{never-first}
+use Rattle.byte_strings.proofs.Bools.{where-true, both-true}
+use Rattle.byte_strings.proofs.Lowest.{never-first, nowhere-right}
 use Rattle.tree_index.specs.Tree.{index, depth, block, leftChild, rightChild, filled, entries}
 use Rattle.tree_index.proofs.Index.{depth-index, block-index, leftChild-index, rightChild-index}
 use Rattle.tree_index.proofs.Filled.{filled-below, filled-left, filled-right}
@@ -22,9 +22,8 @@ use Rattle.bitfield.specs.Image.{entry, entryCount, entriesFor}
 use Rattle.bitfield.proofs.Image.{length-entry}
 use Rattle.file_format.specs.Sizes.{longestChunk, usedBitfield}
 use Rattle.file_format.specs.Stored.{storedSize}
-use Rattle.checks.proofs.Judged.{both-right}
 use Rattle.audit.specs.Audit.{parentRight, holeRight, heldBits, refusedAt, byteRightBy, leafFrom}
-use Rattle.audit.proofs.Audited.{parent-right, at-must, nowhere-right}
+use Rattle.audit.proofs.Audited.{parent-right, at-must}
 use Rattle.lookup.specs.Descent.{Ending, stopped, reached, unknown}
 use Rattle.search.specs.Theorems.{IndexFollows}
 use Rattle.search.proofs.Answers.{index-of-data}
@@ -36,15 +35,12 @@ use Rattle.copy_checks.proofs.Steps.{Lent, partly-passed}
 use Rattle.copy_checks.specs.Descents.{copyToChunk}
 use Rattle.copy_audit.specs.Audit.{wrongUnless, bothKnown, wrongFrom, wrongByLeaf, wrongByParent, wrongByKnown, wrongByUnknown, wrongBy, copyByteRight}
 use Rattle.copy_audit.specs.Audit.{wrongEntryOfCopy, knownBits, wrongByteOfCopy, auditCopy, leafRightFrom}
+use Rattle.copy_audit.proofs.Judged.{unless-right}
 use Rattle.theorem_copies_agree.specs.Theorems.{AllKnown, CopyShortAgreesForAll}
 use Rattle.theorem_copies_agree.proofs.Agree.{copy-lookups-agree, copy-search-agrees}
 use Rattle.file_format.specs.Images.{bitfieldOf}
 
 -- ---- none of a row
-
-unless-right : (b : Bool) (i : ℕ) → wrongUnless b i ≡ nowhere → b ≡ true
-unless-right true i e = refl
-unless-right false i e = let z : _≡_ {A = ℕ} 0 1 = cc in absurd (omega arith)
 
 -- ---- one entry
 
@@ -58,7 +54,7 @@ module _ (F : List ℕ → List ℕ) (c : Copy) where
       ended (unknown i) w = never-first (index 0 k) w
       ended (reached j start) w =
           leb-true (storedSize (c .tree) (index 0 k)) longestChunk
-          (both-right (leb (storedSize (c .tree) (index 0 k)) longestChunk) _ (unless-right (leafRightFrom F c k start) (index 0 k) w) .0)
+          (both-true (leb (storedSize (c .tree) (index 0 k)) longestChunk) _ (unless-right (leafRightFrom F c k start) (index 0 k) w) .0)
 
   parent-sums : (i : ℕ) → known c (leftChild i) ≡ true → known c (rightChild i) ≡ true → wrongByParent F c i ≡ nowhere
       → storedSize (c .tree) i ≡ storedSize (c .tree) (leftChild i) + storedSize (c .tree) (rightChild i)

@@ -4,17 +4,17 @@ use mathlib.Core.Path.{_≡_, refl, sym, ap, _∙_}
 use mathlib.Core.List.{[], _∷_}
 use borrow.Author.Tests.{eqb-true}
 use lib.Dec.{leb, ltb}
-use Rattle.refusals.specs.Verdict.{Spot, Verdict, done, refused}
+use Rattle.answer_types.specs.Verdict.{Spot, Verdict, done, refused}
 use Rattle.byte_strings.specs.Lists.{total}
 use Rattle.tree_index.specs.Tree.{index}
 use Rattle.file_format.specs.Stored.{storedSize, storedRootSizes}
 use Rattle.checks.specs.Checks.{judged, addsUp}
 use Rattle.lookup.specs.Descent.{Ending, always}
-use Rattle.lookup.specs.Lookup.{foundUnless, stopRefused, chunkOf, startOf, toChunk, toByte}
+use Rattle.lookup.specs.Lookup.{foundUnless, stopRefused, chunkOf, startOf, toChunk, toByte, foundBehind}
 use Rattle.lookup.specs.Inner.{placeIn, byteIn}
 use Rattle.search.specs.Search.{soughtUnless}
 use Rattle.search.proofs.Follows.{search-follows}
-use Rattle.short_lookup.specs.ShortLookup.{shortPlaceIn, shortByteIn, foundBehind}
+use Rattle.short_lookup.specs.ShortLookup.{shortPlaceIn, shortByteIn}
 use Rattle.short_lookup.proofs.Agree.{agree-in}
 use Rattle.copy_checks.specs.Copy.{Copy, known}
 use Rattle.copy_checks.specs.Descents.{copyToChunk, copyToByte}

@@ -4,7 +4,7 @@ use mathlib.Core.Path.{_≡_, refl, sym, _∙_}
 use mathlib.Core.Bool.{true, false}
 use mathlib.Core.List.{List}
 use native.Mathlib.Omega.{arith}
-use Rattle.refusals.specs.Verdict.{tree, done}
+use Rattle.answer_types.specs.Verdict.{tree, done}
 use Rattle.tree_index.specs.Tree.{index}
 use Rattle.lookup.specs.Lookup.{Found, refusal}
 use Rattle.short_lookup.specs.ShortLookup.{leafRight, leafRefused, placeByLeaves, byteByLeaves}

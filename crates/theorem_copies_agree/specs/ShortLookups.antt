@@ -6,7 +6,7 @@
 use Prim.Native.Nat.{ℕ, _+_, _-_, _≤_, _<_}
 use mathlib.Core.Path.{_≡_}
 use mathlib.Core.Bool.{true, false}
-use Rattle.refusals.specs.Verdict.{none, tree, done}
+use Rattle.answer_types.specs.Verdict.{none, tree, done}
 use Rattle.tree_index.specs.Tree.{index}
 use Rattle.file_format.specs.Stored.{storedSize, storedStart}
 use Rattle.lookup.specs.Lookup.{refusal, found}

@@ -10,11 +10,11 @@ use borrow.Author.Tests.{le-leb, ltb-true, ltb-false, eq-eqb}
 use lib.Dec.{leb, ltb, eqb}
 use lib.ListN.{length, getD, take}
 use lib.Seq.{getD-take}
-use Rattle.refusals.specs.Verdict.{tree, bitfield, done}
+use Rattle.answer_types.specs.Verdict.{tree, bitfield, done}
 use Rattle.byte_strings.specs.Lists.{part, run, joined, total, sameList, allZero, zeros}
 use Rattle.byte_strings.specs.Lowest.{Lowest, nowhere, first, lowest}
 use Rattle.byte_strings.proofs.Lists.{length-part, getD-part, run-ext, same-of}
-use Rattle.byte_strings.proofs.Bools.{clash, true-both}
+use Rattle.byte_strings.proofs.Bools.{clash, true-both, or-true}
 use Rattle.byte_strings.proofs.Lowest.{lowest-none}
 use Rattle.tree_index.specs.Tree.{index, depth, block, leftChild, rightChild, filled, rootOf, rootsBelow, roots, entries}
 use Rattle.tree_index.proofs.Index.{depth-index, block-index, by-coordinates, leftChild-index, rightChild-index}
@@ -40,10 +40,12 @@ use Rattle.lookup.proofs.ReadOrder.{reads}
 use Rattle.copy_checks.proofs.Descents.{unknownToChunk, chunk-same}
 use Rattle.copy_audit.specs.Audit.{wrongUnless, heldLeaf, bothKnown, wrongFrom, wrongByLeaf, wrongByParent, wrongByKnown, wrongByUnknown, copyByteRight}
 use Rattle.copy_audit.specs.Audit.{wrongBy, wrongEntryOfCopy, knownBits, wrongByteOfCopy, auditCopy, AcceptedCopy, leafRightFrom}
-use Rattle.theorem_taking_laws.proofs.Shown.{shown, shown-used}
+use Rattle.copy_audit.proofs.Judged.{right-unless}
+use Rattle.file_format.proofs.Shown.{shown, shown-used}
 use Rattle.copy_checks.proofs.Least.{each-least}
-use Rattle.theorem_taking_laws.proofs.Brought.{above-root, in-roots-filled}
-use Rattle.theorem_taking_laws.proofs.Descents.{chunkStart}
+use Rattle.theorem_taking_laws.proofs.Ways.{above-root}
+use Rattle.theorem_taking_laws.proofs.Roots.{in-roots-filled}
+use Rattle.theorem_taking_laws.proofs.Reaches.{chunkStart}
 use Rattle.theorem_taking_laws.proofs.Unknown.{all-known, none-unknown}
 use Rattle.theorem_copies_grown.proofs.Grows.{Follows, Outside, Grows, stored-held, stored-known, filled-known, chunk-there, comes-to, reads-known, inside-data, lie-apart}
 use Rattle.file_format.specs.Images.{bitfieldOf}
@@ -54,9 +56,6 @@ zeros-all : (xs : List ℕ) → ((j : ℕ) → j < length xs → getD xs j 0 ≡
 unfolding allZero
 zeros-all [] h = refl
 zeros-all (x ∷ xs) h = true-both (eqb x 0) (allZero xs) (eq-eqb x 0 (h 0 (omega arith))) (zeros-all xs (λ j l. h (suc j) (omega arith)))
-
-right-none : (b : Bool) (i : ℕ) → b ≡ true → wrongUnless b i ≡ nowhere
-right-none b i e = ap (λ (x : Bool). wrongUnless x i) e
 
 no-roots : (t : List ℕ) → total (storedRootSizes t 0) ≡ 0
 unfolding storedRootSizes roots rootsBelow rootOf total
@@ -118,7 +117,7 @@ module _ (F : List ℕ → List ℕ) (c : Copy) (g : Grows F c) where
   leaf-none k l =
       ap (wrongFrom F c k)
       (chunk-same c k (none-unknown (known c) (reads (chunkWithin k) t (c .n)) (λ x m. filled-known F c g x (reads-known F c g k l t x m))) ∙ comes-to F c g k l)
-      ∙ right-none (leafRightFrom F c k (start k)) (index 0 k) (leaf-right k l)
+      ∙ right-unless (leafRightFrom F c k (start k)) (index 0 k) (leaf-right k l)
 
   parent-right : (d k : ℕ) → Follows F t d k → parentRight F t (index (suc d) k) ≡ true
   unfolding parentRight
@@ -141,14 +140,10 @@ module _ (F : List ℕ → List ℕ) (c : Copy) (g : Grows F c) where
   parent-none : (d k : ℕ) → filled (c .n) (index (suc d) k) ≡ true → wrongByParent F c (index (suc d) k) ≡ nowhere
   unfolding wrongByParent bothKnown
   parent-none d k f =
-      right-none _ (index (suc d) k) (pick (g .knowsOf (index d (2 * k))) refl)
+      right-unless _ (index (suc d) k) (pick (g .knowsOf (index d (2 * k))) refl)
     where
       judged : Bool → Bool → Bool
       judged a b = not (a && known c (rightChild (index (suc d) k))) || b
-
-      or-true : (b : Bool) → (b || true) ≡ true
-      or-true true = refl
-      or-true false = refl
 
       stored : known c (leftChild (index (suc d) k)) ≡ g .knowsOf (index d (2 * k))
       stored = ap (known c) (leftChild-index d k) ∙ stored-known F c g (index d (2 * k)) (filled-below (c .n) (index d (2 * k)) (filled-left (c .n) d k f))
@@ -176,7 +171,7 @@ module _ (F : List ℕ → List ℕ) (c : Copy) (g : Grows F c) where
   unfolding holeRight
   hole-right i l h = same-of (part t (entryPlace i) 40) (zeros 40) (g .nought i l h)
 
-  not-held : (d k : ℕ) → filled (c .n) (index d k) ≡ true → g .knowsOf (index d k) ≡ false → not (heldLeaf c (index d k)) ≡ true
+  not-held : (d k : ℕ) → filled (c .n) (index d k) ≡ true → g .knowsOf (index d k) ≡ false → not (heldLeaf (c .bitfield) (index d k)) ≡ true
   unfolding heldLeaf
   not-held d k f h = ap (λ (x : ℕ). not (judge x)) (depth-index d k) ∙ pick d refl
     where
@@ -208,10 +203,10 @@ module _ (F : List ℕ → List ℕ) (c : Copy) (g : Grows F c) where
           ap₂ (found (index d k)) e (stored-known F c g (index d k) l ∙ f) ∙ known-none d k f
       pick d k l true false e f =
           ap₂ (found (index d k)) e (stored-known F c g (index d k) l ∙ f)
-          ∙ right-none _ (index d k) (true-both _ _ (hole-right (index d k) l f) (not-held d k e f))
+          ∙ right-unless _ (index d k) (true-both _ _ (hole-right (index d k) l f) (not-held d k e f))
       pick d k l false true e f = clash (filled (c .n) (index d k)) (g .knowsFilled (index d k) f) e
       pick d k l false false e f =
-          ap₂ (found (index d k)) e (stored-known F c g (index d k) l ∙ f) ∙ right-none _ (index d k) (hole-right (index d k) l f)
+          ap₂ (found (index d k)) e (stored-known F c g (index d k) l ∙ f) ∙ right-unless _ (index d k) (hole-right (index d k) l f)
 
   entries-none : wrongEntryOfCopy F c ≡ nowhere
   unfolding wrongEntryOfCopy

@@ -20,9 +20,9 @@ use Rattle.file_format.proofs.OfImage.{treeHeader-length}
 use Rattle.copy_checks.specs.Copy.{Copy}
 use Rattle.copy_checks.proofs.Steps.{Lent}
 use Rattle.copy_make.specs.Make.{madeCopy, Roomy}
-use Rattle.theorem_taking_laws.proofs.Shown.{shown, shown-long}
+use Rattle.file_format.proofs.Shown.{shown, shown-long}
 use Rattle.theorem_copies_grown.proofs.Grows.{Grows}
-use Rattle.theorem_copies_grown.proofs.Takes.{shown-front}
+use Rattle.file_format.proofs.Shown.{shown-front}
 
 -- ---- an entry of the bitfield with no bit set
 

@@ -4,7 +4,7 @@ use Prim.Native.Nat.{ℕ}
 use mathlib.Core.Path.{_≡_, refl, sym, ap, _∙_, subst}
 use mathlib.Core.Bool.{true}
 use mathlib.Core.List.{List}
-use Rattle.refusals.specs.Verdict.{Verdict, done, refused, unlessRefused}
+use Rattle.answer_types.specs.Verdict.{Verdict, done, refused, unlessRefused}
 use Rattle.byte_strings.specs.Lists.{Bytes}
 use Rattle.blake2b.specs.Hash.{nodeHash}
 use Rattle.file_format.proofs.Hashed.{hash-function}

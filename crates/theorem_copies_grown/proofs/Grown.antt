@@ -17,7 +17,7 @@ use Rattle.theorem_copies_grown.proofs.Begins.{begins}
 module _ (F : List ℕ → List ℕ) (hf : HashFunction F) where
   pub grown-grows : (c : Copy) → Grown F c → Grows F c
   grown-grows x (made c e z) = begins F c (roomy c (sym e)) z
-  grown-grows x (grew c w p i root b e s) = takes F hf c (grown-grows c w) p b i (took F c p i root e) s
+  grown-grows x (grew c w p i root b e s) = takes (record { hash = hf; grows = grown-grows c w; bytes = b; took = took F c p i root e }) s
   grown-grows x (shrank c w i e) = releases F c (grown-grows c w) i (asked c i e)
 
 pub grown-accepted : GrownAccepted

@@ -25,10 +25,14 @@ use Rattle.packet.specs.Inner.{ChunkOf}
 use Rattle.copy_checks.specs.Copy.{Copy}
 use Rattle.copy_checks.proofs.Steps.{Lent}
 use Rattle.lookup.proofs.ReadOrder.{reads}
-use Rattle.theorem_taking_laws.proofs.Members.{In}
-use Rattle.theorem_taking_laws.proofs.Shown.{shown, shown-held, shown-known}
-use Rattle.theorem_taking_laws.proofs.Brought.{sibling, wayIndex, sideIndex, way-parent, way-sibling, way-filled, above-root}
-use Rattle.theorem_taking_laws.proofs.Descents.{Half, inLeft, inRight, halves, NearWay, reads-near, chunkStart, WayRight, reaches, descents-apart, descent-inside}
+use Rattle.byte_strings.proofs.Members.{In}
+use Rattle.file_format.proofs.Shown.{shown, shown-held, shown-known}
+use Rattle.theorem_taking_laws.proofs.Siblings.{sibling}
+use Rattle.theorem_taking_laws.proofs.Ways.{wayIndex, sideIndex, way-parent, way-sibling, way-filled, above-root}
+use Rattle.theorem_taking_laws.proofs.Halves.{Half, inLeft, inRight, halves}
+use Rattle.theorem_taking_laws.proofs.ReadsNear.{NearWay, reads-near}
+use Rattle.theorem_taking_laws.proofs.Reaches.{chunkStart, WayRight, reaches}
+use Rattle.theorem_taking_laws.proofs.ChunksApart.{descents-apart, descent-inside}
 
 -- a parent follows from its stored children
 pub record Follows (F : List ℕ → List ℕ) (t : List ℕ) (d k : ℕ) : Type 0 where

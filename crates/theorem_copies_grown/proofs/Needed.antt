@@ -9,7 +9,7 @@ use native.Mathlib.Nat.{zero-add}
 use native.Mathlib.Omega.{arith}
 use borrow.Author.Tests.{leb-true, leb-false, ne-eqb}
 use lib.Dec.{leb, eqb}
-use Rattle.refusals.specs.Verdict.{Verdict, none, tree, bitfield, done, refused}
+use Rattle.answer_types.specs.Verdict.{Verdict, none, tree, bitfield, done, refused}
 use Rattle.byte_strings.specs.Lists.{total, Bytes}
 use Rattle.byte_strings.specs.Lowest.{Lowest, nowhere, first}
 use Rattle.byte_strings.proofs.Lowest.{never-first}
@@ -22,7 +22,6 @@ use Rattle.file_format.specs.Sizes.{longestChunk}
 use Rattle.file_format.specs.Messages.{HashFunction}
 use Rattle.file_format.specs.Stored.{storedSize, storedRootSizes}
 use Rattle.checks.specs.Checks.{judged, addsUp}
-use Rattle.checks.proofs.Judged.{both-right}
 use Rattle.audit.specs.Audit.{holeRight, refusedAt, leafFrom}
 use Rattle.audit.proofs.Audited.{at-must}
 use Rattle.lookup.specs.Descent.{Ending, stopped, reached, unknown}
@@ -36,16 +35,20 @@ use Rattle.copy_make.proofs.Calls.{roomy}
 use Rattle.copy_take_in.specs.TakeIn.{Given, lying, takeVerdict, takenIn, brought}
 use Rattle.copy_checks.specs.Descents.{copyToChunk}
 use Rattle.copy_audit.specs.Audit.{wrongUnless, wrongFrom, wrongByLeaf, wrongByParent, wrongByKnown, wrongByUnknown, wrongBy, wrongEntryOfCopy, wrongByteOfCopy, auditCopy, AcceptedCopy}
-use Rattle.theorem_taking_laws.proofs.Members.{In}
-use Rattle.theorem_taking_laws.proofs.Shown.{shown-known}
-use Rattle.theorem_taking_laws.proofs.Brought.{lying-brought, brought-filled}
-use Rattle.theorem_released_back.proofs.Took.{Took, took}
+use Rattle.byte_strings.proofs.Members.{In}
+use Rattle.byte_strings.proofs.Bools.{both-true}
+use Rattle.file_format.proofs.Shown.{shown-known}
+use Rattle.theorem_taking_laws.proofs.Brought.{lying-brought}
+use Rattle.theorem_taking_laws.proofs.Among.{brought-filled}
+use Rattle.theorem_released_back.proofs.Took.{took}
 use Rattle.theorem_copies_grown.specs.Grown.{leafShort, leavesShort, Grown}
 use Rattle.theorem_copies_grown.specs.Needed.{NeededForAll}
-use Rattle.theorem_copies_grown.proofs.Takes.{there, now, holdsNow, holds, bits-now, new-now, entry-place}
+use Rattle.theorem_copies_grown.proofs.TakenEntries.{Taking, there, holds}
+use Rattle.theorem_copies_grown.proofs.KnownNow.{now, holdsNow, bits-now, new-now, entry-place}
 use Rattle.theorem_copies_grown.proofs.Begins.{made-lent}
 use Rattle.theorem_copies_grown.proofs.Grown.{grown-grows}
 use Rattle.copy_audit.specs.Audit.{leafRightFrom}
+use Rattle.copy_audit.proofs.Judged.{unless-right}
 
 -- ---- no chunks, and a data size
 
@@ -106,15 +109,11 @@ module _ (F : List ℕ → List ℕ) (c : Copy) (a : AcceptedCopy F c) where
       which : ℕ → ℕ → Lowest
       which d b = elim d [ zero ↦ wrongByLeaf F c b | suc x ↦ wrongByParent F c (index 0 k) ]
 
-      unless : (b : Bool) → wrongUnless b (index 0 k) ≡ nowhere → b ≡ true
-      unless true q = refl
-      unless false q = never-first (index 0 k) q
-
       leaf : (y : Ending) → wrongFrom F c k y ≡ nowhere → storedSize (c .tree) (index 0 k) ≤ longestChunk
       leaf (unknown i) q = never-first (index 0 k) q
       leaf (stopped i) q = never-first i q
       leaf (reached j s) q =
-          leb-true (storedSize (c .tree) (index 0 k)) longestChunk (both-right _ _ (unless (leafRightFrom F c k s) q) .0)
+          leb-true (storedSize (c .tree) (index 0 k)) longestChunk (both-true _ _ (unless-right (leafRightFrom F c k s) (index 0 k) q) .0)
 
 module _ (F : List ℕ → List ℕ) (hf : HashFunction F) where
   long-refused : (c : Copy) → Grown F c → (p : List ℕ) (i : ℕ) (root : List ℕ) → Bytes p → takeVerdict F c p i root ≡ done
@@ -122,22 +121,22 @@ module _ (F : List ℕ → List ℕ) (hf : HashFunction F) where
   unfolding takenIn entries entryCount
   long-refused c w p i root b e s a =
       let g = grown-grows F hf c w in
-      let tk : Took F c p i = took F c p i root e in
+      let tg : Taking F c p i = record { hash = hf; grows = g; bytes = b; took = took F c p i root e } in
       let q = long-leaf (lying p (c .n) i) s in
       let x : Given = q .0 in
       let k : ℕ = block (x .at) in
       let m : In x (brought F p (c .n) i) = lying-brought F p (c .n) i x (q .1) in
       let here : index 0 k ≡ x .at = ap (λ (d : ℕ). index d k) (sym (q .2)) ∙ index-of (x .at) in
-      let f : filled (c .n) (x .at) ≡ true = brought-filled (c .n) i (there F hf c g p b i tk) F p x m in
+      let f : filled (c .n) (x .at) ≡ true = brought-filled (c .n) i (there tg) F p x m in
       let l : x .at < entries (c .n) = filled-below (c .n) (x .at) f in
       let y : known (takenIn F c p i) (x .at) ≡ true =
-      ap (λ (z : List ℕ). storedKnown z (x .at)) (bits-now F hf c g p b i tk)
-      ∙ shown-known (holdsNow F hf c g p b i tk) (now F hf c g p b i tk) (c .n) (g .tail) (x .at) (omega arith)
-      ∙ new-now F hf c g p b i tk (x .at) (entry-place F hf c g p b i tk (x .at) (x .entry) m) in
+      ap (λ (z : List ℕ). storedKnown z (x .at)) (bits-now tg)
+      ∙ shown-known (holdsNow tg) (now tg) (c .n) (g .tail) (x .at) (omega arith)
+      ∙ new-now tg (x .at) (entry-place tg (x .at) (x .entry) m) in
       let fits : storedSize (takenIn F c p i .tree) (index 0 k) ≤ longestChunk =
       leaf-fits F (takenIn F c p i) a k (ap (filled (c .n)) here ∙ f) (ap (known (takenIn F c p i)) here ∙ y) in
       let size : storedSize (takenIn F c p i .tree) (index 0 k) ≡ x .entry .size =
-      ap (storedSize (takenIn F c p i .tree)) here ∙ holds F hf c g p b i tk x m .size in
+      ap (storedSize (takenIn F c p i .tree)) here ∙ holds tg x m .size in
       omega (arith, q .3)
 
   size-refused : (c : Copy) → makeVerdict c ≡ done → c .n ≡ 0 → (c .size ≡ 0 → ⊥) → auditCopy F (madeCopy c) ≡ refused 6 none

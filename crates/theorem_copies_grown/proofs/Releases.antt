@@ -9,7 +9,7 @@ use native.Mathlib.Omega.{arith}
 use borrow.Author.Tests.{leb-true, leb-false, ltb-true, ltb-false, eqb-true, eqb-false}
 use lib.Dec.{leb, ltb, eqb}
 use lib.ListN.{length, getD, take, length-replicate}
-use Rattle.refusals.specs.Verdict.{Verdict, tree, done, refused}
+use Rattle.answer_types.specs.Verdict.{Verdict, tree, done, refused}
 use Rattle.byte_strings.specs.Lists.{part, put, zeros}
 use Rattle.byte_strings.proofs.Lists.{length-put, getD-part, part-put, part-put-before, part-put-behind}
 use Rattle.byte_strings.proofs.Bools.{both-true}
@@ -29,11 +29,11 @@ use Rattle.copy_checks.proofs.Steps.{copy-passed}
 use Rattle.copy_checks.specs.Descents.{copyToChunk}
 use Rattle.copy_lookup.specs.Lookups.{copyHeldVerdict}
 use Rattle.copy_release.specs.Release.{copyReleaseVerdict, releasedCopy}
-use Rattle.theorem_taking_laws.proofs.Shown.{shown, shown-long, held-less}
-use Rattle.theorem_taking_laws.proofs.Places.{getD-beside}
-use Rattle.theorem_taking_laws.proofs.Descents.{chunkStart}
+use Rattle.file_format.proofs.Shown.{shown, shown-long, held-less}
+use Rattle.byte_strings.proofs.Puts.{getD-beside}
+use Rattle.theorem_taking_laws.proofs.Reaches.{chunkStart}
 use Rattle.theorem_copies_grown.proofs.Grows.{Outside, Grows, stored-held, comes-to, inside-data, lie-apart}
-use Rattle.theorem_copies_grown.proofs.Takes.{shown-front}
+use Rattle.file_format.proofs.Shown.{shown-front}
 
 -- what a release that is done was asked
 pub record Asked (c : Copy) (i : ℕ) : Type 0 where

@@ -3,7 +3,7 @@ use Prim.Native.Nat.{ℕ}
 use mathlib.Core.Path.{_≡_}
 use mathlib.Core.Bool.{true}
 use mathlib.Core.List.{List}
-use Rattle.refusals.specs.Verdict.{Verdict, done}
+use Rattle.answer_types.specs.Verdict.{Verdict, done}
 use Rattle.byte_strings.specs.Lists.{Bytes}
 use Rattle.copy_checks.specs.Copy.{Copy, Files, copyOf}
 use Rattle.copy_make.specs.Make.{MakePost}

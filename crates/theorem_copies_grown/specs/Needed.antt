@@ -3,7 +3,7 @@ use Prim.Native.Nat.{ℕ}
 use mathlib.Core.Path.{_≡_}
 use mathlib.Core.Bool.{false}
 use mathlib.Core.List.{List}
-use Rattle.refusals.specs.Verdict.{none, done, refused}
+use Rattle.answer_types.specs.Verdict.{none, done, refused}
 use Rattle.byte_strings.specs.Lists.{Bytes}
 use Rattle.file_format.specs.Messages.{HashFunction}
 use Rattle.copy_checks.specs.Copy.{Copy}

@@ -5,7 +5,7 @@ use mathlib.Core.Bool.{Bool}
 use mathlib.Core.List.{List}
 use native.Mathlib.Omega.{arith}
 use lib.ListN.{length, length-append, length-take, length-drop}
-use Rattle.refusals.specs.Verdict.{Verdict, done}
+use Rattle.answer_types.specs.Verdict.{Verdict, done, andThen}
 use Rattle.byte_strings.specs.Lists.{put, zeros}
 use Rattle.tree_index.specs.Tree.{index, roots}
 use Rattle.file_format.specs.Sizes.{usedBitfield}
@@ -13,7 +13,6 @@ use Rattle.file_format.specs.Stored.{storedSize}
 use Rattle.release.specs.Release.{releasedRegister}
 use Rattle.release.proofs.Bits.{bits-long, bits-header}
 use Rattle.lookup.specs.Lookup.{startOf, toChunk}
-use Rattle.lookup.specs.Read.{andThen}
 use Rattle.lookup.specs.Unknown.{firstUnknown}
 use Rattle.stored_leaf.specs.StoredLeaf.{leafIn, leafHash, leafLength}
 use Rattle.copy_checks.specs.Copy.{Copy, known, unsigned}
@@ -21,7 +20,7 @@ use Rattle.copy_checks.specs.Checks.{unknownRoot}
 use Rattle.copy_checks.proofs.Steps.{Knowing, copy-passes}
 use Rattle.copy_release.specs.Release.{copyReleaseVerdict, releasedCopy}
 use Rattle.copy_stored_leaf.specs.StoredLeaf.{copyLeafVerdict}
-use Rattle.theorem_taking_laws.proofs.Field.{RoomFor}
+use Rattle.bitfield.proofs.StoredBits.{RoomFor}
 use Rattle.theorem_copies_kept.specs.Theorems.{LeavesStay}
 use Rattle.theorem_copies_kept.proofs.Stay.{known-less, Asked, asked, data-room}
 

@@ -8,9 +8,10 @@ use native.Mathlib.Omega.{arith}
 use borrow.Author.Tests.{lt-ltb, ltb-true, ltb-false, ne-eqb, eqb-true, eqb-false}
 use lib.Dec.{ltb, eqb}
 use lib.ListN.{length, take, drop, length-replicate}
-use Rattle.refusals.specs.Verdict.{done}
+use Rattle.answer_types.specs.Verdict.{done}
 use Rattle.byte_strings.specs.Lists.{part, put, joined, zeros}
 use Rattle.byte_strings.proofs.Lists.{length-put, part-put, part-put-before, part-put-behind, run-ext}
+use Rattle.byte_strings.proofs.Bools.{both-true, true-both, clash}
 use Rattle.tree_index.specs.Tree.{index, filled}
 use Rattle.bitfield.specs.Release.{storedHeld, releasedBits}
 use Rattle.bitfield.specs.Image.{entry, entryCount, entriesFor}
@@ -21,7 +22,6 @@ use Rattle.file_format.specs.Sizes.{usedBitfield}
 use Rattle.file_format.specs.Messages.{leafMessage}
 use Rattle.file_format.specs.Stored.{storedSize}
 use Rattle.checks.specs.Checks.{addsUp}
-use Rattle.checks.proofs.Judged.{both-right, right-both}
 use Rattle.audit.specs.Audit.{heldBits}
 use Rattle.lookup.specs.Descent.{reached, always, chunkWithin, descent}
 use Rattle.lookup.specs.Lookup.{startOf, stopRefused, toChunk}
@@ -35,11 +35,11 @@ use Rattle.copy_checks.proofs.Steps.{Lent, partly-passes}
 use Rattle.copy_checks.proofs.Descents.{chunk-read, chunk-same}
 use Rattle.copy_release.specs.Release.{releasedCopy}
 use Rattle.copy_audit.specs.Audit.{knownBits}
-use Rattle.theorem_taking_laws.proofs.Descents.{descents-apart}
-use Rattle.theorem_taking_laws.proofs.Field.{RoomFor}
-use Rattle.theorem_taking_laws.proofs.Shown.{shown, shown-used, used-shown, shown-held, held-less}
+use Rattle.theorem_taking_laws.proofs.ChunksApart.{descents-apart}
+use Rattle.bitfield.proofs.StoredBits.{RoomFor}
+use Rattle.file_format.proofs.Shown.{shown, shown-used, used-shown, shown-held, held-less}
 use Rattle.theorem_copy_audit.specs.Theorems.{leafStart, leafData, LeafSound, Sound}
-use Rattle.theorem_copy_audit.proofs.Sound.{clash, bits-are, passed-too}
+use Rattle.theorem_copy_audit.proofs.Sound.{bits-are, passed-too}
 use Rattle.theorem_copies_kept.proofs.Stay.{known-less, Asked, data-room}
 use Rattle.file_format.specs.Images.{bitfieldOf}
 
@@ -139,8 +139,8 @@ module _ (F : List ℕ → List ℕ) (c : Copy) (s : Sound F c) (i : ℕ) (a : A
   held-still : (k : ℕ) → k < c .n → storedHeld (d .bitfield) k ≡ true → (storedHeld (c .bitfield) k ≡ true) × (k ≡ i → ⊥)
   unfolding heldBits
   held-still k h e =
-      let q = both-right (heldOf k) (not (eqb k i)) (sym (held-left k h) ∙ e) in
-      (both-right (ltb k (c .n)) (storedHeld (c .bitfield) k) (q .0) .1, other (eqb k i) refl (q .1))
+      let q = both-true (heldOf k) (not (eqb k i)) (sym (held-left k h) ∙ e) in
+      (both-true (ltb k (c .n)) (storedHeld (c .bitfield) k) (q .0) .1, other (eqb k i) refl (q .1))
     where
       other : (b : Bool) → eqb k i ≡ b → not b ≡ true → k ≡ i → ⊥
       other true f n z = let y : _≡_ {A = ℕ} 0 1 = cc in omega arith
@@ -155,7 +155,7 @@ module _ (F : List ℕ → List ℕ) (c : Copy) (s : Sound F c) (i : ℕ) (a : A
       pick false f = refl
       pick true f =
           clash (left k)
-          (right-both (heldOf k) (not (eqb k i)) (right-both (ltb k (c .n)) (storedHeld (c .bitfield) k) (lt-ltb k (c .n) h) f) (ap not (ne-eqb k i n)))
+          (true-both (heldOf k) (not (eqb k i)) (true-both (ltb k (c .n)) (storedHeld (c .bitfield) k) (lt-ltb k (c .n) h) f) (ap not (ne-eqb k i n)))
           (sym (held-left k h) ∙ e)
 
   -- ---- what is sound stays so

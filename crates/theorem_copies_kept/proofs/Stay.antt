@@ -10,7 +10,7 @@ use borrow.Author.Tests.{ltb-true}
 use lib.Dec.{ltb, eqb}
 use lib.ListN.{length, length-set}
 use lib.Seq.{getD-set-other}
-use Rattle.refusals.specs.Verdict.{Verdict, tree, done, refused}
+use Rattle.answer_types.specs.Verdict.{Verdict, tree, done, refused}
 use Rattle.byte_strings.specs.Lists.{part, among, Bytes}
 use Rattle.byte_strings.specs.Numbers.{number}
 use Rattle.byte_strings.proofs.Lists.{part-part}
@@ -35,9 +35,9 @@ use Rattle.copy_take_in.specs.TakeIn.{Given, brought, takeVerdict, takenIn}
 use Rattle.release.specs.Release.{releasedRegister}
 use Rattle.copy_lookup.specs.Lookups.{copyHeldVerdict}
 use Rattle.copy_release.specs.Release.{copyReleaseVerdict, releasedCopy}
-use Rattle.theorem_taking_laws.proofs.Field.{RoomFor}
+use Rattle.bitfield.proofs.StoredBits.{RoomFor}
 use Rattle.theorem_taking_laws.proofs.Given.{placesOf, given-keeps}
-use Rattle.theorem_taking_laws.proofs.Places.{bit-beside}
+use Rattle.bitfield.proofs.Beside.{bit-beside}
 use Rattle.theorem_packets_commute.proofs.Turns.{fitting, room, bit-room}
 use Rattle.theorem_packets_commute.proofs.Clear.{known-after}
 use Rattle.theorem_released_back.proofs.Took.{Took, took as taken}

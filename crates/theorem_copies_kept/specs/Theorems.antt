@@ -8,7 +8,7 @@ use Prim.Native.Nat.{ℕ, _<_}
 use mathlib.Core.Path.{_≡_}
 use mathlib.Core.Bool.{true}
 use mathlib.Core.List.{List}
-use Rattle.refusals.specs.Verdict.{done}
+use Rattle.answer_types.specs.Verdict.{done}
 use Rattle.byte_strings.specs.Lists.{part, Bytes}
 use Rattle.tree_index.specs.Tree.{index}
 use Rattle.file_format.specs.Sizes.{longestChunk, entryPlace}

@@ -6,7 +6,7 @@ use mathlib.Core.List.{List, [], _∷_}
 use borrow.Author.Tests.{leb-true}
 use lib.Dec.{leb, ltb}
 use lib.ListN.{length}
-use Rattle.refusals.specs.Verdict.{Verdict, tree, done, refused, unlessRefused}
+use Rattle.answer_types.specs.Verdict.{Verdict, tree, done, refused, unlessRefused, andThen}
 use Rattle.byte_strings.specs.Lists.{part, sameList, zeros, put}
 use Rattle.byte_strings.specs.Lowest.{Lowest, lowest}
 use Rattle.tree_index.specs.Tree.{index, roots}
@@ -20,16 +20,16 @@ use Rattle.writing.specs.Append.{rootUnlessRefused}
 use Rattle.writing.specs.RootHash.{rootVerdict, rootAnswer}
 use Rattle.audit.specs.Audit.{refusedAt}
 use Rattle.audit.proofs.Audited.{accepted-audited}
-use Rattle.prefix_root.specs.PrefixRoot.{ownChecks, prefixVerdict, prefixRoot}
+use Rattle.prefix_root.specs.PrefixRoot.{ownChecks, prefixVerdict, prefixRoot, rootUnless}
 use Rattle.lookup.specs.Descent.{Ending, always}
-use Rattle.lookup.specs.Lookup.{foundUnless, chunkOf, startOf, stopRefused, toChunk, toByte, placeVerdict, heldVerdict, byteVerdict, placeOf, heldPlaceOf, byteAt}
-use Rattle.lookup.specs.Read.{chunkBytes, andThen, partUnless, readVerdict, readPart}
+use Rattle.lookup.specs.Lookup.{foundUnless, chunkOf, startOf, stopRefused, toChunk, toByte, placeVerdict, heldVerdict, byteVerdict, placeOf, heldPlaceOf, byteAt, foundBehind}
+use Rattle.lookup.specs.Read.{chunkBytes, partUnless, readVerdict, readPart}
 use Rattle.lookup.specs.Meaning.{readFound}
 use Rattle.release.specs.Release.{releaseVerdict, releasedRegister, afterRelease}
 use Rattle.stored_leaf.specs.StoredLeaf.{leafVerdict, leafHash, leafLength}
 use Rattle.stored_leaf.proofs.Calls.{leaf-same}
 use Rattle.search.specs.Search.{soughtUnless, firstMissing, searchFor}
-use Rattle.short_lookup.specs.ShortLookup.{shortPlaceOf, shortByteAt, shortSearchFor, foundBehind}
+use Rattle.short_lookup.specs.ShortLookup.{shortPlaceOf, shortByteAt, shortSearchFor}
 use Rattle.record_find.specs.ChunkRecords.{headerAfter, nodeAfter, pathAfter, headerIn, pathIn}
 use Rattle.record_find.specs.Finding.{findBy, findIn}
 use Rattle.packet.specs.Packet.{packetOf, roomOr14, makeVerdict, afterMake, madeLength, packetWith}
@@ -38,7 +38,7 @@ use Rattle.copy_checks.specs.Checks.{copyJudged}
 use Rattle.lookup.specs.Unknown.{firstUnknown}
 use Rattle.copy_lookup.specs.Lookups.{copyPlaceVerdict, copyHeldVerdict, copyByteVerdict, copyPlaceOf, copyHeldPlaceOf, copyByteAt}
 use Rattle.copy_lookup.specs.Reading.{copyReadVerdict, copyReadPart, copyReadFound}
-use Rattle.copy_roots.specs.Roots.{rootUnless, copyRootVerdict, copyRootAnswer, copyPrefixVerdict, copyPrefixRoot, copySearch}
+use Rattle.copy_roots.specs.Roots.{copyRootVerdict, copyRootAnswer, copyPrefixVerdict, copyPrefixRoot, copySearch}
 use Rattle.copy_short_lookup.specs.Short.{copyShortPlaceOf, copyShortByteAt, copyShortSearch}
 use Rattle.copy_packet.specs.Making.{copyMakeVerdict, copyAfterMake, copyMadeLength}
 use Rattle.copy_release.specs.Release.{copyReleaseVerdict, releasedCopy, copyAfterRelease}

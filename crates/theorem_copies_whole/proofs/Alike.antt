@@ -11,8 +11,8 @@ use Rattle.tree_index.proofs.Index.{index-of}
 use Rattle.tree_index.proofs.Filled.{filled-left, filled-right}
 use Rattle.file_format.specs.Stored.{storedSize}
 use Rattle.lookup.proofs.ReadOrder.{readsBelow, readsFrom, reads}
-use Rattle.theorem_taking_laws.proofs.Members.{In}
-use Rattle.theorem_taking_laws.proofs.Brought.{in-roots-filled}
+use Rattle.byte_strings.proofs.Members.{In}
+use Rattle.theorem_taking_laws.proofs.Roots.{in-roots-filled}
 pub use Rattle.theorem_taking_laws.proofs.Unknown.{all-known}
 
 -- ---- a descent among n chunks reads none but their entries

@@ -7,7 +7,7 @@ use mathlib.Core.List.{List, [], _∷_, _++_}
 use native.Mathlib.Omega.{arith}
 use borrow.Author.Tests.{lt-ltb}
 use lib.ListN.{length, getD, length-replicate}
-use Rattle.refusals.specs.Verdict.{done}
+use Rattle.answer_types.specs.Verdict.{done}
 use Rattle.byte_strings.specs.Lists.{part, joined, zeros}
 use Rattle.byte_strings.specs.Numbers.{be}
 use Rattle.tree_index.specs.Tree.{filled, roots}
@@ -45,9 +45,9 @@ use Rattle.copy_lookup.specs.Lookups.{copyHeldVerdict}
 use Rattle.copy_lookup.specs.Reading.{copyReadVerdict}
 use Rattle.copy_packet.specs.Making.{copyMakeVerdict}
 use Rattle.copy_release.specs.Release.{copyReleaseVerdict}
-use Rattle.theorem_taking_laws.proofs.Members.{In}
-use Rattle.theorem_taking_laws.proofs.Brought.{other-root}
-use Rattle.theorem_taking_laws.proofs.Shown.{shown-known}
+use Rattle.byte_strings.proofs.Members.{In}
+use Rattle.theorem_taking_laws.proofs.Ways.{other-root}
+use Rattle.file_format.proofs.Shown.{shown-known}
 use Rattle.theorem_copies_whole.specs.Whole.{MadeFrom}
 use Rattle.theorem_copies_whole.proofs.Full.{full, full-belongs}
 use Rattle.theorem_copies_whole.proofs.Partly.{Partly, tree-bit-in}

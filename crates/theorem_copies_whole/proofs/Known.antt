@@ -14,9 +14,12 @@ use Rattle.lookup.specs.Descent.{Ending, stopped, reached, ifKnown, chunkWithin
 use Rattle.packet.specs.Packet.{rootAbove, siblings, otherRoots}
 use Rattle.packet.specs.Inner.{ChunkOf}
 use Rattle.copy_take_in.specs.TakeIn.{Given, brought}
-use Rattle.theorem_taking_laws.proofs.Members.{In}
-use Rattle.theorem_taking_laws.proofs.Brought.{wayIndex, sideIndex, Brings, onWay, besideWay, otherRoot, brings, siblings-deep, top-root, above-root, other-root}
-use Rattle.theorem_taking_laws.proofs.Descents.{Half, inLeft, inRight, halves, block-above, never-stopped}
+use Rattle.byte_strings.proofs.Members.{In}
+use Rattle.theorem_taking_laws.proofs.Ways.{wayIndex, sideIndex, siblings-deep, top-root, above-root, other-root}
+use Rattle.theorem_taking_laws.proofs.Brought.{Brings, onWay, besideWay, otherRoot, brings}
+use Rattle.theorem_taking_laws.proofs.Halves.{Half, inLeft, inRight, halves}
+use Rattle.theorem_taking_laws.proofs.ReadsNear.{block-above}
+use Rattle.theorem_taking_laws.proofs.ChunksApart.{never-stopped}
 use Rattle.byte_strings.proofs.Bools.{chosen}
 
 if-known : (b : Bool) (i : ℕ) (e : Ending) (k s : ℕ) → ifKnown b i e ≡ reached k s → (b ≡ true) × (e ≡ reached k s)

@@ -2,7 +2,12 @@
 pub mod Nodes
 pub mod Full
 pub mod Packets
+pub mod ChunkSpans
+pub mod WayUp
 pub mod Partly
+pub mod MadePartly
+pub mod TookPartly
+pub mod HoldsEvery
 pub mod Alike
 pub mod Known
 pub mod Releases

@@ -1,5 +1,5 @@
 -- A packet that is made from a register of a sequence brings the sequence's entries. Assumes nothing.
-use Prim.Native.Nat.{ℕ, zero, suc, _+_, _-_, _*_, _/_, _%_, _^_, _≤_, _<_}
+use Prim.Native.Nat.{ℕ, zero, suc, _+_, _-_, _*_, _/_, _^_, _≤_, _<_}
 use mathlib.Core.Path.{_≡_, refl, sym, ap, ap₂, _∙_, subst}
 use mathlib.Core.Bool.{Bool, true, false}
 use mathlib.Core.Logic.{_⊎_, inl, inr}
@@ -10,60 +10,37 @@ use native.Mathlib.Omega.{arith}
 use lib.ListN.{length, getD}
 use lib.Seq.{ext-getD}
 use borrow.Author.Tests.{lt-ltb}
-use Rattle.refusals.specs.Verdict.{Spot, Verdict, done, refused}
-use Rattle.byte_strings.specs.Lists.{part}
+use Rattle.answer_types.specs.Verdict.{done}
 use Rattle.byte_strings.proofs.Lists.{getD-run}
-use Rattle.tree_index.specs.Tree.{depth, filled, roots}
-use Rattle.tree_index.proofs.Filled.{filled-below}
-use Rattle.tree_index.proofs.Roots.{bit}
-use Rattle.file_format.specs.Sizes.{entryPlace}
+use Rattle.tree_index.specs.Tree.{depth, roots}
 use Rattle.file_format.specs.Messages.{HashFunction}
-use Rattle.file_format.specs.Entries.{Entry, hole, entryBytes, leaf, parentOf, node, nodeAt}
+use Rattle.file_format.specs.Entries.{Entry, hole, leaf, parentOf, node, nodeAt}
 use Rattle.file_format.specs.Images.{leaves}
 use Rattle.file_format.specs.Slots.{Slot, held, released, isHeld, slotBytes, slotEntry, allHeld, contents, heldIn, Within}
 use Rattle.file_format.specs.Belongs.{Register, Belongs}
 use Rattle.file_format.proofs.Slots.{slotAt, contents-at, held-at, leaves-length, leaf-at, all-length, all-contents, all-held, held-slot}
-use Rattle.file_format.proofs.Nodes.{nodeAt-index, entryAt-filled, nodeAt-proper}
-use Rattle.file_format.proofs.OfImage.{stored-entry}
+use Rattle.file_format.proofs.Nodes.{nodeAt-index}
 use Rattle.checks.specs.Checks.{judged, registerChecks}
 use Rattle.checks.proofs.Passed.{passes}
+use Rattle.checks.proofs.Judged.{not-both-verdicts}
 use Rattle.lookup.specs.Lookup.{heldVerdict}
 use Rattle.lookup.specs.Read.{chunkBytes, readVerdict}
 use Rattle.lookup.specs.Theorems.{Answers}
 use Rattle.lookup.proofs.Answers.{answers}
 use Rattle.lookup.proofs.Calls.{done-first}
 use Rattle.release.proofs.Calls.{held-passed}
-use Rattle.packet.specs.Packet.{rootAbove, beside, siblings, otherRoots, packetOf, makeVerdict, packetWith}
-use Rattle.packet.specs.Check.{othersPlace, siblingsPlace, chunkLength, entryIn, entriesIn, otherEntries, ordered}
+use Rattle.packet.specs.Packet.{rootAbove, beside, siblings, otherRoots, packetOf, makeVerdict}
+use Rattle.packet.specs.Check.{othersPlace, entryIn, entriesIn, otherEntries, ordered}
 use Rattle.packet.specs.Inner.{ChunkOf, Readable}
-use Rattle.packet.proofs.Answers.{chunk-leaf, siblings-are}
-use Rattle.packet.proofs.Climb.{left-first, right-first}
+use Rattle.packet.proofs.Answers.{chunk-leaf, siblings-are, step-node, others-place, other-node as node-other}
 use Rattle.packet.proofs.Makes.{readable}
-use Rattle.packet.proofs.Pieces.{entry-in, length-back, other-at}
-use Rattle.packet.proofs.Rows.{beside-even, beside-odd, half, others-filled}
+use Rattle.packet.proofs.Rows.{half}
 use Rattle.copy_take_in.specs.TakeIn.{Given, brought}
-use Rattle.theorem_taking_laws.proofs.Members.{In}
-use Rattle.theorem_taking_laws.proofs.Brought.{wayEntry, sideEntry, otherEntry, Brings, onWay, besideWay, otherRoot, brings, way-leaf, way-next, siblings-deep}
+use Rattle.byte_strings.proofs.Members.{In}
+use Rattle.theorem_taking_laws.proofs.Brought.{wayEntry, sideEntry, otherEntry, Brings, onWay, besideWay, otherRoot, brings}
+use Rattle.theorem_taking_laws.proofs.Made.{way-leaf, way-next}
+use Rattle.theorem_taking_laws.proofs.Ways.{siblings-deep}
 use Rattle.theorem_copies_whole.specs.Whole.{SlotsOf}
-
-never : (v : Verdict) (m : ℕ) (at : Spot) → v ≡ done → v ≡ refused m at → ⊥
-never v m at e f = let z : _≡_ {A = ℕ} 0 1 = cc in omega arith
-
--- ---- two nodes under their parent
-
-step-node : (F : List ℕ → List ℕ) (es : List Entry) (d k : ℕ) → ordered k (parentOf F) (node F es d k) (node F es d (beside k)) ≡ node F es (suc d) (k / 2)
-unfolding node
-step-node F es d k = pick (bit k)
-  where
-    pick : (k % 2 ≡ 0) ⊎ (k % 2 ≡ 1) → ordered k (parentOf F) (node F es d k) (node F es d (beside k)) ≡ parentOf F (node F es d (2 * (k / 2))) (node F es d (2 * (k / 2) + 1))
-    pick (inl e) =
-        let a : k ≡ 2 * (k / 2) = omega arith in
-        let b : beside k ≡ 2 * (k / 2) + 1 = sym (beside-even k e) ∙ omega arith in
-        left-first F k (node F es d k) (node F es d (beside k)) e ∙ ap₂ (λ (x y : ℕ). parentOf F (node F es d x) (node F es d y)) a b
-    pick (inr e) =
-        let a : k ≡ 2 * (k / 2) + 1 = omega arith in
-        let b : beside k ≡ 2 * (k / 2) = sym (beside-odd k e) ∙ omega arith in
-        right-first F k (node F es d k) (node F es d (beside k)) e ∙ ap₂ (λ (x y : ℕ). parentOf F (node F es d y) (node F es d x)) a b
 
 -- ---- a register of the sequence
 
@@ -114,8 +91,8 @@ module _ (F : List ℕ → List ℕ) (hf : HashFunction F) (ss : List Slot) (w :
       go : (h : Bool) → heldIn ss c ≡ h → heldIn ss c ≡ true
       go true h = h
       go false h = elim (decLt c (length (contents ss))) [
-        | yes l ↦ absurd (never (readVerdict F r c) _ _ read-done (told .notHeld c l h))
-        | no l ↦ absurd (never (readVerdict F r c) _ _ read-done (told .noRead c (omega arith)))
+        | yes l ↦ absurd (not-both-verdicts (readVerdict F r c) _ _ read-done (told .notHeld c l h))
+        | no l ↦ absurd (not-both-verdicts (readVerdict F r c) _ _ read-done (told .noRead c (omega arith)))
       ]
 
   read : Readable (r .tree) (r .n) c (chunkBytes r c)
@@ -146,34 +123,12 @@ module _ (F : List ℕ → List ℕ) (hf : HashFunction F) (ss : List Slot) (w :
       ∙ ap₂ (ordered (c / 2 ^ d) (parentOf F)) (way-node d (omega arith)) (side-node d l)
       ∙ step-node F es d (c / 2 ^ d) ∙ ap (node F es (suc d)) (half c d)
 
-  packet-is : packetWith (r .tree) (r .n) c (chunkBytes r c) ≡ p
-  unfolding packetWith packetOf
-  packet-is = refl
-
-  abbrev at : ℕ
-  at = 4 + length (chunkBytes r c) + 1 + 40 * length (siblings (r .n) c) + 1
-
-  others-place : othersPlace p (r .n) c + 1 ≡ at
-  unfolding othersPlace siblingsPlace
-  others-place =
-      ap (λ (l : ℕ). 4 + l + 1 + 40 * length (siblings (r .n) c) + 1)
-      (subst (λ (q : List ℕ). chunkLength q ≡ length (chunkBytes r c)) packet-is (length-back (r .tree) (r .n) c (chunkBytes r c) read))
-
-  node-in : (i a : ℕ) → filled (r .n) i ≡ true → part p a 40 ≡ part (r .tree) (entryPlace i) 40 → entryIn p a ≡ nodeAt F es i
-  node-in i a f h =
-      let g : filled (length ss) i ≡ true = subst (λ (m : ℕ). filled m i ≡ true) (b .count) f in
-      let k : filled (length es) i ≡ true = subst (λ (m : ℕ). filled m i ≡ true) (sym (leaves-length F ss)) g in
-      entry-in p a (nodeAt F es i) (nodeAt-proper F hf ss w i g)
-      (h ∙ stored-entry F hf ss w r b i (filled-below (r .n) i f) ∙ ap entryBytes (entryAt-filled F es i k))
-
   other-node : (j : ℕ) → j < length (otherRoots (r .n) c) → otherEntry p (r .n) c j ≡ nodeAt F es (getD (otherRoots (r .n) c) j 0)
   unfolding otherEntries entriesIn
   other-node j l =
       getD-run (λ h. entryIn p (othersPlace p (r .n) c + 1 + 40 * h)) 0 (length (otherRoots (r .n) c)) j hole l
-      ∙ ap₂ (λ (x y : ℕ). entryIn p (x + 40 * y)) others-place (zero-add j)
-      ∙ node-in (getD (otherRoots (r .n) c) j 0) (at + 40 * j) (others-filled (r .n) c (read .chunk) j l)
-      (subst (λ (q : List ℕ). part q (at + 40 * j) 40 ≡ part (r .tree) (entryPlace (getD (otherRoots (r .n) c) j 0)) 40) packet-is
-      (other-at (r .tree) (r .n) c (chunkBytes r c) read j l))
+      ∙ ap₂ (λ (x y : ℕ). entryIn p (x + 40 * y)) (others-place F hf ss w r b passed c is-held) (zero-add j)
+      ∙ node-other F hf ss w r b passed c is-held j l
 
   -- what the packet brings are the nodes of the register's chunks
   pub brings-nodes : (g : Given) → In g (brought F p (r .n) c) → g .entry ≡ nodeAt F (leaves F ss) (g .at)

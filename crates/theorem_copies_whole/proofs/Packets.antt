@@ -4,7 +4,7 @@ use mathlib.Core.Path.{_≡_, sym, ap, _∙_, subst}
 use mathlib.Core.Bool.{true}
 use mathlib.Core.List.{List, []}
 use lib.ListN.{length, getD}
-use Rattle.refusals.specs.Verdict.{done}
+use Rattle.answer_types.specs.Verdict.{done}
 use Rattle.tree_index.specs.Tree.{filled}
 use Rattle.file_format.specs.Sizes.{longestChunk}
 use Rattle.file_format.specs.Messages.{HashFunction}
@@ -21,8 +21,8 @@ use Rattle.packet.specs.Check.{packetChunk, packetVerdict}
 use Rattle.packet.specs.Inner.{ChunkOf}
 use Rattle.packet.proofs.Answers.{chunk-is, passes}
 use Rattle.copy_take_in.specs.TakeIn.{Given, packetStart, brought}
-use Rattle.theorem_taking_laws.proofs.Members.{In}
-use Rattle.theorem_taking_laws.proofs.Brought.{brought-filled}
+use Rattle.byte_strings.proofs.Members.{In}
+use Rattle.theorem_taking_laws.proofs.Among.{brought-filled}
 use Rattle.theorem_taking_laws.proofs.Starts.{HoldsAll, packet-descent}
 use Rattle.theorem_copies_whole.specs.Whole.{MadeFrom}
 use Rattle.theorem_copies_whole.proofs.Nodes.{same-leaves, held-chunk, passed, is-held, chunk-of, brings-nodes}

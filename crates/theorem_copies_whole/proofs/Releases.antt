@@ -9,7 +9,7 @@ use lib.Arith.{lt-of-le-ne}
 use lib.Dec.{eqb, ltb}
 use lib.ListN.{length, getD, length-replicate}
 use borrow.Author.Tests.{eq-eqb, ltb-true, ltb-false}
-use Rattle.refusals.specs.Verdict.{Verdict, tree, done, refused}
+use Rattle.answer_types.specs.Verdict.{Verdict, tree, done, refused}
 use Rattle.byte_strings.specs.Lists.{part, put, zeros}
 use Rattle.byte_strings.specs.Lowest.{nowhere}
 use Rattle.byte_strings.proofs.Lists.{length-put, part-put-before, part-put-behind}
@@ -39,12 +39,13 @@ use Rattle.lookup.proofs.ReadOrder.{reads}
 use Rattle.copy_checks.proofs.Descents.{unknownToChunk, chunk-read}
 use Rattle.copy_lookup.specs.Lookups.{copyHeldVerdict}
 use Rattle.copy_release.specs.Release.{copyReleaseVerdict, releasedCopy}
-use Rattle.theorem_taking_laws.proofs.Members.{In}
-use Rattle.theorem_taking_laws.proofs.Shown.{shown-held, shown-known, held-less}
-use Rattle.theorem_taking_laws.proofs.Descents.{descent-same}
+use Rattle.byte_strings.proofs.Members.{In}
+use Rattle.file_format.proofs.Shown.{shown-held, shown-known, held-less}
+use Rattle.theorem_taking_laws.proofs.SameDescents.{descent-same}
 use Rattle.theorem_copies_whole.proofs.Full.{full, full-belongs, full-count, full-descent}
 use Rattle.theorem_copies_whole.proofs.Alike.{all-known, reads-filled}
-use Rattle.theorem_copies_whole.proofs.Partly.{Partly, span-before, tree-bit-in}
+use Rattle.theorem_copies_whole.proofs.Partly.{Partly, tree-bit-in}
+use Rattle.theorem_copies_whole.proofs.ChunkSpans.{span-before}
 
 must-hold : (b : Bool) (v : Verdict) (i : ℕ) → cond b v (refused 18 (tree i)) ≡ done → (b ≡ true) × (v ≡ done)
 must-hold true v i e = (refl, e)

@@ -8,7 +8,7 @@ use borrow.Author.Tests.{eq-eqb}
 use lib.Dec.{eqb}
 use lib.ListN.{length, getD, take}
 use lib.Seq.{take-at}
-use Rattle.refusals.specs.Verdict.{Verdict, tree, done}
+use Rattle.answer_types.specs.Verdict.{Verdict, tree, done, andThen}
 use Rattle.byte_strings.specs.Lists.{part, total, sameList}
 use Rattle.byte_strings.specs.Lowest.{Lowest, nowhere, first}
 use Rattle.tree_index.specs.Tree.{index, entries, roots}
@@ -28,19 +28,18 @@ use Rattle.file_format.proofs.Slots.{all-length, all-contents}
 use Rattle.file_format.proofs.OfImage.{bitfieldHeader-length, stored-total}
 use Rattle.checks.specs.Checks.{Check, judged, addsUp}
 use Rattle.checks.proofs.Judged.{judged-right}
-use Rattle.checks.proofs.Passed.{same-of}
 use Rattle.audit.specs.Audit.{refusedAt}
-use Rattle.lookup.specs.Read.{andThen}
 use Rattle.packet.specs.Check.{packetChunk, packetTotal, packetVerdict}
 use Rattle.copy_checks.specs.Copy.{Copy, known}
 use Rattle.copy_checks.specs.Least.{lowerOf}
 use Rattle.copy_checks.specs.Checks.{unknownRoot, passedOver}
 use Rattle.copy_checks.proofs.Steps.{Lent, partly-passes}
 use Rattle.copy_take_in.specs.TakeIn.{Given, packetStart, contradicts, contradictsBytes, brought, contradiction, takeVerdict}
-use Rattle.copy_take_in.proofs.Calls.{fits}
-use Rattle.theorem_taking_laws.proofs.Members.{In, place-in}
-use Rattle.theorem_taking_laws.proofs.Brought.{brought-filled}
-use Rattle.theorem_taking_laws.proofs.Shown.{shown, shown-long, shown-held, shown-known}
+use Rattle.copy_take_in.proofs.Stages.{fits}
+use Rattle.byte_strings.proofs.Members.{In, place-in}
+use Rattle.byte_strings.proofs.Lists.{same-of}
+use Rattle.theorem_taking_laws.proofs.Among.{brought-filled}
+use Rattle.file_format.proofs.Shown.{shown, shown-long, shown-held, shown-known}
 use Rattle.theorem_taking_laws.proofs.Starts.{roots-total}
 use Rattle.theorem_taking_laws.proofs.Unknown.{each-least}
 use Rattle.theorem_copies_whole.specs.Whole.{MadeFrom}

@@ -18,7 +18,10 @@ use Rattle.packet.specs.Packet.{packetOf}
 use Rattle.copy_checks.specs.Copy.{Copy, unsigned}
 use Rattle.theorem_released_back.proofs.Took.{took}
 use Rattle.theorem_copies_whole.specs.Whole.{Grown, made, andTook, andTookFrom, andReleased, GrownOf, GrownForAll}
-use Rattle.theorem_copies_whole.proofs.Partly.{Partly, none, made-partly, took-partly, known-is, held-lies, whole}
+use Rattle.theorem_copies_whole.proofs.Partly.{Partly, known-is, held-lies}
+use Rattle.theorem_copies_whole.proofs.MadePartly.{none, made-partly}
+use Rattle.theorem_copies_whole.proofs.TookPartly.{took-partly}
+use Rattle.theorem_copies_whole.proofs.HoldsEvery.{whole}
 use Rattle.theorem_copies_whole.proofs.Packets.{nodes, piece, start}
 use Rattle.theorem_copies_whole.proofs.Takes.{takes}
 use Rattle.theorem_copies_whole.proofs.Releases.{releasing, released-partly}
@@ -64,9 +67,9 @@ module _ (F : List ℕ → List ℕ) (hf : HashFunction F) (cs : List (List ℕ)
   grown c g =
       let x = grows c g in
       record {
-        knows = known-is F cs hf w c (x .0) (x .1) (x .2) (x .3);
-        lies = λ k l e. ap (λ (a : ℕ). part (c .content) a (length (getD cs k []))) (start-in cs k (starts-within k (x .3 .count) l)) ∙ held-lies F cs hf w c (x .0) (x .1) (x .2) (x .3) k l e;
-        whole = whole F cs hf w c (x .0) (x .1) (x .2) (x .3);
+        knows = known-is (x .3);
+        lies = λ k l e. ap (λ (a : ℕ). part (c .content) a (length (getD cs k []))) (start-in cs k (starts-within k (x .3 .count) l)) ∙ held-lies (x .3) k l e;
+        whole = whole (x .3);
         takes = takes F hf cs w c (x .0) (x .1) (x .2) (x .3);
         takesFrom = λ d i out f m.
             let y = grows d f in

@@ -5,16 +5,16 @@ use mathlib.Core.Bool.{Bool, true, cond}
 use mathlib.Core.List.{List, [], _∷_}
 use borrow.Author.Tests.{lt-ltb}
 use lib.Dec.{ltb}
-use Rattle.refusals.specs.Verdict.{Verdict, tree, done, refused}
+use Rattle.answer_types.specs.Verdict.{Verdict, tree, done, refused, andThen}
 use Rattle.byte_strings.specs.Lists.{part}
+use Rattle.byte_strings.proofs.Lists.{same-of}
 use Rattle.tree_index.specs.Tree.{index}
 use Rattle.bitfield.specs.Release.{storedHeld}
 use Rattle.file_format.specs.Messages.{leafMessage}
 use Rattle.file_format.specs.Stored.{storedHash, storedSize}
 use Rattle.checks.proofs.Judged.{judged-right}
-use Rattle.checks.proofs.Passed.{same-of}
 use Rattle.lookup.specs.Lookup.{startOf, stopRefused}
-use Rattle.lookup.specs.Read.{chunkBytes, andThen, partUnless}
+use Rattle.lookup.specs.Read.{chunkBytes, partUnless}
 use Rattle.copy_checks.specs.Copy.{Copy, unsigned}
 use Rattle.copy_checks.specs.Descents.{copyToChunk}
 use Rattle.copy_checks.specs.Checks.{copyJudged}

@@ -9,7 +9,7 @@ use lib.Dec.{eqb}
 use lib.ListN.{length, length-append, length-replicate}
 use lib.Seq.{take-at}
 use Rattle.byte_strings.specs.Lists.{zeros}
-use Rattle.byte_strings.proofs.Lists.{bytes-append, bytes-zeros, same-eq}
+use Rattle.byte_strings.proofs.Lists.{bytes-append, bytes-zeros, same-eq, same-of}
 use Rattle.file_format.specs.Headers.{signaturesHeader}
 use Rattle.file_format.specs.Sizes.{usedSignatures}
 use Rattle.file_format.specs.Messages.{HashFunction}
@@ -17,7 +17,6 @@ use Rattle.file_format.specs.Slots.{Slot, Within}
 use Rattle.file_format.specs.Belongs.{Lent, Belongs}
 use Rattle.file_format.proofs.ImageBytes.{signaturesHeader-bytes}
 use Rattle.file_format.proofs.OfImage.{signaturesHeader-length}
-use Rattle.checks.proofs.Passed.{same-of}
 use Rattle.audit.proofs.Accepts.{belongs-accepted}
 use Rattle.audit.proofs.Audited.{accepted-audited}
 use Rattle.audit.proofs.Only.{cut, accepted-belongs}

@@ -10,10 +10,11 @@ use borrow.Author.Tests.{leb-true, le-leb, lt-ltb, eqb-true, eq-eqb}
 use lib.Dec.{ltb}
 use lib.ListN.{length, getD, take, drop}
 use lib.Seq.{take-add, getD-take}
-use Rattle.refusals.specs.Verdict.{done}
+use Rattle.answer_types.specs.Verdict.{done}
 use Rattle.byte_strings.specs.Lists.{part, joined, total, allZero, zeros}
 use Rattle.byte_strings.specs.Lowest.{Lowest}
-use Rattle.byte_strings.proofs.Lists.{length-part, run-ext, same-eq}
+use Rattle.byte_strings.proofs.Lists.{length-part, run-ext, same-eq, same-of}
+use Rattle.byte_strings.proofs.Bools.{clash}
 use Rattle.tree_index.specs.Tree.{index, filled, entries}
 use Rattle.tree_index.proofs.Index.{by-coordinates}
 use Rattle.tree_index.proofs.Filled.{filled-below, filled-end, filled-left, filled-right}
@@ -27,7 +28,7 @@ use Rattle.file_format.specs.Messages.{leafMessage}
 use Rattle.file_format.specs.Stored.{storedSize, storedStart, storedChunk, storedRootSizes}
 use Rattle.file_format.specs.Belongs.{Register}
 use Rattle.checks.specs.Checks.{judged, addsUp}
-use Rattle.checks.proofs.Passed.{Passed, same-of}
+use Rattle.checks.proofs.Passed.{Passed}
 use Rattle.audit.specs.Audit.{heldBits, entryRight, Accepted}
 use Rattle.audit.proofs.Audited.{LeafRight, ParentRight, Audited, audited-accepted, leaf-says, says-leaf, parent-says, says-parent, hole-says, says-hole, all-zero, zeros-zero}
 use Rattle.lookup.specs.Descent.{Ending, stopped, reached, unknown, always, chunkWithin, descent}
@@ -44,11 +45,11 @@ use Rattle.copy_checks.specs.Checks.{unknownRoot, passedOver}
 use Rattle.copy_checks.proofs.Steps.{Lent, partly-passed, partly-passes}
 use Rattle.copy_checks.proofs.Descents.{chunk-same}
 use Rattle.copy_audit.specs.Audit.{knownBits}
-use Rattle.theorem_taking_laws.proofs.Shown.{used-shown, shown-known}
+use Rattle.file_format.proofs.Shown.{used-shown, shown-known}
 use Rattle.theorem_copies_agree.specs.Theorems.{AllKnown}
 use Rattle.theorem_copies_agree.proofs.Known.{root-known, chunk-known}
 use Rattle.theorem_copy_audit.specs.Theorems.{leafStart, leafData, LeafSound, ParentSound, Sound, SignaturesPass}
-use Rattle.theorem_copy_audit.proofs.Sound.{clash, bits-are, passed-too, comes-to, leaf-filled}
+use Rattle.theorem_copy_audit.proofs.Sound.{bits-are, passed-too, comes-to, leaf-filled}
 use Rattle.file_format.specs.Images.{bitfieldImage, bitfieldOf}
 
 -- ---- where every length is right a chunk begins at the sum of the leaf lengths before it

@@ -3,16 +3,18 @@ use Prim.Native.Nat.{ℕ, zero, suc, _+_, _-_, _*_, _≤_, _<_}
 use mathlib.Core.Path.{_≡_, refl, sym, ap, ap₂, _∙_, subst}
 use mathlib.Core.Bool.{Bool, true, false, cond, not, _&&_, _||_}
 use mathlib.Core.List.{List, _++_}
-use native.Mathlib.Nat.{add-zero, add-suc, suc-add, zero-add, mul-one, mul-comm}
+use native.Mathlib.Nat.{zero-add, mul-one, mul-comm}
 use native.Mathlib.Omega.{arith}
 use borrow.Author.Tests.{leb-true, le-leb, eqb-true, eq-eqb}
 use lib.Dec.{leb}
 use lib.ListN.{length, getD, take}
 use lib.Seq.{take-add, getD-take}
-use Rattle.refusals.specs.Verdict.{tree, bitfield, done}
+use Rattle.answer_types.specs.Verdict.{tree, bitfield, done}
 use Rattle.byte_strings.specs.Lists.{part, run, joined, sameList, allZero, zeros}
 use Rattle.byte_strings.specs.Lowest.{Lowest, nowhere, first}
-use Rattle.byte_strings.proofs.Lists.{length-part, length-joined, same-eq}
+use Rattle.byte_strings.proofs.Lists.{length-part, length-joined, same-eq, same-of}
+use Rattle.byte_strings.proofs.Lowest.{nowhere-right, right-nowhere, never-first}
+use Rattle.byte_strings.proofs.Bools.{both-true, true-both, clash}
 use Rattle.tree_index.specs.Tree.{index, leftChild, rightChild, filled, entries}
 use Rattle.tree_index.proofs.Index.{depth-index, block-index, by-coordinates, leftChild-index, rightChild-index}
 use Rattle.tree_index.proofs.Filled.{end-filled, filled-below, filled-end}
@@ -23,57 +25,29 @@ use Rattle.file_format.specs.Headers.{bitfieldHeader}
 use Rattle.file_format.specs.Sizes.{mostChunks, longestChunk, entryPlace, usedBitfield}
 use Rattle.file_format.specs.Messages.{leafMessage, parentMessage}
 use Rattle.file_format.specs.Stored.{storedHash, storedSize}
-use Rattle.checks.proofs.Judged.{both-right, right-both}
-use Rattle.checks.proofs.Passed.{same-of}
 use Rattle.audit.specs.Audit.{parentRight, holeRight, heldBits, refusedAt, byteRightBy, leafFrom}
-use Rattle.audit.proofs.Audited.{parent-right, right-parent, at-must, nowhere-right, right-nowhere, all-zero, zeros-zero}
+use Rattle.audit.proofs.Audited.{parent-right, right-parent, at-must, all-zero, zeros-zero}
 use Rattle.lookup.specs.Descent.{Ending, stopped, reached, unknown, chunkWithin, descent}
 use Rattle.lookup.specs.Lookup.{startOf}
 use Rattle.lookup.proofs.Descents.{Ends, ends, chunk-order}
 use Rattle.short_lookup.proofs.Accepted.{entries-cut}
 use Rattle.copy_checks.specs.Copy.{Copy, known}
-use Rattle.copy_checks.specs.Least.{lowerOf, leastOf}
 use Rattle.copy_checks.specs.Descents.{copyToChunk}
 use Rattle.copy_checks.specs.Checks.{passedOver}
-use Rattle.copy_checks.proofs.Least.{lower-none}
+use Rattle.copy_checks.proofs.Least.{least-each, each-least}
 use Rattle.copy_checks.proofs.Steps.{Lent, partly-passed, partly-passes}
 use Rattle.copy_audit.specs.Audit.{wrongUnless, heldLeaf, bothKnown, wrongFrom, wrongByLeaf, wrongByParent, wrongByKnown, wrongByUnknown, copyByteRight}
 use Rattle.copy_audit.specs.Audit.{wrongBy, wrongEntryOfCopy, knownBits, wrongByteOfCopy, auditCopy, AcceptedCopy, leafRightFrom}
+use Rattle.copy_audit.proofs.Judged.{unless-right, right-unless}
 use Rattle.theorem_copy_audit.specs.Theorems.{leafStart, leafData, bitsOf, EntryZero, LeafSound, ParentSound, Sound}
 use Rattle.file_format.specs.Images.{bitfieldOf}
 
 -- ---- what a test finds
 
-never-first : {A : Type 0} (i : ℕ) → first i ≡ nowhere → A
-never-first i e = let z : _≡_ {A = ℕ} 0 1 = cc in absurd (omega arith)
-
-pub clash : {A : Type 0} (b : Bool) → b ≡ true → b ≡ false → A
-clash b p q = let z : _≡_ {A = ℕ} 0 1 = cc in absurd (omega arith)
-
 -- 6 that is passed is passed over too
 pub passed-too : (l : Lowest) (b : Bool) → b ≡ true → passedOver l b ≡ true
 passed-too nowhere b e = e
 passed-too (first i) b e = refl
-
-unless-right : (b : Bool) (i : ℕ) → wrongUnless b i ≡ nowhere → b ≡ true
-unless-right true i e = refl
-unless-right false i e = never-first i e
-
-right-unless : (b : Bool) (i : ℕ) → b ≡ true → wrongUnless b i ≡ nowhere
-right-unless b i e = ap (λ (x : Bool). wrongUnless x i) e
-
-least-each : (f : ℕ → Lowest) (i m : ℕ) → leastOf (run f i m) ≡ nowhere → (j : ℕ) → j < m → f (i + j) ≡ nowhere
-unfolding leastOf run
-least-each f i zero e j h = absurd (omega arith)
-least-each f i (suc m) e zero h = ap f (add-zero i) ∙ lower-none (f i) (leastOf (run f (suc i) m)) e .0
-least-each f i (suc m) e (suc j) h =
-    ap f (add-suc i j ∙ sym (suc-add i j)) ∙ least-each f (suc i) m (lower-none (f i) (leastOf (run f (suc i) m)) e .1) j (omega arith)
-
-each-least : (f : ℕ → Lowest) (i m : ℕ) → ((j : ℕ) → i ≤ j → j < i + m → f j ≡ nowhere) → leastOf (run f i m) ≡ nowhere
-unfolding leastOf run lowerOf
-each-least f i zero h = refl
-each-least f i (suc m) h =
-    ap₂ lowerOf (h i (omega arith) (omega arith)) (each-least f (suc i) m (λ j a b. h j (omega arith) (omega arith)))
 
 -- ---- a descent that comes to a leaf comes to the one that is sought
 
@@ -114,8 +88,8 @@ module _ (F : List ℕ → List ℕ) (c : Copy) where
       from (stopped i) w q = never-first i q
       from (unknown i) w q = never-first (index 0 k) q
       from (reached j s) w q =
-          let a = both-right (leb (size k) longestChunk) _ (unless-right (leafRightFrom F c k s) (index 0 k) q) in
-          let b = both-right (leb (s + size k) (c .size)) (lastTest (heldBit k) k s) (a .1) in
+          let a = both-true (leb (size k) longestChunk) _ (unless-right (leafRightFrom F c k s) (index 0 k) q) in
+          let b = both-true (leb (s + size k) (c .size)) (lastTest (heldBit k) k s) (a .1) in
           let start : s ≡ leafStart c k = sym (ap startOf w) in
           let inside : s + size k ≤ c .size = leb-true (s + size k) (c .size) (b .0) in
           record {
@@ -134,8 +108,8 @@ module _ (F : List ℕ → List ℕ) (c : Copy) where
   sound-leaf k s =
       ap (wrongFrom F c k) (s .comes)
       ∙ right-unless (leafRightFrom F c k (leafStart c k)) (index 0 k)
-      (right-both _ _ (le-leb (size k) longestChunk (s .short))
-      (right-both _ _ (le-leb (leafStart c k + size k) (c .size) (s .inside)) (last (heldBit k) refl)))
+      (true-both _ _ (le-leb (size k) longestChunk (s .short))
+      (true-both _ _ (le-leb (leafStart c k + size k) (c .size) (s .inside)) (last (heldBit k) refl)))
     where
       last : (b : Bool) → heldBit k ≡ b → lastTest (heldBit k) k (leafStart c k) ≡ true
       last true e =
@@ -172,7 +146,7 @@ module _ (F : List ℕ → List ℕ) (c : Copy) where
       pick : (b : Bool) → bothKnown c i ≡ b → (not b || parentRight F t i) ≡ true
       pick false e = refl
       pick true e =
-          let a = both-right (known c (leftChild i)) (known c (rightChild i)) e in
+          let a = both-true (known c (leftChild i)) (known c (rightChild i)) e in
           let p = s (sym (ap (known c) (leftChild-index d k)) ∙ a .0) (sym (ap (known c) (rightChild-index d k)) ∙ a .1) in
           let l = sym (leftChild-index d k) in
           let r = sym (rightChild-index d k) in
@@ -225,7 +199,7 @@ module _ (F : List ℕ → List ℕ) (c : Copy) where
     unfolding asked
     found-unknown =
         by-coordinates (λ i. filled (c .n) i ≡ true → known c i ≡ false → EntryZero t i)
-        (λ d k f e. zero-hole (index d k) (both-right _ _ (unless-right _ (index d k) (here d k f false e)) .0))
+        (λ d k f e. zero-hole (index d k) (both-true _ _ (unless-right _ (index d k) (here d k f false e)) .0))
 
     found-held : (k : ℕ) → k < c .n → heldBit k ≡ true → known c (index 0 k) ≡ true
     unfolding asked heldAt
@@ -234,7 +208,7 @@ module _ (F : List ℕ → List ℕ) (c : Copy) where
         pick : (b : Bool) → known c (index 0 k) ≡ b → b ≡ true
         pick true q = refl
         pick false q =
-            clash (not (heldBit k)) (both-right (holeRight F t (index 0 k)) (not (heldBit k)) (unless-right _ (index 0 k) (here 0 k (leaf-filled k h) false q)) .1)
+            clash (not (heldBit k)) (both-true (holeRight F t (index 0 k)) (not (heldBit k)) (unless-right _ (index 0 k) (here 0 k (leaf-filled k h) false q)) .1)
             (ap not e)
 
     found-leaf : (k : ℕ) → k < c .n → known c (index 0 k) ≡ true → LeafSound F c k
@@ -306,13 +280,13 @@ module _ (F : List ℕ → List ℕ) (c : Copy) where
     sound-entry zero k true true p q h = sound-leaf k (s .leaf k (omega (arith, mul-one (k + 1), filled-end (c .n) 0 k p)) q)
     sound-entry (suc d) k true true p q h = sound-parent d k (s .parent d k p q)
     sound-entry zero k true false p q h =
-        right-unless _ (index 0 k) (right-both _ _ (hole-zero (index 0 k) (s .unknown (index 0 k) p q)) (pick (heldBit k) refl))
+        right-unless _ (index 0 k) (true-both _ _ (hole-zero (index 0 k) (s .unknown (index 0 k) p q)) (pick (heldBit k) refl))
       where
         pick : (b : Bool) → heldBit k ≡ b → not b ≡ true
         pick false e = refl
         pick true e = clash (known c (index 0 k)) (s .heldKnown k (omega (arith, mul-one (k + 1), filled-end (c .n) 0 k p)) e) q
     sound-entry (suc d) k true false p q h =
-        right-unless _ (index (suc d) k) (right-both _ true (hole-zero (index (suc d) k) (s .unknown (index (suc d) k) p q)) refl)
+        right-unless _ (index (suc d) k) (true-both _ true (hole-zero (index (suc d) k) (s .unknown (index (suc d) k) p q)) refl)
 
     sound-none : (i : ℕ) → i < entries (c .n) → wrongBy F c i ≡ nowhere
     sound-none =

@@ -1,7 +1,7 @@
 -- What an accepted copy is: each parent that is known with its children follows from them, and its bitfield file shows its bits. Assumes nothing.
 use Prim.Native.Nat.{ℕ, zero, suc, _+_, _-_, _*_, _≤_, _<_}
 use mathlib.Core.Path.{_≡_, refl, sym, ap, ap₂, _∙_, subst₂}
-use mathlib.Core.Bool.{Bool, true, false, cond, _&&_}
+use mathlib.Core.Bool.{Bool, true, cond, _&&_}
 use mathlib.Core.List.{List, [], _++_}
 use native.Mathlib.Nat.{zero-add}
 use native.Mathlib.Decide.{decLt}
@@ -10,9 +10,10 @@ use borrow.Author.Tests.{eqb-true}
 use lib.Dec.{eqb}
 use lib.ListN.{length, getD, take, drop, List·getD-append}
 use lib.Seq.{ext-getD, getD-take, length-take-le}
-use Rattle.refusals.specs.Verdict.{Verdict, tree, bitfield, done}
+use Rattle.answer_types.specs.Verdict.{Verdict, tree, bitfield, done}
 use Rattle.byte_strings.specs.Lowest.{Lowest, nowhere}
 use Rattle.byte_strings.proofs.Bools.{where-true}
+use Rattle.byte_strings.proofs.Lowest.{nowhere-right}
 use Rattle.tree_index.specs.Tree.{index, depth, block, leftChild, rightChild, filled, entries}
 use Rattle.tree_index.proofs.Index.{depth-index, leftChild-index, rightChild-index}
 use Rattle.tree_index.proofs.Filled.{filled-below}
@@ -20,21 +21,18 @@ use Rattle.file_format.specs.Headers.{bitfieldHeader}
 use Rattle.file_format.specs.Sizes.{usedBitfield}
 use Rattle.file_format.proofs.OfImage.{bitfieldHeader-length}
 use Rattle.audit.specs.Audit.{parentRight, holeRight, heldBits, refusedAt, byteRightBy}
-use Rattle.audit.proofs.Audited.{nowhere-right, at-must, ParentRight, parent-right}
+use Rattle.audit.proofs.Audited.{at-must, ParentRight, parent-right}
 use Rattle.copy_checks.specs.Copy.{Copy, known}
 use Rattle.copy_checks.proofs.Least.{least-each}
 use Rattle.copy_checks.proofs.Steps.{Lent, partly-passed}
 use Rattle.copy_audit.specs.Audit.{wrongUnless, bothKnown, wrongByLeaf, wrongByParent, wrongByKnown, wrongByUnknown, wrongBy, wrongEntryOfCopy, knownBits}
 use Rattle.copy_audit.specs.Audit.{wrongByteOfCopy, auditCopy, AcceptedCopy, copyByteRight}
-use Rattle.theorem_taking_laws.proofs.Shown.{shown, shown-used, shown-long, used-shown}
+use Rattle.copy_audit.proofs.Judged.{unless-right}
+use Rattle.file_format.proofs.Shown.{shown, shown-used, shown-long, used-shown}
 use Rattle.file_format.specs.Images.{bitfieldOf}
 use Rattle.bitfield.specs.Image.{entriesFor}
 
 -- ---- each entry
-
-right-of : (b : Bool) (i : ℕ) → wrongUnless b i ≡ nowhere → b ≡ true
-right-of true i e = refl
-right-of false i e = absurd (let z : _≡_ {A = ℕ} 0 1 = cc in omega arith)
 
 module _ (F : List ℕ → List ℕ) (c : Copy) (a : AcceptedCopy F c) where
   passed : Lent c × ((wrongEntryOfCopy F c ≡ nowhere) × (wrongByteOfCopy c ≡ nowhere))
@@ -65,7 +63,7 @@ module _ (F : List ℕ → List ℕ) (c : Copy) (a : AcceptedCopy F c) where
       ap₂ (λ (p q : Bool). p && q) (ap (known c) (leftChild-index d k) ∙ left) (ap (known c) (rightChild-index d k) ∙ right) in
       subst₂ (ParentRight F (c .tree) (c .content) x) (leftChild-index d k) (rightChild-index d k)
       (parent-right F (c .tree) (c .content) x
-      (where-true (known c (leftChild x) && known c (rightChild x)) (parentRight F (c .tree) x) both (right-of _ x none)))
+      (where-true (known c (leftChild x) && known c (rightChild x)) (parentRight F (c .tree) x) both (unless-right _ x none)))
 
   -- ---- the bitfield file
 

@@ -8,7 +8,7 @@ use native.Mathlib.Omega.{arith}
 use borrow.Author.Tests.{lt-ltb, eqb-true}
 use lib.Dec.{ltb}
 use lib.ListN.{length, drop}
-use Rattle.refusals.specs.Verdict.{Verdict, tree, done, unlessRefused}
+use Rattle.answer_types.specs.Verdict.{Verdict, tree, done, unlessRefused}
 use Rattle.byte_strings.specs.Lists.{total, Bytes}
 use Rattle.tree_index.specs.Tree.{index, roots}
 use Rattle.bitfield.specs.Release.{storedHeld}
@@ -19,7 +19,6 @@ use Rattle.file_format.specs.Messages.{HashFunction}
 use Rattle.file_format.specs.Stored.{storedRootSizes, storedRootMessage}
 use Rattle.file_format.proofs.Hashed.{hash-function}
 use Rattle.checks.specs.Checks.{addsUp}
-use Rattle.checks.proofs.Judged.{right-both}
 use Rattle.audit.specs.Audit.{heldBits}
 use Rattle.lookup.specs.Descent.{reached}
 use Rattle.lookup.specs.Lookup.{toChunk}
@@ -42,13 +41,14 @@ use Rattle.copy_packet.specs.Making.{copyMakeVerdict}
 use Rattle.copy_release.specs.Release.{copyReleaseVerdict, releasedCopy}
 use Rattle.copy_take_in.specs.TakeIn.{takeVerdict, afterTaking}
 use Rattle.copy_audit.specs.Audit.{AcceptedCopy}
-use Rattle.theorem_taking_laws.proofs.Members.{In}
-use Rattle.theorem_taking_laws.proofs.Brought.{wayIndex, way-filled, top-root, above-root}
-use Rattle.theorem_taking_laws.proofs.Descents.{Half, inLeft, inRight, halves}
-use Rattle.theorem_taking_laws.proofs.Shown.{shown}
+use Rattle.byte_strings.proofs.Members.{In}
+use Rattle.byte_strings.proofs.Bools.{true-both}
+use Rattle.theorem_taking_laws.proofs.Ways.{wayIndex, way-filled, top-root, above-root}
+use Rattle.theorem_taking_laws.proofs.Halves.{Half, inLeft, inRight, halves}
+use Rattle.file_format.proofs.Shown.{shown}
 use Rattle.theorem_taken_in.proofs.Has.{Has, reads-piece, root-done, root-is, release-done, taken-again, comes-back}
-use Rattle.theorem_comes_back.proofs.Made.{Sound, sound-has}
-use Rattle.theorem_comes_back.proofs.ComesBack.{read-hash, shown-again}
+use Rattle.theorem_packet_returns.proofs.Made.{Sound, sound-has}
+use Rattle.theorem_packet_returns.proofs.ComesBack.{read-hash, shown-again}
 use Rattle.theorem_copies_whole.proofs.Alike.{all-known}
 use Rattle.theorem_copies_whole.proofs.Known.{KnownBelow, descent-known, brought-known}
 use Rattle.theorem_copies_whole.proofs.Releases.{Releasing, releasing}
@@ -100,7 +100,7 @@ module _ (F : List ℕ → List ℕ) (c : Copy) (i : ℕ) (e : copyReadVerdict F
         let bits : c .bitfield ≡ shown (heldOf F c a) (knownOf F c a) (c .n) (drop (usedBitfield (c .n)) (c .bitfield)) = bits-shown F c a in
         ap (λ (x : List ℕ). heldAgain x i) bits
         ∙ shown-again (heldOf F c a) (knownOf F c a) (c .n) tail i (r .below)
-        (right-both (ltb i (c .n)) (storedHeld (c .bitfield) i) (lt-ltb i (c .n) (r .below)) (r .holds))
+        (true-both (ltb i (c .n)) (storedHeld (c .bitfield) i) (lt-ltb i (c .n) (r .below)) (r .holds))
         ∙ sym bits
 
     sound : Sound F c i

@@ -11,7 +11,7 @@
 use Prim.Native.Nat.{ℕ, _≤_}
 use mathlib.Core.Path.{_≡_}
 use mathlib.Core.List.{List}
-use Rattle.refusals.specs.Verdict.{done}
+use Rattle.answer_types.specs.Verdict.{done}
 use Rattle.byte_strings.specs.Lists.{Bytes}
 use Rattle.file_format.specs.Messages.{HashFunction}
 use Rattle.packet.specs.Packet.{packetOf}

@@ -7,7 +7,7 @@ use native.Mathlib.Nat.{add-zero}
 use native.Mathlib.Omega.{arith}
 use lib.Dec.{eqb}
 use lib.ListN.{length, getD, take}
-use Rattle.refusals.specs.Verdict.{Verdict, tree}
+use Rattle.answer_types.specs.Verdict.{Verdict, tree}
 use Rattle.byte_strings.specs.Lists.{part, total, sameList}
 use Rattle.byte_strings.specs.Numbers.{number}
 use Rattle.byte_strings.specs.Lowest.{Lowest, nowhere, first}

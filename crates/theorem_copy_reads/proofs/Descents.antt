@@ -9,6 +9,7 @@ use native.Mathlib.Omega.{arith}
 use borrow.Author.Tests.{ltb-true, ltb-false}
 use lib.Dec.{leb, ltb, eqb}
 use lib.ListN.{length, getD}
+use Rattle.byte_strings.proofs.Bools.{chosen}
 use Rattle.tree_index.specs.Tree.{index, depth, block, filled, roots}
 use Rattle.tree_index.proofs.Index.{index-of}
 use Rattle.tree_index.proofs.Filled.{filled-left, filled-right}
@@ -18,9 +19,9 @@ use Rattle.file_format.specs.Stored.{storedSize}
 use Rattle.lookup.specs.Descent.{Ending, stopped, reached, ifKnown, chunkWithin, descend, fromRoots, descent}
 use Rattle.packet.specs.Packet.{rootAbove, siblings}
 use Rattle.packet.specs.Inner.{ChunkOf}
-use Rattle.theorem_used_bytes.proofs.Lookups.{choose}
-use Rattle.theorem_taking_laws.proofs.Brought.{wayIndex, sideIndex, siblings-deep}
-use Rattle.theorem_taking_laws.proofs.Descents.{Half, inLeft, inRight, halves, block-above}
+use Rattle.theorem_taking_laws.proofs.Ways.{wayIndex, sideIndex, siblings-deep}
+use Rattle.theorem_taking_laws.proofs.Halves.{Half, inLeft, inRight, halves}
+use Rattle.theorem_taking_laws.proofs.ReadsNear.{block-above}
 
 -- ---- two tree files
 
@@ -36,11 +37,11 @@ module _ (known : ℕ → Bool) where
   module _ (within : ℕ → ℕ → ℕ → ℕ → Bool) (t u : List ℕ) (n : ℕ) (same : (i : ℕ) → filled n i ≡ true → known i ≡ true → storedSize t i ≡ storedSize u i) where
     -- what follows the reading of both children, by the lengths and by where the turns lead
     abbrev turn : ℕ → ℕ → ℕ → ℕ → ℕ → ℕ → Ending → (ℕ → Ending) → Ending
-    turn d k s a b c x y = choose (eqb a (b + c)) (choose (within d (2 * k) s b) x (y (s + b))) (stopped (index (suc d) k))
+    turn d k s a b c x y = chosen (eqb a (b + c)) (chosen (within d (2 * k) s b) x (y (s + b))) (stopped (index (suc d) k))
 
     same-below : (d k s : ℕ) → filled n (index d k) ≡ true → known (index d k) ≡ true → descend known within t d k s ≡ descend known within u d k s
     unfolding descend
-    same-below zero k s f h = ap (λ (z : ℕ). choose (leb z longestChunk) (reached k s) (stopped (index 0 k))) (same (index 0 k) f h)
+    same-below zero k s f h = ap (λ (z : ℕ). chosen (leb z longestChunk) (reached k s) (stopped (index 0 k))) (same (index 0 k) f h)
     same-below (suc d) k s f h =
         behind l (ifKnown (known r) r (on t)) (ifKnown (known r) r (on u))
         (λ p. behind r (on t) (on u)
@@ -66,8 +67,8 @@ module _ (known : ℕ → Bool) where
         turned : left t ≡ left u → ((z : ℕ) → right t z ≡ right u z)
             → on t ≡ turn d k s (storedSize t (index (suc d) k)) (storedSize t l) (storedSize t r) (left u) (right u)
         turned e g =
-            λ i. choose (eqb (storedSize t (index (suc d) k)) (storedSize t l + storedSize t r))
-            (choose (within d (2 * k) s (storedSize t l)) (e i) (g (s + storedSize t l) i)) (stopped (index (suc d) k))
+            λ i. chosen (eqb (storedSize t (index (suc d) k)) (storedSize t l + storedSize t r))
+            (chosen (within d (2 * k) s (storedSize t l)) (e i) (g (s + storedSize t l) i)) (stopped (index (suc d) k))
 
     same-from : (is : List ℕ) (s : ℕ) → ((j : ℕ) → j < length is → filled n (getD is j 0) ≡ true)
         → fromRoots known within t is s ≡ fromRoots known within u is s
@@ -79,10 +80,10 @@ module _ (known : ℕ → Bool) where
         (λ p.
         let here = same-below (depth i) (block i) s (ap (filled n) (index-of i) ∙ f) (ap known (index-of i) ∙ p) in
         let on = same-from is (s + storedSize t i) (λ j l. h (suc j) (omega arith)) in
-        (λ j. choose (within (depth i) (block i) s (storedSize t i)) (here j) (on j)) ∙ ap (picked u) (same i f p))
+        (λ j. chosen (within (depth i) (block i) s (storedSize t i)) (here j) (on j)) ∙ ap (picked u) (same i f p))
       where
         picked : List ℕ → ℕ → Ending
-        picked v z = choose (within (depth i) (block i) s z) (descend known within v (depth i) (block i) s) (fromRoots known within v is (s + z))
+        picked v z = chosen (within (depth i) (block i) s z) (descend known within v (depth i) (block i) s) (fromRoots known within v is (s + z))
 
     -- tree files that agree on the known entries of n chunks have the same endings
     pub same-descent : descent known within t n ≡ descent known within u n
@@ -96,7 +97,7 @@ read-known : (b : Bool) (i : ℕ) (e : Ending) (a z : ℕ) → ifKnown b i e ≡
 read-known true i e a z q = (refl, q)
 read-known false i e a z q = let x : _≡_ {A = ℕ} 0 1 = cc in absurd (omega arith)
 
-not-stopped : (b : Bool) (e : Ending) (i a z : ℕ) → choose b e (stopped i) ≡ reached a z → e ≡ reached a z
+not-stopped : (b : Bool) (e : Ending) (i a z : ℕ) → chosen b e (stopped i) ≡ reached a z → e ≡ reached a z
 not-stopped true e i a z q = q
 not-stopped false e i a z q = let x : _≡_ {A = ℕ} 0 1 = cc in absurd (omega arith)
 
@@ -129,12 +130,12 @@ module _ (known : ℕ → Bool) (t : List ℕ) (c : ℕ) where
               (subst (λ (j : ℕ). known (wayIndex c j) ≡ true) same x, subst (λ (j : ℕ). known (sideIndex c j) ≡ true) same y)
 
       next : Below d → (w : Bool) → (w ≡ true → 2 * k ≡ c / 2 ^ d) → (w ≡ false → 2 * k + 1 ≡ c / 2 ^ d)
-          → choose w (descend known (chunkWithin c) t d (2 * k) s) (descend known (chunkWithin c) t d (2 * k + 1) (s + size)) ≡ reached a z → Around d
+          → chosen w (descend known (chunkWithin c) t d (2 * k) s) (descend known (chunkWithin c) t d (2 * k + 1) (s + size)) ≡ reached a z → Around d
       next rec true f g r = rec (2 * k) s a z (f refl) r
       next rec false f g r = rec (2 * k + 1) (s + size) a z (g refl) r
 
       pick : Below d → Half c d k → known (index d (2 * k)) ≡ true → known (index d (2 * k + 1)) ≡ true
-          → choose (ltb c ((2 * k + 1) * 2 ^ d)) (descend known (chunkWithin c) t d (2 * k) s) (descend known (chunkWithin c) t d (2 * k + 1) (s + size))
+          → chosen (ltb c ((2 * k + 1) * 2 ^ d)) (descend known (chunkWithin c) t d (2 * k) s) (descend known (chunkWithin c) t d (2 * k + 1) (s + size))
           ≡ reached a z → Around (suc d)
       pick rec (inLeft p l r w) x y o =
           more (next rec (ltb c ((2 * k + 1) * 2 ^ d)) (λ m. sym p) (λ m. absurd (omega (arith, ltb-false c ((2 * k + 1) * 2 ^ d) m))) o)
@@ -157,7 +158,7 @@ module _ (known : ℕ → Bool) (t : List ℕ) (c : ℕ) where
       pick : (fromRoots known (chunkWithin c) t is (s + storedSize t i) ≡ reached a z
           → (x : ℕ) × (descend known (chunkWithin c) t (depth (rootAbove is c)) (block (rootAbove is c)) x ≡ reached a z) × (known (rootAbove is c) ≡ true))
           → (w : Bool) → known i ≡ true
-          → choose w (descend known (chunkWithin c) t (depth i) (block i) s) (fromRoots known (chunkWithin c) t is (s + storedSize t i)) ≡ reached a z
+          → chosen w (descend known (chunkWithin c) t (depth i) (block i) s) (fromRoots known (chunkWithin c) t is (s + storedSize t i)) ≡ reached a z
           → (x : ℕ) × (descend known (chunkWithin c) t (depth (pickRoot w)) (block (pickRoot w)) x ≡ reached a z) × (known (pickRoot w) ≡ true)
       pick rec true k r = (s, r, k)
       pick rec false k r = rec r

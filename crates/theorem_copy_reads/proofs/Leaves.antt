@@ -7,12 +7,11 @@ use native.Mathlib.Nat.{mul-one}
 use native.Mathlib.Omega.{arith}
 use borrow.Author.Tests.{ltb-true}
 use lib.Dec.{ltb}
-use Rattle.refusals.specs.Verdict.{Spot, Verdict, tree, done, refused}
+use Rattle.answer_types.specs.Verdict.{Spot, Verdict, tree, done, refused, andThen}
 use Rattle.tree_index.specs.Tree.{index, filled}
 use Rattle.tree_index.proofs.Filled.{end-filled}
 use Rattle.bitfield.specs.Known.{storedKnown}
 use Rattle.checks.proofs.Judged.{judged-done}
-use Rattle.lookup.specs.Read.{andThen}
 use Rattle.stored_leaf.specs.StoredLeaf.{leafIn, leafHash, leafLength}
 use Rattle.stored_leaf.proofs.Calls.{then-next, hash-same, length-same}
 use Rattle.copy_checks.specs.Copy.{Copy}

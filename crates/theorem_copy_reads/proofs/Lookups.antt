@@ -7,8 +7,9 @@ use native.Mathlib.Nat.{mul-one}
 use native.Mathlib.Omega.{arith}
 use borrow.Author.Tests.{ltb-true}
 use lib.Dec.{leb, ltb, eqb}
-use Rattle.refusals.specs.Verdict.{Spot, Verdict, tree, done, refused}
+use Rattle.answer_types.specs.Verdict.{Spot, Verdict, tree, done, refused, andThen}
 use Rattle.byte_strings.specs.Lists.{part, sameList}
+use Rattle.byte_strings.proofs.Bools.{chosen}
 use Rattle.tree_index.specs.Tree.{index, filled}
 use Rattle.tree_index.proofs.Filled.{end-filled}
 use Rattle.bitfield.specs.Known.{storedKnown}
@@ -17,11 +18,12 @@ use Rattle.file_format.specs.Messages.{leafMessage}
 use Rattle.file_format.specs.Stored.{storedHash, storedSize}
 use Rattle.checks.specs.Checks.{Check, judged}
 use Rattle.checks.proofs.Judged.{judged-done}
-use Rattle.lookup.specs.Descent.{Ending, stopped, reached, unknown, chunkWithin, byteWithin}
+use Rattle.lookup.specs.Descent.{Ending, reached, chunkWithin, byteWithin}
 use Rattle.lookup.specs.Lookup.{stopRefused, foundUnless, chunkOf, startOf, toChunk, byteEnding}
-use Rattle.lookup.specs.Read.{chunkBytes, andThen, partUnless}
+use Rattle.lookup.specs.Read.{chunkBytes, partUnless}
+use Rattle.lookup.proofs.Calls.{done-reached}
 use Rattle.packet.specs.Inner.{ChunkOf}
-use Rattle.theorem_used_bytes.proofs.Lookups.{choose, found-same, then-same, then-first}
+use Rattle.theorem_used_bytes.proofs.Lookups.{found-same, then-same, then-first}
 use Rattle.copy_checks.specs.Copy.{Copy, known, unsigned}
 use Rattle.copy_checks.specs.Descents.{copyToChunk, copyToByte}
 use Rattle.copy_checks.specs.Checks.{copyJudged}
@@ -31,13 +33,6 @@ use Rattle.copy_lookup.specs.Reading.{copyReadVerdict, copyReadPart, copyReadFo
 use Rattle.copy_lookup.proofs.AsRegister.{held-same}
 use Rattle.theorem_copy_reads.proofs.Descents.{same-descent, leaf-known}
 use Rattle.theorem_copy_reads.proofs.Checks.{Agreed, hash-same, size-same, one, two, copy-same}
-
--- a descent that is not refused came to a leaf
-pub came-to : (e : Ending) → stopRefused e ≡ done → (a : ℕ) × (z : ℕ) × (e ≡ reached a z)
-unfolding stopRefused
-came-to (stopped i) q = let x : _≡_ {A = ℕ} 0 1 = cc in absurd (omega arith)
-came-to (reached k s) q = (k, s, refl)
-came-to (unknown i) q = let x : _≡_ {A = ℕ} 0 1 = cc in absurd (omega arith)
 
 held-must : (b : Bool) (v : Verdict) (m : ℕ) (at : Spot) → cond b v (refused m at) ≡ done → v ≡ done
 held-must true v m at e = e
@@ -65,7 +60,7 @@ module _ (c : Copy) (i : ℕ) where
   unfolding copyToChunk
   reach k l e =
       let h : ChunkOf (c .n) i = record { count = k .lent .count; below = ltb-true i (c .n) l } in
-      let q = came-to (copyToChunk c i) e in
+      let q = done-reached (copyToChunk c i) e in
       record {
         knows = k;
         chunk = h;
@@ -105,7 +100,7 @@ module _ (t u bits : List ℕ) (n : ℕ) (g : Agreed t u bits n) (content : List
 
   to-byte-same : (x : ℕ) → copyToByte a x ≡ copyToByte b x
   unfolding copyToByte byteEnding
-  to-byte-same x = ap (choose (eqb x size) (reached n size)) (same-descent (storedKnown bits) (byteWithin x) t u n (size-same t u bits n g))
+  to-byte-same x = ap (chosen (eqb x size) (reached n size)) (same-descent (storedKnown bits) (byteWithin x) t u n (size-same t u bits n g))
 
   module _ (i : ℕ) where
     place-says : copyPlaceVerdict a i ≡ copyPlaceVerdict b i

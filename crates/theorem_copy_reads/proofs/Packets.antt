@@ -6,7 +6,7 @@ use mathlib.Core.List.{List, _∷_, _++_}
 use native.Mathlib.Nat.{zero-add}
 use native.Mathlib.Omega.{arith}
 use lib.ListN.{length, getD}
-use Rattle.refusals.specs.Verdict.{Spot, Verdict, done, refused, unlessRefused}
+use Rattle.answer_types.specs.Verdict.{Spot, Verdict, done, refused, unlessRefused, andThen}
 use Rattle.byte_strings.specs.Lists.{part, joined, put}
 use Rattle.byte_strings.specs.Numbers.{be}
 use Rattle.byte_strings.proofs.Lists.{getD-run}
@@ -15,11 +15,10 @@ use Rattle.bitfield.specs.Known.{storedKnown}
 use Rattle.file_format.specs.Sizes.{entryPlace}
 use Rattle.file_format.proofs.Spans.{map-ext}
 use Rattle.checks.specs.Checks.{holds}
-use Rattle.lookup.specs.Read.{andThen}
 use Rattle.packet.specs.Packet.{rootAbove, beside, siblings, otherRoots, section, packetOf, roomOr14, packetWith}
 use Rattle.packet.proofs.Rows.{siblings-filled, others-filled}
-use Rattle.theorem_taking_laws.proofs.Members.{in-place}
-use Rattle.theorem_taking_laws.proofs.Brought.{sideIndex, siblings-deep, other-root}
+use Rattle.byte_strings.proofs.Members.{in-place}
+use Rattle.theorem_taking_laws.proofs.Ways.{sideIndex, siblings-deep, other-root}
 use Rattle.theorem_used_bytes.proofs.Lookups.{then-same, then-first}
 use Rattle.copy_checks.specs.Copy.{Copy, known, unsigned}
 use Rattle.copy_checks.specs.Descents.{copyToChunk}

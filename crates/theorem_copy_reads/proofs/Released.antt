@@ -15,7 +15,7 @@ use Rattle.bitfield.specs.Append.{bitsPlace, regenerated}
 use Rattle.bitfield.specs.Known.{storedKnown}
 use Rattle.bitfield.specs.Release.{clearDataBit, releasedBits}
 use Rattle.bitfield.proofs.Levels.{length-index}
-use Rattle.theorem_taking_laws.proofs.Places.{bit-beside}
+use Rattle.bitfield.proofs.Beside.{bit-beside}
 
 module _ (xs : List ℕ) (k : ℕ) (room : bitsPlace (k / 8192 + 1) ≤ length xs) (i : ℕ) where
   -- the data bit that is cleared lies in the first 1,024 bytes of its entry, the Index in the last 256, and tree bits between them

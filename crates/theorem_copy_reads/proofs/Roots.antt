@@ -6,7 +6,7 @@ use mathlib.Core.List.{List}
 use native.Mathlib.Omega.{arith}
 use borrow.Author.Tests.{leb-true}
 use lib.ListN.{length, getD}
-use Rattle.refusals.specs.Verdict.{Verdict, tree, done, refused}
+use Rattle.answer_types.specs.Verdict.{Verdict, tree, done, refused}
 use Rattle.byte_strings.specs.Lowest.{lowest}
 use Rattle.tree_index.specs.Tree.{filled, roots}
 use Rattle.tree_index.proofs.Roots.{root-filled}
@@ -18,13 +18,13 @@ use Rattle.file_format.proofs.Spans.{map-ext}
 use Rattle.checks.specs.Checks.{judged}
 use Rattle.checks.proofs.Judged.{judged-done}
 use Rattle.audit.specs.Audit.{refusedAt}
-use Rattle.prefix_root.specs.PrefixRoot.{ownChecks}
+use Rattle.prefix_root.specs.PrefixRoot.{ownChecks, rootUnless}
 use Rattle.prefix_root.proofs.First.{filled-more}
 use Rattle.search.specs.Search.{firstMissing, soughtUnless}
 use Rattle.lookup.specs.Unknown.{firstUnknown}
 use Rattle.copy_checks.specs.Copy.{Copy}
 use Rattle.copy_checks.proofs.Steps.{copy-passed, root-must}
-use Rattle.copy_roots.specs.Roots.{copyRootVerdict, copyPrefixVerdict, rootUnless, copyRootAnswer, copyPrefixRoot, copySearch}
+use Rattle.copy_roots.specs.Roots.{copyRootVerdict, copyPrefixVerdict, copyRootAnswer, copyPrefixRoot, copySearch}
 use Rattle.copy_short_lookup.specs.Short.{copyShortSearch}
 use Rattle.theorem_copy_reads.proofs.Checks.{Agreed, each-known, hash-same, size-same, one, two, root-known, copy-same}
 

@@ -5,14 +5,14 @@ use mathlib.Core.Bool.{true}
 use mathlib.Core.List.{List}
 use native.Mathlib.Nat.{mul-one}
 use native.Mathlib.Omega.{arith}
-use Rattle.refusals.specs.Verdict.{done}
+use Rattle.answer_types.specs.Verdict.{done}
 use Rattle.tree_index.specs.Tree.{index}
 use Rattle.tree_index.proofs.Filled.{end-filled}
 use Rattle.bitfield.specs.Known.{storedKnown}
 use Rattle.file_format.specs.Stored.{storedSize}
 use Rattle.short_lookup.proofs.Same.{place-same, byte-same}
 use Rattle.copy_short_lookup.specs.Short.{copyShortPlaceOf, copyShortByteAt}
-use Rattle.short_lookup.specs.ShortLookup.{foundBehind}
+use Rattle.lookup.specs.Lookup.{foundBehind}
 use Rattle.theorem_copy_reads.proofs.Checks.{Agreed, size-same, one, two, copy-same}
 
 module _ (t u bits : List ℕ) (n : ℕ) (g : Agreed t u bits n) (content : List ℕ) (size : ℕ) where

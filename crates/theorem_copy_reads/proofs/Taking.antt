@@ -8,7 +8,7 @@ use native.Mathlib.Decide.{decLt}
 use native.Mathlib.Omega.{arith}
 use lib.Dec.{leb}
 use lib.ListN.{length, getD}
-use Rattle.refusals.specs.Verdict.{Verdict, tree, done}
+use Rattle.answer_types.specs.Verdict.{Verdict, tree, done, andThen}
 use Rattle.byte_strings.specs.Lists.{part, put, among, sameList, Bytes}
 use Rattle.byte_strings.specs.Lowest.{Lowest, nowhere, first}
 use Rattle.byte_strings.proofs.Lists.{part-put, getD-part}
@@ -20,19 +20,18 @@ use Rattle.file_format.specs.Messages.{HashFunction}
 use Rattle.file_format.specs.Entries.{entryBytes}
 use Rattle.checks.specs.Checks.{judged}
 use Rattle.audit.specs.Audit.{refusedAt}
-use Rattle.lookup.specs.Read.{andThen}
 use Rattle.packet.specs.Check.{packetChunk, packetVerdict}
 use Rattle.packet.specs.Inner.{ChunkOf}
 use Rattle.copy_checks.specs.Copy.{Copy}
 use Rattle.copy_checks.specs.Checks.{partlyJudged}
 use Rattle.copy_checks.specs.Least.{lowerOf, leastOf}
 use Rattle.copy_take_in.specs.TakeIn.{Given, packetStart, contradicts, contradictsBytes, withGiven, withKnown, brought, contradiction, takeVerdict, takenIn}
-use Rattle.copy_take_in.proofs.Calls.{Passes, totalCheck, staged-passes, fits}
-use Rattle.theorem_taking_laws.proofs.Members.{In, in-map}
-use Rattle.theorem_taking_laws.proofs.Field.{RoomFor, known-again}
+use Rattle.copy_take_in.proofs.Stages.{Passes, totalCheck, staged-passes, fits}
+use Rattle.byte_strings.proofs.Members.{In, in-map}
+use Rattle.bitfield.proofs.StoredBits.{RoomFor, known-again}
 use Rattle.theorem_taking_laws.proofs.Given.{bytesFor, placesOf, Fitting, AllFitting, among-in, in-among, length-given, still-given, front-given, given-gives, given-other, length-known, known-given}
-use Rattle.theorem_taking_laws.proofs.Places.{getD-beside}
-use Rattle.theorem_taking_laws.proofs.Brought.{brought-filled}
+use Rattle.byte_strings.proofs.Puts.{getD-beside}
+use Rattle.theorem_taking_laws.proofs.Among.{brought-filled}
 use Rattle.theorem_packets_commute.proofs.Turns.{fitting, room, bit-room, own-agree}
 use Rattle.theorem_used_bytes.proofs.Lookups.{then-same}
 use Rattle.theorem_copy_used_bytes.proofs.Taking.{map-same}

@@ -8,10 +8,11 @@ use native.Mathlib.Nat.{add-zero}
 use native.Mathlib.Omega.{arith}
 use borrow.Author.Tests.{leb-true, ltb-true, ltb-false, eqb-true, eq-eqb, lt-ltb, le-ltb}
 use lib.Dec.{leb, ltb, eqb}
-use Rattle.refusals.specs.Verdict.{Spot, Verdict, none, tree, done, refused}
+use Rattle.answer_types.specs.Verdict.{Spot, Verdict, none, tree, done, refused, andThen}
 use Rattle.byte_strings.specs.Lists.{total, among}
 use Rattle.byte_strings.specs.Lowest.{Lowest, nowhere, first, lowest}
 use Rattle.byte_strings.proofs.Lists.{total-append}
+use Rattle.byte_strings.proofs.Bools.{or-true, chosen}
 use Rattle.tree_index.specs.Tree.{index, depth, block, roots}
 use Rattle.tree_index.proofs.Index.{index-of}
 use Rattle.bitfield.specs.Release.{storedHeld}
@@ -21,21 +22,20 @@ use Rattle.checks.specs.Checks.{Check, judged, addsUp}
 use Rattle.checks.proofs.Judged.{AllRight, judged-right}
 use Rattle.audit.specs.Audit.{refusedAt}
 use Rattle.lookup.specs.Descent.{Ending, stopped, reached, unknown, ifKnown, chunkWithin, byteWithin, descend, fromRoots, descent}
-use Rattle.lookup.specs.Lookup.{Found, refusal, found, stopRefused, byteEnding}
-use Rattle.lookup.specs.Read.{andThen}
+use Rattle.lookup.specs.Lookup.{Found, refusal, found, stopRefused, byteEnding, foundBehind}
 use Rattle.lookup.specs.Unknown.{firstUnknown}
 use Rattle.lookup.specs.Theorems.{Right, Visits, fromRoot, toLeft, toRight, HoldsChunk, HoldsByte}
 use Rattle.packet.specs.Packet.{rootAbove}
 use Rattle.packet.specs.Inner.{ChunkOf}
-use Rattle.theorem_taking_laws.proofs.Descents.{Half, inLeft, inRight, halves, block-above}
-use Rattle.theorem_used_bytes.proofs.Lookups.{choose}
+use Rattle.theorem_taking_laws.proofs.Halves.{Half, inLeft, inRight, halves}
+use Rattle.theorem_taking_laws.proofs.ReadsNear.{block-above}
 use Rattle.stored_leaf.specs.StoredLeaf.{leafIn}
 use Rattle.copy_checks.specs.Copy.{Copy, known}
 use Rattle.copy_checks.specs.Checks.{lentChecks, unknownRoot, sizeCheck, copyJudged}
 use Rattle.copy_checks.specs.Descents.{copyToChunk, copyToByte}
 use Rattle.copy_checks.proofs.Steps.{lent-passed, copy-passed}
 use Rattle.copy_lookup.specs.Lookups.{copyPlaceVerdict, copyHeldVerdict, copyByteVerdict}
-use Rattle.short_lookup.specs.ShortLookup.{leafRight, leafRefused, leafPassed, placeByLeaves, byteByLeaves, shortPlaceIn, shortByteIn, foundBehind}
+use Rattle.short_lookup.specs.ShortLookup.{leafRight, leafRefused, leafPassed, placeByLeaves, byteByLeaves, shortPlaceIn, shortByteIn}
 use Rattle.short_lookup.proofs.Answers.{lowest-says}
 use Rattle.copy_short_lookup.specs.Short.{copyShortPlaceOf, copyShortByteAt}
 use Rattle.copy_roots.specs.Roots.{copyPrefixVerdict}
@@ -77,7 +77,7 @@ module _ (known : ℕ → Bool) (within : ℕ → ℕ → ℕ → ℕ → Bool) 
   unfolding descend
   below zero k s v h = pick (leb (storedSize t (index 0 k)) longestChunk)
     where
-      pick : (b : Bool) → On (choose b (reached k s) (stopped (index 0 k)))
+      pick : (b : Bool) → On (chosen b (reached k s) (stopped (index 0 k)))
       pick true = tt
       pick false = tt
   below (suc d) k s v h =
@@ -94,10 +94,10 @@ module _ (known : ℕ → Bool) (within : ℕ → ℕ → ℕ → ℕ → Bool) 
       sum = eqb (storedSize t (index (suc d) k)) (storedSize t l + storedSize t r)
 
       child : Bool → Ending
-      child b = choose b (descend known within t d (2 * k) s) (descend known within t d (2 * k + 1) (s + storedSize t l))
+      child b = chosen b (descend known within t d (2 * k) s) (descend known within t d (2 * k + 1) (s + storedSize t l))
 
       on : Bool → Ending
-      on b = choose b (child (within d (2 * k) s (storedSize t l))) (stopped (index (suc d) k))
+      on b = chosen b (child (within d (2 * k) s (storedSize t l))) (stopped (index (suc d) k))
 
       turn : ((k s : ℕ) → Visits t n d k s → Has d k s → On (descend known within t d k s)) → Right t (suc d) k → (b : Bool)
           → within d (2 * k) s (storedSize t l) ≡ b → On (child b)
@@ -120,7 +120,7 @@ module _ (known : ℕ → Bool) (within : ℕ → ℕ → ℕ → ℕ → Bool) 
       (pick (from is) (within (depth i) (block i) (len before) (storedSize t i)) refl)
     where
       on : Bool → Ending
-      on b = choose b (descend known within t (depth i) (block i) (len before)) (fromRoots known within t is (len before + storedSize t i))
+      on b = chosen b (descend known within t (depth i) (block i) (len before)) (fromRoots known within t is (len before + storedSize t i))
 
       sum : len (before ++ (i ∷ [])) ≡ len before + storedSize t i
       sum =
@@ -204,7 +204,7 @@ meets c =
       byte = λ b j e. at b j (eqb b (c .size)) e;
     }
   where
-    at : (b j : ℕ) (x : Bool) → choose x (reached (c .n) (c .size)) (descent (known c) (byteWithin b) (c .tree) (c .n)) ≡ unknown j
+    at : (b j : ℕ) (x : Bool) → chosen x (reached (c .n) (c .size)) (descent (known c) (byteWithin b) (c .tree) (c .n)) ≡ unknown j
         → Met c (ByteBehind (c .tree) b) (HoldsByte (c .tree) b) j
     at b j true e = let z : _≡_ {A = ℕ} 0 1 = cc in absurd (omega arith)
     at b j false e =
@@ -228,10 +228,6 @@ behind-others m at (c ∷ cs) next o e = pick (c .right) refl e (behind-others m
         → (judged cs next ≡ refused m at → AllRight cs × (next ≡ refused m at)) → ((c .right ≡ true) × AllRight cs) × (next ≡ refused m at)
     pick true f g rec = let r = rec g in ((f, r .0), r .1)
     pick false f g rec = let z : c .number ≡ m = cc in absurd (o .0 z)
-
-or-true : (b : Bool) → (b || true) ≡ true
-or-true true = refl
-or-true false = refl
 
 first-unknown : (f : ℕ → Bool) (is : List ℕ) (j : ℕ) → firstUnknown f is ≡ first j → (f j ≡ false) × (among j is ≡ true)
 unfolding firstUnknown among

@@ -11,7 +11,7 @@ use mathlib.Core.Bool.{true}
 use mathlib.Core.Logic.{_⊎_}
 use mathlib.Core.List.{List}
 use lib.ListN.{getD, take}
-use Rattle.refusals.specs.Verdict.{done}
+use Rattle.answer_types.specs.Verdict.{done}
 use Rattle.byte_strings.specs.Lists.{part, Bytes}
 use Rattle.tree_index.specs.Tree.{filled}
 use Rattle.file_format.specs.Sizes.{entryPlace, usedTree}

@@ -9,7 +9,7 @@ use mathlib.Core.Path.{_≡_}
 use mathlib.Core.Bool.{true, false}
 use mathlib.Core.Logic.{_⊎_}
 use mathlib.Core.List.{List, [], _∷_, _++_, map}
-use Rattle.refusals.specs.Verdict.{Spot, tree, done, refused}
+use Rattle.answer_types.specs.Verdict.{Spot, tree, done, refused}
 use Rattle.byte_strings.specs.Lists.{total, among}
 use Rattle.tree_index.specs.Tree.{index, depth, block, roots}
 use Rattle.file_format.specs.Sizes.{mostChunks}

@@ -9,10 +9,10 @@ use borrow.Author.Tests.{leb-true}
 use lib.Dec.{leb, eqb}
 use lib.ListN.{getD}
 use lib.Seq.{getD-take}
-use Rattle.refusals.specs.Verdict.{tree, bitfield, done}
+use Rattle.answer_types.specs.Verdict.{tree, bitfield, done}
 use Rattle.byte_strings.specs.Lists.{part, sameList, allZero}
 use Rattle.byte_strings.specs.Lowest.{Lowest}
-use Rattle.byte_strings.proofs.Lists.{run-ext}
+use Rattle.byte_strings.proofs.Lists.{run-ext, part-take}
 use Rattle.byte_strings.proofs.Lowest.{lowest-agree}
 use Rattle.tree_index.specs.Tree.{index, depth, block, leftChild, rightChild, filled, entries}
 use Rattle.tree_index.proofs.Filled.{end-filled, filled-below}
@@ -24,7 +24,7 @@ use Rattle.file_format.specs.Stored.{storedHash, storedSize}
 use Rattle.audit.specs.Audit.{holeRight, heldBits, refusedAt, byteRightBy, leafFrom}
 use Rattle.lookup.specs.Descent.{Ending, stopped, reached, unknown}
 use Rattle.lookup.proofs.Unknown.{filled-children}
-use Rattle.theorem_used_bytes.proofs.Cut.{held-cut, hash-cut, size-cut, part-cut}
+use Rattle.theorem_used_bytes.proofs.Cut.{held-cut, hash-cut, size-cut}
 use Rattle.theorem_used_bytes.proofs.Audits.{and-same, parent-cut, hole-cut, leaf-below, bits-cut}
 use Rattle.copy_checks.specs.Copy.{Copy, known}
 use Rattle.copy_checks.specs.Descents.{copyToChunk}
@@ -62,7 +62,7 @@ module _ (F : List ℕ → List ℕ) (c : Copy) where
       (lastTest (storedHeld (c .bitfield) k) (storedHash (c .tree) (index 0 k)) (part (cutCopy c .content) start (storedSize (c .tree) (index 0 k))))
       (lastTest (storedHeld (c .bitfield) k) (storedHash (c .tree) (index 0 k)) (part (c .content) start (storedSize (c .tree) (index 0 k))))
       (λ e. ap (lastTest (storedHeld (c .bitfield) k) (storedHash (c .tree) (index 0 k)))
-      (part-cut (c .content) (c .size) start (storedSize (c .tree) (index 0 k)) (leb-true (start + storedSize (c .tree) (index 0 k)) (c .size) e))))
+      (part-take (c .content) (c .size) start (storedSize (c .tree) (index 0 k)) (leb-true (start + storedSize (c .tree) (index 0 k)) (c .size) e))))
 
   by-leaf : (k : ℕ) → k < c .n → wrongByLeaf F (cutCopy c) k ≡ wrongByLeaf F c k
   unfolding wrongByLeaf wrongFrom
@@ -84,7 +84,7 @@ module _ (F : List ℕ → List ℕ) (c : Copy) where
       let a = parent-cut (c .tree) (c .bitfield) (c .content) (c .n) (c .size) F i (filled-below (c .n) i f) p f in
       λ j. wrongUnless (not (l j && r j) || a j) i
 
-  held-leaf : (i : ℕ) → filled (c .n) i ≡ true → heldLeaf (cutCopy c) i ≡ heldLeaf c i
+  held-leaf : (i : ℕ) → filled (c .n) i ≡ true → heldLeaf (cutCopy c .bitfield) i ≡ heldLeaf (c .bitfield) i
   unfolding heldLeaf
   held-leaf i f = go (depth i) refl
     where

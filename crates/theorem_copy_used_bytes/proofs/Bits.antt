@@ -15,8 +15,8 @@ use Rattle.bitfield.specs.Known.{heldAgain}
 use Rattle.bitfield.proofs.Levels.{length-index}
 use Rattle.bitfield.proofs.Image.{bit-local, put-local}
 use Rattle.copy_take_in.specs.TakeIn.{Given, withKnown}
-use Rattle.theorem_taking_laws.proofs.Members.{In, in-map}
-use Rattle.theorem_taking_laws.proofs.Field.{RoomFor, length-bit, length-tree-bit, length-held}
+use Rattle.byte_strings.proofs.Members.{In, in-map}
+use Rattle.bitfield.proofs.StoredBits.{RoomFor, length-bit, length-tree-bit, length-held}
 use Rattle.theorem_taking_laws.proofs.Given.{placesOf, AllRoom, length-known}
 
 bits-behind : (is xs ys : List ℕ) → ((i : ℕ) → In i is → RoomFor xs (i / 16384)) → setTreeBits (xs ++ ys) is ≡ setTreeBits xs is ++ ys

@@ -9,7 +9,7 @@ use native.Mathlib.Omega.{arith}
 use borrow.Author.Tests.{leb-true, ltb-true}
 use lib.Dec.{leb, ltb}
 use lib.ListN.{length, getD}
-use Rattle.refusals.specs.Verdict.{Spot, Verdict, tree, done, refused, unlessRefused}
+use Rattle.answer_types.specs.Verdict.{Spot, Verdict, tree, done, refused, unlessRefused, andThen}
 use Rattle.byte_strings.specs.Lists.{sameList, put}
 use Rattle.byte_strings.specs.Lowest.{Lowest}
 use Rattle.tree_index.specs.Tree.{index, roots, entries}
@@ -22,11 +22,11 @@ use Rattle.file_format.specs.Belongs.{Register}
 use Rattle.checks.specs.Checks.{Check, judged, holds}
 use Rattle.checks.proofs.Judged.{judged-done, judged-same}
 use Rattle.audit.specs.Audit.{refusedAt}
-use Rattle.prefix_root.specs.PrefixRoot.{ownChecks}
+use Rattle.prefix_root.specs.PrefixRoot.{ownChecks, rootUnless}
 use Rattle.prefix_root.proofs.First.{filled-more}
 use Rattle.lookup.specs.Descent.{Ending}
 use Rattle.lookup.specs.Lookup.{stopRefused, foundUnless, chunkOf, startOf, toChunk, placeVerdict}
-use Rattle.lookup.specs.Read.{chunkBytes, andThen, partUnless}
+use Rattle.lookup.specs.Read.{chunkBytes, partUnless}
 use Rattle.lookup.proofs.Calls.{held-done}
 use Rattle.packet.specs.Packet.{packetOf, roomOr14, packetWith}
 use Rattle.release.specs.Release.{releasedRegister}
@@ -44,7 +44,7 @@ use Rattle.copy_checks.specs.Descents.{copyToChunk, copyToByte}
 use Rattle.copy_lookup.specs.Lookups.{copyPlaceVerdict, copyHeldVerdict, copyByteVerdict, copyPlaceOf, copyHeldPlaceOf, copyByteAt}
 use Rattle.copy_lookup.specs.Reading.{copyReadVerdict, copyReadPart, copyReadFound}
 use Rattle.copy_lookup.proofs.AsRegister.{held-as, read-as}
-use Rattle.copy_roots.specs.Roots.{copyRootVerdict, copyPrefixVerdict, rootUnless, copyRootAnswer, copyPrefixRoot, copySearch}
+use Rattle.copy_roots.specs.Roots.{copyRootVerdict, copyPrefixVerdict, copyRootAnswer, copyPrefixRoot, copySearch}
 use Rattle.copy_packet.specs.Making.{copyMakeVerdict, copyAfterMake, copyMadeLength}
 use Rattle.copy_release.specs.Release.{copyReleaseVerdict, releasedCopy}
 use Rattle.theorem_copy_used_bytes.specs.UsedBytes.{SameUsed}

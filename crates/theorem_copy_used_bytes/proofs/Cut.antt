@@ -7,7 +7,7 @@ use native.Mathlib.Omega.{arith}
 use lib.Dec.{eqb}
 use lib.ListN.{length, take, getD}
 use lib.Seq.{getD-take}
-use Rattle.refusals.specs.Verdict.{Verdict, tree}
+use Rattle.answer_types.specs.Verdict.{Verdict, tree}
 use Rattle.byte_strings.specs.Lowest.{first}
 use Rattle.tree_index.specs.Tree.{filled, roots, entries}
 use Rattle.tree_index.proofs.Filled.{filled-below}

@@ -2,9 +2,10 @@
 use Prim.Native.Nat.{ℕ}
 use mathlib.Core.Path.{_≡_, ap}
 use lib.Dec.{eqb}
+use Rattle.byte_strings.proofs.Bools.{chosen}
 use Rattle.lookup.specs.Descent.{reached, chunkWithin, byteWithin}
 use Rattle.lookup.specs.Lookup.{byteEnding}
-use Rattle.theorem_used_bytes.proofs.Lookups.{choose, descent-cut}
+use Rattle.theorem_used_bytes.proofs.Lookups.{descent-cut}
 use Rattle.copy_checks.specs.Copy.{Copy, known}
 use Rattle.copy_checks.specs.Descents.{copyToChunk, copyToByte}
 use Rattle.theorem_copy_used_bytes.proofs.Cut.{cutCopy, known-cut}
@@ -17,5 +18,5 @@ module _ (c : Copy) where
   pub to-byte-cut : (b : ℕ) → copyToByte (cutCopy c) b ≡ copyToByte c b
   unfolding copyToByte byteEnding
   to-byte-cut b =
-      ap (choose (eqb b (c .size)) (reached (c .n) (c .size)))
+      ap (chosen (eqb b (c .size)) (reached (c .n) (c .size)))
       (descent-cut (known (cutCopy c)) (known c) (byteWithin b) (c .tree) (c .n) (known-cut (c .bitfield) (c .n)))

@@ -5,10 +5,9 @@ use mathlib.Core.Bool.{true}
 use mathlib.Core.List.{List}
 use native.Mathlib.Nat.{mul-one}
 use native.Mathlib.Omega.{arith}
-use Rattle.refusals.specs.Verdict.{Verdict, done}
+use Rattle.answer_types.specs.Verdict.{Verdict, done, andThen}
 use Rattle.tree_index.specs.Tree.{index, filled}
 use Rattle.tree_index.proofs.Filled.{end-filled, filled-below}
-use Rattle.lookup.specs.Read.{andThen}
 use Rattle.stored_leaf.specs.StoredLeaf.{leafIn, leafHash, leafLength}
 use Rattle.stored_leaf.proofs.Calls.{leaf-below, leaf-same, then-next, hash-same, length-same}
 use Rattle.copy_checks.specs.Copy.{Copy, known}

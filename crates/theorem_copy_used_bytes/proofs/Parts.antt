@@ -2,7 +2,7 @@
 use Prim.Native.Nat.{ℕ, _+_, _*_, _<_}
 use mathlib.Core.Path.{_≡_, ap, _∙_}
 use mathlib.Core.List.{List}
-use Rattle.refusals.specs.Verdict.{tree, bitfield, done}
+use Rattle.answer_types.specs.Verdict.{tree, bitfield, done}
 use Rattle.byte_strings.specs.Lists.{run}
 use Rattle.byte_strings.specs.Lowest.{Lowest, lowest}
 use Rattle.byte_strings.proofs.Lists.{run-ext}

@@ -3,13 +3,13 @@ use Prim.Native.Nat.{ℕ, _+_, _-_, _<_}
 use mathlib.Core.Path.{_≡_, ap₂}
 use native.Mathlib.Nat.{mul-one}
 use native.Mathlib.Omega.{arith}
-use Rattle.refusals.specs.Verdict.{done}
+use Rattle.answer_types.specs.Verdict.{done}
 use Rattle.byte_strings.proofs.Lowest.{lowest-agree}
 use Rattle.tree_index.specs.Tree.{index}
 use Rattle.tree_index.proofs.Filled.{end-filled}
 use Rattle.bitfield.specs.Release.{storedHeld}
 use Rattle.search.specs.Search.{soughtUnless}
-use Rattle.short_lookup.specs.ShortLookup.{foundBehind}
+use Rattle.lookup.specs.Lookup.{foundBehind}
 use Rattle.short_lookup.proofs.Same.{place-same, byte-same}
 use Rattle.theorem_used_bytes.proofs.Cut.{held-cut}
 use Rattle.theorem_used_bytes.proofs.ShortLookups.{leaf-cut}

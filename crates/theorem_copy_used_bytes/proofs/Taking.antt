@@ -7,10 +7,10 @@ use mathlib.Core.List.{List, [], _∷_, map}
 use native.Mathlib.Omega.{arith}
 use borrow.Author.Tests.{eqb-true}
 use lib.ListN.{length, take}
-use Rattle.refusals.specs.Verdict.{Verdict, tree, done}
+use Rattle.answer_types.specs.Verdict.{Verdict, tree, done, andThen}
 use Rattle.byte_strings.specs.Lists.{put, sameList, Bytes}
 use Rattle.byte_strings.specs.Lowest.{Lowest, nowhere, first}
-use Rattle.byte_strings.proofs.Lists.{length-put, drop-put}
+use Rattle.byte_strings.proofs.Lists.{length-put, drop-put, part-take}
 use Rattle.tree_index.specs.Tree.{index, filled}
 use Rattle.tree_index.proofs.Filled.{filled-below}
 use Rattle.bitfield.specs.Append.{bitsPlace}
@@ -22,7 +22,6 @@ use Rattle.file_format.proofs.OfImage.{entry-inside}
 use Rattle.checks.specs.Checks.{judged}
 use Rattle.checks.proofs.Judged.{judged-same}
 use Rattle.audit.specs.Audit.{refusedAt}
-use Rattle.lookup.specs.Read.{andThen}
 use Rattle.packet.specs.Check.{packetChunk, packetTotal, packetVerdict}
 use Rattle.release.proofs.Answers.{front-put}
 use Rattle.copy_checks.specs.Copy.{Copy}
@@ -30,13 +29,15 @@ use Rattle.copy_checks.specs.Checks.{partlyJudged}
 use Rattle.copy_checks.specs.Least.{lowerOf, leastOf}
 use Rattle.copy_take_in.specs.TakeIn.{Given, packetStart, contradicts, contradictsBytes, withGiven, withKnown, brought, contradiction, takeVerdict, takenIn}
 use Rattle.copy_take_in.specs.Inner.{Fits}
-use Rattle.copy_take_in.proofs.Calls.{Passes, totalCheck, staged-passes, fits, start-inside, chunk-long}
-use Rattle.theorem_taking_laws.proofs.Members.{In}
-use Rattle.theorem_taking_laws.proofs.Field.{RoomFor, length-held}
+use Rattle.copy_take_in.proofs.Stages.{Passes, totalCheck, staged-passes, fits}
+use Rattle.copy_take_in.proofs.Start.{start-inside}
+use Rattle.copy_take_in.proofs.Places.{chunk-long}
+use Rattle.byte_strings.proofs.Members.{In}
+use Rattle.bitfield.proofs.StoredBits.{RoomFor, length-held}
 use Rattle.theorem_taking_laws.proofs.Given.{bytesFor, AllFitting, length-given, still-given, behind-given, length-known}
-use Rattle.theorem_taking_laws.proofs.Brought.{brought-filled}
+use Rattle.theorem_taking_laws.proofs.Among.{brought-filled}
 use Rattle.theorem_packets_commute.proofs.Turns.{fitting, room, bit-room, bytes-inside}
-use Rattle.theorem_used_bytes.proofs.Cut.{held-cut, part-cut, entry-cut}
+use Rattle.theorem_used_bytes.proofs.Cut.{held-cut, entry-cut}
 use Rattle.theorem_used_bytes.proofs.Lookups.{then-same}
 use Rattle.theorem_copy_used_bytes.specs.UsedBytes.{SameUsed}
 use Rattle.theorem_copy_used_bytes.specs.Behind.{KeptBehind}
@@ -85,7 +86,7 @@ module _ (F : List ℕ → List ℕ) (c : Copy) (p : List ℕ) (i : ℕ) where
   unfolding contradictsBytes
   bytes-same h l =
       let k = held-cut (c .bitfield) (c .n) i h in
-      let e = part-cut (c .content) (c .size) start (length chunk) l in
+      let e = part-take (c .content) (c .size) start (length chunk) l in
       λ j. cond (k j) (cond (sameList (e j) chunk) nowhere (first (index 0 i))) nowhere
 
   contradiction-cut : Fits p (c .n) i → packetTotal p (c .n) i ≡ c .size → contradiction F (cutCopy c) p i ≡ contradiction F c p i

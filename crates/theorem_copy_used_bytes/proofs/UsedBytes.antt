@@ -2,7 +2,7 @@
 use Prim.Native.Nat.{ℕ}
 use mathlib.Core.Path.{_≡_, sym, ap, ap₂, _∙_}
 use mathlib.Core.List.{List}
-use Rattle.refusals.specs.Verdict.{Verdict, done}
+use Rattle.answer_types.specs.Verdict.{Verdict, done}
 use Rattle.record_find.specs.ChunkRecords.{headerAfter, nodeAfter}
 use Rattle.theorem_used_bytes.proofs.Records.{find-same}
 use Rattle.copy_checks.specs.Copy.{Copy}

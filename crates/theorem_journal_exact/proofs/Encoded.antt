@@ -12,16 +12,17 @@ use Rattle.byte_strings.specs.Lists.{part, sameList, Bytes}
 use Rattle.byte_strings.specs.Numbers.{be, number}
 use Rattle.byte_strings.proofs.Lists.{part-at, same-refl, bytes-take}
 use Rattle.byte_strings.proofs.Numbers.{length-be, number-be}
+use Rattle.byte_strings.proofs.Bools.{true-both}
 use Rattle.file_format.specs.Messages.{HashFunction}
 use Rattle.journal.specs.Form.{Journal, WellFormed, magic, words, encodeAll, longOf, body, journalBytes, oldState, newState}
 use Rattle.journal.specs.Places.{oldAt, newAt, lengthRight, bodyLength}
 use Rattle.journal.specs.Reading.{isDone, table, begins, ownLength, read}
 use Rattle.journal.specs.declared.Said.the-variants.{Done}
 use Rattle.journal.proofs.Answers.{read-done}
+use Rattle.journal.proofs.Lengths.{words-length}
 use Rattle.theorem_journal_exact.specs.Exact.{Hashed, AcceptsForAll, ExactForAll}
-use Rattle.theorem_journal_exact.proofs.Test.{joint}
 use Rattle.theorem_journal_exact.proofs.Exact.{passed, journalRead, read-formed, read-hashed, encodes}
-use Rattle.theorem_journal_exact.proofs.Laid.{eight, words-long, laid-front, laid-old, laid-new, laid-ranges, laid-table}
+use Rattle.theorem_journal_exact.proofs.Laid.{eight, laid-front, laid-old, laid-new, laid-ranges, laid-table}
 
 module _ (F : List ℕ → List ℕ) (x : Journal) (w : WellFormed x) where
   abbrev j : List ℕ
@@ -37,7 +38,7 @@ module _ (F : List ℕ → List ℕ) (x : Journal) (w : WellFormed x) where
   pub body-long : length (body x) ≡ 184 + length (encodeAll (x .ranges))
   unfolding body
   body-long =
-      let a = words-long (x .states) in
+      let a = words-length (x .states) in
       let t = w .ten in
       length-append magic (be 8 (longOf x) ++ (words (x .states) ++ encodeAll (x .ranges)))
       ∙ omega (arith, length-append (be 8 (longOf x)) (words (x .states) ++ encodeAll (x .ranges)), length-be 8 (longOf x), length-append (words (x .states)) (encodeAll (x .ranges)))
@@ -106,7 +107,7 @@ module _ (F : List ℕ → List ℕ) (x : Journal) (w : WellFormed x) where
     unfolding lengthRight
     long-right =
         let b = w .bound in
-        joint (leb 216 (length j)) (leb (length j) 268435456) (le-leb 216 (length j) (omega (arith, all-long, long-is))) (le-leb (length j) 268435456 (omega (arith, all-long)))
+        true-both (leb 216 (length j)) (leb (length j) 268435456) (le-leb 216 (length j) (omega (arith, all-long, long-is))) (le-leb (length j) 268435456 (omega (arith, all-long)))
 
     pub encoded-done : read F j ≡ Done (longOf x)
     encoded-done =

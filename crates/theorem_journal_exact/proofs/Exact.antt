@@ -7,24 +7,25 @@ use mathlib.Core.Path.{_≡_, refl, sym, ap, ap₂, _∙_}
 use mathlib.Core.Bool.{Bool, true, false}
 use mathlib.Core.List.{List, [], _∷_, _++_}
 use lib.ListN.{length, getD, take, drop, length-drop}
-use lib.Dec.{eqb, leb}
-use borrow.Author.Tests.{leb-true, eqb-true}
+use lib.Dec.{eqb}
+use borrow.Author.Tests.{eqb-true}
 use Rattle.byte_strings.specs.Lists.{part, run, sameList, Bytes}
 use Rattle.byte_strings.specs.Numbers.{be, number}
 use Rattle.byte_strings.specs.Lowest.{Lowest, nowhere, first, lowest}
 use Rattle.byte_strings.proofs.Lists.{length-part, part-add, length-run, getD-run, bytes-part, same-eq}
 use Rattle.byte_strings.proofs.Numbers.{be-number}
+use Rattle.byte_strings.proofs.Bools.{not-both}
 use Rattle.journal.specs.Ranges.{rangesOf}
 use Rattle.journal.specs.Form.{Journal, WellFormed, Sound, statesRight, lengthOf, magic, words, encodeAll, longOf, body, journalBytes, oldState, newState, changeOf}
 use Rattle.journal.specs.Places.{oldAt, newAt, lengthRight, bodyLength}
 use Rattle.journal.specs.Reading.{isDone, stateRight, statesSay, reachOf, oldLengths, walked, table, begins, ownLength, read}
 use Rattle.journal.specs.declared.Said.{Said}
-use Rattle.journal.proofs.Behind.{both}
 use Rattle.journal.proofs.Steps.{walk-start, reach-same, reach-other}
 use Rattle.journal.proofs.Answers.{right-least, right-most, read-length, read-first, read-own, read-table, read-hash}
+use Rattle.theorem_journal_recovers.proofs.Archive.{states-grow}
 use Rattle.theorem_journal_exact.specs.Exact.{Hashed}
 use Rattle.theorem_journal_exact.proofs.Test.{soundFrom, sound-tested}
-use Rattle.theorem_journal_exact.proofs.Walk.{clash, lowest-none, Accepted, accepted}
+use Rattle.theorem_journal_exact.proofs.Walk.{lowest-none, Accepted, accepted}
 
 -- ---- the tests that were passed
 
@@ -41,7 +42,7 @@ passed F j e =
     (sameList (F (take (bodyLength j) j)) (drop (bodyLength j) j)) refl
   where
     never : {A : Type 0} (s : Said) → s ≡ read F j → isDone s ≡ false → A
-    never s x y = clash (sym y ∙ ap isDone x ∙ e)
+    never s x y = not-both (sym y ∙ ap isDone x ∙ e)
 
     go : (a : Bool) → lengthRight (length j) ≡ a → (b : Bool) → begins j ≡ b → (c : Bool) → eqb (ownLength j) (length j) ≡ c → (d : Bool) → isDone (table j (bodyLength j)) ≡ d
         → (h : Bool) → sameList (F (take (bodyLength j) j)) (drop (bodyLength j) j) ≡ h → Passed F j
@@ -55,7 +56,7 @@ passed F j e =
 states-passed : (l : Lowest) (s : Said) → isDone (statesSay l s) ≡ true → (l ≡ nowhere) × (isDone s ≡ true)
 unfolding statesSay
 states-passed nowhere s e = (refl, e)
-states-passed (first i) s e = clash e
+states-passed (first i) s e = not-both e
 
 pub table-is : (j : List ℕ) (m : ℕ) → table j m ≡ statesSay (lowest (stateRight j) 0 10) (walked j m)
 unfolding table
@@ -64,10 +65,6 @@ table-is j m = refl
 state-is : (j : List ℕ) (i : ℕ) → stateRight j i ≡ true → statesRight i (oldAt j i) (newAt j i) ≡ true
 unfolding stateRight
 state-is j i e = e
-
-states-grow : (i o n : ℕ) → statesRight i o n ≡ true → o ≤ n
-unfolding statesRight
-states-grow i o n e = leb-true _ _ (both (leb o n) _ e .0)
 
 front-part : (j : List ℕ) (m : ℕ) → take m j ≡ part j 0 m
 unfolding part

@@ -15,6 +15,8 @@ use Rattle.byte_strings.specs.Numbers.{be, number}
 use Rattle.byte_strings.specs.Lowest.{nowhere}
 use Rattle.byte_strings.proofs.Lists.{part-at, part-front, part-behind, part-left, length-run, getD-run, same-refl}
 use Rattle.byte_strings.proofs.Numbers.{length-be, number-be}
+use Rattle.byte_strings.proofs.Bools.{both-true}
+use Rattle.byte_strings.proofs.Lowest.{right-nowhere}
 use Rattle.journal.specs.Ranges.{Range, replaced, fresh, blank, witness, bytes, stop, Placed, rangesOf}
 use Rattle.journal.specs.Form.{Journal, WellFormed, statesRight, rightLength, treeLength, signaturesLength, bitfieldLength, dataLength, keyLength, lengthOf}
 use Rattle.journal.specs.Form.{sizeOf, magic, words, encodeAll, oldState, newState, changeOf, FilesRise, Fits}
@@ -22,14 +24,14 @@ use Rattle.journal.specs.Places.{oldAt, newAt}
 use Rattle.journal.specs.Reading.{stateRight, statesSay, reachOf, oldLengths, walked, table, begins}
 use Rattle.journal.specs.declared.Said.{Said}
 use Rattle.journal.specs.declared.Said.the-variants.{Done}
-use Rattle.journal.proofs.Behind.{both}
 use Rattle.journal.proofs.Steps.{walk-start, reach-same, reach-other}
+use Rattle.journal.proofs.Lengths.{words-length}
 use Rattle.theorem_journal_recovers.proofs.Places.{rising-within}
 use Rattle.theorem_journal_recovers.proofs.Archive.{to-placed}
 use Rattle.theorem_journal_exact.proofs.Test.{soundFrom, tested-sound}
 use Rattle.theorem_journal_exact.proofs.Exact.{table-is}
 use Rattle.theorem_journal_exact.proofs.Made.{Alike, Encodable}
-use Rattle.theorem_journal_exact.proofs.Passes.{all-nowhere, Right, passes}
+use Rattle.theorem_journal_exact.proofs.Passes.{Right, passes}
 
 -- ---- numbers that are held to a bound
 
@@ -44,15 +46,15 @@ module _ (l : ℕ) where
 
   of-tree : treeLength l ≡ true → l ≤ most
   unfolding treeLength
-  of-tree e = let x = leb-true l 83886072 (both (leb l 83886072) _ e .0) in omega arith
+  of-tree e = let x = leb-true l 83886072 (both-true (leb l 83886072) _ e .0) in omega arith
 
   of-signatures : signaturesLength l ≡ true → l ≤ most
   unfolding signaturesLength
-  of-signatures e = let x = leb-true l 67108896 (both (leb l 67108896) _ e .0) in omega arith
+  of-signatures e = let x = leb-true l 67108896 (both-true (leb l 67108896) _ e .0) in omega arith
 
   of-bitfield : bitfieldLength l ≡ true → l ≤ most
   unfolding bitfieldLength
-  of-bitfield e = let x = leb-true l 426016 (both (leb l 426016) _ e .0) in omega arith
+  of-bitfield e = let x = leb-true l 426016 (both-true (leb l 426016) _ e .0) in omega arith
 
   of-data : dataLength l ≡ true → l ≤ most
   unfolding dataLength
@@ -85,7 +87,7 @@ record Bounded (o n : ℕ) : Type 0 where
 
 bounded : (i o n : ℕ) → statesRight i o n ≡ true → Bounded o n
 unfolding statesRight
-bounded i o n e = let x = both (leb o n) _ e in record { grows = leb-true o n (x .0); most-new = go (eqb n 0) refl (x .1) }
+bounded i o n e = let x = both-true (leb o n) _ e in record { grows = leb-true o n (x .0); most-new = go (eqb n 0) refl (x .1) }
   where
     go : (b : Bool) → eqb n 0 ≡ b → (eqb n 0 || rightLength i (lengthOf n)) ≡ true → n ≤ 68719476737
     go true d y = let z = eqb-true n 0 d in omega arith
@@ -97,11 +99,6 @@ pub eight : 256 ^ 8 ≡ 18446744073709551616
 eight = refl
 
 -- ---- words
-
-pub words-long : (xs : List ℕ) → length (words xs) ≡ 8 * length xs
-unfolding words
-words-long [] = refl
-words-long (x ∷ xs) = length-append (be 8 x) (words xs) ∙ omega (arith, length-be 8 x, words-long xs)
 
 word-at : (xs : List ℕ) (k : ℕ) → k < length xs → part (words xs) (8 * k) 8 ≡ be 8 (getD xs k 0)
 unfolding words
@@ -160,7 +157,7 @@ module _ (x : Journal) (w : WellFormed x) where
     state-at : (k : ℕ) → k < 20 → getD (x .states) k 0 < 256 ^ 8 → number (part j (24 + 8 * k) 8) ≡ getD (x .states) k 0
     state-at k h v =
         let t = w .ten in
-        let l = words-long (x .states) in
+        let l = words-length (x .states) in
         let z : length (magic ++ own) ≡ 24 = length-append magic own ∙ omega (arith, ol) in
         ap number
         (ap (λ (y : List ℕ). part y (24 + 8 * k) 8) (laid ∙ sym (append-assoc magic own (words (x .states) ++ rest)))
@@ -214,7 +211,7 @@ module _ (x : Journal) (w : WellFormed x) where
     laid-ranges =
         let n : bodyEnd - 184 ≡ length (encodeAll (x .ranges)) = omega arith in
         let a : length ((magic ++ own) ++ words (x .states)) ≡ 184 =
-        length-append (magic ++ own) (words (x .states)) ∙ omega (arith, length-append magic own, ol, words-long (x .states), w .ten) in
+        length-append (magic ++ own) (words (x .states)) ∙ omega (arith, length-append magic own, ol, words-length (x .states), w .ten) in
         ap (λ (y : List ℕ). part y 184 (bodyEnd - 184))
         (laid ∙ sym (append-assoc magic own (words (x .states) ++ rest)) ∙ sym (append-assoc (magic ++ own) (words (x .states)) rest))
         ∙ part-at ((magic ++ own) ++ words (x .states)) (encodeAll (x .ranges)) tail 184 (bodyEnd - 184) a (sym n)
@@ -223,7 +220,7 @@ module _ (x : Journal) (w : WellFormed x) where
     laid-long =
         let a : length j ≡ length magic + length (own ++ (words (x .states) ++ rest)) = ap length laid ∙ length-append magic (own ++ (words (x .states) ++ rest)) in
         let t = w .ten in
-        omega (arith, length-append own (words (x .states) ++ rest), length-append (words (x .states)) rest, words-long (x .states), length-append (encodeAll (x .ranges)) tail)
+        omega (arith, length-append own (words (x .states) ++ rest), length-append (words (x .states)) rest, words-length (x .states), length-append (encodeAll (x .ranges)) tail)
 
     walked-is : walked j bodyEnd ≡ Done bodyEnd
     walked-is =
@@ -238,5 +235,5 @@ module _ (x : Journal) (w : WellFormed x) where
     pub laid-table : table j bodyEnd ≡ Done bodyEnd
     laid-table =
         table-is j bodyEnd
-        ∙ ap₂ statesSay (all-nowhere (stateRight j) 0 10 (λ i h. ap (stateRight j) (zero-add i) ∙ state-right i h)) walked-is
+        ∙ ap₂ statesSay (right-nowhere (stateRight j) 0 10 (λ i h. ap (stateRight j) (zero-add i) ∙ state-right i h)) walked-is
         ∙ no-state (Done bodyEnd)

@@ -12,12 +12,12 @@ use Rattle.byte_strings.specs.Lists.{part}
 use Rattle.byte_strings.specs.Numbers.{be, number}
 use Rattle.byte_strings.proofs.Lists.{length-part, getD-part, part-part, part-left, part-at, part-front}
 use Rattle.byte_strings.proofs.Numbers.{length-be, number-be}
+use Rattle.byte_strings.proofs.Bools.{true-both}
 use Rattle.journal.specs.Ranges.{Range, replaced, fresh, blank, witness, start, Placed}
 use Rattle.journal.specs.Form.{kindOf, sizeOf, payload, header, encode}
 use Rattle.journal.specs.Places.{fileAt, kindAt, startAt, sizeAt, timesLong, behind, whole, rangeOf, rangeAt}
 use Rattle.journal.proofs.Behind.{end-twice, end-bare, end-once}
 use Rattle.journal_meeting.proofs.Ranges.{is-replaced, is-fresh, is-blank, is-witness}
-use Rattle.theorem_journal_exact.proofs.Test.{joint}
 
 -- a range that can be encoded: its numbers fit in eight bytes, and it has as many old bytes as new ones
 abbrev pub Alike : Range → Type 0
@@ -160,9 +160,9 @@ module _ (j : List ℕ) (m q : ℕ) (qm : q ≤ m) (ml : m ≤ length j) (p : Pl
       let c = kind-is in
       let b = behind-is in
       let z = encode-long in
-      joint (leb (q + 18) m) _ (le-leb (q + 18) m (omega arith))
-      (joint (leb 1 (kindAt j q) && leb (kindAt j q) 4) _
-      (joint (leb 1 (kindAt j q)) (leb (kindAt j q) 4) (le-leb 1 (kindAt j q) (omega arith)) (le-leb (kindAt j q) 4 (omega arith))) (le-leb (behind j q) m (omega arith)))
+      true-both (leb (q + 18) m) _ (le-leb (q + 18) m (omega arith))
+      (true-both (leb 1 (kindAt j q) && leb (kindAt j q) 4) _
+      (true-both (leb 1 (kindAt j q)) (leb (kindAt j q) 4) (le-leb 1 (kindAt j q) (omega arith)) (le-leb (kindAt j q) 4 (omega arith))) (le-leb (behind j q) m (omega arith)))
 
   -- the range that is read is the one that was encoded
   of-kind : (r : Range) → p .range ≡ r → Alike r → rangeOf j (kindOf r) (start r) (sizeOf r) (q + 18) ≡ r

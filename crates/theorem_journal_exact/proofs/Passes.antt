@@ -2,37 +2,31 @@
 use Prim.Native.Nat.{ℕ, zero, suc, _+_, _-_, _≤_, _<_, max}
 use native.Mathlib.Omega.{arith}
 use native.Mathlib.Decide.{ℕ-discrete}
-use native.Mathlib.Nat.{add-zero, zero-add, add-suc, suc-add}
+use native.Mathlib.Nat.{zero-add}
 use mathlib.Core.Path.{_≡_, refl, sym, ap, ap₂, _∙_, subst}
-use mathlib.Core.Bool.{Bool, true, false}
+use mathlib.Core.Bool.{true}
 use mathlib.Core.List.{List, [], _∷_, _++_, append-nil, List·Memᴰ, List·Memᴰ·head, List·Memᴰ·tail}
 use lib.ListN.{length, getD, length-append}
 use lib.Dec.{leb, ltb}
 use borrow.Author.Tests.{le-leb, lt-ltb}
 use Rattle.byte_strings.specs.Lists.{part}
-use Rattle.byte_strings.specs.Lowest.{Lowest, nowhere, first, lowest}
+use Rattle.byte_strings.specs.Lowest.{Lowest, nowhere, lowest}
 use Rattle.byte_strings.proofs.Lists.{length-part, part-part, part-at}
+use Rattle.byte_strings.proofs.Bools.{both-true, true-both}
+use Rattle.byte_strings.proofs.Lowest.{right-nowhere}
 use Rattle.journal.specs.Ranges.{Range, stop, Placed, rangesOf}
 use Rattle.journal.specs.Form.{lengthOf, sizeOf, encode, encodeAll, FilesRise}
 use Rattle.journal.specs.Places.{oldAt, newAt, fileAt, kindAt, startAt, sizeAt, behind, whole, rangeAt}
 use Rattle.journal.specs.Reading.{numbersRight, reachOf, follows, stopAt, coveredBy, isFull, gapSays, walk}
 use Rattle.journal.specs.declared.Said.{Said}
 use Rattle.journal.specs.declared.Said.the-variants.{Done}
-use Rattle.journal.proofs.Behind.{both, behind-least, whole-end}
+use Rattle.journal.proofs.Behind.{behind-least, whole-end}
 use Rattle.journal.proofs.Steps.{walk-end, walk-on, reach-same, reach-other}
-use Rattle.theorem_journal_exact.proofs.Test.{soundFrom, joint}
+use Rattle.theorem_journal_exact.proofs.Test.{soundFrom}
 use Rattle.theorem_journal_exact.proofs.Test as Test
 use Rattle.theorem_journal_exact.proofs.Read.{Says, whole-says}
 use Rattle.theorem_journal_exact.proofs.Walk.{none-of, of-it, of-others, none-ranges, end-sound, sound-end, covered-long, covered-here, covered-other}
 use Rattle.theorem_journal_exact.proofs.Made.{Encodable, Stands, stands}
-
--- where all are right no number is found wrong
-pub all-nowhere : (right : ℕ → Bool) (i k : ℕ) → ((j : ℕ) → j < k → right (i + j) ≡ true) → lowest right i k ≡ nowhere
-unfolding lowest
-all-nowhere right i zero h = refl
-all-nowhere right i (suc k) h =
-    ap (λ (b : Bool). elim b as (λ x. Lowest) [ true ↦ lowest right (suc i) k | false ↦ first i ]) (ap right (sym (add-zero i)) ∙ h 0 (omega arith))
-    ∙ all-nowhere right (suc i) k (λ j l. ap right (suc-add i j ∙ sym (add-suc i j)) ∙ h (suc j) (omega arith))
 
 no-gap : (s : Said) (l : Lowest) → l ≡ nowhere → gapSays l s ≡ s
 unfolding gapSays
@@ -45,11 +39,11 @@ is-full j covered i e = e
 -- the two parts of the test of one range more
 sound-first : (old new a p : ℕ) (r : Range) (rs : List Range) → soundFrom old new a p (r ∷ rs) ≡ true → Test.rangeRight old new a p r ≡ true
 unfolding soundFrom
-sound-first old new a p r rs e = both (Test.rangeRight old new a p r) _ e .0
+sound-first old new a p r rs e = both-true (Test.rangeRight old new a p r) _ e .0
 
 sound-rest : (old new a p : ℕ) (r : Range) (rs : List Range) → soundFrom old new a p (r ∷ rs) ≡ true → soundFrom old new (stop r) (max p (stop r)) rs ≡ true
 unfolding soundFrom
-sound-rest old new a p r rs e = both (Test.rangeRight old new a p r) _ e .1
+sound-rest old new a p r rs e = both-true (Test.rangeRight old new a p r) _ e .1
 
 pub one-encoded : (p : Placed) (ps : List Placed) → encodeAll (p ∷ ps) ≡ encode p ++ encodeAll ps
 unfolding encodeAll
@@ -72,7 +66,7 @@ follows-true : (j : List ℕ) (last reach : ℕ) (covered : List ℕ) (q : ℕ) 
     → follows j last reach covered q ≡ true
 unfolding follows
 follows-true j last reach covered q a b c d =
-    joint (ltb (fileAt j q) 10) _ (lt-ltb (fileAt j q) 10 a) (joint (leb last (fileAt j q)) _ (le-leb last (fileAt j q) b) (joint (leb 1 (sizeAt j q)) _ (le-leb 1 (sizeAt j q) c) d))
+    true-both (ltb (fileAt j q) 10) _ (lt-ltb (fileAt j q) 10 a) (true-both (leb last (fileAt j q)) _ (le-leb last (fileAt j q) b) (true-both (leb 1 (sizeAt j q)) _ (le-leb 1 (sizeAt j q) c) d))
 
 -- ranges that are right behind those before
 pub record Right (j : List ℕ) (last reach : ℕ) (covered : List ℕ) (ps : List Placed) : Type 0 where
@@ -159,7 +153,7 @@ module _ (j : List ℕ) (m : ℕ) (ml : m ≤ length j) where
       let y : length (part j q (m - q)) ≡ 0 = ap length h ∙ none-long in
       walk-end j m k last reach covered q (omega arith)
       ∙ no-gap (Done m) (lowest (isFull j covered) 0 10)
-      (all-nowhere (isFull j covered) 0 10
+      (right-nowhere (isFull j covered) 0 10
       (λ i o.
       ap (isFull j covered) (zero-add i)
       ∙ is-full j covered i

@@ -4,7 +4,7 @@ use native.Mathlib.Omega.{arith}
 use native.Mathlib.Decide.{ℕ-discrete}
 use native.Mathlib.Numerals.{add-one}
 use mathlib.Core.Path.{_≡_, refl, sym, ap, ap₂, _∙_, subst}
-use mathlib.Core.Bool.{Bool, true, false, _&&_, _||_}
+use mathlib.Core.Bool.{Bool, true, _&&_, _||_}
 use mathlib.Core.List.{List, [], _∷_, _++_}
 use lib.ListN.{length, getD, length-replicate}
 use lib.Dec.{eqb, leb}
@@ -13,22 +13,18 @@ use Rattle.byte_strings.specs.Lists.{part, run, zeros, Bytes}
 use Rattle.byte_strings.specs.Numbers.{be, number}
 use Rattle.byte_strings.proofs.Lists.{length-part, part-add, part-run, bytes-part}
 use Rattle.byte_strings.proofs.Numbers.{be-number}
+use Rattle.byte_strings.proofs.Bools.{both-true}
+use Rattle.byte_strings.proofs.Tests.{and-true}
 use Rattle.journal.specs.Ranges.{Range, replaced, fresh, blank, witness, start, bytes, stop, Placed}
 use Rattle.journal.specs.Form.{kindOf, sizeOf, payload, header, encode}
 use Rattle.journal.specs.Places.{fileAt, kindAt, startAt, sizeAt, timesLong, behind, whole, rangeOf, rangeAt}
 use Rattle.journal.specs.Reading.{numbersRight}
-use Rattle.journal.proofs.Behind.{both, end-twice, end-bare, end-once, whole-end}
+use Rattle.journal.proofs.Behind.{end-twice, end-bare, end-once, whole-end}
+use Rattle.journal.proofs.Steps.{lastly}
 use Rattle.journal_meeting.proofs.Ranges.{is-replaced, is-fresh, is-blank, is-witness}
 use Rattle.theorem_journal_exact.proofs.Test.{isFree, fitting, rangeRight}
 
-and-true : (b : Bool) → (b && true) ≡ b
-and-true true = refl
-and-true false = refl
-
 -- ---- the test by numbers, where the kind is known
-
-abbrev lastly : Bool → ℕ → ℕ → ℕ → ℕ → Bool
-lastly b at size old p = elim b as (λ x. Bool) [ true ↦ leb at p | false ↦ leb (at + size) old ]
 
 module _ (kind at size old new a p : ℕ) where
   is-two : kind ≡ 2 → numbersRight kind at size old new a p ≡ (leb a at && (leb (at + size) new && leb at p))
@@ -166,9 +162,9 @@ module _ (j : List ℕ) (m q : ℕ) (l : m ≤ length j) (w : whole j m q ≡ tr
   pub whole-kind : (1 ≤ kindAt j q) × (kindAt j q ≤ 4)
   unfolding whole
   whole-kind =
-      let x = both (leb (q + 18) m) ((leb 1 (kindAt j q) && leb (kindAt j q) 4) && leb (behind j q) m) w in
-      let y = both (leb 1 (kindAt j q) && leb (kindAt j q) 4) (leb (behind j q) m) (x .1) in
-      let z = both (leb 1 (kindAt j q)) (leb (kindAt j q) 4) (y .0) in
+      let x = both-true (leb (q + 18) m) ((leb 1 (kindAt j q) && leb (kindAt j q) 4) && leb (behind j q) m) w in
+      let y = both-true (leb 1 (kindAt j q) && leb (kindAt j q) 4) (leb (behind j q) m) (x .1) in
+      let z = both-true (leb 1 (kindAt j q)) (leb (kindAt j q) 4) (y .0) in
       (leb-true _ _ (z .0), leb-true _ _ (z .1))
 
   pub whole-says : Says j (kindAt j q) (startAt j q) (sizeAt j q) (q + 18) (rangeAt j q)

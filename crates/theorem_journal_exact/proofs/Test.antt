@@ -9,9 +9,9 @@ use mathlib.Core.List.{List, [], _∷_, List·Memᴰ·head, List·Memᴰ·tail, 
 use lib.ListN.{length}
 use lib.Dec.{eqb, leb}
 use borrow.Author.Tests.{eqb-true, eq-eqb, leb-true, le-leb}
+use Rattle.byte_strings.proofs.Bools.{both-true, true-both, or-true}
 use Rattle.journal.specs.Ranges.{Range, replaced, fresh, blank, witness, start, stop, Change}
 use Rattle.journal.specs.Form.{Holds, Free, In, Rising, Fits, Sound}
-use Rattle.journal.proofs.Behind.{both}
 use Rattle.theorem_journal_recovers.proofs.Places.{rising-end, rising-from}
 
 -- kinds 2 and 3
@@ -38,10 +38,6 @@ unfoldable pub soundFrom : ℕ → ℕ → ℕ → ℕ → List Range → Bool
 soundFrom old new a p [] = leb a new && leb new p
 soundFrom old new a p (r ∷ rs) = rangeRight old new a p r && soundFrom old new (stop r) (max p (stop r)) rs
 
-pub joint : (a b : Bool) → a ≡ true → b ≡ true → a && b ≡ true
-joint true b e d = d
-joint false b e d = e
-
 free-or-not : (r : Range) → ((isFree r ≡ true) × Free r) ⊎ ((isFree r ≡ false) × (Free r → ⊥))
 unfolding isFree
 free-or-not (replaced at o n) = inr (refl, λ x. x)
@@ -51,14 +47,14 @@ free-or-not (witness at w) = inr (refl, λ x. x)
 
 fitting-fits : (m : ℕ) (r : Range) → fitting m r ≡ true → Fits m r
 unfolding fitting
-fitting-fits m (replaced at o n) e = let x = both (eqb (length o) (length n)) (leb (at + length o) m) e in (eqb-true _ _ (x .0), leb-true _ _ (x .1))
+fitting-fits m (replaced at o n) e = let x = both-true (eqb (length o) (length n)) (leb (at + length o) m) e in (eqb-true _ _ (x .0), leb-true _ _ (x .1))
 fitting-fits m (fresh at n) e = tt
 fitting-fits m (blank at k) e = tt
 fitting-fits m (witness at w) e = leb-true _ _ e
 
 fits-fitting : (m : ℕ) (r : Range) → Fits m r → fitting m r ≡ true
 unfolding fitting
-fits-fitting m (replaced at o n) x = joint (eqb (length o) (length n)) (leb (at + length o) m) (eq-eqb _ _ (x .0)) (le-leb _ _ (x .1))
+fits-fitting m (replaced at o n) x = true-both (eqb (length o) (length n)) (leb (at + length o) m) (eq-eqb _ _ (x .0)) (le-leb _ _ (x .1))
 fits-fitting m (fresh at n) x = refl
 fits-fitting m (blank at k) x = refl
 fits-fitting m (witness at w) x = le-leb _ _ x
@@ -90,10 +86,10 @@ record Parts (old new a p : ℕ) (r : Range) (rs : List Range) : Type 0 where
 parts : (old new a p : ℕ) (r : Range) (rs : List Range) → soundFrom old new a p (r ∷ rs) ≡ true → Parts old new a p r rs
 unfolding soundFrom rangeRight
 parts old new a p r rs e =
-    let v = both (rangeRight old new a p r) (soundFrom old new (stop r) (max p (stop r)) rs) e in
-    let x = both (leb a (start r)) (leb (stop r) new && (fitting old r && (not (isFree r) || leb (start r) p))) (v .0) in
-    let y = both (leb (stop r) new) (fitting old r && (not (isFree r) || leb (start r) p)) (x .1) in
-    let z = both (fitting old r) (not (isFree r) || leb (start r) p) (y .1) in
+    let v = both-true (rangeRight old new a p r) (soundFrom old new (stop r) (max p (stop r)) rs) e in
+    let x = both-true (leb a (start r)) (leb (stop r) new && (fitting old r && (not (isFree r) || leb (start r) p))) (v .0) in
+    let y = both-true (leb (stop r) new) (fitting old r && (not (isFree r) || leb (start r) p)) (x .1) in
+    let z = both-true (fitting old r) (not (isFree r) || leb (start r) p) (y .1) in
     record { behind = leb-true _ _ (x .0); inside = leb-true _ _ (y .0); fit = fitting-fits old r (z .0); near = λ f. close (free-or-not r) f (z .1); rest = v .1 }
   where
     close : ((isFree r ≡ true) × Free r) ⊎ ((isFree r ≡ false) × (Free r → ⊥)) → Free r → (not (isFree r) || leb (start r) p) ≡ true → start r ≤ p
@@ -103,17 +99,13 @@ parts old new a p r rs e =
 from-parts : (old new a p : ℕ) (r : Range) (rs : List Range) → Parts old new a p r rs → soundFrom old new a p (r ∷ rs) ≡ true
 unfolding soundFrom rangeRight
 from-parts old new a p r rs x =
-    joint (rangeRight old new a p r) _
-    (joint (leb a (start r)) _ (le-leb _ _ (x .behind))
-    (joint (leb (stop r) new) _ (le-leb _ _ (x .inside)) (joint (fitting old r) _ (fits-fitting old r (x .fit)) (close (free-or-not r)))))
+    true-both (rangeRight old new a p r) _
+    (true-both (leb a (start r)) _ (le-leb _ _ (x .behind))
+    (true-both (leb (stop r) new) _ (le-leb _ _ (x .inside)) (true-both (fitting old r) _ (fits-fitting old r (x .fit)) (close (free-or-not r)))))
     (x .rest)
   where
-    or-right : (b : Bool) → (b || true) ≡ true
-    or-right true = refl
-    or-right false = refl
-
     close : ((isFree r ≡ true) × Free r) ⊎ ((isFree r ≡ false) × (Free r → ⊥)) → (not (isFree r) || leb (start r) p) ≡ true
-    close (inl g) = ap (λ (b : Bool). not (isFree r) || b) (le-leb _ _ (x .near (g .1))) ∙ or-right (not (isFree r))
+    close (inl g) = ap (λ (b : Bool). not (isFree r) || b) (le-leb _ _ (x .near (g .1))) ∙ or-true (not (isFree r))
     close (inr g) = ap (λ (b : Bool). not b || leb (start r) p) (g .0)
 
 -- ---- what passes is sound
@@ -121,7 +113,7 @@ from-parts old new a p r rs x =
 walked : (old new a p : ℕ) (rs : List Range) → old ≤ p → soundFrom old new a p rs ≡ true → Walked old new a p rs
 unfolding soundFrom
 walked old new a p [] o e =
-    let x = both (leb a new) (leb new p) e in
+    let x = both-true (leb a new) (leb new p) e in
     let y : new ≤ p = leb-true new p (x .1) in
     record { rising = leb-true _ _ (x .0); fits = λ r m. absurd (List·Memᴰ·not-nil m); covered = λ i h l. absurd (omega arith) }
 walked old new a p (r ∷ rs) o e = more old new a p r rs o x (walked old new (stop r) (max p (stop r)) rs (omega arith) (x .rest))
@@ -150,7 +142,7 @@ walked old new a p (r ∷ rs) o e = more old new a p r rs o x (walked old new (s
 
 passes : (old new a p : ℕ) (rs : List Range) → Walked old new a p rs → soundFrom old new a p rs ≡ true
 unfolding soundFrom
-passes old new a p [] w = joint (leb a new) (leb new p) (le-leb _ _ (w .rising)) (le-leb _ _ (full (decLe new p)))
+passes old new a p [] w = true-both (leb a new) (leb new p) (le-leb _ _ (w .rising)) (le-leb _ _ (full (decLe new p)))
   where
     full : Dec (new ≤ p) → new ≤ p
     full (yes h) = h

@@ -2,7 +2,7 @@
 use Prim.Native.Nat.{ℕ, zero, suc, _+_, _-_, _*_, _≤_, _<_, max}
 use native.Mathlib.Omega.{arith}
 use native.Mathlib.Decide.{ℕ-discrete}
-use native.Mathlib.Nat.{add-zero, zero-add, add-suc, suc-add}
+use native.Mathlib.Nat.{zero-add}
 use mathlib.Core.Path.{_≡_, refl, sym, ap, ap₂, _∙_, subst}
 use mathlib.Core.Logic.{⊎-elim}
 use mathlib.Core.Bool.{Bool, true, false}
@@ -14,41 +14,22 @@ use borrow.Author.Tests.{eq-eqb, ne-eqb, le-leb}
 use Rattle.byte_strings.specs.Lists.{part, Bytes}
 use Rattle.byte_strings.specs.Lowest.{Lowest, nowhere, first, lowest}
 use Rattle.byte_strings.proofs.Lists.{part-add}
+use Rattle.byte_strings.proofs.Bools.{both-true, true-both, not-both}
+use Rattle.byte_strings.proofs.Lowest.{nowhere-right}
 use Rattle.journal.specs.Ranges.{Range, stop, Placed, rangesOf}
 use Rattle.journal.specs.Form.{lengthOf, sizeOf, encodeAll, FilesRise}
 use Rattle.journal.specs.Places.{oldAt, newAt, fileAt, kindAt, startAt, sizeAt, timesLong, behind, whole, rangeAt}
 use Rattle.journal.specs.Reading.{isDone, numbersRight, reachOf, follows, stopAt, coveredBy, isFull, gapSays, walk}
 use Rattle.journal.specs.declared.Said.{Said}
 use Rattle.journal.specs.declared.Said.the-variants.{Range as NoRange}
-use Rattle.journal.proofs.Behind.{both, whole-end}
+use Rattle.journal.proofs.Behind.{whole-end}
 use Rattle.journal.proofs.Steps.{walk-end, walk-cut, walk-off, walk-on, follows-has, reach-same, reach-other}
-use Rattle.theorem_journal_exact.proofs.Test.{soundFrom, joint}
+use Rattle.theorem_journal_exact.proofs.Test.{soundFrom}
 use Rattle.theorem_journal_exact.proofs.Test as Test
 use Rattle.theorem_journal_exact.proofs.Read.{Says, placedAt, whole-says, behind-long, encode-is}
 
--- a contradiction of tests
-pub clash : {A : Type 0} → false ≡ true → A
-clash e = let z : _≡_ {A = ℕ} 0 1 = cc in absurd (omega arith)
-
--- where no number is found wrong, all are right
-pub nowhere-all : (right : ℕ → Bool) (i k : ℕ) → lowest right i k ≡ nowhere → (j : ℕ) → j < k → right (i + j) ≡ true
-unfolding lowest
-nowhere-all right i zero e j h = absurd (omega arith)
-nowhere-all right i (suc k) e j h = go (λ r m l. nowhere-all right (suc i) k r m l) (right i) refl
-  where
-    below : (lowest right (suc i) k ≡ nowhere → (m : ℕ) → m < k → right (suc i + m) ≡ true)
-        → right i ≡ true → lowest right (suc i) k ≡ nowhere → (m : ℕ) → m < suc k → right (i + m) ≡ true
-    below f t r zero l = ap right (add-zero i) ∙ t
-    below f t r (suc m) l = ap right (add-suc i m ∙ sym (suc-add i m)) ∙ f r m (omega arith)
-
-    go : (lowest right (suc i) k ≡ nowhere → (m : ℕ) → m < k → right (suc i + m) ≡ true) → (b : Bool) → right i ≡ b → right (i + j) ≡ true
-    go f true t = below f t (sym (ap (λ (b : Bool). elim b as (λ x. Lowest) [ true ↦ lowest right (suc i) k | false ↦ first i ]) t) ∙ e) j h
-    go f false t =
-        let d : first i ≡ nowhere = sym (ap (λ (b : Bool). elim b as (λ x. Lowest) [ true ↦ lowest right (suc i) k | false ↦ first i ]) t) ∙ e in
-        let z : _≡_ {A = ℕ} 0 1 = cc in absurd (omega arith)
-
 pub lowest-none : (right : ℕ → Bool) (k : ℕ) → lowest right 0 k ≡ nowhere → (i : ℕ) → i < k → right i ≡ true
-lowest-none right k e i h = ap right (sym (zero-add i)) ∙ nowhere-all right 0 k e i h
+lowest-none right k e i h = ap right (sym (zero-add i)) ∙ nowhere-right right 0 k e i h
 
 walk-none : (j : List ℕ) (m last reach : ℕ) (covered : List ℕ) (q : ℕ) → walk j m 0 last reach covered q ≡ NoRange q
 unfolding walk
@@ -58,7 +39,7 @@ walk-none j m last reach covered q = refl
 gap-nowhere : (l : Lowest) (s : Said) → isDone (gapSays l s) ≡ true → l ≡ nowhere
 unfolding gapSays
 gap-nowhere nowhere s e = refl
-gap-nowhere (first i) s e = clash e
+gap-nowhere (first i) s e = not-both e
 
 -- ranges of files above i are none of the file i
 pub none-of : (i f : ℕ) (ps : List Placed) → FilesRise f ps → i < f → rangesOf i ps ≡ []
@@ -97,22 +78,22 @@ pub follows-numbers : (j : List ℕ) (last reach : ℕ) (covered : List ℕ) (q 
     → numbersRight (kindAt j q) (startAt j q) (sizeAt j q) (lengthOf (oldAt j (fileAt j q))) (lengthOf (newAt j (fileAt j q))) (reachOf (fileAt j q) last reach) (getD covered (fileAt j q) 0) ≡ true
 unfolding follows
 follows-numbers j last reach covered q e =
-    let x = both (ltb (fileAt j q) 10) _ e in
-    let y = both (leb last (fileAt j q)) _ (x .1) in
-    both (leb 1 (sizeAt j q)) _ (y .1) .1
+    let x = both-true (ltb (fileAt j q) 10) _ e in
+    let y = both-true (leb last (fileAt j q)) _ (x .1) in
+    both-true (leb 1 (sizeAt j q)) _ (y .1) .1
 
 -- the test of no range, and of one more
 pub end-sound : (old new a p : ℕ) → a ≤ new → leb new p ≡ true → soundFrom old new a p [] ≡ true
 unfolding soundFrom
-end-sound old new a p h e = joint (leb a new) (leb new p) (le-leb a new h) e
+end-sound old new a p h e = true-both (leb a new) (leb new p) (le-leb a new h) e
 
 pub sound-end : (old new a p : ℕ) → soundFrom old new a p [] ≡ true → leb new p ≡ true
 unfolding soundFrom
-sound-end old new a p e = both (leb a new) (leb new p) e .1
+sound-end old new a p e = both-true (leb a new) (leb new p) e .1
 
 more-sound : (old new a p : ℕ) (r : Range) (rs : List Range) → Test.rangeRight old new a p r ≡ true → soundFrom old new (stop r) (max p (stop r)) rs ≡ true → soundFrom old new a p (r ∷ rs) ≡ true
 unfolding soundFrom
-more-sound old new a p r rs e d = joint (Test.rangeRight old new a p r) _ e d
+more-sound old new a p r rs e d = true-both (Test.rangeRight old new a p r) _ e d
 
 none-encoded : (j : List ℕ) (q : ℕ) → part j q 0 ≡ encodeAll []
 unfolding part encodeAll
@@ -237,7 +218,7 @@ module _ (j : List ℕ) (bytes : Bytes j) (m : ℕ) (ml : m ≤ length j) where
 
   pub accepted : (k last reach : ℕ) (covered : List ℕ) (q : ℕ) → length covered ≡ 10 → q ≤ m → reach ≤ lengthOf (newAt j last) → isDone (walk j m k last reach covered q) ≡ true
       → Accepted j m last reach covered q
-  accepted zero last reach covered q c g h e = clash (sym (ap isDone (walk-none j m last reach covered q)) ∙ e)
+  accepted zero last reach covered q c g h e = not-both (sym (ap isDone (walk-none j m last reach covered q)) ∙ e)
   accepted (suc k) last reach covered q c g h e =
       go
       (λ w t l.
@@ -251,6 +232,6 @@ module _ (j : List ℕ) (bytes : Bytes j) (m : ℕ) (ml : m ≤ length j) where
       go next (yes d) a w b t =
           at-end last reach covered q d h
           (lowest-none (isFull j covered) 10 (gap-nowhere _ _ (sym (ap isDone (walk-end j m k last reach covered q d)) ∙ e)))
-      go next (no d) false w b t = clash (sym (ap isDone (walk-cut j m k last reach covered q (omega arith) w)) ∙ e)
-      go next (no d) true w false t = clash (sym (ap isDone (walk-off j m k last reach covered q (omega arith) w t)) ∙ e)
+      go next (no d) false w b t = not-both (sym (ap isDone (walk-cut j m k last reach covered q (omega arith) w)) ∙ e)
+      go next (no d) true w false t = not-both (sym (ap isDone (walk-off j m k last reach covered q (omega arith) w t)) ∙ e)
       go next (no d) true w true t = next w t (omega arith)

@@ -8,9 +8,9 @@ use mathlib.Core.List.{List, [], _∷_, List·Memᴰ, List·Memᴰ·head, List·
 use lib.ListN.{length}
 use lib.Dec.{eqb, leb}
 use borrow.Author.Tests.{eqb-true, eq-eqb, leb-true}
+use Rattle.byte_strings.proofs.Bools.{both-true}
 use Rattle.journal.specs.Ranges.{Range, Placed, rangesOf, writeAll, grown}
 use Rattle.journal.specs.Form.{Journal, WellFormed, oldState, newState, changeOf, statesRight, In}
-use Rattle.journal.proofs.Behind.{both}
 use Rattle.theorem_journal_recovers.specs.Recovers.{Before, Between, SameOutside, Writes, Written, Left, Recovers, Made}
 use Rattle.theorem_journal_recovers.specs.Archive.{File, absent, there, state, contents, Archive, sized, opened, writeFile, writeIn, writesIn, changed}
 use Rattle.theorem_journal_recovers.specs.Archive.{after, BeforeAll, BetweenFile, BetweenAll, SameAll, WritesAll, LeftAll, TornAll, RecoversAll, MadeAll, MakesAll}
@@ -91,9 +91,9 @@ no-state absent e = refl
 no-state (there f) e = absurd (omega arith)
 
 -- states grow
-states-grow : (i o n : ℕ) → statesRight i o n ≡ true → o ≤ n
+pub states-grow : (i o n : ℕ) → statesRight i o n ≡ true → o ≤ n
 unfolding statesRight
-states-grow i o n e = leb-true _ _ (both (leb o n) _ e .0)
+states-grow i o n e = leb-true _ _ (both-true (leb o n) _ e .0)
 
 module _ (x : Journal) (w : WellFormed x) where
   between-one : (A : Archive) (i : ℕ) → BetweenFile x i (A i) → Between (changeOf x i) (contents (A i))

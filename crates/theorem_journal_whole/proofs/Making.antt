@@ -1,7 +1,6 @@
 -- Begin, put and end make the encoding. Assumes nothing.
 use Prim.Native.Nat.{ℕ, _+_, _-_, _≤_, _<_}
 use native.Mathlib.Omega.{arith}
-use native.Mathlib.Nat.{zero-add}
 use mathlib.Core.Path.{_≡_, refl, sym, ap, ap₂, _∙_, subst}
 use mathlib.Core.Bool.{true}
 use mathlib.Core.List.{List, [], _∷_, _++_, append-assoc, append-nil, List·Memᴰ, List·Memᴰ·head, List·Memᴰ·tail}
@@ -11,22 +10,23 @@ use lib.Dec.{eqb, leb}
 use borrow.Author.Tests.{eq-eqb, le-leb}
 use Rattle.byte_strings.specs.Lists.{put, zeros}
 use Rattle.byte_strings.specs.Numbers.{be}
-use Rattle.byte_strings.proofs.Lists.{drop-behind, length-put, take-put}
+use Rattle.byte_strings.proofs.Lists.{drop-behind, length-put, take-put, put-front}
 use Rattle.byte_strings.proofs.Numbers.{length-be}
+use Rattle.byte_strings.proofs.Bools.{true-both}
 use Rattle.journal.specs.Ranges.{Range, replaced, fresh, blank, witness, start, Placed}
 use Rattle.journal.specs.Form.{Journal, WellFormed, kindOf, sizeOf, payload, header, encode, encodeAll, magic, words, longOf, body, journalBytes}
 use Rattle.journal.specs.Places.{lengthRight}
 use Rattle.journal.specs.Reading.{isDone, table}
 use Rattle.journal.specs.declared.Said.the-variants.{Done}
 use Rattle.journal.proofs.Answers.{done-written}
+use Rattle.journal.proofs.Lengths.{words-length}
 use Rattle.journal_making.specs.Making.{beginSaid, begun, fitting, roomFor, rangeBytes, putAfter, endSaid, sealed, endAfter}
 use Rattle.journal_making.proofs.Answers.{begin-done, put-done, end-done}
 use Rattle.journal_making.proofs.Puts.{put-next}
 use Rattle.theorem_journal_exact.specs.Exact.{Hashed}
-use Rattle.theorem_journal_exact.proofs.Test.{joint}
 use Rattle.theorem_journal_exact.proofs.Made.{Alike, header-long}
 use Rattle.theorem_journal_exact.proofs.Passes.{one-encoded}
-use Rattle.theorem_journal_exact.proofs.Laid.{words-long, below-ten, encodable, laid-front, laid-table}
+use Rattle.theorem_journal_exact.proofs.Laid.{below-ten, encodable, laid-front, laid-table}
 use Rattle.theorem_journal_exact.proofs.Encoded.{body-long}
 use Rattle.theorem_journal_whole.specs.Making.{oldBytes, newBytes, saysPut, afterPut, PutsDone, putAll, filled, rangesEnd, Makes, MakesForAll}
 
@@ -41,10 +41,10 @@ all-bytes (witness at w) = append-nil w
 -- a range has as many bytes as its kind asks
 fits : (r : Range) → Alike r → fitting (kindOf r) (sizeOf r) (length (oldBytes r)) (length (newBytes r)) ≡ true
 unfolding fitting
-fits (replaced at o n) a = joint (eqb (length o) (length n)) (eqb (length n) (length n)) (eq-eqb (length o) (length n) a) (eq-eqb (length n) (length n) refl)
+fits (replaced at o n) a = true-both (eqb (length o) (length n)) (eqb (length n) (length n)) (eq-eqb (length o) (length n) a) (eq-eqb (length n) (length n) refl)
 fits (fresh at n) a = eq-eqb (length n) (length n) refl
 fits (blank at k) a = refl
-fits (witness at w) a = joint (eqb (length w) (length w)) true (eq-eqb (length w) (length w) refl) refl
+fits (witness at w) a = true-both (eqb (length w) (length w)) true (eq-eqb (length w) (length w) refl) refl
 
 module _ (p : Placed) where
   abbrev r : Range
@@ -104,10 +104,6 @@ module _ (j : List ℕ) where
       }
 
 -- ---- all of it
-
-put-first : (j ys : List ℕ) → put j 0 ys ≡ ys ++ drop (length ys) j
-unfolding put
-put-first j ys = ap (λ (n : ℕ). ys ++ drop n j) (zero-add (length ys))
 
 -- the own length, over whatever stood there
 module _ (own zs rest : List ℕ) (ol : length own ≡ 8) (zl : length zs ≡ 8) where
@@ -178,7 +174,7 @@ module _ (F : List ℕ → List ℕ) (x : Journal) (w : WellFormed x) (fl : Hash
   start-long : length start-bytes ≡ 184
   start-long =
       let t = w .ten in
-      let l = words-long (x .states) in
+      let l = words-length (x .states) in
       length-append magic (zeros 8 ++ words (x .states)) ∙ omega (arith, length-append (zeros 8) (words (x .states)))
 
   begin-says : beginSaid j ≡ Done 184
@@ -205,7 +201,7 @@ module _ (F : List ℕ → List ℕ) (x : Journal) (w : WellFormed x) (fl : Hash
 
   filled-is : filled x j ≡ full
   filled-is =
-      ap (λ (b : List ℕ). putAll b 184 (x .ranges)) begin-gives ∙ all-put .gives ∙ put-first j (start-bytes ++ encodeAll (x .ranges))
+      ap (λ (b : List ℕ). putAll b 184 (x .ranges)) begin-gives ∙ all-put .gives ∙ put-front j (start-bytes ++ encodeAll (x .ranges))
       ∙ append-assoc start-bytes (encodeAll (x .ranges)) tail ∙ append-assoc magic (zeros 8 ++ words (x .states)) (encodeAll (x .ranges) ++ tail)
       ∙ ap (λ (z : List ℕ). magic ++ z) (append-assoc (zeros 8) (words (x .states)) (encodeAll (x .ranges) ++ tail))
 
@@ -221,7 +217,7 @@ module _ (F : List ℕ → List ℕ) (x : Journal) (w : WellFormed x) (fl : Hash
   right =
       let l = long-is F x w (zeros 8) [] refl in
       let b = w .bound in
-      joint (leb 216 (q + 32)) (leb (q + 32) 268435456) (le-leb 216 (q + 32) (omega arith)) (le-leb (q + 32) 268435456 (omega arith))
+      true-both (leb 216 (q + 32)) (leb (q + 32) 268435456) (le-leb 216 (q + 32) (omega arith)) (le-leb (q + 32) 268435456 (omega arith))
 
   end-says : endSaid full q ≡ Done (q + 32)
   end-says =

@@ -13,13 +13,12 @@ use borrow.Author.Tests.{eqb-true, eq-eqb, le-leb}
 use Rattle.byte_strings.specs.Lists.{part}
 use Rattle.byte_strings.specs.Lowest.{Lowest, nowhere, first}
 use Rattle.byte_strings.proofs.Lists.{getD-part, length-part}
+use Rattle.byte_strings.proofs.Lowest.{nowhere-right, right-nowhere}
 use Rattle.journal.specs.Ranges.{Range, replaced, fresh, blank, witness, start}
 use Rattle.journal.specs.Form.{Fits}
 use Rattle.journal_meeting.specs.Between.{rightAt, judgedRange, inFile, shifted, metRange}
 use Rattle.theorem_journal_recovers.specs.Recovers.{Mixed}
 use Rattle.theorem_journal_recovers.proofs.Recovers.{said}
-use Rattle.theorem_journal_exact.proofs.Walk.{nowhere-all}
-use Rattle.theorem_journal_exact.proofs.Passes.{all-nowhere}
 
 or-true : (a b : Bool) → (a || b) ≡ true → (a ≡ true) ⊎ (b ≡ true)
 or-true true b x = inl refl
@@ -43,7 +42,7 @@ module _ (f o n : List ℕ) (at i : ℕ) where
 range-mixed : (m : ℕ) (f : List ℕ) (r : Range) → m ≤ length f → Fits m r → judgedRange f r ≡ nowhere → Mixed f r
 unfolding judgedRange
 range-mixed m f (replaced at o n) l x e = λ i h.
-    right-either f o n at i (ap (rightAt f o n at) (sym (zero-add i)) ∙ nowhere-all (rightAt f o n at) 0 (length n) e i h)
+    right-either f o n at i (ap (rightAt f o n at) (sym (zero-add i)) ∙ nowhere-right (rightAt f o n at) 0 (length n) e i h)
 range-mixed m f (fresh at n) l x e = tt
 range-mixed m f (blank at k) l x e = tt
 range-mixed m f (witness at w) l x e =
@@ -52,16 +51,16 @@ range-mixed m f (witness at w) l x e =
     (λ i h.
     let j : i < length w = omega arith in
     getD-part f at (length w) i 0 j
-    ∙ ⊎-elim (λ y. y) (λ y. y) (right-either f w w at i (ap (rightAt f w w at) (sym (zero-add i)) ∙ nowhere-all (rightAt f w w at) 0 (length w) e i j)))
+    ∙ ⊎-elim (λ y. y) (λ y. y) (right-either f w w at i (ap (rightAt f w w at) (sym (zero-add i)) ∙ nowhere-right (rightAt f w w at) 0 (length w) e i j)))
 
 mixed-range : (f : List ℕ) (r : Range) → Mixed f r → judgedRange f r ≡ nowhere
 unfolding judgedRange
 mixed-range f (replaced at o n) x =
-    all-nowhere (rightAt f o n at) 0 (length n) (λ j h. ap (rightAt f o n at) (zero-add j) ∙ either-right f o n at j (x j h))
+    right-nowhere (rightAt f o n at) 0 (length n) (λ j h. ap (rightAt f o n at) (zero-add j) ∙ either-right f o n at j (x j h))
 mixed-range f (fresh at n) x = refl
 mixed-range f (blank at k) x = refl
 mixed-range f (witness at w) x =
-    all-nowhere (rightAt f w w at) 0 (length w) (λ j h. ap (rightAt f w w at) (zero-add j) ∙ either-right f w w at j (inl (said f at w j x h)))
+    right-nowhere (rightAt f w w at) 0 (length w) (λ j h. ap (rightAt f w w at) (zero-add j) ∙ either-right f w w at j (inl (said f at w j x h)))
 
 -- a range with bytes of before lies in a file that is long enough
 in-file : (m : ℕ) (f : List ℕ) (r : Range) → m ≤ length f → Fits m r → inFile f r ≡ true

@@ -2,24 +2,24 @@
 use Prim.Native.Nat.{ℕ, zero, suc, _+_, _-_, _≤_, _<_}
 use native.Mathlib.Omega.{arith}
 use native.Mathlib.Decide.{ℕ-discrete, decLe}
-use mathlib.Core.Path.{_≡_, refl, sym, ap, ap₂, _∙_, subst}
+use mathlib.Core.Path.{_≡_, refl, sym, ap, _∙_, subst}
 use mathlib.Core.Logic.{⊎-elim}
-use mathlib.Core.Bool.{Bool, true, false, _&&_}
+use mathlib.Core.Bool.{Bool, true, false}
 use mathlib.Core.List.{List, [], _∷_, _++_, List·Memᴰ, List·Memᴰ·head, List·Memᴰ·tail, List·Memᴰ·not-nil, List·Memᴰ·cases-cons}
 use lib.ListN.{length, length-append}
-use lib.Dec.{eqb, leb, ltb}
-use borrow.Author.Tests.{eq-eqb, ne-eqb, lt-leb, lt-ltb, le-ltb}
+use lib.Dec.{ltb}
+use borrow.Author.Tests.{lt-ltb, le-ltb}
 use Rattle.byte_strings.specs.Lists.{part}
 use Rattle.byte_strings.specs.Lowest.{Lowest, nowhere, first}
 use Rattle.byte_strings.proofs.Lists.{length-part}
 use Rattle.journal.specs.Ranges.{Range, Placed, rangesOf}
 use Rattle.journal.specs.Form.{In, encode, encodeAll, FilesRise}
-use Rattle.journal.specs.Places.{fileAt, kindAt, behind, whole, rangeAt}
-use Rattle.journal.specs.Reading.{whether}
+use Rattle.journal.specs.Places.{behind}
 use Rattle.journal.specs.declared.Said.{Said}
 use Rattle.journal.specs.declared.Said.the-variants.{Done, Byte}
 use Rattle.journal.proofs.Behind.{behind-least}
-use Rattle.journal_meeting.specs.Between.{metRange, orByte, isOf, met}
+use Rattle.journal_meeting.specs.Between.{metRange, orByte, met}
+use Rattle.journal_meeting.proofs.Steps.{stops, goes, past, other, of-it as its-own}
 use Rattle.theorem_journal_exact.proofs.Walk.{none-of, of-it, of-others, none-ranges}
 use Rattle.theorem_journal_exact.proofs.Made.{Encodable, Stands, stands}
 use Rattle.theorem_journal_exact.proofs.Passes.{behind-part, one-encoded, none-long}
@@ -113,29 +113,6 @@ module _ (j : List ℕ) (m : ℕ) (ml : m ≤ length j) where
   -- ---- one file's ranges
 
   module _ (i : ℕ) (f : List ℕ) where
-    stops : (k q : ℕ) → isOf j m i q ≡ false → met j m i f k q ≡ Done q
-    unfolding met whether
-    stops zero q e = refl
-    stops (suc k) q e = ap (λ (b : Bool). whether b (orByte (metRange f (rangeAt j q)) (met j m i f k (behind j q))) (Done q)) e
-
-    goes : (k q : ℕ) (l : Lowest) → isOf j m i q ≡ true → metRange f (rangeAt j q) ≡ l → met j m i f (suc k) q ≡ orByte l (met j m i f k (behind j q))
-    unfolding met whether
-    goes k q l e d =
-        ap (λ (b : Bool). whether b (orByte (metRange f (rangeAt j q)) (met j m i f k (behind j q))) (Done q)) e
-        ∙ ap (λ (x : Lowest). orByte x (met j m i f k (behind j q))) d
-
-    past : (q : ℕ) → m ≤ q → isOf j m i q ≡ false
-    unfolding isOf whole
-    past q h = ap (λ (b : Bool). (b && ((leb 1 (kindAt j q) && leb (kindAt j q) 4) && leb (behind j q) m)) && eqb (fileAt j q) i) (lt-leb (q + 18) m (omega arith))
-
-    other : (q : ℕ) → whole j m q ≡ true → (fileAt j q ≡ i → ⊥) → isOf j m i q ≡ false
-    unfolding isOf
-    other q e n = ap₂ (λ (a b : Bool). a && b) e (ne-eqb (fileAt j q) i n)
-
-    its-own : (q : ℕ) → whole j m q ≡ true → fileAt j q ≡ i → isOf j m i q ≡ true
-    unfolding isOf
-    its-own q e d = ap₂ (λ (a b : Bool). a && b) e (eq-eqb (fileAt j q) i d)
-
     on-nowhere : (s : Said) → orByte nowhere s ≡ s
     unfolding orByte
     on-nowhere s = refl
@@ -170,7 +147,7 @@ module _ (j : List ℕ) (m : ℕ) (ml : m ≤ length j) where
     met-passes [] k q g a =
         let d = left q [] (g .0) (g .2) in
         let y = none-long in
-        stops k q (past q (omega arith)) ∙ ap Done (sym (ap (λ (qs : List Placed). m - length (encodeAll qs)) (from-none (i + 1)) ∙ d))
+        stops j m i f k q (past j m i f q (omega arith)) ∙ ap Done (sym (ap (λ (qs : List Placed). m - length (encodeAll qs)) (from-none (i + 1)) ∙ d))
     met-passes (p ∷ ps) zero q g a = absurd (let n = g .1 in let l = g .0 in omega arith)
     met-passes (p ∷ ps) (suc k) q g a =
         go
@@ -183,12 +160,12 @@ module _ (j : List ℕ) (m : ℕ) (ml : m ≤ length j) where
         go : (p .file ≡ i → met j m i f k (behind j q) ≡ Done (m - length (encodeAll (fromFile (i + 1) ps)))) → Dec (p .file ≡ i)
             → met j m i f (suc k) q ≡ Done (m - length (encodeAll (fromFile (i + 1) (p ∷ ps))))
         go x (yes e) =
-            goes k q nowhere (its-own q (s .is-whole) (s .file ∙ e))
-            (ap (metRange f) (s .range) ∙ a (p .range) (subst (λ (rs : List Range). In (p .range) rs) (sym (of-it i p ps e)) (List·Memᴰ·head refl)))
+            goes j m i f k q nowhere (its-own j m i f q (s .is-whole) (s .file ∙ e))
+            (sym (ap (metRange f) (s .range) ∙ a (p .range) (subst (λ (rs : List Range). In (p .range) rs) (sym (of-it i p ps e)) (List·Memᴰ·head refl))))
             ∙ on-nowhere (met j m i f k (behind j q)) ∙ x e ∙ ap (λ (qs : List Placed). Done (m - length (encodeAll qs))) (sym (skips (i + 1) p ps (omega arith)))
         go x (no n) =
             let l = g .3 .0 in
-            stops (suc k) q (other q (s .is-whole) (λ d. n (sym (s .file) ∙ d)))
+            stops j m i f (suc k) q (other j m i f q (s .is-whole) (λ d. n (sym (s .file) ∙ d)))
             ∙ ap Done (sym (ap (λ (qs : List Placed). m - length (encodeAll qs)) (begins-here (i + 1) p ps (omega (arith, n))) ∙ left q (p ∷ ps) (g .0) (g .2)))
 
     pub met-all : (ps : List Placed) (k q z : ℕ) → Given k q ps → met j m i f k q ≡ Done z → (r : Range) → In r (rangesOf i ps) → metRange f r ≡ nowhere
@@ -201,10 +178,11 @@ module _ (j : List ℕ) (m : ℕ) (ml : m ≤ length j) where
 
         go : (p .file ≡ i → met j m i f k (behind j q) ≡ Done z → In r (rangesOf i ps) → metRange f r ≡ nowhere) → Dec (p .file ≡ i) → (l : Lowest) → metRange f (p .range) ≡ l → metRange f r ≡ nowhere
         go x (yes e) nowhere c =
-            let y = goes k q nowhere (its-own q (s .is-whole) (s .file ∙ e)) (ap (metRange f) (s .range) ∙ c) ∙ on-nowhere (met j m i f k (behind j q)) in
+            let y = goes j m i f k q nowhere (its-own j m i f q (s .is-whole) (s .file ∙ e)) (sym (ap (metRange f) (s .range) ∙ c)) ∙ on-nowhere (met j m i f k (behind j q)) in
             ⊎-elim (λ b. ap (metRange f) b ∙ c) (λ b. x e (sym y ∙ d) b) (List·Memᴰ·cases-cons (subst (λ (rs : List Range). In r rs) (of-it i p ps e) t))
         go x (yes e) (first o) c =
-            let y : met j m i f (suc k) q ≡ Byte o = goes k q (first o) (its-own q (s .is-whole) (s .file ∙ e)) (ap (metRange f) (s .range) ∙ c) ∙ on-byte o (met j m i f k (behind j q)) in
+            let y : met j m i f (suc k) q ≡ Byte o =
+            goes j m i f k q (first o) (its-own j m i f q (s .is-whole) (s .file ∙ e)) (sym (ap (metRange f) (s .range) ∙ c)) ∙ on-byte o (met j m i f k (behind j q)) in
             let b : Byte o ≡ Done z = sym y ∙ d in
             let v : _≡_ {A = ℕ} 0 1 = cc in
             absurd (omega arith)

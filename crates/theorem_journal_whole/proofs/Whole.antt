@@ -8,20 +8,18 @@ use lib.ListN.{length}
 use lib.Dec.{leb}
 use borrow.Author.Tests.{leb-true, le-leb}
 use Rattle.byte_strings.specs.Lists.{part}
+use Rattle.byte_strings.proofs.Bools.{both-true, true-both, not-both}
 use Rattle.journal.specs.Ranges.{Range, Placed}
 use Rattle.journal.specs.Form.{Journal, WellFormed, encodeAll, journalBytes, oldState, newState, lengthOf, stateOf, FilesRise, In}
 use Rattle.journal.specs.Places.{oldAt, newAt, bodyLength}
 use Rattle.journal.specs.Reading.{isDone, statesSaid}
 use Rattle.journal.specs.declared.Said.the-variants.{Done}
-use Rattle.journal.proofs.Behind.{both}
 use Rattle.journal.proofs.Answers.{done-written, states-done, states-unfit}
 use Rattle.journal_meeting.specs.Between.{met, stateMet, between}
 use Rattle.journal_meeting.proofs.Steps.{between-state, between-on}
 use Rattle.theorem_journal_recovers.specs.Archive.{File, absent, there, state, contents, BetweenFile}
 use Rattle.theorem_journal_recovers.proofs.Archive.{archive-recovers, state-length}
 use Rattle.theorem_journal_exact.specs.Exact.{Hashed}
-use Rattle.theorem_journal_exact.proofs.Test.{joint}
-use Rattle.theorem_journal_exact.proofs.Walk.{clash}
 use Rattle.theorem_journal_exact.proofs.Passes.{none-long}
 use Rattle.theorem_journal_exact.proofs.Made.{Encodable}
 use Rattle.theorem_journal_exact.proofs.Laid.{encodable}
@@ -38,11 +36,11 @@ state-is (there f) = refl
 -- the test of a file's state, both ways
 met-states : (j : List ℕ) (i s : ℕ) → stateMet j i s ≡ true → (oldAt j i ≤ s) × (s ≤ newAt j i)
 unfolding stateMet
-met-states j i s e = let x = both (leb (oldAt j i) s) (leb s (newAt j i)) e in (leb-true _ _ (x .0), leb-true _ _ (x .1))
+met-states j i s e = let x = both-true (leb (oldAt j i) s) (leb s (newAt j i)) e in (leb-true _ _ (x .0), leb-true _ _ (x .1))
 
 states-met : (j : List ℕ) (i s : ℕ) → oldAt j i ≤ s → s ≤ newAt j i → stateMet j i s ≡ true
 unfolding stateMet
-states-met j i s a b = joint (leb (oldAt j i) s) (leb s (newAt j i)) (le-leb _ _ a) (le-leb _ _ b)
+states-met j i s a b = true-both (leb (oldAt j i) s) (leb s (newAt j i)) (le-leb _ _ a) (le-leb _ _ b)
 
 module _ (F : List ℕ → List ℕ) (x : Journal) (w : WellFormed x) (fl : Hashed F x) where
   abbrev j : List ℕ
@@ -95,7 +93,7 @@ module _ (F : List ℕ → List ℕ) (x : Journal) (w : WellFormed x) (fl : Hash
         go : (b : Bool) → stateMet j i (stateOf (isThere f) (length (contents f))) ≡ b
             → (stateMet j i (stateOf (isThere f) (length (contents f))) ≡ true) × (met j m i (contents f) (suc (length j)) at ≡ Done z)
         go true d = (d, between-on j i at (isThere f) (contents f) (long-right F x w fl) h d _ refl ∙ e)
-        go false d = clash (ap isDone (between-state j i at (isThere f) (contents f) (long-right F x w fl) h d ∙ e))
+        go false d = not-both (ap isDone (between-state j i at (isThere f) (contents f) (long-right F x w fl) h d ∙ e))
 
     judged : SaysBetween j x i f → BetweenFile x i f
     judged e =

@@ -9,7 +9,7 @@ use borrow.Author.Tests.{lt-ltb, le-leb}
 use lib.Dec.{ltb}
 use lib.ListN.{length, getD, take}
 use lib.Seq.{length-take-le}
-use Rattle.refusals.specs.Verdict.{Verdict, tree, done, refused, unlessRefused}
+use Rattle.answer_types.specs.Verdict.{Verdict, tree, done, refused, unlessRefused, andThen}
 use Rattle.byte_strings.specs.Lists.{part, joined, total, sameList, put}
 use Rattle.byte_strings.specs.Numbers.{be}
 use Rattle.tree_index.specs.Tree.{index, filled, roots, entries}
@@ -37,7 +37,7 @@ use Rattle.audit.proofs.Accepts.{has-register}
 use Rattle.prefix_root.proofs.First.{filled-more, nodeAt-first}
 use Rattle.lookup.specs.Descent.{always, chunkWithin, descent}
 use Rattle.lookup.specs.Lookup.{startOf, stopRefused, toChunk, heldVerdict}
-use Rattle.lookup.specs.Read.{chunkBytes, andThen, partUnless, readVerdict, readPart}
+use Rattle.lookup.specs.Read.{chunkBytes, partUnless, readVerdict, readPart}
 use Rattle.lookup.proofs.Answers.{answers, to-chunk}
 use Rattle.packet.specs.Packet.{section, siblings, otherRoots, packetOf, roomOr14, makeVerdict, madeLength, afterMake, packetWith}
 use Rattle.packet.specs.Check.{packetVerdict, checkedChunk}

@@ -17,10 +17,11 @@ use Rattle.packet.specs.Check.{packetChunk, packetTotal}
 use Rattle.copy_checks.proofs.Steps.{Lent}
 use Rattle.copy_take_in.specs.TakeIn.{Given, packetStart, withGiven, brought, takenIn}
 use Rattle.copy_take_in.specs.Inner.{Fits}
-use Rattle.copy_take_in.proofs.Calls.{placed, chunk-long}
-use Rattle.theorem_taking_laws.proofs.Members.{In, map-in}
+use Rattle.copy_take_in.proofs.Places.{placed, chunk-long}
+use Rattle.byte_strings.proofs.Members.{In, map-in}
 use Rattle.theorem_taking_laws.proofs.Given.{bytesFor, AllFitting, Agree, still-given, given-keeps, given-gives}
-use Rattle.theorem_taking_laws.proofs.Descents.{chunkStart, descents-apart}
+use Rattle.theorem_taking_laws.proofs.Reaches.{chunkStart}
+use Rattle.theorem_taking_laws.proofs.ChunksApart.{descents-apart}
 use Rattle.theorem_taking_laws.proofs.Starts.{HoldsAll, leaf-size, start-is, packet-descent, roots-total, brought-proper}
 use Rattle.theorem_packets_commute.specs.Commute.{CommuteForAll}
 use Rattle.theorem_packets_commute.proofs.Turns.{Lying, fitting, own-agree, later-passes, fits-p, fits-q, both-agree, commutes}

@@ -10,23 +10,22 @@ use lib.Dec.{eqb}
 use lib.ListN.{length}
 use Rattle.byte_strings.specs.Lists.{part, put, among, sameList}
 use Rattle.byte_strings.specs.Lowest.{Lowest, nowhere, first}
-use Rattle.byte_strings.proofs.Lists.{part-put, part-put-before, part-put-behind, same-eq}
-use Rattle.byte_strings.proofs.Bools.{or-right}
+use Rattle.byte_strings.proofs.Lists.{part-put, part-put-before, part-put-behind, same-eq, same-of}
+use Rattle.byte_strings.proofs.Bools.{or-right, cases}
 use Rattle.tree_index.specs.Tree.{index}
 use Rattle.bitfield.specs.Append.{bitsPlace}
 use Rattle.bitfield.specs.Release.{storedHeld}
 use Rattle.bitfield.specs.Known.{storedKnown, heldAgain}
-use Rattle.bitfield.proofs.Bits.{cases}
 use Rattle.bitfield.proofs.Levels.{same-or}
 use Rattle.file_format.specs.Sizes.{entryPlace}
-use Rattle.checks.proofs.Passed.{same-of}
 use Rattle.packet.proofs.Above.{Distinct}
 use Rattle.copy_checks.specs.Least.{lowerOf, leastOf}
 use Rattle.copy_checks.proofs.Least.{lower-none}
 use Rattle.copy_take_in.specs.TakeIn.{Given, contradicts, contradictsBytes, withGiven, withKnown}
-use Rattle.theorem_taking_laws.proofs.Members.{In, map-in, apart-out}
-use Rattle.theorem_taking_laws.proofs.Places.{puts-turn}
-use Rattle.theorem_taking_laws.proofs.Field.{RoomFor, known-again}
+use Rattle.byte_strings.proofs.Members.{In, map-in}
+use Rattle.theorem_taking_laws.proofs.Distinct.{apart-out}
+use Rattle.bitfield.proofs.Beside.{puts-turn}
+use Rattle.bitfield.proofs.StoredBits.{RoomFor, known-again}
 use Rattle.theorem_taking_laws.proofs.Given.{bytesFor, placesOf, AllFitting, AllRoom, Agree, among-in, in-among, given-keeps, given-gives, length-known, known-given}
 use Rattle.theorem_taking_laws.proofs.Unknown.{each-least}
 

@@ -8,7 +8,7 @@ use native.Mathlib.Omega.{arith}
 use borrow.Author.Tests.{eq-eqb}
 use lib.Dec.{eqb}
 use lib.ListN.{length}
-use Rattle.refusals.specs.Verdict.{tree, done}
+use Rattle.answer_types.specs.Verdict.{tree, done}
 use Rattle.byte_strings.specs.Lists.{put, total, Bytes}
 use Rattle.byte_strings.specs.Lowest.{Lowest, nowhere, first}
 use Rattle.byte_strings.proofs.Lists.{length-put}
@@ -27,10 +27,13 @@ use Rattle.copy_checks.specs.Checks.{unknownRoot, passedOver}
 use Rattle.copy_checks.proofs.Steps.{Lent}
 use Rattle.copy_take_in.specs.TakeIn.{Given, packetStart, withGiven, withKnown, brought, contradiction, takeVerdict, takenIn}
 use Rattle.copy_take_in.specs.Inner.{Fits}
-use Rattle.copy_take_in.proofs.Calls.{Passes, staged-passes, passes-staged, fits, knowable, data-bit, chunk-long, start-inside}
-use Rattle.theorem_taking_laws.proofs.Field.{RoomFor, length-held, front-held, held-again, held-turn}
+use Rattle.copy_take_in.proofs.Stages.{Passes, staged-passes, passes-staged, fits}
+use Rattle.copy_take_in.proofs.Knowable.{knowable, data-bit}
+use Rattle.copy_take_in.proofs.Places.{chunk-long}
+use Rattle.copy_take_in.proofs.Start.{start-inside}
+use Rattle.bitfield.proofs.StoredBits.{RoomFor, length-held, front-held, held-again, held-turn}
 use Rattle.theorem_taking_laws.proofs.Given.{AllFitting, AllRoom, Agree, length-given, front-given, given-turn, length-known, front-known, held-given, known-turn, known-held}
-use Rattle.theorem_taking_laws.proofs.Brought.{brought-filled, brought-distinct}
+use Rattle.theorem_taking_laws.proofs.Among.{brought-filled, brought-distinct}
 use Rattle.theorem_taking_laws.proofs.Starts.{brought-proper}
 use Rattle.theorem_packets_commute.specs.Commute.{BothTaken, Commute}
 use Rattle.theorem_packets_commute.proofs.Clear.{AllClear, ClearBytes, lower-clear, clear-lower, distinct-agree, agree, later-clear, earlier-clear, later-bytes, earlier-bytes, bytes-turn}

@@ -2,36 +2,28 @@
 use Prim.Native.Nat.{ℕ, _+_, _-_, _*_, _/_, _≤_, _<_}
 use mathlib.Core.Path.{_≡_, refl, sym, ap, _∙_}
 use mathlib.Core.Logic.{inl, inr}
-use mathlib.Core.Bool.{Bool, true, false, cond}
+use mathlib.Core.Bool.{Bool}
 use mathlib.Core.List.{List, [], _∷_, map}
 use native.Mathlib.Omega.{arith}
-use borrow.Author.Tests.{ltb-true, ltb-false}
-use lib.Dec.{ltb}
 use Rattle.byte_strings.specs.Lists.{run}
 use Rattle.byte_strings.specs.Lowest.{Lowest, nowhere, lowest}
 use Rattle.tree_index.specs.Tree.{entries}
 use Rattle.bitfield.specs.Image.{entryCount}
 use Rattle.file_format.specs.Sizes.{usedBitfield}
 use Rattle.copy_checks.specs.Least.{leastOf}
-use Rattle.parts_audit.specs.Range.{lesser, within}
+use Rattle.parts_audit.specs.Range.{within}
+use Rattle.parts_audit.proofs.ByTest.{by-test}
 use Rattle.theorem_parts.specs.Cover.{Part, treeEntries, bitfieldEntries, HasEntry, HasRow, Range, HasIndex, Some, Covers, CoversIndexes}
 use Rattle.theorem_parts.proofs.Least.{ranges-least, wrongAt, lowest-least}
 
 -- ---- the numbers of a range
 
 module _ (k a b i : ℕ) where
-  by-test : (P : ℕ → Type 0) → (b < k → P b) → (k ≤ b → P k) → P (lesser b k)
-  by-test P f g = go (ltb b k) refl
-    where
-      go : (x : Bool) → ltb b k ≡ x → P (cond x b k)
-      go true e = f (ltb-true b k e)
-      go false e = let l = ltb-false b k e in g (omega arith)
-
   pub in-range : a ≤ i → i < a + within k a b → (i < k) × (i < b)
-  in-range h = by-test (λ m. i < a + (m - a) → (i < k) × (i < b)) (λ l q. (omega arith, omega arith)) (λ l q. (omega arith, omega arith))
+  in-range h = by-test b k (λ m. i < a + (m - a) → (i < k) × (i < b)) (λ l q. (omega arith, omega arith)) (λ l q. (omega arith, omega arith))
 
   pub of-range : a ≤ i → i < b → i < k → i < a + within k a b
-  of-range h g l = by-test (λ m. i < a + (m - a)) (λ q. omega arith) (λ q. omega arith)
+  of-range h g l = by-test b k (λ m. i < a + (m - a)) (λ q. omega arith) (λ q. omega arith)
 
 -- ---- lists
 

@@ -6,13 +6,13 @@ use mathlib.Core.List.{List, [], _∷_, map}
 use native.Mathlib.Omega.{arith}
 use borrow.Author.Tests.{eq-eqb}
 use lib.Dec.{ltb, eqb}
-use Rattle.refusals.specs.Verdict.{Verdict, tree, bitfield, done, refused}
+use Rattle.answer_types.specs.Verdict.{Verdict, tree, bitfield, done, refused, andThen}
 use Rattle.byte_strings.specs.Lowest.{Lowest, nowhere, first, lowest}
 use Rattle.tree_index.specs.Tree.{entries}
 use Rattle.file_format.specs.Belongs.{Register}
 use Rattle.checks.specs.Checks.{judged, registerChecks}
 use Rattle.checks.proofs.Passed.{Passed, passes, passed}
-use Rattle.audit.specs.Audit.{entryRight, wrongEntry, wrongByte, refusedAt, andThen, imagesVerdict, audit, Accepted, byteRight}
+use Rattle.audit.specs.Audit.{entryRight, wrongEntry, wrongByte, refusedAt, imagesVerdict, audit, Accepted, byteRight}
 use Rattle.audit.proofs.Search.{judged-then}
 use Rattle.compare.specs.Walk.{Comparison, firstRefused, secondRefused, rootsDiffer, atRoots, atIndex, equal, found, missing, heldThen, wholeVerdict, unlessRefused, unlessTold, compare}
 use Rattle.compare.proofs.Whole.{atLeaf, held-then, whole-accepted}

@@ -7,10 +7,10 @@
 use Prim.Native.Nat.{ℕ}
 use mathlib.Core.Path.{_≡_}
 use mathlib.Core.List.{List, map}
-use Rattle.refusals.specs.Verdict.{Verdict, done}
+use Rattle.answer_types.specs.Verdict.{Verdict, done, andThen}
 use Rattle.byte_strings.specs.Lowest.{Lowest, nowhere, first}
 use Rattle.file_format.specs.Belongs.{Register}
-use Rattle.audit.specs.Audit.{andThen, audit}
+use Rattle.audit.specs.Audit.{audit}
 use Rattle.compare.specs.Walk.{Comparison, firstRefused, secondRefused, rootsDiffer, atRoots, atIndex, equal, found, heldThen, unlessRefused, unlessTold, compare}
 use Rattle.copy_checks.specs.Copy.{Copy}
 use Rattle.copy_checks.specs.Least.{leastOf}

@@ -5,7 +5,7 @@ use mathlib.Core.List.{List, [], _∷_}
 use native.Mathlib.Omega.{arith}
 use borrow.Author.Tests.{ltb-true}
 use lib.Dec.{ltb}
-use Rattle.refusals.specs.Verdict.{Verdict, done, refused}
+use Rattle.answer_types.specs.Verdict.{Verdict, done, refused}
 use Rattle.tree_index.specs.Tree.{index}
 use Rattle.file_format.specs.Stored.{storedSize}
 use Rattle.file_format.specs.Belongs.{Register}

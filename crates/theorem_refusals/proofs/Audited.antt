@@ -4,7 +4,7 @@ use mathlib.Core.Path.{_≡_, refl, sym, ap, _∙_, subst}
 use mathlib.Core.Bool.{Bool}
 use mathlib.Core.List.{List}
 use native.Mathlib.Omega.{arith}
-use Rattle.refusals.specs.Verdict.{Verdict, tree, bitfield, done, refused}
+use Rattle.answer_types.specs.Verdict.{Verdict, tree, bitfield, done, refused}
 use Rattle.byte_strings.specs.Lowest.{Lowest, nowhere, first, lowest, IsLowest}
 use Rattle.byte_strings.proofs.Lowest.{lowest-for-all}
 use Rattle.tree_index.specs.Tree.{entries}

@@ -1,13 +1,14 @@
 -- The first check that is not passed is the answer. Assumes nothing.
 use Prim.Native.Nat.{ℕ, zero, suc, _<_}
-use mathlib.Core.Path.{_≡_, refl, ap, _∙_}
+use mathlib.Core.Path.{_≡_, refl, _∙_}
 use mathlib.Core.Bool.{Bool, true, false, cond}
 use mathlib.Core.List.{List, [], _∷_, _++_}
 use native.Mathlib.Omega.{arith}
 use lib.ListN.{length, getD}
-use Rattle.refusals.specs.Verdict.{Spot, Verdict, done, refused}
-use Rattle.refusals.specs.Verdict as verdicts
+use Rattle.answer_types.specs.Verdict.{Spot, done, refused}
+use Rattle.answer_types.specs.Verdict as verdicts
 use Rattle.checks.specs.Checks.{Check, judged, registerChecks}
+use Rattle.checks.proofs.Judged.{at-right, at-wrong}
 use Rattle.writing.specs.Append.{appendChecks, appendVerdict}
 use Rattle.writing.specs.Sign.{signChecks, signVerdict}
 use Rattle.writing.specs.RootHash.{rootVerdict}
@@ -15,25 +16,17 @@ use Rattle.append_list.specs.Append.{appendListChecks, listVerdict}
 use Rattle.prefix_root.specs.PrefixRoot.{ownChecks, prefixVerdict}
 use Rattle.theorem_refusals.specs.Refusals.{beyond, passes, FirstFails, FirstFailsOfCalls}
 
-pub passed : (c : Check) (cs : List Check) (next : Verdict) → c .right ≡ true → judged (c ∷ cs) next ≡ judged cs next
-unfolding judged
-passed c cs next e = ap (λ (b : Bool). cond b (judged cs next) (refused (c .number) verdicts.none)) e
-
-failed : (c : Check) (cs : List Check) (next : Verdict) → c .right ≡ false → judged (c ∷ cs) next ≡ refused (c .number) verdicts.none
-unfolding judged
-failed c cs next e = ap (λ (b : Bool). cond b (judged cs next) (refused (c .number) verdicts.none)) e
-
 first : (cs : List Check) (k : ℕ) → k < length cs → ((j : ℕ) → j < k → passes cs j ≡ true) → passes cs k ≡ false
     → judged cs done ≡ refused (getD cs k beyond .number) verdicts.none
 first [] k h before e = absurd (omega arith)
-first (c ∷ cs) zero h before e = failed c cs done e
+first (c ∷ cs) zero h before e = at-wrong c cs done e
 first (c ∷ cs) (suc k) h before e =
-    passed c cs done (before 0 (omega arith)) ∙ first cs k (omega arith) (λ j l. before (suc j) (omega arith)) e
+    at-right c cs done (before 0 (omega arith)) ∙ first cs k (omega arith) (λ j l. before (suc j) (omega arith)) e
 
 none : (cs : List Check) → ((j : ℕ) → j < length cs → passes cs j ≡ true) → judged cs done ≡ done
 unfolding judged
 none [] all = refl
-none (c ∷ cs) all = passed c cs done (all 0 (omega arith)) ∙ none cs (λ j l. all (suc j) (omega arith))
+none (c ∷ cs) all = at-right c cs done (all 0 (omega arith)) ∙ none cs (λ j l. all (suc j) (omega arith))
 
 first-fails : (cs : List Check) → FirstFails cs (judged cs done)
 first-fails cs = record { first = first cs; none = none cs }

@@ -2,7 +2,7 @@
 use Prim.Native.Nat.{ℕ}
 use mathlib.Core.Path.{_≡_}
 use mathlib.Core.List.{List}
-use Rattle.refusals.specs.Verdict.{Spot, done, refused}
+use Rattle.answer_types.specs.Verdict.{Spot, done, refused}
 use Rattle.file_format.specs.Belongs.{Register}
 use Rattle.compare.specs.Walk.{firstRefused, secondRefused, wholeVerdict, compare}
 use Rattle.theorem_refusals.specs.Refusals.{CompareNamesForAll}

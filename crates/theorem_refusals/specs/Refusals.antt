@@ -9,7 +9,7 @@ use mathlib.Core.Logic.{_↔_}
 use mathlib.Core.Bool.{Bool, true, false}
 use mathlib.Core.List.{List}
 use lib.ListN.{length, getD}
-use Rattle.refusals.specs.Verdict.{Spot, Verdict, none, tree, bitfield, done, refused}
+use Rattle.answer_types.specs.Verdict.{Spot, Verdict, none, tree, bitfield, done, refused}
 use Rattle.byte_strings.specs.Lowest.{nowhere, first, IsLowest}
 use Rattle.tree_index.specs.Tree.{entries}
 use Rattle.file_format.specs.Sizes.{usedBitfield}

@@ -9,7 +9,7 @@ use lib.Dec.{eqb}
 use lib.ListN.{length, getD, set, take, drop}
 use lib.Seq.{getD-set-same, getD-set-other}
 use borrow.Author.Tests.{eq-eqb}
-use Rattle.refusals.specs.Verdict.{done}
+use Rattle.answer_types.specs.Verdict.{done}
 use Rattle.byte_strings.specs.Lists.{part, put, Bytes}
 use Rattle.byte_strings.proofs.Lists.{bytes-append, bytes-drop, bytes-put}
 use Rattle.tree_index.specs.Tree.{index, filled, entries}
@@ -52,11 +52,13 @@ use Rattle.packet.specs.Check.{packetChunk, steps}
 use Rattle.packet.specs.Inner.{ChunkOf, Shaped}
 use Rattle.copy_checks.specs.Copy.{lentAsCopy}
 use Rattle.copy_take_in.specs.TakeIn.{Given, packetStart, withGiven, withKnown, brought, takeVerdict, takenIn}
-use Rattle.copy_take_in.proofs.Calls.{chunk-long, start-inside, leaf-filled}
-use Rattle.theorem_taking_laws.proofs.Members.{In, in-map}
-use Rattle.theorem_taking_laws.proofs.Brought.{brought-filled}
+use Rattle.copy_take_in.proofs.Places.{chunk-long}
+use Rattle.copy_take_in.proofs.Start.{start-inside}
+use Rattle.copy_take_in.proofs.Knowable.{leaf-filled}
+use Rattle.byte_strings.proofs.Members.{In, in-map}
+use Rattle.theorem_taking_laws.proofs.Among.{brought-filled}
 use Rattle.theorem_taking_laws.proofs.Starts.{HoldsAll, packet-descent, brought-proper}
-use Rattle.theorem_taking_laws.proofs.Shown.{shown, shown-used, used-shown, shown-held, shown-known, held-more}
+use Rattle.file_format.proofs.Shown.{shown, shown-used, used-shown, shown-held, shown-known, held-more}
 use Rattle.theorem_released_back.specs.Returned.{returned, Returned, ReturnedForAll}
 use Rattle.theorem_released_back.proofs.Took.{Took, took, chunk-bytes, chunk-short}
 use Rattle.theorem_released_back.proofs.Stays.{none-contradicts, tree-stays, known-stays}

@@ -14,14 +14,15 @@ use Rattle.tree_index.specs.Tree.{filled, entries}
 use Rattle.tree_index.proofs.Filled.{filled-below}
 use Rattle.bitfield.specs.Image.{entryCount}
 use Rattle.bitfield.specs.Known.{storedKnown}
+use Rattle.bitfield.proofs.Append.{or-among, Under}
 use Rattle.file_format.specs.Sizes.{entryPlace}
 use Rattle.file_format.specs.Entries.{entryBytes}
 use Rattle.copy_checks.specs.Least.{leastOf}
 use Rattle.copy_checks.proofs.Least.{lower-none}
 use Rattle.copy_take_in.specs.TakeIn.{Given, contradicts, withGiven, withKnown}
-use Rattle.theorem_taking_laws.proofs.Members.{In}
+use Rattle.byte_strings.proofs.Members.{In}
 use Rattle.theorem_taking_laws.proofs.Given.{among-in}
-use Rattle.theorem_taking_laws.proofs.Shown.{shown, shown-ext, Under, or-among, more-known}
+use Rattle.file_format.proofs.Shown.{shown, shown-ext, more-known}
 
 -- ---- nothing is contradicted
 

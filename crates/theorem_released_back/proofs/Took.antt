@@ -1,12 +1,12 @@
 -- What a packet is that is taken in. Assumes nothing.
 use Prim.Native.Nat.{ℕ, _≤_}
-use mathlib.Core.Path.{_≡_, refl, sym}
+use mathlib.Core.Path.{_≡_, sym}
 use mathlib.Core.List.{List, [], _∷_, map}
 use native.Mathlib.Omega.{arith}
 use borrow.Author.Tests.{eqb-true}
 use lib.Dec.{eqb}
 use lib.ListN.{length}
-use Rattle.refusals.specs.Verdict.{Verdict, tree, done, refused}
+use Rattle.answer_types.specs.Verdict.{tree, done, Verdict, andThen}
 use Rattle.byte_strings.specs.Lists.{Bytes}
 use Rattle.byte_strings.specs.Numbers.{number}
 use Rattle.byte_strings.specs.Lowest.{nowhere}
@@ -15,7 +15,6 @@ use Rattle.checks.specs.Checks.{Check, judged}
 use Rattle.checks.proofs.Judged.{judged-done}
 use Rattle.audit.specs.Audit.{refusedAt}
 use Rattle.audit.proofs.Audited.{at-must}
-use Rattle.lookup.specs.Read.{andThen}
 use Rattle.packet.specs.Check.{chunkLength, packetChunk, packetTotal, packetVerdict}
 use Rattle.packet.specs.Inner.{Shaped}
 use Rattle.packet.proofs.Shape.{sized}
@@ -25,11 +24,8 @@ use Rattle.copy_checks.proofs.Least.{lower-none}
 use Rattle.copy_checks.proofs.Steps.{Lent, partly-passed}
 use Rattle.copy_take_in.specs.TakeIn.{contradicts, contradictsBytes, packetStart, brought, contradiction, takeVerdict}
 use Rattle.copy_take_in.specs.Inner.{Fits}
-use Rattle.copy_take_in.proofs.Calls.{fits, chunk-long}
-
-then-done : (v w : Verdict) → andThen v w ≡ done → (v ≡ done) × (w ≡ done)
-then-done done w e = (refl, e)
-then-done (refused m at) w e = absurd (let z : _≡_ {A = ℕ} 0 1 = cc in omega arith)
+use Rattle.copy_take_in.proofs.Stages.{fits, then-done}
+use Rattle.copy_take_in.proofs.Places.{chunk-long}
 
 -- a copy took in a packet: it passes 2, 4 and 5, the packet its check, its total is the data size, and nothing is contradicted
 pub record Took (F : List ℕ → List ℕ) (c : Copy) (p : List ℕ) (i : ℕ) : Type 0 where

@@ -21,9 +21,9 @@ use Rattle.bitfield.specs.Append.{bitsPlace, setDataBit, setTreeBit, setTreeBit
 use Rattle.bitfield.specs.Release.{storedHeld, clearDataBit, releasedBits}
 use Rattle.bitfield.specs.Known.{storedKnown, heldAgain}
 use Rattle.bitfield.proofs.Bits.{digit-le}
-use Rattle.theorem_taking_laws.proofs.Members.{In}
-use Rattle.theorem_taking_laws.proofs.Bits.{bit-set}
-use Rattle.theorem_taking_laws.proofs.Field.{RoomFor, bit-anew, anew-once, room-bit}
+use Rattle.byte_strings.proofs.Members.{In}
+use Rattle.bitfield.proofs.SetBits.{bit-set}
+use Rattle.bitfield.proofs.StoredBits.{RoomFor, bit-anew, anew-once, room-bit}
 
 -- ---- one digit
 

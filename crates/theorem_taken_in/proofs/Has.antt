@@ -9,10 +9,10 @@ use native.Mathlib.Omega.{arith}
 use borrow.Author.Tests.{eq-eqb, lt-ltb, le-leb}
 use lib.Dec.{leb, ltb}
 use lib.ListN.{length, length-replicate}
-use Rattle.refusals.specs.Verdict.{Verdict, tree, done, refused, unlessRefused}
+use Rattle.answer_types.specs.Verdict.{Verdict, tree, done, refused, unlessRefused, andThen}
 use Rattle.byte_strings.specs.Lists.{part, put, total, sameList, zeros, Bytes}
 use Rattle.byte_strings.specs.Lowest.{Lowest, nowhere, first}
-use Rattle.byte_strings.proofs.Lists.{length-put, same-eq}
+use Rattle.byte_strings.proofs.Lists.{length-put, same-eq, same-of}
 use Rattle.tree_index.specs.Tree.{index, roots}
 use Rattle.bitfield.specs.Append.{bitsPlace}
 use Rattle.bitfield.specs.Release.{storedHeld, releasedBits}
@@ -22,11 +22,10 @@ use Rattle.file_format.specs.Messages.{HashFunction, leafMessage}
 use Rattle.file_format.specs.Entries.{entryBytes, leaf}
 use Rattle.file_format.specs.Stored.{storedHash, storedRootSizes, storedRootMessage}
 use Rattle.checks.specs.Checks.{judged, holds, addsUp}
-use Rattle.checks.proofs.Judged.{both-right, judged-right, judged-done}
-use Rattle.checks.proofs.Passed.{same-of}
+use Rattle.checks.proofs.Judged.{judged-right, judged-done}
 use Rattle.lookup.specs.Descent.{Ending, reached, chunkWithin}
 use Rattle.lookup.specs.Lookup.{startOf, stopRefused, toChunk}
-use Rattle.lookup.specs.Read.{chunkBytes, andThen, partUnless}
+use Rattle.lookup.specs.Read.{chunkBytes, partUnless}
 use Rattle.lookup.proofs.ReadOrder.{reads}
 use Rattle.release.specs.Release.{releasedRegister}
 use Rattle.release.proofs.Bits.{bits-long, bits-header}
@@ -45,12 +44,13 @@ use Rattle.copy_packet.specs.Making.{copyMakeVerdict, copyAfterMake, copyMadeLe
 use Rattle.copy_release.specs.Release.{copyReleaseVerdict, releasedCopy}
 use Rattle.copy_take_in.specs.TakeIn.{Given, packetStart, withGiven, withKnown, brought, takeVerdict, takenIn}
 use Rattle.copy_take_in.specs.Inner.{Fits}
-use Rattle.copy_take_in.proofs.Calls.{fits}
-use Rattle.theorem_taking_laws.proofs.Members.{In, in-map}
-use Rattle.theorem_taking_laws.proofs.Places.{put-over}
-use Rattle.theorem_taking_laws.proofs.Field.{RoomFor}
+use Rattle.copy_take_in.proofs.Stages.{fits}
+use Rattle.byte_strings.proofs.Members.{In, in-map}
+use Rattle.byte_strings.proofs.Puts.{put-over}
+use Rattle.byte_strings.proofs.Bools.{both-true}
+use Rattle.bitfield.proofs.StoredBits.{RoomFor}
 use Rattle.theorem_taking_laws.proofs.Given.{placesOf, known-held}
-use Rattle.theorem_taking_laws.proofs.Brought.{root-brought}
+use Rattle.theorem_taking_laws.proofs.Among.{root-brought}
 use Rattle.theorem_taking_laws.proofs.Starts.{HoldsAll, leaf-size, packet-descent, reads-brought, roots-total, brought-proper}
 use Rattle.theorem_taking_laws.proofs.Unknown.{none-unknown}
 use Rattle.theorem_packets_commute.proofs.Turns.{Takes, taken, fitting, room, bit-room, bytes-inside}
@@ -156,7 +156,7 @@ module _ (F : List ℕ → List ℕ) (H : HashFunction F) (c : Copy) (p : List �
   unfolding packetVerdict rootRight
   root-same =
       let a = judged-done _ done (h .packet) .0 in
-      same-eq (F (packetRootMessage F p (c .n) i)) root (both-right (leb (packetTotal p (c .n) i) 68719476736) _ (a .1 .1 .1 .0) .1)
+      same-eq (F (packetRootMessage F p (c .n) i)) root (both-true (leb (packetTotal p (c .n) i) 68719476736) _ (a .1 .1 .1 .0) .1)
 
   pub root-done : copyRootVerdict c ≡ done
   unfolding copyRootVerdict

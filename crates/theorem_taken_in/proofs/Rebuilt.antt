@@ -15,7 +15,6 @@ use Rattle.byte_strings.proofs.Lists.{length-part, part-add, part-run, parts-jo
 use Rattle.byte_strings.proofs.Numbers.{be-number}
 use Rattle.file_format.specs.Sizes.{longestChunk, entryPlace}
 use Rattle.file_format.specs.Entries.{hole, entryBytes}
-use Rattle.checks.proofs.Judged.{both-right}
 use Rattle.packet.specs.Packet.{siblings, otherRoots, section, packetWith}
 use Rattle.packet.specs.Check.{chunkLength, siblingsPlace, othersPlace, wholeLength, shapeRight, packetChunk, entryIn, entriesIn, siblingEntries, otherEntries}
 use Rattle.packet.specs.Inner.{Shaped}
@@ -23,8 +22,9 @@ use Rattle.packet.proofs.Right.{map-run}
 use Rattle.packet.proofs.Shape.{sized}
 use Rattle.packet_compare.proofs.Stands.{sibling-is}
 use Rattle.copy_take_in.specs.TakeIn.{Given, brought}
-use Rattle.copy_take_in.proofs.Calls.{chunk-long}
-use Rattle.theorem_taking_laws.proofs.Members.{In}
+use Rattle.copy_take_in.proofs.Places.{chunk-long}
+use Rattle.byte_strings.proofs.Members.{In}
+use Rattle.byte_strings.proofs.Bools.{both-true}
 use Rattle.theorem_taking_laws.proofs.Brought.{side-brought, other-brought}
 
 -- a list cut at a place
@@ -37,10 +37,10 @@ counted : (p : List ℕ) (n c : ℕ) → shapeRight p n c ≡ true
     × (getD p (4 + chunkLength p + 1 + 40 * length (siblings n c)) 0 ≡ length (otherRoots n c))
 unfolding shapeRight wholeLength othersPlace siblingsPlace
 counted p n c e =
-    let a = both-right (leb 4 (length p)) _ e in
-    let b = both-right (leb (chunkLength p) longestChunk) _ (a .1) in
-    let d = both-right (eqb (length p) (wholeLength p n c)) _ (b .1) in
-    let f = both-right _ _ (d .1) in
+    let a = both-true (leb 4 (length p)) _ e in
+    let b = both-true (leb (chunkLength p) longestChunk) _ (a .1) in
+    let d = both-true (eqb (length p) (wholeLength p n c)) _ (b .1) in
+    let f = both-true _ _ (d .1) in
     (eqb-true _ _ (f .0), eqb-true _ _ (f .1))
 
 module _ (p : List ℕ) (bp : Bytes p) where

@@ -17,11 +17,13 @@ use Rattle.packet.specs.Packet.{rootAbove, siblings, without, otherRoots}
 use Rattle.packet.specs.Check.{packetChunk, siblingEntries, otherEntries, inTurn, othersPlace, items, Step, stepsAbove, steps, lastEntry, packetRoot, packetRootMessage}
 use Rattle.packet.specs.Inner.{ChunkOf}
 use Rattle.packet.proofs.InTurn.{turning, whole}
+use Rattle.packet.proofs.Climb.{steps-count}
+use Rattle.packet.proofs.Rows.{siblings-count}
 use Rattle.packet_compare.specs.Theorems.{stepAt}
-use Rattle.packet_compare.proofs.Stands.{above-count, sides-count}
 use Rattle.copy_take_in.specs.TakeIn.{Given, brought}
-use Rattle.theorem_taking_laws.proofs.Members.{In}
-use Rattle.theorem_taking_laws.proofs.Brought.{wayEntry, others-count, way-brought, other-brought, top-root}
+use Rattle.byte_strings.proofs.Members.{In}
+use Rattle.theorem_taking_laws.proofs.Brought.{wayEntry, others-count, way-brought, other-brought}
+use Rattle.theorem_taking_laws.proofs.Ways.{top-root}
 use Rattle.theorem_taking_laws.proofs.Starts.{HoldsAll}
 use Rattle.byte_strings.proofs.Bools.{chosen}
 
@@ -77,7 +79,7 @@ top-entry : (F : List ℕ → List ℕ) (p : List ℕ) (n c : ℕ) → packetRoo
 unfolding packetRoot steps
 top-entry F p n c =
     last-step (leaf F (packetChunk p)) _ (stepsAbove F 0 c (leaf F (packetChunk p)) (siblingEntries p n c))
-    ∙ ap (λ (k : ℕ). stepAt (steps F p n c) k .entry) (above-count F c 0 c (leaf F (packetChunk p)) (siblingEntries p n c) ∙ sides-count F p n c)
+    ∙ ap (λ (k : ℕ). stepAt (steps F p n c) k .entry) (steps-count F 0 c (leaf F (packetChunk p)) (siblingEntries p n c) ∙ siblings-count p n c)
 
 -- ---- a tree file that holds what the packet brings
 

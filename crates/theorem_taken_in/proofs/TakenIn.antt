@@ -9,7 +9,7 @@ use borrow.Author.Tests.{eq-eqb, ne-eqb}
 use lib.Dec.{eqb}
 use lib.ListN.{length}
 use lib.Seq.{ext-getD}
-use Rattle.refusals.specs.Verdict.{done}
+use Rattle.answer_types.specs.Verdict.{done}
 use Rattle.byte_strings.specs.Lists.{part, run, among, Bytes}
 use Rattle.byte_strings.proofs.Lists.{length-run, getD-run, part-put}
 use Rattle.tree_index.specs.Tree.{index}
@@ -22,15 +22,17 @@ use Rattle.file_format.specs.Messages.{HashFunction}
 use Rattle.file_format.proofs.Hashed.{hash-function}
 use Rattle.packet.specs.Packet.{siblings, otherRoots}
 use Rattle.packet.specs.Check.{packetChunk, siblingEntries, otherEntries, steps}
-use Rattle.packet_compare.proofs.Stands.{stands, sides-count}
+use Rattle.packet.proofs.Rows.{siblings-count}
+use Rattle.packet_compare.proofs.Stands.{stands}
 use Rattle.copy_checks.specs.Copy.{Copy, known}
 use Rattle.copy_take_in.specs.TakeIn.{Given, givenAt, lying, ledTo, packetStart, withKnown, brought, takeVerdict, takenIn}
 use Rattle.copy_take_in.specs.Inner.{Fits}
-use Rattle.copy_take_in.proofs.Calls.{fits}
-use Rattle.theorem_taking_laws.proofs.Members.{map-in}
-use Rattle.theorem_taking_laws.proofs.Field.{RoomFor}
+use Rattle.copy_take_in.proofs.Stages.{fits}
+use Rattle.byte_strings.proofs.Members.{map-in}
+use Rattle.bitfield.proofs.StoredBits.{RoomFor}
 use Rattle.theorem_taking_laws.proofs.Given.{placesOf, AllFitting, AllRoom, in-among, given-keeps, given-other, length-known}
-use Rattle.theorem_taking_laws.proofs.Brought.{others-count, given-indexes, led-indexes, led-many}
+use Rattle.theorem_taking_laws.proofs.Brought.{others-count}
+use Rattle.theorem_taking_laws.proofs.RowMembers.{given-indexes, led-indexes, led-many}
 use Rattle.theorem_packets_commute.proofs.Clear.{known-after, known-now}
 use Rattle.theorem_packets_commute.proofs.Turns.{Takes, takes, fitting, room, bit-room, own-agree, bytes-inside, lent-after, held-after}
 use Rattle.theorem_packets_commute.proofs.Chunks.{written}
@@ -58,7 +60,7 @@ brought-places F p n i =
     map-append (λ (g : Given). g .at) (map ledTo (steps F p n i)) (lying p n i)
     ∙ ap₂ _++_ (way-places F p n i)
     (map-append (λ (g : Given). g .at) (givenAt (siblings n i) (siblingEntries p n i)) (givenAt (otherRoots n i) (otherEntries p n i))
-    ∙ ap₂ _++_ (given-indexes (siblings n i) (siblingEntries p n i) (sides-count F p n i))
+    ∙ ap₂ _++_ (given-indexes (siblings n i) (siblingEntries p n i) (siblings-count p n i))
     (given-indexes (otherRoots n i) (otherEntries p n i) (others-count p n i)))
 
 module _ (F : List ℕ → List ℕ) (H : HashFunction F) (c : Copy) (p : List ℕ) (b : Bytes p) (i : ℕ) (root : List ℕ) (w : Takes F c p i root) where

@@ -19,9 +19,9 @@ use Rattle.bitfield.proofs.Levels.{same-or}
 use Rattle.file_format.specs.Sizes.{entryPlace}
 use Rattle.file_format.specs.Entries.{entryBytes}
 use Rattle.copy_take_in.specs.TakeIn.{Given, withGiven, withKnown}
-use Rattle.theorem_taking_laws.proofs.Members.{In, in-map, map-in}
-use Rattle.theorem_taking_laws.proofs.Places.{puts-turn}
-use Rattle.theorem_taking_laws.proofs.Field.{RoomFor, length-tree-bits, front-tree-bits, known-bits, held-bits, tree-bits-turn, tree-bits-held}
+use Rattle.byte_strings.proofs.Members.{In, in-map, map-in}
+use Rattle.bitfield.proofs.Beside.{puts-turn}
+use Rattle.bitfield.proofs.StoredBits.{RoomFor, length-tree-bits, front-tree-bits, known-bits, held-bits, tree-bits-turn, tree-bits-held}
 
 abbrev pub bytesFor : Given → List ℕ
 bytesFor g = entryBytes (g .entry)

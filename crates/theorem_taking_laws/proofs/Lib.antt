@@ -1,11 +1,17 @@
 -- Laws of what a taking in leaves.
-pub mod Members
+pub mod Distinct
 pub mod Unknown
-pub mod Shown
-pub mod Places
-pub mod Bits
-pub mod Field
 pub mod Given
+pub mod Siblings
+pub mod Roots
+pub mod RowMembers
+pub mod Ways
 pub mod Brought
-pub mod Descents
+pub mod Made
+pub mod Among
+pub mod SameDescents
+pub mod Halves
+pub mod ReadsNear
+pub mod Reaches
+pub mod ChunksApart
 pub mod Starts

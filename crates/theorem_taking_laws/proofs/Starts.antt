@@ -30,16 +30,23 @@ use Rattle.packet.specs.Inner.{ChunkOf, Shaped}
 use Rattle.packet.proofs.Above.{Distinct, roots-distinct}
 use Rattle.packet.proofs.Climb.{ordered-size, left-first, right-first}
 use Rattle.packet.proofs.Right.{map-run}
-use Rattle.packet_compare.proofs.Stands.{sides-count, sibling-is}
+use Rattle.packet.proofs.Rows.{siblings-count}
+use Rattle.packet_compare.proofs.Stands.{sibling-is}
 use Rattle.lookup.proofs.ReadOrder.{reads}
 use Rattle.copy_take_in.specs.TakeIn.{Given, givenAt, lying, leftSize, packetStart, brought}
 use Rattle.copy_take_in.specs.Inner.{Fits}
-use Rattle.copy_take_in.proofs.Calls.{placed, chunk-long}
-use Rattle.theorem_taking_laws.proofs.Members.{In, apart-out}
-use Rattle.theorem_taking_laws.proofs.Brought.{wayIndex, sideIndex, wayEntry, sideEntry, otherEntry, Brings, onWay, besideWay, otherRoot, made, way-leaf}
-use Rattle.theorem_taking_laws.proofs.Brought.{way-next, brings, way-brought, side-brought, other-brought, others-count, top-root, above-root}
-use Rattle.theorem_taking_laws.proofs.Brought.{root-brought}
-use Rattle.theorem_taking_laws.proofs.Descents.{NearWay, reads-near, leftAt, chunkStart, WayRight, reaches}
+use Rattle.copy_take_in.proofs.Places.{placed, chunk-long}
+use Rattle.byte_strings.proofs.Members.{In}
+use Rattle.theorem_taking_laws.proofs.Distinct.{apart-out}
+use Rattle.theorem_taking_laws.proofs.Ways.{wayIndex, sideIndex}
+use Rattle.theorem_taking_laws.proofs.Brought.{wayEntry, sideEntry, otherEntry, Brings, onWay, besideWay, otherRoot}
+use Rattle.theorem_taking_laws.proofs.Made.{made, way-leaf}
+use Rattle.theorem_taking_laws.proofs.Made.{way-next}
+use Rattle.theorem_taking_laws.proofs.Brought.{brings, way-brought, side-brought, other-brought, others-count}
+use Rattle.theorem_taking_laws.proofs.Ways.{top-root, above-root}
+use Rattle.theorem_taking_laws.proofs.Among.{root-brought}
+use Rattle.theorem_taking_laws.proofs.ReadsNear.{NearWay, reads-near}
+use Rattle.theorem_taking_laws.proofs.Reaches.{leftAt, chunkStart, WayRight, reaches}
 
 -- a tree file holds an entry at its index
 pub record HoldsEntry (t : List ℕ) (g : Given) : Type 0 where
@@ -116,7 +123,7 @@ module _ (F : List ℕ → List ℕ) (p : List ℕ) (n c : ℕ) where
   all-sides : total (sideSizes (length (siblings n c))) ≡ total (map (λ (e : Entry). e .size) (siblingEntries p n c))
   all-sides =
       ap total (sym (map-run (λ (e : Entry). e .size) (λ j. getD (siblingEntries p n c) j hole) 0 (length (siblings n c))
-      ∙ refl) ∙ ap (map (λ (e : Entry). e .size)) (run-getD (siblingEntries p n c) (length (siblings n c)) hole (sides-count F p n c)))
+      ∙ refl) ∙ ap (map (λ (e : Entry). e .size)) (run-getD (siblingEntries p n c) (length (siblings n c)) hole (siblings-count p n c)))
 
   some-sides : (d : ℕ) → d ≤ length (siblings n c) → total (sideSizes d) ≤ total (sideSizes (length (siblings n c)))
   some-sides d l =
@@ -157,7 +164,7 @@ module _ (F : List ℕ → List ℕ) (p : List ℕ) (n c : ℕ) (h : ChunkOf n c
       sym (ap total (map-append (leftSize (index 0 c)) (givenAt (siblings n c) (siblingEntries p n c)) (givenAt (otherRoots n c) (otherEntries p n c)))
       ∙ total-append (map (leftSize (index 0 c)) (givenAt (siblings n c) (siblingEntries p n c))) (map (leftSize (index 0 c)) (givenAt (otherRoots n c) (otherEntries p n c)))
       ∙ ap₂ (λ (x y : ℕ). x + y)
-      (left-given t c (siblings n c) (siblingEntries p n c) (sides-count F p n c)
+      (left-given t c (siblings n c) (siblingEntries p n c) (siblings-count p n c)
       (λ j l. ap (storedSize t) (sibling-is F p n c j l) ∙ holds _ (side-brought F p n c j l) .size))
       (left-given t c (otherRoots n c) (otherEntries p n c) (others-count p n c) (λ j l. holds _ (other-brought F p n c j l) .size)))
 

@@ -8,7 +8,7 @@ use Rattle.byte_strings.specs.Lowest.{Lowest, nowhere, first}
 use Rattle.byte_strings.proofs.Lowest.{never-first}
 use Rattle.lookup.specs.Unknown.{firstUnknown}
 use Rattle.copy_checks.specs.Least.{lowerOf, leastOf}
-use Rattle.theorem_taking_laws.proofs.Members.{In}
+use Rattle.byte_strings.proofs.Members.{In}
 
 -- where each is known, none is unknown
 pub none-unknown : (known : ℕ → Bool) (is : List ℕ) → ((j : ℕ) → In j is → known j ≡ true) → firstUnknown known is ≡ nowhere

@@ -9,9 +9,9 @@ use borrow.Author.Tests.{leb-true, ltb-true}
 use lib.Dec.{leb, ltb, eqb}
 use lib.ListN.{take, getD}
 use lib.Seq.{getD-take}
-use Rattle.refusals.specs.Verdict.{Verdict, tree, bitfield, done, refused}
+use Rattle.answer_types.specs.Verdict.{Verdict, tree, bitfield, done, refused}
 use Rattle.byte_strings.specs.Lists.{part, sameList, allZero, zeros}
-use Rattle.byte_strings.proofs.Lists.{same-eq}
+use Rattle.byte_strings.proofs.Lists.{same-eq, part-take}
 use Rattle.tree_index.specs.Tree.{index, depth, block, leftChild, rightChild, filled, entries}
 use Rattle.tree_index.proofs.Index.{by-coordinates}
 use Rattle.tree_index.proofs.Filled.{filled-end, filled-below, filled-left, filled-right, children-below}
@@ -32,7 +32,7 @@ use Rattle.compare.proofs.Local.{cond-same}
 use Rattle.compare.proofs.RootMessages.{same-count}
 use Rattle.compare.proofs.Walked.{rooted}
 use Rattle.compare.proofs.Whole.{whole-accepted}
-use Rattle.theorem_used_bytes.proofs.Cut.{cut, held-cut, part-cut, entry-cut, hash-cut, size-cut, start-cut, root-message-cut, checks-cut}
+use Rattle.theorem_used_bytes.proofs.Cut.{cut, held-cut, entry-cut, hash-cut, size-cut, start-cut, root-message-cut, checks-cut}
 use Rattle.file_format.specs.Images.{bitfieldImage, bitfieldOf}
 use Rattle.audit.specs.Audit.{byteRightBy, leafFrom, leafRight}
 
@@ -63,7 +63,7 @@ module _ (t bits content : List ℕ) (n size : ℕ) where
   chunk-cut : (k : ℕ) → k < n → storedStart t k + storedSize t (2 * k) ≤ size → storedChunk u v k ≡ storedChunk t content k
   unfolding storedChunk
   chunk-cut k h l =
-      (λ i. part v (leaf-start-cut k h i) (leaf-size-cut k h i)) ∙ part-cut content size (storedStart t k) (storedSize t (2 * k)) l
+      (λ i. part v (leaf-start-cut k h i) (leaf-size-cut k h i)) ∙ part-take content size (storedStart t k) (storedSize t (2 * k)) l
 
   pub bits-cut : (k : ℕ) → heldBits w n k ≡ heldBits bits n k
   unfolding heldBits

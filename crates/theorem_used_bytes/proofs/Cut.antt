@@ -4,7 +4,7 @@ use Prim.Native.Nat.{ℕ, _+_, _-_, _*_, _/_, _%_, _≤_, _<_}
 use mathlib.Core.Path.{_≡_, refl, ap, _∙_}
 use mathlib.Core.Bool.{Bool, true, false}
 use mathlib.Core.List.{List, [], _∷_}
-use native.Mathlib.Nat.{zero-add, le-refl}
+use native.Mathlib.Nat.{le-refl}
 use native.Mathlib.Omega.{arith}
 use borrow.Author.Tests.{leb-true, leb-false, le-leb, lt-leb}
 use lib.Dec.{leb, eqb}
@@ -12,7 +12,7 @@ use lib.ListN.{length, take, getD, length-take}
 use lib.Seq.{length-take-le, take-take, getD-take}
 use Rattle.byte_strings.specs.Lists.{part, total, sameList}
 use Rattle.byte_strings.specs.Numbers.{number}
-use Rattle.byte_strings.proofs.Lists.{part-part, run-ext}
+use Rattle.byte_strings.proofs.Lists.{run-ext, part-take}
 use Rattle.tree_index.specs.Tree.{roots, entries}
 use Rattle.tree_index.proofs.Roots.{root-below}
 use Rattle.file_format.specs.Headers.{treeHeader, signaturesHeader, bitfieldHeader}
@@ -24,7 +24,7 @@ use Rattle.file_format.specs.Sizes.{entryPlace, usedTree, usedSignatures, usedB
 use Rattle.file_format.specs.Messages.{rootItem, rootMessage}
 use Rattle.file_format.specs.Stored.{storedHash, storedSize, storedRootSizes, storedRootMessage, storedStart}
 use Rattle.file_format.specs.Belongs.{Register}
-use Rattle.file_format.proofs.OfImage.{entry-inside}
+use Rattle.file_format.proofs.OfImage.{entry-inside, signatures-32}
 use Rattle.file_format.proofs.Spans.{map-ext}
 use Rattle.checks.specs.Checks.{Check, countRight, signedRight, holds, headed, addsUp, laterChecks, registerChecks}
 use Rattle.theorem_used_bytes.specs.UsedBytes.{SameUsed}
@@ -55,20 +55,16 @@ same-cut a b h =
 
 -- ---- what is read within
 
-pub part-cut : (xs : List ℕ) (u at k : ℕ) → at + k ≤ u → part (take u xs) at k ≡ part xs at k
-unfolding part
-part-cut xs u at k h = part-part xs 0 u at k h ∙ ap (λ (p : ℕ). part xs p k) (zero-add at)
-
 pub entry-cut : (t : List ℕ) (n i : ℕ) → i < entries n → part (take (usedTree n) t) (entryPlace i) 40 ≡ part t (entryPlace i) 40
-entry-cut t n i h = part-cut t (usedTree n) (entryPlace i) 40 (entry-inside i n h)
+entry-cut t n i h = part-take t (usedTree n) (entryPlace i) 40 (entry-inside i n h)
 
 pub hash-cut : (t : List ℕ) (n i : ℕ) → i < entries n → storedHash (take (usedTree n) t) i ≡ storedHash t i
 unfolding storedHash
-hash-cut t n i h = part-cut t (usedTree n) (entryPlace i) 32 (omega (arith, entry-inside i n h))
+hash-cut t n i h = part-take t (usedTree n) (entryPlace i) 32 (omega (arith, entry-inside i n h))
 
 pub size-cut : (t : List ℕ) (n i : ℕ) → i < entries n → storedSize (take (usedTree n) t) i ≡ storedSize t i
 unfolding storedSize
-size-cut t n i h = ap number (part-cut t (usedTree n) (entryPlace i + 32) 8 (omega (arith, entry-inside i n h)))
+size-cut t n i h = ap number (part-take t (usedTree n) (entryPlace i + 32) 8 (omega (arith, entry-inside i n h)))
 
 module _ (t : List ℕ) (n : ℕ) where
   pub root-sizes-cut : storedRootSizes (take (usedTree n) t) n ≡ storedRootSizes t n
@@ -115,10 +111,6 @@ headed-cut xs u header h = ap (λ (r : List ℕ). sameList r header) (take-take 
 pub tree-32 : (n : ℕ) → 32 ≤ usedTree n
 unfolding usedTree
 tree-32 n = omega arith
-
-signatures-32 : (s : ℕ) → 32 ≤ usedSignatures s
-unfolding usedSignatures
-signatures-32 s = omega arith
 
 pub bitfield-32 : (n : ℕ) → 32 ≤ usedBitfield n
 unfolding usedBitfield

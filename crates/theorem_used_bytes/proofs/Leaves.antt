@@ -4,13 +4,12 @@ use mathlib.Core.Path.{_≡_, ap, _∙_}
 use mathlib.Core.List.{List}
 use native.Mathlib.Nat.{mul-one}
 use native.Mathlib.Omega.{arith}
-use Rattle.refusals.specs.Verdict.{Verdict, done}
+use Rattle.answer_types.specs.Verdict.{Verdict, done, andThen}
 use Rattle.tree_index.specs.Tree.{index, entries}
 use Rattle.tree_index.proofs.Filled.{end-filled, filled-below}
 use Rattle.file_format.specs.Belongs.{Register}
 use Rattle.checks.specs.Checks.{Check, judged, registerChecks}
 use Rattle.lookup.specs.Descent.{always}
-use Rattle.lookup.specs.Read.{andThen}
 use Rattle.stored_leaf.specs.StoredLeaf.{leafIn, leafVerdict, leafHash, leafLength}
 use Rattle.stored_leaf.proofs.Calls.{leaf-below, then-next, hash-same, length-same}
 use Rattle.theorem_used_bytes.specs.Leaves.{LeavesUsed}

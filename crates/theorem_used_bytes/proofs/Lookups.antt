@@ -2,15 +2,17 @@
 -- Assumes nothing.
 use Prim.Native.Nat.{ℕ, zero, suc, _+_, _-_, _*_, _^_, _≤_, _<_}
 use mathlib.Core.Path.{_≡_, refl, sym, ap, _∙_, subst}
-use mathlib.Core.Bool.{Bool, true, false, cond}
+use mathlib.Core.Bool.{Bool, true, cond}
 use mathlib.Core.List.{List, [], _∷_, _++_}
 use native.Mathlib.Nat.{mul-one}
 use native.Mathlib.Omega.{arith}
 use borrow.Author.Tests.{leb-true, ltb-true}
 use lib.Dec.{leb, ltb, eqb}
 use lib.ListN.{length, take, getD}
-use Rattle.refusals.specs.Verdict.{Verdict, tree, done, refused}
+use Rattle.answer_types.specs.Verdict.{Verdict, tree, done, refused, andThen}
 use Rattle.byte_strings.specs.Lists.{part, sameList}
+use Rattle.byte_strings.proofs.Bools.{chosen}
+use Rattle.byte_strings.proofs.Lists.{part-take}
 use Rattle.tree_index.specs.Tree.{index, depth, block, filled, roots, entries}
 use Rattle.tree_index.proofs.Filled.{end-filled, filled-below}
 use Rattle.tree_index.proofs.Roots.{root-filled}
@@ -25,16 +27,13 @@ use Rattle.checks.proofs.Passed.{Passed, all-must, passed, passes}
 use Rattle.lookup.specs.Descent.{Ending, stopped, reached, unknown, ifKnown, always, chunkWithin, byteWithin, descend, fromRoots, descent}
 use Rattle.lookup.specs.Lookup.{stopRefused, foundUnless, chunkOf, startOf, toChunk, byteEnding, toByte, placeVerdict, heldVerdict, byteVerdict, placeOf, byteAt}
 use Rattle.lookup.proofs.Calls.{held-done}
-use Rattle.lookup.specs.Read.{chunkBytes, andThen, readVerdict, partUnless, readPart}
+use Rattle.lookup.specs.Read.{chunkBytes, readVerdict, partUnless, readPart}
 use Rattle.lookup.specs.Meaning.{readFound}
 use Rattle.lookup.proofs.Descents.{left-inside, right-end}
 use Rattle.lookup.proofs.Answers.{lookups-stay-inside}
-use Rattle.theorem_used_bytes.proofs.Cut.{cut, held-cut, part-cut, hash-cut, size-cut, checks-cut}
+use Rattle.theorem_used_bytes.proofs.Cut.{cut, held-cut, hash-cut, size-cut, checks-cut}
 
 -- ---- the descents
-
-abbrev pub choose : Bool → Ending → Ending → Ending
-choose b x y = elim b [ true ↦ x | false ↦ y ]
 
 -- two tests that know the same of the entries of n chunks
 module _ (f g : ℕ → Bool) (within : ℕ → ℕ → ℕ → ℕ → Bool) (t : List ℕ) (n : ℕ) (same : (i : ℕ) → filled n i ≡ true → f i ≡ g i) where
@@ -46,7 +45,7 @@ module _ (f g : ℕ → Bool) (within : ℕ → ℕ → ℕ → ℕ → Bool) (t
 
   descend-cut : (d k start : ℕ) → (k + 1) * 2 ^ d ≤ n → descend f within u d k start ≡ descend g within t d k start
   unfolding descend
-  descend-cut zero k start h = ap (λ (z : ℕ). choose (leb z longestChunk) (reached k start) (stopped (index 0 k))) (node-cut 0 k h)
+  descend-cut zero k start h = ap (λ (z : ℕ). chosen (leb z longestChunk) (reached k start) (stopped (index 0 k))) (node-cut 0 k h)
   descend-cut (suc d) k start h =
       let lh : (2 * k + 1) * 2 ^ d ≤ n = left-inside d k n h in
       let rh : (2 * k + 1 + 1) * 2 ^ d ≤ n = subst (λ (x : ℕ). x ≤ n) (sym (right-end d k)) h in
@@ -59,7 +58,7 @@ module _ (f g : ℕ → Bool) (within : ℕ → ℕ → ℕ → ℕ → Bool) (t
       let y : descend f within u d (2 * k + 1) (start + storedSize u (index d (2 * k))) ≡ descend g within t d (2 * k + 1) (start + storedSize t (index d (2 * k))) =
       ap (λ (m : ℕ). descend f within u d (2 * k + 1) (start + m)) l ∙ descend-cut d (2 * k + 1) (start + storedSize t (index d (2 * k))) rh in
       λ i. ifKnown (a i) (index d (2 * k))
-      (ifKnown (b i) (index d (2 * k + 1)) (choose (eqb (z i) (l i + r i)) (choose (within d (2 * k) start (l i)) (x i) (y i)) (stopped (index (suc d) k))))
+      (ifKnown (b i) (index d (2 * k + 1)) (chosen (eqb (z i) (l i + r i)) (chosen (within d (2 * k) start (l i)) (x i) (y i)) (stopped (index (suc d) k))))
 
   from-cut : (is : List ℕ) (start : ℕ) → ((j : ℕ) → j < length is → filled n (getD is j 0) ≡ true) → fromRoots f within u is start ≡ fromRoots g within t is start
   unfolding fromRoots filled
@@ -71,7 +70,7 @@ module _ (f g : ℕ → Bool) (within : ℕ → ℕ → ℕ → ℕ → Bool) (t
       let x = descend-cut (depth i) (block i) start (leb-true ((block i + 1) * 2 ^ depth i) n e) in
       let y : fromRoots f within u is (start + storedSize u i) ≡ fromRoots g within t is (start + storedSize t i) =
       ap (λ (m : ℕ). fromRoots f within u is (start + m)) z ∙ from-cut is (start + storedSize t i) (λ j l. h (suc j) (omega arith)) in
-      λ j. ifKnown (a j) i (choose (within (depth i) (block i) start (z j)) (x j) (y j))
+      λ j. ifKnown (a j) i (chosen (within (depth i) (block i) start (z j)) (x j) (y j))
 
   pub descent-cut : descent f within u n ≡ descent g within t n
   unfolding descent
@@ -83,7 +82,7 @@ chunk-cut r c = descent-cut always always (chunkWithin c) (r .tree) (r .n) (λ i
 
 pub byte-cut : (r : Register) (b : ℕ) → toByte (cut r) b ≡ toByte r b
 unfolding toByte byteEnding
-byte-cut r b = ap (choose (eqb b (r .size)) (reached (r .n) (r .size))) (descent-cut always always (byteWithin b) (r .tree) (r .n) (λ i f. refl))
+byte-cut r b = ap (chosen (eqb b (r .size)) (reached (r .n) (r .size))) (descent-cut always always (byteWithin b) (r .tree) (r .n) (λ i f. refl))
 
 -- ---- the lookups
 
@@ -164,7 +163,7 @@ module _ (r : Register) (c : ℕ) where
   unfolding chunkBytes
   bytes-cut e =
       (λ i. part (cut r .content) (startOf (chunk-cut r c i)) (leaf-size-cut e i))
-      ∙ part-cut (r .content) (r .size) (startOf (toChunk r c)) (storedSize (r .tree) (index 0 c)) (leaf-inside e)
+      ∙ part-take (r .content) (r .size) (startOf (toChunk r c)) (storedSize (r .tree) (index 0 c)) (leaf-inside e)
 
   module _ (F : List ℕ → List ℕ) where
     pub read-verdict-cut : readVerdict F (cut r) c ≡ readVerdict F r c

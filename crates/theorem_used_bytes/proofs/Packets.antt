@@ -4,7 +4,7 @@ use Prim.Native.Nat.{ℕ}
 use mathlib.Core.Path.{_≡_, refl, ap, _∙_}
 use mathlib.Core.List.{List, _∷_, _++_}
 use lib.ListN.{length, take, getD}
-use Rattle.refusals.specs.Verdict.{Spot, Verdict, done, refused, unlessRefused}
+use Rattle.answer_types.specs.Verdict.{Spot, Verdict, done, refused, unlessRefused, andThen}
 use Rattle.byte_strings.specs.Lists.{part, joined, put}
 use Rattle.byte_strings.specs.Numbers.{be}
 use Rattle.tree_index.proofs.Filled.{filled-below}
@@ -14,7 +14,7 @@ use Rattle.file_format.proofs.Spans.{map-ext}
 use Rattle.checks.specs.Checks.{holds}
 use Rattle.lookup.specs.Lookup.{placeVerdict, heldVerdict}
 use Rattle.lookup.proofs.Calls.{held-done}
-use Rattle.lookup.specs.Read.{andThen, readVerdict}
+use Rattle.lookup.specs.Read.{readVerdict}
 use Rattle.packet.specs.Packet.{siblings, otherRoots, section, packetOf, roomOr14, makeVerdict, afterMake, madeLength, packetWith}
 use Rattle.packet.specs.Inner.{ChunkOf}
 use Rattle.packet.proofs.Rows.{Filled, siblings-filled, others-filled}

@@ -7,8 +7,9 @@ use native.Mathlib.Omega.{arith}
 use borrow.Author.Tests.{eqb-true}
 use lib.Dec.{eqb}
 use lib.ListN.{take}
-use Rattle.refusals.specs.Verdict.{tree, bitfield, done}
+use Rattle.answer_types.specs.Verdict.{tree, bitfield, done}
 use Rattle.byte_strings.specs.Lists.{part}
+use Rattle.byte_strings.proofs.Lists.{part-take}
 use Rattle.tree_index.specs.Tree.{index, filled, entries}
 use Rattle.tree_index.proofs.Index.{by-coordinates}
 use Rattle.tree_index.proofs.Filled.{filled-end, filled-below, filled-left, filled-right}
@@ -27,7 +28,7 @@ use Rattle.parts_audit.specs.Range.{within}
 use Rattle.parts_audit.specs.Part.{treePart, bitfieldPart}
 use Rattle.parts_compare.specs.Part.{walkedEntries, dataOf, rootsPart, walkPart}
 use Rattle.theorem_used_bytes.specs.Parts.{PartsUsed}
-use Rattle.theorem_used_bytes.proofs.Cut.{cut, same-cut, part-cut, hash-cut, size-cut, start-cut, root-message-cut, checks-cut}
+use Rattle.theorem_used_bytes.proofs.Cut.{cut, same-cut, hash-cut, size-cut, start-cut, root-message-cut, checks-cut}
 use Rattle.theorem_used_bytes.proofs.Audits.{and-same, right-cut, byte-cut, missing-cut}
 use Rattle.theorem_used_bytes.proofs.Reading.{by-cut}
 use Rattle.theorem_used_bytes.proofs.Ranges.{index-within, byte-within}
@@ -97,7 +98,7 @@ module _ (t d : List ℕ) (n : ℕ) where
 
 data-cut : (r : Register) → dataOf (cut r) ≡ dataOf r
 unfolding part
-data-cut r = part-cut (r .content) (r .size) 0 (r .size) (omega arith)
+data-cut r = part-take (r .content) (r .size) 0 (r .size) (omega arith)
 
 module _ (a b : Register) where
   collides-cut : a .n ≡ b .n → (k : ℕ) → k < entries (a .n)

@@ -3,7 +3,7 @@
 use Prim.Native.Nat.{ℕ}
 use mathlib.Core.Path.{_≡_, refl, sym, ap, _∙_}
 use mathlib.Core.List.{List, _++_}
-use Rattle.refusals.specs.Verdict.{Verdict, done, refused, unlessRefused}
+use Rattle.answer_types.specs.Verdict.{Verdict, done, refused, unlessRefused}
 use Rattle.byte_strings.specs.Lists.{zeros}
 use Rattle.file_format.specs.Stored.{storedRootMessage}
 use Rattle.file_format.specs.Belongs.{Register}

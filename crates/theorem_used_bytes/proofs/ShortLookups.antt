@@ -5,7 +5,7 @@ use mathlib.Core.Path.{_≡_, refl}
 use mathlib.Core.List.{List}
 use native.Mathlib.Omega.{arith}
 use lib.ListN.{take}
-use Rattle.refusals.specs.Verdict.{done}
+use Rattle.answer_types.specs.Verdict.{done}
 use Rattle.byte_strings.specs.Lowest.{lowest}
 use Rattle.byte_strings.proofs.Lowest.{lowest-agree}
 use Rattle.tree_index.specs.Tree.{index, entries}
@@ -17,7 +17,8 @@ use Rattle.file_format.specs.Belongs.{Register}
 use Rattle.checks.specs.Checks.{judged}
 use Rattle.lookup.specs.Descent.{always}
 use Rattle.search.specs.Search.{soughtUnless}
-use Rattle.short_lookup.specs.ShortLookup.{shortPlaceOf, shortByteAt, shortSearchFor, foundBehind}
+use Rattle.lookup.specs.Lookup.{foundBehind}
+use Rattle.short_lookup.specs.ShortLookup.{shortPlaceOf, shortByteAt, shortSearchFor}
 use Rattle.short_lookup.proofs.Same.{place-same, byte-same}
 use Rattle.theorem_used_bytes.proofs.Cut.{cut, size-cut, held-cut, checks-cut}
 

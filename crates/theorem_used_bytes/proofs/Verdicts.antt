@@ -8,11 +8,11 @@ use mathlib.Core.List.{List}
 use borrow.Author.Tests.{leb-true, ltb-true, eqb-true, eqb-false, le-leb, not-true}
 use lib.Dec.{leb, ltb, eqb}
 use lib.ListN.{length}
-use Rattle.refusals.specs.Verdict.{Verdict, none, done, refused}
+use Rattle.answer_types.specs.Verdict.{Verdict, none, done, refused}
 use Rattle.file_format.specs.Sizes.{mostChunks, longestChunk, usedTree, usedSignatures, usedBitfield}
 use Rattle.file_format.specs.Belongs.{Buffers, Register}
 use Rattle.checks.specs.Checks.{Check, judged, laterChecks, registerChecks}
-use Rattle.checks.proofs.Judged.{AllRight, both-right, right-both, judged-same}
+use Rattle.checks.proofs.Judged.{AllRight, judged-same}
 use Rattle.checks.proofs.Passed.{right-all}
 use Rattle.compare.proofs.Local.{cond-same}
 use Rattle.writing.specs.Start.{startChecks, startVerdict}
@@ -22,6 +22,7 @@ use Rattle.writing.specs.Conditions.{StartFits, AppendFits, SignFits}
 use Rattle.writing.proofs.Orders.{append-order, sign-order}
 use Rattle.writing.proofs.Verdicts.{one-owed}
 use Rattle.byte_strings.specs.Lists.{total}
+use Rattle.byte_strings.proofs.Bools.{both-true, true-both}
 use Rattle.checks.specs.Lengths.{mostListed}
 use Rattle.checks.proofs.Lengths.{short-at}
 use Rattle.append_list.specs.Append.{listChecks, roomChecks, listVerdict}
@@ -60,13 +61,13 @@ rooms-same x y z u v w e = rooms-all x y z ∙ ap (λ (t : Bool). cond t done (r
 -- three buffers are long enough
 three : (k l m a b c : ℕ) → (leb k a && (leb l b && leb m c)) ≡ true → (k ≤ a) × (l ≤ b) × (m ≤ c)
 three k l m a b c e =
-    let p = both-right (leb k a) (leb l b && leb m c) e in
-    let q = both-right (leb l b) (leb m c) (p .1) in
+    let p = both-true (leb k a) (leb l b && leb m c) e in
+    let q = both-true (leb l b) (leb m c) (p .1) in
     (leb-true k a (p .0), leb-true l b (q .0), leb-true m c (q .1))
 
 all-three : (k l m a b c : ℕ) → k ≤ a → l ≤ b → m ≤ c → (leb k a && (leb l b && leb m c)) ≡ true
 all-three k l m a b c x y z =
-    right-both (leb k a) (leb l b && leb m c) (le-leb k a x) (right-both (leb l b) (leb m c) (le-leb l b y) (le-leb m c z))
+    true-both (leb k a) (leb l b && leb m c) (le-leb k a x) (true-both (leb l b) (leb m c) (le-leb l b y) (le-leb m c z))
 
 -- ---- a start
 
@@ -196,7 +197,7 @@ module _ (r : Register) (ls bs : List ℕ) where
   list-room-fits : r .n + k ≤ mostChunks → AllRight (listChecks ls bs) → r .s ≡ r .n → list-room ≡ true → ListFits r ls bs
   unfolding listChecks list-room
   list-room-fits few p paid e =
-      let a = both-right (leb (usedTree (r .n + k)) (length (r .tree))) _ e in
+      let a = both-true (leb (usedTree (r .n + k)) (length (r .tree))) _ e in
       let b = three (usedSignatures (r .n + k - 1)) (usedBitfield (r .n + k)) (r .size + length bs) (length (r .signatures)) (length (r .bitfield)) (length (r .content)) (a .1) in
       record {
         fewer = few;
@@ -214,7 +215,7 @@ module _ (r : Register) (ls bs : List ℕ) where
   fits-list-room : ListFits r ls bs → list-room ≡ true
   unfolding list-room
   fits-list-room f =
-      right-both (leb (usedTree (r .n + k)) (length (r .tree))) _ (le-leb (usedTree (r .n + k)) (length (r .tree)) (f .tree))
+      true-both (leb (usedTree (r .n + k)) (length (r .tree))) _ (le-leb (usedTree (r .n + k)) (length (r .tree)) (f .tree))
       (all-three (usedSignatures (r .n + k - 1)) (usedBitfield (r .n + k)) (r .size + length bs) (length (r .signatures)) (length (r .bitfield)) (length (r .content))
       (f .signatures) (f .bitfield) (f .content))
 

@@ -11,9 +11,9 @@ use borrow.Author.Tests.{ltb-true, ltb-false}
 use lib.Dec.{ltb}
 use lib.ListN.{length, take, drop, length-replicate}
 use lib.Seq.{take-take, take-add, length-take-le}
-use Rattle.refusals.specs.Verdict.{Verdict, done, refused}
+use Rattle.answer_types.specs.Verdict.{Verdict, done, refused}
 use Rattle.byte_strings.specs.Lists.{part, put, zeros, joined, among, Bytes}
-use Rattle.byte_strings.proofs.Lists.{run-ext, parts-joined}
+use Rattle.byte_strings.proofs.Lists.{run-ext, parts-joined, take-put-end}
 use Rattle.tree_index.specs.Tree.{depth, completed, filledBy, entries}
 use Rattle.tree_index.proofs.Filled.{filled-below}
 use Rattle.bitfield.specs.Image.{entryCount}
@@ -30,7 +30,6 @@ use Rattle.writing.specs.Start.{startedRegister, started}
 use Rattle.writing.specs.Append.{appendVerdict, storedEntry, sibling, newEntries, appendedTree, appendedRegister, rootUnlessRefused, appendRoot}
 use Rattle.writing.specs.Sign.{signedRegister}
 use Rattle.writing.specs.Conditions.{AppendFits, SignFits}
-use Rattle.writing.proofs.Written.{take-put-end}
 use Rattle.writing.proofs.Started.{started-belongs, started-signatures}
 use Rattle.writing.proofs.Climbed.{sibling-filled}
 use Rattle.writing.specs.Inner.{made}

@@ -5,7 +5,7 @@
 use Prim.Native.Nat.{ℕ}
 use mathlib.Core.Path.{_≡_}
 use mathlib.Core.List.{List}
-use Rattle.refusals.specs.Verdict.{done}
+use Rattle.answer_types.specs.Verdict.{done}
 use Rattle.file_format.specs.Belongs.{Register}
 use Rattle.compare.specs.Walk.{heldThen}
 use Rattle.parts_audit.specs.Part.{treePart, bitfieldPart}

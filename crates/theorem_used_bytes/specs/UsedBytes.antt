@@ -10,7 +10,7 @@ use mathlib.Core.Path.{_≡_}
 use mathlib.Core.Logic.{_↔_}
 use mathlib.Core.List.{List}
 use lib.ListN.{length, take}
-use Rattle.refusals.specs.Verdict.{done}
+use Rattle.answer_types.specs.Verdict.{done}
 use Rattle.byte_strings.specs.Lists.{Bytes}
 use Rattle.file_format.specs.Sizes.{usedTree, usedSignatures, usedBitfield}
 use Rattle.file_format.specs.Messages.{HashFunction}
@@ -75,7 +75,7 @@ pub record ReadsUsed (F : List ℕ → List ℕ) : Type 0 where
   pub two : (a b c d : Register) → SameUsed a b → SameUsed c d → compare F a c ≡ compare F b d
 
 -- of the calls that write. What they ask for besides the numbers 2 to 6 is room, and facts of n, s and the chunk that two such registers share.
--- Refused, they change no byte (`unchanged` in theorem_demands, Demand2). That the buffers and the chunk hold bytes is asked where F hashes them
+-- Refused, they change no byte (`unchanged` in theorem_images, Demand2). That the buffers and the chunk hold bytes is asked where F hashes them
 pub record WritesUsed (F : List ℕ → List ℕ) : Type 0 where
   -- a start looks at no byte
   pub start : (a b : Buffers) → StartFits a ↔ StartFits b → startVerdict a ≡ startVerdict b

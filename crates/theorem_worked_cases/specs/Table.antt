@@ -4,7 +4,7 @@ use mathlib.Core.Path.{_≡_}
 use mathlib.Core.Bool.{cond}
 use mathlib.Core.List.{List, [], _∷_, _++_, map}
 use lib.ListN.{length, getD}
-use Rattle.refusals.specs.Verdict.{none}
+use Rattle.answer_types.specs.Verdict.{none}
 use Rattle.tree_index.specs.Tree.{roots, parent, leftChild, rightChild, filled, entries, filledBy}
 use Rattle.bitfield.specs.Image.{dataBytes, heldBelow}
 use Rattle.bitfield.specs.Index.{indexBytes}

@@ -65,9 +65,8 @@ pub fn left_child(i: TreeIndex) -> TreeIndex
     requires { ⌜ (i .0 < 4194304) × (0 < tree.depth (i .0)) ⌝ }
     ensures { λ r. ⌜ r .0 ≡ tree.leftChild (i .0) ⌝ }
 {
-    let d = depth(i);
-    let k = block(i);
-    node_index(d - 1, 2 * k)
+    let half: u64 = 1 << (depth(i) - 1);
+    TreeIndex(i.0 - half)
 }
 
 // The right child of a parent. Inner.
@@ -75,9 +74,8 @@ pub fn right_child(i: TreeIndex) -> TreeIndex
     requires { ⌜ (i .0 < 4194304) × (0 < tree.depth (i .0)) ⌝ }
     ensures { λ r. ⌜ r .0 ≡ tree.rightChild (i .0) ⌝ }
 {
-    let d = depth(i);
-    let k = block(i);
-    node_index(d - 1, 2 * k + 1)
+    let half: u64 = 1 << (depth(i) - 1);
+    TreeIndex(i.0 + half)
 }
 
 // Whether all chunks of an index's block are among n. Inner.

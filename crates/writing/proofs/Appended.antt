@@ -9,7 +9,7 @@ use native.Mathlib.Nat.{le-refl}
 use native.Mathlib.Omega.{arith}
 use lib.ListN.{length, take, drop}
 use Rattle.byte_strings.specs.Lists.{part, put, Bytes}
-use Rattle.byte_strings.proofs.Lists.{drop-put}
+use Rattle.byte_strings.proofs.Lists.{drop-put, take-put-end}
 use Rattle.tree_index.specs.Tree.{depth}
 use Rattle.bitfield.specs.Image.{entryCount, entriesOf}
 use Rattle.bitfield.specs.Append.{appended, bitsPlace}
@@ -29,7 +29,7 @@ use Rattle.file_format.proofs.OfImage.{bitfieldHeader-length, stored-root-messa
 use Rattle.file_format.proofs.ToImage.{header-cut}
 use Rattle.writing.specs.Append.{appendedRegister}
 use Rattle.writing.specs.Conditions.{AppendFits}
-use Rattle.writing.proofs.Written.{take-put-end, length-snoc, dataSize-snoc, dataImage-snoc, within-snoc}
+use Rattle.writing.proofs.Written.{length-snoc, dataSize-snoc, dataImage-snoc, within-snoc}
 use Rattle.writing.specs.Inner.{made}
 use Rattle.writing.proofs.Made.{new-made, made-long}
 use Rattle.writing.proofs.Bits.{bits-rest}

@@ -133,10 +133,11 @@ top-size F t n e r =
 -- a root that stays is filled before
 pub kept-filled : (n : ℕ) (r : Carried n) (j : ℕ) → j < length (r .kept) → filled n (getD (r .kept) j 0) ≡ true
 kept-filled n r j l =
+    let start = r .before in
     let long : length (roots n) ≡ length (r .kept) + length (siblings n 0 (completed n)) =
-    ap length (r .before) ∙ length-append (r .kept) (siblings n 0 (completed n))
+    ap length start ∙ length-append (r .kept) (siblings n 0 (completed n))
     in
-    ap (filled n) (sym (List·getD-append (r .kept) (siblings n 0 (completed n)) 0 j l) ∙ ap (λ (xs : List ℕ). getD xs j 0) (sym (r .before)))
+    ap (filled n) (sym (List·getD-append (r .kept) (siblings n 0 (completed n)) 0 j l) ∙ ap (λ (xs : List ℕ). getD xs j 0) (sym start))
     ∙ root-filled n j (omega arith)
 
 -- ---- the file on the way

@@ -10,6 +10,7 @@ use lib.Dec.{eqb}
 use lib.ListN.{length, take, drop}
 use Rattle.byte_strings.specs.Lists.{part, put, among}
 use Rattle.byte_strings.proofs.Lists.{drop-put}
+use Rattle.byte_strings.proofs.Bools.{or-right, or-left}
 use Rattle.file_format.specs.Sizes.{entryPlace}
 use Rattle.file_format.specs.Entries.{Entry, entryBytes}
 use Rattle.file_format.proofs.Written.{entry-length, entry-header, other-entry, same-entry}
@@ -21,14 +22,6 @@ pub put-entry-rest : (t : List ℕ) (x m : ℕ) (ys : List ℕ) → length ys �
 put-entry-rest t x m ys e h l = drop-put m t (entryPlace x) ys (omega arith) (omega arith)
 
 -- ---- several entries
-
-or-right : (x y : Bool) → y ≡ true → x || y ≡ true
-or-right true y e = refl
-or-right false y e = e
-
-or-left : (x y : Bool) → x ≡ true → x || y ≡ true
-or-left true y e = refl
-or-left false y e = let z : _≡_ {A = ℕ} 0 1 = cc in absurd (omega arith)
 
 pub among-head : (x : ℕ) (is : List ℕ) → among x (x ∷ is) ≡ true
 unfolding among

@@ -6,14 +6,14 @@ use mathlib.Core.List.{List, [], _∷_, _++_, append-assoc}
 use native.Mathlib.Omega.{arith}
 use lib.ListN.{length, take, drop}
 use Rattle.byte_strings.specs.Lists.{put, joined}
-use Rattle.byte_strings.proofs.Lists.{drop-put}
+use Rattle.byte_strings.proofs.Lists.{drop-put, take-put-end}
 use Rattle.file_format.specs.Headers.{signaturesHeader}
 use Rattle.file_format.specs.Sizes.{usedSignatures}
 use Rattle.file_format.specs.Images.{signaturesImage}
 use Rattle.file_format.specs.Slots.{Slot}
 use Rattle.file_format.specs.Belongs.{Register, Belongs}
 use Rattle.writing.specs.Sign.{signedRegister}
-use Rattle.writing.proofs.Written.{take-put-end, joined-snoc}
+use Rattle.writing.proofs.Written.{joined-snoc}
 
 module _ (r : Register) (signature : List ℕ) (long : length signature ≡ 64) (room : usedSignatures (r .s + 1) ≤ length (r .signatures)) where
   next : usedSignatures (r .s + 1) ≡ usedSignatures (r .s) + 64

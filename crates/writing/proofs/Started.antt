@@ -7,7 +7,7 @@ use mathlib.Core.List.{List, [], append-nil}
 use borrow.Author.Tests.{leb-true, le-leb}
 use lib.Dec.{leb}
 use lib.ListN.{length, take, drop}
-use Rattle.refusals.specs.Verdict.{none, done, refused}
+use Rattle.answer_types.specs.Verdict.{none, done, refused}
 use Rattle.byte_strings.specs.Lists.{put, run, joined, total}
 use Rattle.tree_index.specs.Tree.{entries}
 use Rattle.bitfield.specs.Image.{entryCount, entriesFor}

@@ -6,9 +6,9 @@ use mathlib.Core.List.{List, [], _∷_, _++_, append-nil, map, map-append}
 use native.Mathlib.Nat.{add-zero}
 use native.Mathlib.Omega.{arith}
 use lib.ListN.{length, getD, take, drop, length-append}
-use lib.Seq.{length-take-le, take-at}
+use lib.Seq.{take-at}
 use Rattle.byte_strings.specs.Lists.{put, joined, total, Bytes}
-use Rattle.byte_strings.proofs.Lists.{take-behind, joined-append, drop-put}
+use Rattle.byte_strings.proofs.Lists.{joined-append, drop-put}
 use Rattle.file_format.specs.Sizes.{mostChunks, longestChunk}
 use Rattle.file_format.specs.Images.{dataSize, dataImage}
 use Rattle.file_format.specs.Slots.{Slot, held, contents, Handed, Within}
@@ -16,13 +16,6 @@ use Rattle.file_format.proofs.Spans.{total-append}
 use Rattle.file_format.proofs.Slots.{contents-snoc}
 
 -- ---- bytes
-
--- what stands before a place and what is put there
-pub take-put-end : (xs : List ℕ) (at m : ℕ) (ys : List ℕ) → length ys ≡ m → at ≤ length xs → take (at + m) (put xs at ys) ≡ take at xs ++ ys
-unfolding put
-take-put-end xs at m ys e l =
-    take-behind (take at xs) (ys ++ drop (at + length ys) xs) at m (length-take-le at xs l)
-    ∙ ap (λ (r : List ℕ). take at xs ++ r) (take-at ys (drop (at + length ys) xs) m e)
 
 -- a header of m bytes put at the front
 pub take-header : (xs hs : List ℕ) (m : ℕ) → length hs ≡ m → take m (put xs 0 hs) ≡ hs

@@ -5,7 +5,7 @@ use mathlib.Core.Bool.{cond}
 use mathlib.Core.List.{List, [], _∷_, _++_}
 use lib.ListN.{length}
 use lib.Dec.{leb, ltb, eqb}
-use Rattle.refusals.specs.Verdict.{Verdict, done, refused, unlessRefused}
+use Rattle.answer_types.specs.Verdict.{Verdict, done, refused, unlessRefused}
 use Rattle.byte_strings.specs.Lists.{put, zeros}
 use Rattle.tree_index.specs.Tree.{index, filled, completed, filledBy}
 use Rattle.bitfield.specs.Append.{appended}

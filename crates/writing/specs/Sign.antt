@@ -3,7 +3,7 @@ use Prim.Native.Nat.{ℕ, _+_}
 use mathlib.Core.Bool.{not}
 use mathlib.Core.List.{List, [], _∷_, _++_}
 use lib.Dec.{eqb}
-use Rattle.refusals.specs.Verdict.{Verdict, done, unlessRefused}
+use Rattle.answer_types.specs.Verdict.{Verdict, done, unlessRefused}
 use Rattle.byte_strings.specs.Lists.{put}
 use Rattle.file_format.specs.Sizes.{usedSignatures}
 use Rattle.file_format.specs.Belongs.{Buffers, Register, buffersOf}

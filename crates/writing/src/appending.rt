@@ -1,6 +1,6 @@
 // An append: "adds one chunk, writes the leaf, every completed parent and the new hole, if any, sets the bits, regenerates the
 // Index of the new chunk's bitfield entry (zeroed first if it is new), and answers the new root hash".
-use refusals::Answer;
+use answer_types::Answer;
 ghost use mathlib.Core.Path.{_≡_};
 ghost use Prim.Native.Nat.{_+_, _≤_, _<_};
 ghost use lib.ListN.{length};
@@ -9,8 +9,8 @@ ghost use Rattle.tree_index.specs.Tree.{completed, filledBy};
 ghost use Rattle.blake2b.specs.Hash.{nodeHash};
 ghost use Rattle.file_format.specs.Sizes.{entryPlace, usedTree};
 ghost use Rattle.file_format.specs.Entries.{entryBytes, parentOf};
-ghost use Rattle.refusals.specs.Verdict.{done};
-ghost use Rattle.refusals.specs.Meaning.{said};
+ghost use Rattle.answer_types.specs.Verdict.{done};
+ghost use Rattle.answer_types.specs.Meaning.{said};
 ghost use Rattle.checks.specs.Checks.{judged};
 ghost use Rattle.checks.specs.Lent.{registerOf};
 ghost use Rattle.writing.specs.Append.{ownChecks, appendVerdict, storedEntry, sibling as siblingOf, withHole, withEntries, climb};
@@ -52,19 +52,19 @@ fn judge_own(
         ⌝ }
 {
     if 65536 < chunk.len() {
-        return refusals::refuse(7);
+        return answer_types::refuse(7);
     }
     if s != n {
-        return refusals::refuse(8);
+        return answer_types::refuse(8);
     }
     if tree.len() < file_format::sizes::used_tree(n + 1) {
-        return refusals::refuse(14);
+        return answer_types::refuse(14);
     }
     if bitfield.len() < file_format::sizes::used_bitfield(n + 1) {
-        return refusals::refuse(14);
+        return answer_types::refuse(14);
     }
     if content.len() < (size as usize) + chunk.len() {
-        return refusals::refuse(14);
+        return answer_types::refuse(14);
     }
     Answer::Done
 }
@@ -89,7 +89,7 @@ pub fn judge(
         ⌝ }
 {
     if 1048576 <= n {
-        return refusals::refuse(2);
+        return answer_types::refuse(2);
     }
     let found = checks::judge_later(tree, signatures, bitfield, content, n, s, size);
     match found {

@@ -1,6 +1,6 @@
 // The root hash of a register.
-use refusals::Answer;
-ghost use Rattle.refusals.specs.Meaning.{said};
+use answer_types::Answer;
+ghost use Rattle.answer_types.specs.Meaning.{said};
 ghost use Rattle.checks.specs.Lent.{registerOf};
 ghost use Rattle.writing.specs.Post.{RootPost};
 

@@ -1,9 +1,9 @@
 // Storing a signature: 64 bytes from a signing device, unread, behind the signatures that are there.
-use refusals::Answer;
+use answer_types::Answer;
 ghost use mathlib.Core.Path.{_≡_};
 ghost use Prim.Native.Nat.{_+_, _≤_};
-ghost use Rattle.refusals.specs.Verdict.{done};
-ghost use Rattle.refusals.specs.Meaning.{said};
+ghost use Rattle.answer_types.specs.Verdict.{done};
+ghost use Rattle.answer_types.specs.Meaning.{said};
 ghost use Rattle.checks.specs.Checks.{judged};
 ghost use Rattle.checks.specs.Lent.{registerOf};
 ghost use Rattle.writing.specs.Sign.{ownSignChecks, signVerdict};
@@ -15,10 +15,10 @@ fn judge_own(signatures: &[u8], n: u64, s: u64) -> Answer
     ensures { λ r. ⌜ said r ≡ judged (ownSignChecks (now (signatures .entry)) n s) done ⌝ }
 {
     if s == n {
-        return refusals::refuse(8);
+        return answer_types::refuse(8);
     }
     if signatures.len() < file_format::sizes::used_signatures(s + 1) {
-        return refusals::refuse(14);
+        return answer_types::refuse(14);
     }
     Answer::Done
 }

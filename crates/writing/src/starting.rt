@@ -1,8 +1,8 @@
 // Start: "only lent four buffers and writes the three headers; its one refusal is 14".
-use refusals::Answer;
+use answer_types::Answer;
 ghost use Prim.Native.Nat.{_≤_};
 ghost use lib.ListN.{length};
-ghost use Rattle.refusals.specs.Meaning.{said};
+ghost use Rattle.answer_types.specs.Meaning.{said};
 ghost use Rattle.writing.specs.Post.{lent, StartPost};
 ghost use Rattle.writing.specs.Inner.{HeadersPut};
 
@@ -32,13 +32,13 @@ pub fn start(tree: &mut [u8], signatures: &mut [u8], bitfield: &mut [u8], conten
         ⌝ }
 {
     if tree.len() < 32 {
-        return refusals::refuse(14);
+        return answer_types::refuse(14);
     }
     if signatures.len() < 32 {
-        return refusals::refuse(14);
+        return answer_types::refuse(14);
     }
     if bitfield.len() < 32 {
-        return refusals::refuse(14);
+        return answer_types::refuse(14);
     }
     write_headers(tree, signatures, bitfield);
     Answer::Done

@@ -20,9 +20,10 @@ store-requires c κs =
 
 returns : tie.Need-returns
 returns c =
-    let at-judge = c .before .before .before in
+    let at-found = c .before in
+    let at-judge = at-found .before .before in
     let start = at-judge .before .before .before .before .before .before .before .before .before .before .before in
-    let s = start in list-not (given s) (s .args .lengths .now) (s .args .bytes .now) (at-judge .judge .result) (at-judge .judge .ensures) (c .before .found .given .0 .0) (c .before .found .given .1)
+    let s = start in list-not (given s) (s .args .lengths .now) (s .args .bytes .now) (at-judge .judge .result) (at-judge .judge .ensures) (at-found .found .given .0 .0) (at-found .found .given .1)
 
 returns-2 : tie.Need-returns-2
 returns-2 c =

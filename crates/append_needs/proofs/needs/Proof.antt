@@ -7,21 +7,26 @@ use Rattle.append_needs.proofs.needs.Tie as tie
 counted-requires : tie.Need-counted-requires
 counted-requires c κs =
     let judged = c .before .before in
-    let a = judged .before .before .args in
+    let start = judged .before .before in
+    let a = start .args in
     asked-of (a .n) (a .size) (a .lengths .now) (judged .judge .result) (judged .judge .ensures) (c .enum-told .given .1)
 
 returns : tie.Need-returns
 returns c =
-    let judged = c .before .before .before in
-    let a = judged .before .before .args in
-    let k = c .before .refusal .given in
+    let at-refusal = c .before in
+    let judged = at-refusal .before .before in
+    let start = judged .before .before in
+    let a = start .args in
+    let k = at-refusal .refusal .given in
     need-not (a .n) (a .size) (a .lengths .now) (judged .judge .result) (judged .judge .ensures) (k .0 .0) (k .1)
 
 returns-2 : tie.Need-returns-2
 returns-2 c =
-    let judged = c .before .before .before in
-    let a = judged .before .before .args in
-    need-done (a .n) (a .size) (a .lengths .now) (judged .judge .result) (judged .judge .ensures) (c .counted .result) (c .before .enum-told .given .1) (c .counted .ensures)
+    let at-enum-told = c .before in
+    let judged = at-enum-told .before .before in
+    let start = judged .before .before in
+    let a = start .args in
+    need-done (a .n) (a .size) (a .lengths .now) (judged .judge .result) (judged .judge .ensures) (c .counted .result) (at-enum-told .enum-told .given .1) (c .counted .ensures)
 
 pub needs-spec : {M : Type 1} → statement M
 needs-spec =

@@ -22,13 +22,15 @@ loop-holds c = summed-none _ _ _
 add-sum : tie.Need-add-sum Inv-loop μ-loop
 add-sum c =
     let at-loop = c .before .before in
-    omega (arith, short-at (at-loop .before .args .lengths .now) (at-loop .loop .i) (at-loop .before .pre .short))
+    let start = at-loop .before in
+    omega (arith, short-at (start .args .lengths .now) (at-loop .loop .i) (start .pre .short))
 
 loop-again : tie.Need-loop-again Inv-loop μ-loop
 loop-again c =
     let at-loop = c .before .before in
-    summed-next _ _ (at-loop .before .args .lengths .now) (at-loop .loop .i) (at-loop .loop .sum) _ (at-loop .loop .inv) (omega arith)
-    (short-at (at-loop .before .args .lengths .now) (at-loop .loop .i) (at-loop .before .pre .short)) refl
+    let start = at-loop .before in
+    summed-next _ _ (start .args .lengths .now) (at-loop .loop .i) (at-loop .loop .sum) _ (at-loop .loop .inv) (omega arith)
+    (short-at (start .args .lengths .now) (at-loop .loop .i) (start .pre .short)) refl
 
 returns : tie.Need-returns Inv-loop μ-loop
 returns c =

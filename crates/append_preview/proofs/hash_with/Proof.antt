@@ -11,8 +11,9 @@ use Rattle.append_preview.proofs.hash_with.Tie as tie
 
 sub-kept : tie.Need-sub-kept
 sub-kept c =
-    let start = c .before .before .before in
-    some-roots (start .args .n) (c .before .root-count .result) (start .pre .0) (c .before .root-count .ensures) .0
+    let at-root-count = c .before in
+    let start = at-root-count .before .before in
+    some-roots (start .args .n) (at-root-count .root-count .result) (start .pre .0) (at-root-count .root-count .ensures) .0
 
 mul-sizes : tie.Need-mul-sizes
 mul-sizes c =
@@ -46,15 +47,16 @@ root-hash-requires c κs =
 
 returns : tie.Need-returns
 returns c =
-    let at-stored-roots = c .before .before .before .before in
+    let at-stored-root-hashes = c .before .before in
+    let at-stored-roots = at-stored-root-hashes .before .before in
     let at-root-indexes = at-stored-roots .before in
     let at-root-count = at-root-indexes .before in
     let s = at-root-count .before .before in
     let r = at-stored-roots .stored-roots in
     c .root-hash .ensures
     ∙ ap nodeHash
-    (message-with (s .args .tree .now) (s .args .n) (entryOf (s .args .top)) (s .pre .0) (c .before .before .stored-root-hashes .result)
-    (numbers (at-root-indexes .root-indexes .result)) (r .result .sizes) (at-root-count .root-count .result) (c .before .before .stored-root-hashes .ensures)
+    (message-with (s .args .tree .now) (s .args .n) (entryOf (s .args .top)) (s .pre .0) (at-stored-root-hashes .stored-root-hashes .result)
+    (numbers (at-root-indexes .root-indexes .result)) (r .result .sizes) (at-root-count .root-count .result) (at-stored-root-hashes .stored-root-hashes .ensures)
     (at-root-indexes .root-indexes .ensures) (r .ensures .sizes) (at-root-count .root-count .ensures))
 
 pub hash-with-spec : {M : Type 1} → statement M

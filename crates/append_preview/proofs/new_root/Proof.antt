@@ -12,9 +12,11 @@ hash-with-requires c κs =
 
 returns : tie.Need-returns
 returns c =
-    let s = c .before .before .before .before .before in
-    root-after (s .args .tree .now) (s .args .n) (s .args .chunk .now) (c .before .before .leaf-hash .result) (c .hash-with .result) (entryOf (c .before .climbed .result)) (s .pre)
-    (c .before .before .leaf-hash .ensures) (c .before .climbed .ensures) (c .hash-with .ensures)
+    let at-climbed = c .before in
+    let at-leaf-hash = at-climbed .before in
+    let s = at-leaf-hash .before .before .before in
+    root-after (s .args .tree .now) (s .args .n) (s .args .chunk .now) (at-leaf-hash .leaf-hash .result) (c .hash-with .result) (entryOf (at-climbed .climbed .result)) (s .pre)
+    (at-leaf-hash .leaf-hash .ensures) (at-climbed .climbed .ensures) (c .hash-with .ensures)
 
 pub new-root-spec : {M : Type 1} → statement M
 new-root-spec = tie.close (tie.spec (λ c κs. search needs) (λ c κs. search needs) hash-with-requires returns)

@@ -14,20 +14,23 @@ given c =
 
 new-root-requires : tie.Need-new-root-requires
 new-root-requires c κs =
-    let s = c .before .before .before .before .before .before .before .before in
-    root-fits (given s) (s .args .chunk .now) (c .before .before .judge .result) (c .before .before .judge .ensures) (c .enum-told .given .1) (omega arith)
+    let at-judge = c .before .before in
+    let s = at-judge .before .before .before .before .before .before in
+    root-fits (given s) (s .args .chunk .now) (at-judge .judge .result) (at-judge .judge .ensures) (c .enum-told .given .1) (omega arith)
 
 returns : tie.Need-returns
 returns c =
-    let at-judge = c .before .before .before in
+    let at-found = c .before in
+    let at-judge = at-found .before .before in
     let s = at-judge .before .before .before .before .before .before in
-    preview-not (given s) (s .args .chunk .now) (at-judge .judge .result) (at-judge .judge .ensures) (c .before .found .given .0 .0) (c .before .found .given .1)
+    preview-not (given s) (s .args .chunk .now) (at-judge .judge .result) (at-judge .judge .ensures) (at-found .found .given .0 .0) (at-found .found .given .1)
 
 returns-2 : tie.Need-returns-2
 returns-2 c =
-    let at-judge = c .before .before .before in
+    let at-enum-told = c .before in
+    let at-judge = at-enum-told .before .before in
     let s = at-judge .before .before .before .before .before .before in
-    preview-done (given s) (s .args .chunk .now) (at-judge .judge .result) (at-judge .judge .ensures) (c .new-root .result) (c .before .enum-told .given .1) (c .new-root .ensures)
+    preview-done (given s) (s .args .chunk .now) (at-judge .judge .result) (at-judge .judge .ensures) (c .new-root .result) (at-enum-told .enum-told .given .1) (c .new-root .ensures)
 
 pub preview-spec : {M : Type 1} → statement M
 preview-spec =

@@ -1,14 +1,14 @@
 -- `audit::images` meets its contract. Assumes nothing.
 use Prim.Native.Nat.{ℕ, _-_}
 use mathlib.Core.Bool.{Bool}
-use Rattle.refusals.specs.Verdict.{bitfield, done}
+use Rattle.answer_types.specs.Verdict.{bitfield, done}
 use Rattle.file_format.specs.Sizes.{usedBitfield}
 use Rattle.audit.specs.Audit.{lowest, refusedAt}
 use Rattle.audit.proofs.Bytes.{whole-right}
 use Rattle.audit.proofs.Whole.{tree-refuses, bitfield-says}
 use Rattle.blake2b.specs.Hash.{nodeHash}
 use Rattle.checks.specs.Lent.{registerOf}
-use Rattle.refusals.specs.Meaning.{said}
+use Rattle.answer_types.specs.Meaning.{said}
 use borrow.Author.Needs.{needs}
 use mathlib.Core.List.{[]}
 use mathlib.Core.Path.{_∙_, ap}
@@ -17,9 +17,10 @@ use Rattle.audit.proofs.images.Tie as tie
 
 returns : tie.Need-returns
 returns c =
-    let start = c .before .before .before .before .before .before in
-    let a = start .args in tree-refuses nodeHash (registerOf (a .tree .now) [] (a .bitfield .now) (a .content .now) (a .n) 0 (a .size)) (c .before .before .wrong-entry .result)
-    (c .before .before .wrong-entry .ensures) _ (c .enum-told2 .given .1)
+    let at-wrong-entry = c .before .before in
+    let start = at-wrong-entry .before .before .before .before in
+    let a = start .args in tree-refuses nodeHash (registerOf (a .tree .now) [] (a .bitfield .now) (a .content .now) (a .n) 0 (a .size)) (at-wrong-entry .wrong-entry .result)
+    (at-wrong-entry .wrong-entry .ensures) _ (c .enum-told2 .given .1)
 
 wrong-byte-requires : tie.Need-wrong-byte-requires
 wrong-byte-requires c κs =
@@ -28,10 +29,11 @@ wrong-byte-requires c κs =
 
 returns-2 : tie.Need-returns-2
 returns-2 c =
-    let at-wrong-entry = c .before .before .before in
+    let at-enum-told = c .before in
+    let at-wrong-entry = at-enum-told .before .before in
     let start = at-wrong-entry .before .before .before .before in
     let a = start .args in bitfield-says nodeHash (registerOf (a .tree .now) [] (a .bitfield .now) (a .content .now) (a .n) 0 (a .size)) (at-wrong-entry .wrong-entry .result)
-    (at-wrong-entry .wrong-entry .ensures) (ap said (c .before .enum-told .given .1)) (said (c .wrong-byte .result))
+    (at-wrong-entry .wrong-entry .ensures) (ap said (at-enum-told .enum-told .given .1)) (said (c .wrong-byte .result))
     (c .wrong-byte .ensures ∙ ap (λ (right : ℕ → Bool). refusedAt 11 bitfield (lowest right 32 (usedBitfield (a .n) - 32)) done) (whole-right (a .bitfield .now) (a .n)))
 
 pub images-spec : {M : Type 1} → statement M

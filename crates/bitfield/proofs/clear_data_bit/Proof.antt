@@ -19,10 +19,13 @@ clear-bit-requires c κs = omega arith
 returns : tie.Need-returns
 unfolding clearDataBit
 returns c =
-    let b = c .before .before .before in
+    let at-clear-bit = c .before .before in
+    let b = at-clear-bit .before in
     let p = b .before .before in
-    c .before .before .clear-bit .ensures
-    ∙ ap₂ (clearBit (p .before .before .before .args .xs .now)) (p .entry-place .ensures ∙ ap bitsPlace (p .before .entry-of-chunk .ensures)) (b .data-bit .ensures)
+    let at-entry-of-chunk = p .before in
+    let start = at-entry-of-chunk .before .before in
+    at-clear-bit .clear-bit .ensures
+    ∙ ap₂ (clearBit (start .args .xs .now)) (p .entry-place .ensures ∙ ap bitsPlace (at-entry-of-chunk .entry-of-chunk .ensures)) (b .data-bit .ensures)
 
 pub clear-data-bit-spec : {M : Type 1} → statement M
 clear-data-bit-spec =

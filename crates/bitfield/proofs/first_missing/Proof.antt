@@ -27,23 +27,28 @@ is-held-requires c κs = omega arith
 
 returns : tie.Need-returns Inv-loop μ-loop
 returns c =
-    let t = c .before .before in
+    let at-is-held = c .before in
+    let t = at-is-held .before in
     let l = t .before .before in
-    sym (l .loop .inv ∙ lowest-off (storedHeld (l .before .before .args .xs .now)) (l .loop .c .0) (l .before .before .args .n) (t .if1 .taken)
-    (sym (c .before .is-held .ensures) ∙ not-true _ (c .if2 .taken)))
+    let start = l .before .before in
+    sym (l .loop .inv ∙ lowest-off (storedHeld (start .args .xs .now)) (l .loop .c .0) (start .args .n) (t .if1 .taken)
+    (sym (at-is-held .is-held .ensures) ∙ not-true _ (c .if2 .taken)))
 
 loop-again : tie.Need-loop-again Inv-loop μ-loop
 loop-again c =
-    let h = c .before .before in
+    let branch2 = c .before in
+    let h = branch2 .before in
     let t = h .before in
     let l = t .before .before in
-    l .loop .inv ∙ lowest-on (storedHeld (l .before .before .args .xs .now)) (l .loop .c .0) (l .before .before .args .n) (t .if1 .taken)
-    (sym (h .is-held .ensures) ∙ not-false _ (c .before .if2 .left))
+    let start = l .before .before in
+    l .loop .inv ∙ lowest-on (storedHeld (start .args .xs .now)) (l .loop .c .0) (start .args .n) (t .if1 .taken)
+    (sym (h .is-held .ensures) ∙ not-false _ (branch2 .if2 .left))
 
 returns-2 : tie.Need-returns-2 Inv-loop μ-loop
 returns-2 c =
     let l = c .before .before in
-    sym (l .loop .inv ∙ lowest-end (storedHeld (l .before .before .args .xs .now)) (l .loop .c .0) (l .before .before .args .n) (c .if1 .left))
+    let start = l .before .before in
+    sym (l .loop .inv ∙ lowest-end (storedHeld (start .args .xs .now)) (l .loop .c .0) (start .args .n) (c .if1 .left))
 
 pub first-missing-spec : {M : Type 1} → statement M
 first-missing-spec =

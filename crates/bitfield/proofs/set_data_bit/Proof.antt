@@ -18,10 +18,13 @@ set-bit-requires c κs = omega arith
 returns : tie.Need-returns
 unfolding setDataBit
 returns c =
-    let b = c .before .before .before in
+    let at-set-bit = c .before .before in
+    let b = at-set-bit .before in
     let p = b .before .before in
-    c .before .before .set-bit .ensures
-    ∙ ap₂ (setBit (p .before .before .before .args .xs .now)) (p .entry-place .ensures ∙ ap bitsPlace (p .before .entry-of-chunk .ensures)) (b .data-bit .ensures)
+    let at-entry-of-chunk = p .before in
+    let start = at-entry-of-chunk .before .before in
+    at-set-bit .set-bit .ensures
+    ∙ ap₂ (setBit (start .args .xs .now)) (p .entry-place .ensures ∙ ap bitsPlace (at-entry-of-chunk .entry-of-chunk .ensures)) (b .data-bit .ensures)
 
 pub set-data-bit-spec : {M : Type 1} → statement M
 set-data-bit-spec =

@@ -34,7 +34,9 @@ below : (c : tie.In-loop Inv-loop μ-loop) → c .before .loop .d ≤ completed 
 below c = omega (arith, c .loop-test .taken, c .before .before .completed .ensures)
 
 loop-holds : tie.Need-loop-holds Inv-loop μ-loop
-loop-holds c = (search needs, no-bits (c .before .before .args .xs .now) (c .before .before .args .c .0), refl)
+loop-holds c =
+    let start = c .before .before in
+    (search needs, no-bits (start .args .xs .now) (start .args .c .0), refl)
 
 node-ending-requires : tie.Need-node-ending-requires Inv-loop μ-loop
 node-ending-requires c κs =
@@ -43,38 +45,46 @@ node-ending-requires c κs =
 
 set-tree-bit-requires : tie.Need-set-tree-bit-requires Inv-loop μ-loop
 set-tree-bit-requires c κs =
-    let in-loop = c .before .before .before in
-    let start = in-loop .before .before .before .before in (
+    let at-node-ending = c .before .before in
+    let in-loop = at-node-ending .before in
+    let looped = in-loop .before in
+    let start-2 = looped .before .before .before in
+    let start = start-2 in (
       c .entry-of-index .ensures,
-      inside (start .args .c .0) (in-loop .before .loop .d) _ _ (start .pre .0) (below in-loop) (c .before .before .node-ending .ensures)
-          (omega (arith, start .pre .1, in-loop .before .loop .inv .2)) _ (c .entry-of-index .ensures),
+      inside (start .args .c .0) (looped .loop .d) _ _ (start .pre .0) (below in-loop) (at-node-ending .node-ending .ensures)
+          (omega (arith, start .pre .1, looped .loop .inv .2)) _ (c .entry-of-index .ensures),
     )
 
 add-d : tie.Need-add-d Inv-loop μ-loop
 add-d c =
     let in-loop = c .before .before .before .before .before .before in
-    let start = in-loop .before .before .before .before in
-    omega (arith, completed-few (start .args .c .0) (in-loop .before .loop .d) (start .pre .0) (below in-loop))
+    let looped = in-loop .before in
+    let start = looped .before .before .before in
+    omega (arith, completed-few (start .args .c .0) (looped .loop .d) (start .pre .0) (below in-loop))
 
 loop-again : tie.Need-loop-again Inv-loop μ-loop
 loop-again c =
-    let in-loop = c .before .before .before .before .before .before in
-    let start = in-loop .before .before .before .before in
-    let l = in-loop .before .loop in
+    let at-set-tree-bit = c .before .before in
+    let at-node-ending = at-set-tree-bit .before .before .before in
+    let looped = at-node-ending .before .before in
+    let start = looped .before .before .before in
+    let l = looped .loop in
     let xs = start .args .xs .now in
     let n = start .args .c .0 in (
       search needs,
-      c .before .before .set-tree-bit .ensures ∙ ap (setTreeBit (l .xs)) (c .before .before .before .before .before .node-ending .ensures)
+      at-set-tree-bit .set-tree-bit .ensures ∙ ap (setTreeBit (l .xs)) (at-node-ending .node-ending .ensures)
           ∙ ap (λ (y : List ℕ). setTreeBit y (index (l .d) ((n + 1) / 2 ^ l .d - 1))) (l .inv .1) ∙ next-bit xs n (l .d),
       search needs,
     )
 
 returns : tie.Need-returns Inv-loop μ-loop
 returns c =
-    let start = c .before .before .before .before in
-    let l = c .before .loop in
+    let looped = c .before in
+    let at-completed = looped .before in
+    let start = at-completed .before .before in
+    let l = looped .loop in
     l .inv .1
-    ∙ end (start .args .xs .now) (start .args .c .0) (l .d) (omega (arith, l .inv .0, c .loop-test .left, c .before .before .completed .ensures))
+    ∙ end (start .args .xs .now) (start .args .c .0) (l .d) (omega (arith, l .inv .0, c .loop-test .left, at-completed .completed .ensures))
 
 pub set-filled-spec : {M : Type 1} → statement M
 set-filled-spec =

@@ -23,10 +23,11 @@ set-bit-requires c κs = omega arith
 returns : tie.Need-returns
 unfolding setTreeBit
 returns c =
-    let b = c .before .before .before in
+    let at-set-bit = c .before .before in
+    let b = at-set-bit .before in
     let p = b .before .before in
     let start = p .before .before in
-    c .before .before .set-bit .ensures
+    at-set-bit .set-bit .ensures
     ∙ ap₂ (λ (e k : ℕ). setBit (start .args .xs .now) (e + 1024) k) (p .entry-place .ensures ∙ ap bitsPlace (start .pre .0)) (b .tree-bit .ensures)
 
 pub set-tree-bit-spec : {M : Type 1} → statement M

@@ -27,7 +27,8 @@ loop-holds c = (refl, search needs, refl)
 loop-again : tie.Need-loop-again Inv-loop μ-loop
 loop-again c =
     let l = c .before .before .before in
-    let a = l .before .before .before .args in (
+    let start = l .before .before .before in
+    let a = start .args in (
       omega arith,
       omega arith,
       onward-more (a .h .now) (a .front) (a .prefix .now ++ a .body .now) (l .loop .p) (l .loop .h) _ (l .loop .inv .0) (l .loop .inv .2)
@@ -36,11 +37,13 @@ loop-again c =
 
 returns : tie.Need-returns Inv-loop μ-loop
 returns c =
-    let l = c .before .before .before .before in
-    let a = l .before .before .before .args in
+    let at-counter = c .before .before in
+    let l = at-counter .before .before in
+    let start = l .before .before .before in
+    let a = start .args in
     absorbed-at (a .h .now) (a .front) (a .prefix .now ++ a .body .now) (l .loop .p) _ (l .loop .h) _ (l .loop .inv .0) (l .loop .inv .1)
     (omega arith) (sym (length-append (a .prefix .now) (a .body .now))) (l .loop .inv .2)
-    (c .compress-gathered .ensures ∙ ap (λ (t : ℕ). F (l .loop .h) (block (a .prefix .now ++ a .body .now) (l .loop .p)) t true) (c .before .before .counter .ensures))
+    (c .compress-gathered .ensures ∙ ap (λ (t : ℕ). F (l .loop .h) (block (a .prefix .now ++ a .body .now) (l .loop .p)) t true) (at-counter .counter .ensures))
 
 pub absorb-spec : {M : Type 1} → statement M
 absorb-spec =

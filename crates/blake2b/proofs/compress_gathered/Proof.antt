@@ -18,7 +18,8 @@ compress-at-requires c κs = omega (arith, c .before .before .gather .ensures .l
 returns : tie.Need-returns
 returns c =
     let g = c .before .before .before in
-    let a = g .before .before .before .before .args in
+    let start = g .before .before .before .before in
+    let a = start .args in
     of-block _ _ _ _ _ (c .compress-at .ensures) (block-piece (a .prefix .now ++ a .body .now) (a .p) _ (g .gather .ensures))
 
 pub compress-gathered-spec : {M : Type 1} → statement M

@@ -7,10 +7,12 @@ use Rattle.blake2b.proofs.compress_inner.Tie as tie
 
 returns : tie.Need-returns
 returns c =
-    let n = c .before .before .before in
-    let a = n .before .before .before .args in
+    let branch1 = c .before .before in
+    let n = branch1 .before in
+    let start = n .before .before .before in
+    let a = start .args in
     of-count _ _ _ _ _
-    (of-block _ _ _ _ _ (c .compress-at .ensures) (block-body (a .prefix .now) (a .body .now) (a .p) (c .before .before .if1 .taken)))
+    (of-block _ _ _ _ _ (c .compress-at .ensures) (block-body (a .prefix .now) (a .body .now) (a .p) (branch1 .if1 .taken)))
     (n .counter .ensures)
 
 returns-2 : tie.Need-returns-2

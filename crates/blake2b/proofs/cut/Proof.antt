@@ -27,9 +27,11 @@ loop-again c =
 
 returns : tie.Need-returns Inv-loop μ-loop
 returns c =
-    let d : List ℕ = c .before .before .args .t1 in
-    let e : c .before .loop .j ≡ c .before .before .args .n = omega arith in
-    c .before .loop .inv .1 ∙ ap (λ (k : ℕ). over 64 d k) e
+    let looped = c .before in
+    let start = looped .before in
+    let d : List ℕ = start .args .t1 in
+    let e : looped .loop .j ≡ start .args .n = omega arith in
+    looped .loop .inv .1 ∙ ap (λ (k : ℕ). over 64 d k) e
 
 pub cut-spec : {M : Type 1} → statement M
 cut-spec =

@@ -21,8 +21,9 @@ loop-again c = (search needs, going-more _ _ _ _ _ _ (omega arith) (c .before .b
 
 returns : tie.Need-returns Inv-loop μ-loop
 returns c =
-    let entered = c .before .before .before .before in
-    going-done _ _ _ _ _ _ (omega arith) (entered .pre .2) (c .before .loop .inv .1)
+    let looped = c .before in
+    let entered = looped .before .before .before in
+    going-done _ _ _ _ _ _ (omega arith) (entered .pre .2) (looped .loop .inv .1)
 
 pub fill-spec : {M : Type 1} → statement M
 fill-spec =

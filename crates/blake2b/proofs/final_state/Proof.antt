@@ -12,12 +12,13 @@ use Rattle.blake2b.proofs.final_state.Tie as tie
 
 returns : tie.Need-returns
 returns c =
-    let f = c .before .before .before in
+    let branch2 = c .before .before in
+    let f = branch2 .before in
     let s = f .before in
     let e = s .before .before .before .before in
     let a = e .args in
     key-alone (a .nn) (a .key .now) (a .prefix .now ++ a .body .now) _ (omega (arith, f .if1 .taken)) (e .pre) (s .first-state .ensures) _
-    (omega (arith, length-append (a .prefix .now) (a .body .now), c .before .before .if2 .taken)) (c .compress-key .ensures)
+    (omega (arith, length-append (a .prefix .now) (a .body .now), branch2 .if2 .taken)) (c .compress-key .ensures)
 
 returns-2 : tie.Need-returns-2
 returns-2 c =

@@ -27,9 +27,10 @@ loop-again c =
 
 returns : tie.Need-returns Inv-loop μ-loop
 returns c =
-    let d : List ℕ = c .before .before .args .t1 in
-    let e : c .before .loop .j ≡ 32 = omega arith in
-    c .before .loop .inv .1 ∙ ap (λ (k : ℕ). over 32 d k) e ∙ over-all 32 d
+    let looped = c .before in
+    let d : List ℕ = looped .before .args .t1 in
+    let e : looped .loop .j ≡ 32 = omega arith in
+    looped .loop .inv .1 ∙ ap (λ (k : ℕ). over 32 d k) e ∙ over-all 32 d
 
 pub first-half-spec : {M : Type 1} → statement M
 first-half-spec =

@@ -28,10 +28,12 @@ returns-3 c =
 
 returns-4 : tie.Need-returns-4
 returns-4 c =
-    let start = c .before .before .before .before .before .before .before .before .before .before in
+    let at-state-bytes = c .before in
+    let at-final-state = at-state-bytes .before in
+    let start = at-final-state .before .before .before .before .before .before .before .before in
     let a = start .args in
     as-done (a .nn) (a .key .now) (a .message .now) _ _ _ (all-right (a .nn) (length (a .key .now)) (omega arith) (omega arith) (omega arith))
-    (c .before .before .final-state .ensures) (c .before .state-bytes .ensures) (c .cut .ensures)
+    (at-final-state .final-state .ensures) (at-state-bytes .state-bytes .ensures) (c .cut .ensures)
 
 pub hash-spec : {M : Type 1} → statement M
 hash-spec =

@@ -8,9 +8,11 @@ use Rattle.blake2b.proofs.hash_parts.Tie as tie
 
 returns : tie.Need-returns
 returns c =
-    let start = c .before .before .before .before .before .before .before in
+    let at-state-bytes = c .before in
+    let at-final-state = at-state-bytes .before in
+    let start = at-final-state .before .before .before .before .before in
     let a = start .args in
-    half-from (a .key .now) (a .prefix .now ++ a .body .now) _ _ _ (c .before .before .final-state .ensures) (c .before .state-bytes .ensures) (c .first-half .ensures)
+    half-from (a .key .now) (a .prefix .now ++ a .body .now) _ _ _ (at-final-state .final-state .ensures) (at-state-bytes .state-bytes .ensures) (c .first-half .ensures)
 
 pub hash-parts-spec : {M : Type 1} → statement M
 hash-parts-spec =

@@ -23,19 +23,22 @@ loop-holds c = (search needs, paste-zero (c .args .out .now) (c .args .at) (lowB
 
 loop-again : tie.Need-loop-again Inv-loop μ-loop
 loop-again c =
-    let l = c .before .before in (
+    let tested = c .before in
+    let l = tested .before in (
       search needs,
-      word-more _ _ _ _ _ _ (l .before .pre .1) (l .before .pre .0) (c .before .loop-test .taken) (l .loop .inv .1) (c .byte-of .ensures),
+      word-more _ _ _ _ _ _ (l .before .pre .1) (l .before .pre .0) (tested .loop-test .taken) (l .loop .inv .1) (c .byte-of .ensures),
     )
 
 returns : tie.Need-returns Inv-loop μ-loop
 returns c =
-    let a = c .before .before .args in
-    let e : c .before .loop .j ≡ 8 = omega arith in
-    let f : c .before .loop .out ≡ paste (a .out .now) (a .at) (lowBytes 8 (a .w)) 8 =
-    c .before .loop .inv .1 ∙ ap (λ (k : ℕ). paste (a .out .now) (a .at) (lowBytes 8 (a .w)) k) e
+    let looped = c .before in
+    let start = looped .before in
+    let a = start .args in
+    let e : looped .loop .j ≡ 8 = omega arith in
+    let f : looped .loop .out ≡ paste (a .out .now) (a .at) (lowBytes 8 (a .w)) 8 =
+    looped .loop .inv .1 ∙ ap (λ (k : ℕ). paste (a .out .now) (a .at) (lowBytes 8 (a .w)) k) e
     in
-    (f, ap length f ∙ length-paste (a .out .now) (a .at) (lowBytes 8 (a .w)) 8 (omega arith) (omega (arith, lowBytes-length 8 (a .w))) ∙ c .before .before .pre .1)
+    (f, ap length f ∙ length-paste (a .out .now) (a .at) (lowBytes 8 (a .w)) 8 (omega arith) (omega (arith, lowBytes-length 8 (a .w))) ∙ start .pre .1)
 
 pub put-word-spec : {M : Type 1} → statement M
 put-word-spec =

@@ -25,11 +25,13 @@ slice-write-dst c = omega arith
 
 loop-again : tie.Need-loop-again Inv-loop μ-loop
 loop-again c =
-    let at-loop = c .before .before in
-    let start = at-loop .before in (
+    let tested = c .before in
+    let at-loop = tested .before in
+    let start-2 = at-loop .before in
+    let start = start-2 in (
       search needs,
       ap (λ (l : List ℕ). set l (start .args .at + at-loop .loop .i) (getD (start .args .src .now) (at-loop .loop .i) 0)) (at-loop .loop .inv .1)
-          ∙ put-take (start .args .dst .now) (start .args .at) (start .args .src .now) (at-loop .loop .i) 0 (start .pre) (c .before .loop-test .taken),
+          ∙ put-take (start .args .dst .now) (start .args .at) (start .args .src .now) (at-loop .loop .i) 0 (start .pre) (tested .loop-test .taken),
       length-set (at-loop .loop .dst) (start .args .at + at-loop .loop .i) (getD (start .args .src .now) (at-loop .loop .i) 0) ∙ at-loop .loop .inv .2,
     )
 

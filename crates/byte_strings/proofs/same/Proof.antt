@@ -31,7 +31,8 @@ returns-2 c =
 loop-again : tie.Need-loop-again Inv-loop μ-loop
 loop-again c =
     let at-loop = c .before .before .before .before in
-    let start = at-loop .before .before in (
+    let start-2 = at-loop .before .before in
+    let start = start-2 in (
       search needs,
       at-loop .loop .inv .1
           ∙ same-on (start .args .a .now) (start .args .b .now) (at-loop .loop .i) (omega arith) (omega arith) (c .if2 .left),
@@ -40,9 +41,10 @@ loop-again c =
 returns-3 : tie.Need-returns-3 Inv-loop μ-loop
 returns-3 c =
     let at-loop = c .before in
-    let start = at-loop .before .before in
+    let branch1 = at-loop .before in
+    let start = branch1 .before in
     sym (at-loop .loop .inv .1
-    ∙ same-end (start .args .a .now) (start .args .b .now) (at-loop .loop .i) (c .loop-test .left) (at-loop .before .if1 .left))
+    ∙ same-end (start .args .a .now) (start .args .b .now) (at-loop .loop .i) (c .loop-test .left) (branch1 .if1 .left))
 
 pub same-spec : {M : Type 1} → statement M
 same-spec =

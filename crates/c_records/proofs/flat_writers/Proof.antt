@@ -10,7 +10,8 @@ use Rattle.c_records.proofs.flat_writers.Tie as tie
 returns : tie.Need-returns
 unfolding flatWriters
 returns c =
-    let at-flat-writer6 = c .before .before .before .before in
+    let at-flat-writer7 = c .before .before in
+    let at-flat-writer6 = at-flat-writer7 .before .before in
     let at-flat-writer5 = at-flat-writer6 .before .before in
     let at-flat-writer4 = at-flat-writer5 .before .before in
     let at-flat-writer3 = at-flat-writer4 .before .before in
@@ -25,7 +26,7 @@ returns c =
     (at-flat-writer4 .flat-writer4 .ensures)
     (at-flat-writer5 .flat-writer5 .ensures)
     (at-flat-writer6 .flat-writer6 .ensures)
-    (c .before .before .flat-writer7 .ensures)
+    (at-flat-writer7 .flat-writer7 .ensures)
     (c .flat-writer8 .ensures)
 
 pub flat-writers-spec : {M : Type 1} → statement M

@@ -9,7 +9,8 @@ use Rattle.c_records.proofs.writers_in.Tie as tie
 returns : tie.Need-returns
 unfolding writersIn
 returns c =
-    let at-writer-in6 = c .before .before .before .before in
+    let at-writer-in7 = c .before .before in
+    let at-writer-in6 = at-writer-in7 .before .before in
     let at-writer-in5 = at-writer-in6 .before .before in
     let at-writer-in4 = at-writer-in5 .before .before in
     let at-writer-in3 = at-writer-in4 .before .before in
@@ -24,7 +25,7 @@ returns c =
     (at-writer-in4 .writer-in4 .ensures)
     (at-writer-in5 .writer-in5 .ensures)
     (at-writer-in6 .writer-in6 .ensures)
-    (c .before .before .writer-in7 .ensures)
+    (at-writer-in7 .writer-in7 .ensures)
     (c .writer-in8 .ensures)
 
 pub writers-in-spec : {M : Type 1} → statement M

@@ -21,11 +21,13 @@ loop-holds c = (search needs, refl)
 returns : tie.Need-returns Inv-loop μ-loop
 returns c =
     let at-loop = c .before .before .before in
-    sym (at-loop .loop .inv .1 ∙ short-off (at-loop .before .args .lengths .now) (at-loop .loop .i) (omega arith) (c .if1 .taken))
+    let start = at-loop .before in
+    sym (at-loop .loop .inv .1 ∙ short-off (start .args .lengths .now) (at-loop .loop .i) (omega arith) (c .if1 .taken))
 
 loop-again : tie.Need-loop-again Inv-loop μ-loop
 loop-again c =
-    let at-loop = c .before .before .before in (
+    let start = c .before .before .before in
+    let at-loop = start in (
       search needs,
       at-loop .loop .inv .1 ∙ short-on (at-loop .before .args .lengths .now) (at-loop .loop .i) (omega arith) (c .if1 .left),
     )

@@ -2,23 +2,25 @@
 use borrow.Author.Needs.{needs}
 use Rattle.checks.proofs.Steps.{over, not-over}
 use Rattle.checks.specs.Lent.{registerOf}
-use Rattle.refusals.specs.Meaning.{said}
+use Rattle.answer_types.specs.Meaning.{said}
 use Rattle.checks.proofs.judge.Statement.{statement}
 use Rattle.checks.proofs.judge.Tie as tie
 
 returns : tie.Need-returns
 returns c =
-    let start = c .before .before .before .before .before .before in
+    let branch1 = c .before in
+    let start = branch1 .before .before .before .before .before in
     let a = start .args in
     over (registerOf (a .tree .now) (a .signatures .now) (a .bitfield .now) (a .content .now) (a .n) (a .s) (a .size))
-    (said (c .refuse .result)) (c .before .if1 .taken) (c .refuse .ensures)
+    (said (c .refuse .result)) (branch1 .if1 .taken) (c .refuse .ensures)
 
 returns-2 : tie.Need-returns-2
 returns-2 c =
-    let start = c .before .before .before .before .before .before in
+    let branch1 = c .before in
+    let start = branch1 .before .before .before .before .before in
     let a = start .args in
     not-over (registerOf (a .tree .now) (a .signatures .now) (a .bitfield .now) (a .content .now) (a .n) (a .s) (a .size))
-    (said (c .judge-later .result)) (c .before .if1 .left) (c .judge-later .ensures)
+    (said (c .judge-later .result)) (branch1 .if1 .left) (c .judge-later .ensures)
 
 pub judge-spec : {M : Type 1} → statement M
 judge-spec =

@@ -11,7 +11,9 @@ returns-2 : tie.Need-returns-2
 returns-2 c = let a = c .before .before .args in signed-above (a .n) (a .s) (c .if2 .taken)
 
 returns-3 : tie.Need-returns-3
-returns-3 c = let a = c .before .before .args in signed-next (a .n) (a .s) (c .before .if1 .left)
+returns-3 c =
+    let branch1 = c .before in
+    let a = branch1 .before .args in signed-next (a .n) (a .s) (branch1 .if1 .left)
 
 pub signed-right-spec : {M : Type 1} → statement M
 signed-right-spec =

@@ -8,12 +8,13 @@ use Rattle.compare.proofs.compare_roots.Tie as tie
 
 returns : tie.Need-returns
 returns c =
-    let at-stored-root-hash2 = c .before .before .before .before in
+    let at-same = c .before in
+    let at-stored-root-hash2 = at-same .before .before .before in
     let at-stored-root-hash = at-stored-root-hash2 .before in
     let s = at-stored-root-hash .before .before .before in
     let stored-root-hash = at-stored-root-hash .stored-root-hash in
     let stored-root-hash2 = at-stored-root-hash2 .stored-root-hash2 in
-    let same = c .before .same in
+    let same = at-same .same in
     let if1 = c .if1 in
     let a = s .args in
     top-differ nodeHash (a .tree .now) (a .tree2 .now) (a .n) (a .n2) (stored-root-hash .result) (stored-root-hash2 .result) (same .result) (stored-root-hash .ensures)
@@ -21,15 +22,17 @@ returns c =
 
 returns-2 : tie.Need-returns-2
 returns-2 c =
-    let at-same = c .before .before .before in
+    let at-same-roots = c .before in
+    let branch1 = at-same-roots .before in
+    let at-same = branch1 .before in
     let at-stored-root-hash2 = at-same .before .before .before in
     let at-stored-root-hash = at-stored-root-hash2 .before in
     let s = at-stored-root-hash .before .before .before in
     let stored-root-hash = at-stored-root-hash .stored-root-hash in
     let stored-root-hash2 = at-stored-root-hash2 .stored-root-hash2 in
     let same = at-same .same in
-    let same-roots = c .before .same-roots in
-    let if1 = c .before .before .if1 in
+    let same-roots = at-same-roots .same-roots in
+    let if1 = branch1 .if1 in
     let if2 = c .if2 in
     let a = s .args in
     top-roots nodeHash (a .tree .now) (a .tree2 .now) (a .n) (a .n2) (stored-root-hash .result) (stored-root-hash2 .result) (same .result) (stored-root-hash .ensures)
@@ -37,15 +40,17 @@ returns-2 c =
 
 returns-3 : tie.Need-returns-3
 returns-3 c =
-    let at-same = c .before .before .before in
+    let at-same-roots = c .before in
+    let branch1 = at-same-roots .before in
+    let at-same = branch1 .before in
     let at-stored-root-hash2 = at-same .before .before .before in
     let at-stored-root-hash = at-stored-root-hash2 .before in
     let s = at-stored-root-hash .before .before .before in
     let stored-root-hash = at-stored-root-hash .stored-root-hash in
     let stored-root-hash2 = at-stored-root-hash2 .stored-root-hash2 in
     let same = at-same .same in
-    let same-roots = c .before .same-roots in
-    let if1 = c .before .before .if1 in
+    let same-roots = at-same-roots .same-roots in
+    let if1 = branch1 .if1 in
     let if2 = c .if2 in
     let a = s .args in
     top-equal nodeHash (a .tree .now) (a .tree2 .now) (a .n) (a .n2) (stored-root-hash .result) (stored-root-hash2 .result) (same .result) (stored-root-hash .ensures)

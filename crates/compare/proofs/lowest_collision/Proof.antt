@@ -29,14 +29,16 @@ start-at-requires c κs =
 
 start-at-requires-2 : tie.Need-start-at-requires-2 Inv-loop μ-loop
 start-at-requires-2 c κs =
-    let s = c .before .before .before .before .before .before .before .before in
-    let if1 = c .before .if1 in
+    let branch1 = c .before in
+    let s = branch1 .before .before .before .before .before .before .before in
+    let if1 = branch1 .if1 in
     (s .pre .1, omega (arith, if1 .left, s .pre .2))
 
 loop-holds : tie.Need-loop-holds Inv-loop μ-loop
 loop-holds c =
-    let s = c .before .before .before .before .before .before .before .before .before in
-    let start-at = c .before .start-at in
+    let at-start-at = c .before in
+    let s = at-start-at .before .before .before .before .before .before .before .before in
+    let start-at = at-start-at .start-at in
     let start-at2 = c .start-at2 in
     let a = s .args in
     meeting-start (a .tree .now) (a .content .now) (a .tree2 .now) (a .content2 .now) (a .n) (a .from .0) (a .end .0) (start-at .result .0) (start-at2 .result .0) (start-at .ensures)
@@ -57,11 +59,13 @@ collides-at-requires c κs =
 
 returns-2 : tie.Need-returns-2 Inv-loop μ-loop
 returns-2 c =
-    let looped = c .before .before .before .before .before in
+    let at-collides-at = c .before in
+    let branch2 = at-collides-at .before in
+    let looped = branch2 .before .before .before in
     let s = looped .before .before .before .before .before .before .before .before .before .before in
     let loop = looped .loop in
-    let if2 = c .before .before .if2 in
-    let collides-at = c .before .collides-at in
+    let if2 = branch2 .if2 in
+    let collides-at = at-collides-at .collides-at in
     let if3 = c .if3 in
     let a = s .args in
     meeting-found (a .tree .now) (a .content .now) (a .tree2 .now) (a .content2 .now) (a .n) (a .from .0) (a .end .0) (loop .i .0) (loop .start .0) (loop .start2 .0) (loop .inv)
@@ -69,10 +73,11 @@ returns-2 c =
 
 start-behind-requires : tie.Need-start-behind-requires Inv-loop μ-loop
 start-behind-requires c κs =
-    let looped = c .before .before .before .before .before in
+    let branch2 = c .before .before in
+    let looped = branch2 .before .before .before in
     let s = looped .before .before .before .before .before .before .before .before .before .before in
     let loop = looped .loop in
-    let if2 = c .before .before .if2 in
+    let if2 = branch2 .if2 in
     let a = s .args in
     read-started (a .tree .now) (a .n) (loop .i .0) (loop .start .0)
     (meeting-first (a .tree .now) (a .content .now) (a .tree2 .now) (a .content2 .now) (a .n) (a .from .0) (a .end .0) (loop .i .0) (loop .start .0) (loop .start2 .0) (loop .inv)
@@ -92,15 +97,17 @@ start-behind-requires-2 c κs =
 
 loop-again : tie.Need-loop-again Inv-loop μ-loop
 loop-again c =
-    let branch3 = c .before .before .before in
+    let at-start-behind2 = c .before in
+    let at-start-behind = at-start-behind2 .before in
+    let branch3 = at-start-behind .before in
     let at-collides-at = branch3 .before in
     let branch2 = at-collides-at .before in
     let looped = branch2 .before .before .before in
     let s = looped .before .before .before .before .before .before .before .before .before .before in
     let loop = looped .loop in
     let if2 = branch2 .if2 in
-    let start-behind = c .before .before .start-behind in
-    let start-behind2 = c .before .start-behind2 in
+    let start-behind = at-start-behind .start-behind in
+    let start-behind2 = at-start-behind2 .start-behind2 in
     let collides-at = at-collides-at .collides-at in
     let if3 = branch3 .if3 in
     let a = s .args in

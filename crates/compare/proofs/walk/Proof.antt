@@ -11,9 +11,10 @@ use Rattle.compare.proofs.walk.Tie as tie
 
 lowest-collision-requires : tie.Need-lowest-collision-requires
 lowest-collision-requires c κs =
-    let at-compare-roots = c .before .before .before in
+    let at-enum-told3 = c .before in
+    let at-compare-roots = at-enum-told3 .before .before in
     let s = at-compare-roots .before .before .before .before .before in
-    let enum-told3 = c .before .enum-told3 in
+    let enum-told3 = at-enum-told3 .enum-told3 in
     let compare-roots = at-compare-roots .compare-roots in
     let entry-count = c .entry-count in
     let a = s .args in (
@@ -25,30 +26,34 @@ lowest-collision-requires c κs =
 
 returns : tie.Need-returns
 returns c =
-    let s = c .before .before .before .before .before .before .before in
+    let at-compare-roots = c .before .before in
+    let s = at-compare-roots .before .before .before .before .before in
     let enum-told = c .enum-told in
-    let compare-roots = c .before .before .compare-roots in
+    let compare-roots = at-compare-roots .compare-roots in
     let a = s .args in
     walk-told nodeHash (a .tree .now) (a .content .now) (a .tree2 .now) (a .content2 .now) (a .n) (a .n2) rootsDiffer
     (sym (ap rootsTold (enum-told .given .1)) ∙ compare-roots .ensures) (λ next. refl)
 
 returns-2 : tie.Need-returns-2
 returns-2 c =
-    let s = c .before .before .before .before .before .before .before in
+    let at-compare-roots = c .before .before in
+    let s = at-compare-roots .before .before .before .before .before in
     let enum-told2 = c .enum-told2 in
-    let compare-roots = c .before .before .compare-roots in
+    let compare-roots = at-compare-roots .compare-roots in
     let a = s .args in
     walk-told nodeHash (a .tree .now) (a .content .now) (a .tree2 .now) (a .content2 .now) (a .n) (a .n2) atRoots
     (sym (ap rootsTold (enum-told2 .given .1)) ∙ compare-roots .ensures) (λ next. refl)
 
 returns-3 : tie.Need-returns-3
 returns-3 c =
-    let at-compare-roots = c .before .before .before .before in
+    let at-entry-count = c .before in
+    let at-enum-told3 = at-entry-count .before in
+    let at-compare-roots = at-enum-told3 .before .before in
     let s = at-compare-roots .before .before .before .before .before in
-    let enum-told3 = c .before .before .enum-told3 in
+    let enum-told3 = at-enum-told3 .enum-told3 in
     let compare-roots = at-compare-roots .compare-roots in
     let lowest-collision = c .lowest-collision in
-    let entry-count = c .before .entry-count in
+    let entry-count = at-entry-count .entry-count in
     let a = s .args in
     walk-found nodeHash (a .tree .now) (a .content .now) (a .tree2 .now) (a .content2 .now) (a .n) (a .n2)
     (sym (ap rootsTold (enum-told3 .given .1)) ∙ compare-roots .ensures) (compared (lowest-collision .result)) (entry-count .result) (entry-count .ensures) (lowest-collision .ensures)

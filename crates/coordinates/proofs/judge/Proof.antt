@@ -9,7 +9,9 @@ returns : tie.Need-returns
 returns c = c .refuse .ensures ∙ sym (verdict-7 _ _ (c .before .if1 .taken))
 
 returns-2 : tie.Need-returns-2
-returns-2 c = c .refuse2 .ensures ∙ sym (verdict-14 _ _ (c .before .before .if1 .left) (c .before .if2 .taken))
+returns-2 c =
+    let branch2 = c .before in
+    c .refuse2 .ensures ∙ sym (verdict-14 _ _ (branch2 .before .if1 .left) (branch2 .if2 .taken))
 
 returns-3 : tie.Need-returns-3
 returns-3 c = sym (verdict-done _ _ (c .before .if1 .left) (c .if2 .left))

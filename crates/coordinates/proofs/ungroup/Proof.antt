@@ -8,34 +8,39 @@ use Rattle.coordinates.proofs.ungroup.Tie as tie
 
 write-words-requires : tie.Need-write-words-requires
 write-words-requires c κs =
-    let judged = c .before .before .before in
+    let at-enum-told = c .before in
+    let judged = at-enum-told .before .before in
     let start = judged .before .before .before in
-    words-room (start .args .bytes .now) (start .args .out .now) (judged .judge .result) (c .before .enum-told .given .1) (judged .judge .ensures)
+    words-room (start .args .bytes .now) (start .args .out .now) (judged .judge .result) (at-enum-told .enum-told .given .1) (judged .judge .ensures)
 
 copy-to-requires : tie.Need-copy-to-requires
 copy-to-requires c κs =
     let written = c .before .before .before .before in
-    let judged = written .before .before .before .before in
+    let at-enum-told = written .before .before in
+    let judged = at-enum-told .before .before in
     let start = judged .before .before .before in
-    rest-room (start .args .bytes .now) (start .args .out .now) (judged .judge .result) (written .before .before .enum-told .given .1) (judged .judge .ensures)
+    rest-room (start .args .bytes .now) (start .args .out .now) (judged .judge .result) (at-enum-told .enum-told .given .1) (judged .judge .ensures)
     (written .write-words .last .1 .1 .0) (written .write-words .kept .1 .1 .0)
 
 returns : tie.Need-returns
 returns c =
-    let judged = c .before .before .before in
+    let at-refusal = c .before in
+    let judged = at-refusal .before .before in
     let start = judged .before .before .before in
-    let k = c .before .refusal .given in
+    let k = at-refusal .refusal .given in
     written-none ungrouped (start .args .bytes .now) (start .args .out .now) (k .0 .0) (judged .judge .result) (k .1) (judged .judge .ensures)
 
 returns-2 : tie.Need-returns-2
 unfolding count
 returns-2 c =
-    let written = c .before .before .before .before .before .before .before in
-    let judged = written .before .before .before .before in
+    let at-copy-to = c .before .before in
+    let written = at-copy-to .before .before .before .before .before in
+    let at-enum-told = written .before .before in
+    let judged = at-enum-told .before .before in
     let start = judged .before .before .before in
     let d = start .args .bytes .now in
-    written-whole d (start .args .out .now) (judged .judge .result) (written .before .before .enum-told .given .1) (judged .judge .ensures)
-    ungrouped (words (restored d) (count d)) _ _ (ungrouped-is d) (length-words (restored d) (count d)) (written .write-words .ensures) (c .before .before .copy-to .ensures)
+    written-whole d (start .args .out .now) (judged .judge .result) (at-enum-told .enum-told .given .1) (judged .judge .ensures)
+    ungrouped (words (restored d) (count d)) _ _ (ungrouped-is d) (length-words (restored d) (count d)) (written .write-words .ensures) (at-copy-to .copy-to .ensures)
 
 pub ungroup-spec : {M : Type 1} → statement M
 ungroup-spec =

@@ -33,11 +33,12 @@ read-be32-requires c κs =
 cast-word : tie.Need-cast-word Inv-loop μ-loop
 cast-word c =
     let at-loop = c .before .before in
-    let start = at-loop .before .before .before in
+    let at-shared-slice-known = at-loop .before .before in
+    let start = at-shared-slice-known .before in
     omega (
       arith,
       c .read-be32 .ensures,
-      four-lt (start .args .bytes .now) (4 * at-loop .loop .i) (λ j. at-loop .before .before .shared-slice-known .given j .fits)
+      four-lt (start .args .bytes .now) (4 * at-loop .loop .i) (λ j. at-shared-slice-known .shared-slice-known .given j .fits)
           (omega (arith, start .pre .0 .inside)),
     )
 
@@ -63,21 +64,26 @@ slice-write-out-4 c =
 
 loop-again : tie.Need-loop-again Inv-loop μ-loop
 loop-again c =
-    let at-loop = c .before .before .before .before in
-    let start = at-loop .before .before .before in
+    let at-wrapping-sub-u32 = c .before in
+    let at-read-be32 = at-wrapping-sub-u32 .before in
+    let tested = at-read-be32 .before in
+    let at-loop = tested .before in
+    let at-shared-slice-known = at-loop .before .before in
+    let start = at-shared-slice-known .before in
     let d = start .args .bytes .now in
     let i = at-loop .loop .i in
     let n = start .args .n in
-    let bytes : Bytes d = λ j. at-loop .before .before .shared-slice-known .given j .fits in
-    let read : c .before .before .read-be32 .result ≡ word d i = word-is d i _ (c .before .before .read-be32 .ensures) in
-    let e : c .before .wrapping-sub-u32 .result ≡ difference d i =
-    difference-is d i (c .before .wrapping-sub-u32 .result) (at-loop .loop .before) (at-loop .loop .inv .1) (omega arith)
-    (prior-lt d i (at-loop .loop .before) bytes (subst (λ (k : ℕ). i ≤ k) (start .pre .0 .counted) (at-loop .loop .inv .0)) (at-loop .loop .inv .1)) (c .before .wrapping-sub-u32 .ensures ∙ read) in
+    let bytes : Bytes d = λ j. at-shared-slice-known .shared-slice-known .given j .fits in
+    let read : at-read-be32 .read-be32 .result ≡ word d i = word-is d i _ (at-read-be32 .read-be32 .ensures) in
+    let e : at-wrapping-sub-u32 .wrapping-sub-u32 .result ≡ difference d i =
+    difference-is d i (at-wrapping-sub-u32 .wrapping-sub-u32 .result) (at-loop .loop .before) (at-loop .loop .inv .1) (omega arith)
+    (prior-lt d i (at-loop .loop .before) bytes (subst (λ (k : ℕ). i ≤ k) (start .pre .0 .counted) (at-loop .loop .inv .0)) (at-loop .loop .inv .1))
+    (at-wrapping-sub-u32 .wrapping-sub-u32 .ensures ∙ read) in
     let v : (k : ℕ) → getD (c .be32 .result) k 0 ≡ getD (be 4 (difference d i)) k 0 =
     λ k. ap (λ (l : List ℕ). getD l k 0) (c .be32 .ensures ∙ ap (be 4) e) in (
       search needs,
       read ∙ sym (prior-next (word d) i),
-      filled-turn (λ k j. getD (be 4 (difference d j)) k 0) n (start .args .out .now) (start .pre .1) (at-loop .loop .out) i _ _ _ _ _ _ _ _ (c .before .before .before .loop-test .taken)
+      filled-turn (λ k j. getD (be 4 (difference d j)) k 0) n (start .args .out .now) (start .pre .1) (at-loop .loop .out) i _ _ _ _ _ _ _ _ (tested .loop-test .taken)
           refl refl refl refl (v 0) (v 1) (v 2) (v 3) (at-loop .loop .inv .2),
     )
 

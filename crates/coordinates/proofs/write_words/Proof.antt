@@ -22,7 +22,9 @@ abbrev μ-loop : tie.MeasureT-loop
 
 loop-holds : tie.Need-loop-holds Inv-loop μ-loop
 unfolding prior
-loop-holds c = (search needs, refl, sym (words-none (c .before .before .args .out .now) (restored (c .before .before .args .bytes .now))), refl)
+loop-holds c =
+    let start = c .before .before in
+    (search needs, refl, sym (words-none (start .args .out .now) (restored (start .args .bytes .now))), refl)
 
 gather-requires : tie.Need-gather-requires Inv-loop μ-loop
 gather-requires c κs =
@@ -34,8 +36,9 @@ mul-copy-to c = omega arith
 
 copy-to-requires : tie.Need-copy-to-requires Inv-loop μ-loop
 copy-to-requires c κs =
-    let at-wrapping-add-u32 = c .before .before .before in
-    omega (arith, ap length (c .before .before .be32 .ensures), length-be 4 (at-wrapping-add-u32 .wrapping-add-u32 .result))
+    let at-be32 = c .before .before in
+    let at-wrapping-add-u32 = at-be32 .before in
+    omega (arith, ap length (at-be32 .be32 .ensures), length-be 4 (at-wrapping-add-u32 .wrapping-add-u32 .result))
 
 add-i : tie.Need-add-i Inv-loop μ-loop
 add-i c = omega arith
@@ -45,22 +48,25 @@ loop-less c = omega arith
 
 loop-again : tie.Need-loop-again Inv-loop μ-loop
 loop-again c =
-    let sum = c .before .before .before .before .before .before in
+    let at-copy-to = c .before .before in
+    let at-be32 = at-copy-to .before .before .before in
+    let sum = at-be32 .before in
     let found = sum .before in
     let at-loop = found .before .before in
-    let start = at-loop .before .before .before in
+    let at-shared-slice-known = at-loop .before .before in
+    let start = at-shared-slice-known .before in
     let g = start .args .bytes .now in
     let i = at-loop .loop .i in
     let e : sum .wrapping-add-u32 .result ≡ restored g i =
     restored-is g i (sum .wrapping-add-u32 .result) (at-loop .loop .word) (at-loop .loop .inv .1)
-    (gathered-lt g i (λ j. at-loop .before .before .shared-slice-known .given j .fits))
+    (gathered-lt g i (λ j. at-shared-slice-known .shared-slice-known .given j .fits))
     (sum .wrapping-add-u32 .ensures ∙ ap (λ (x : ℕ). (at-loop .loop .word + x) % 2 ^ 32) (found .gather .ensures)) in (
       search needs,
       e ∙ sym (prior-next (restored g) i),
-      c .before .before .copy-to .ensures
-          ∙ ap₂ (λ (l d : List ℕ). put l (4 * i) d) (at-loop .loop .inv .2) (c .before .before .before .before .before .be32 .ensures ∙ ap (be 4) e)
+      at-copy-to .copy-to .ensures
+          ∙ ap₂ (λ (l d : List ℕ). put l (4 * i) d) (at-loop .loop .inv .2) (at-be32 .be32 .ensures ∙ ap (be 4) e)
           ∙ words-more (start .args .out .now) (restored g) i,
-      c .before .before .copy-to .kept .0 ∙ at-loop .loop .inv .3,
+      at-copy-to .copy-to .kept .0 ∙ at-loop .loop .inv .3,
     )
 
 same-length : tie.Need-same-length Inv-loop μ-loop
@@ -68,8 +74,9 @@ same-length c = c .before .loop .inv .3
 
 returns : tie.Need-returns Inv-loop μ-loop
 returns c =
-    let start = c .before .before .before .before in
-    c .before .loop .inv .2 ∙ ap (λ (k : ℕ). put (start .args .out .now) 0 (words (restored (start .args .bytes .now)) k)) (omega arith)
+    let looped = c .before in
+    let start = looped .before .before .before in
+    looped .loop .inv .2 ∙ ap (λ (k : ℕ). put (start .args .out .now) 0 (words (restored (start .args .bytes .now)) k)) (omega arith)
 
 pub write-words-spec : {M : Type 1} → statement M
 write-words-spec =

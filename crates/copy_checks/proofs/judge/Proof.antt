@@ -1,9 +1,9 @@
 -- `copy_checks::judge` meets its contract. Assumes nothing.
 use mathlib.Core.Path.{sym, ap, _∙_}
-use Rattle.refusals.specs.Meaning.{said, spotOf}
+use Rattle.answer_types.specs.Meaning.{said, spotOf}
 use Rattle.copy_checks.specs.Copy.{Copy, copyOf}
 use Rattle.copy_checks.specs.Checks.{unknownRoot}
-use Rattle.lookup.specs.Unknown.{unknownOf}
+use Rattle.lookup.specs.Unknown.{firstEntry}
 use Rattle.copy_checks.proofs.Steps.{lent-passed, bits-in, roots-in, judge-refused, judge-unknown, judge-known}
 use borrow.Author.Needs.{needs}
 use Rattle.copy_checks.proofs.judge.Statement.{statement}
@@ -14,8 +14,9 @@ given c = copyOf (c .args .tree .now) (c .args .bitfield .now) (c .args .content
 
 unknown-root-requires : tie.Need-unknown-root-requires
 unknown-root-requires c κs =
-    let start = c .before .before .before .before .before .before in
-    let e = sym (ap said (c .enum-told .given .1)) ∙ c .before .before .judge-lent .ensures in bits-in (given start) (lent-passed (given start) _ (sym e) .0)
+    let at-judge-lent = c .before .before in
+    let start = at-judge-lent .before .before .before .before in
+    let e = sym (ap said (c .enum-told .given .1)) ∙ at-judge-lent .judge-lent .ensures in bits-in (given start) (lent-passed (given start) _ (sym e) .0)
 
 judge-size-requires : tie.Need-judge-size-requires
 judge-size-requires c κs =
@@ -26,31 +27,34 @@ judge-size-requires c κs =
 
 returns : tie.Need-returns
 returns c =
-    let at-judge-lent = c .before .before .before in
+    let at-refusal = c .before in
+    let at-judge-lent = at-refusal .before .before in
     let start = at-judge-lent .before .before .before .before in
-    let q = c .before .refusal .given in
+    let q = at-refusal .refusal .given in
     judge-refused (given start) (q .0 .0 .number) (spotOf (q .0 .0 .place)) (sym (ap said (q .1)) ∙ at-judge-lent .judge-lent .ensures)
 
 returns-2 : tie.Need-returns-2
 unfolding unknownRoot
 returns-2 c =
-    let at-unknown-root = c .before .before .before .before in
+    let at-i = c .before .before in
+    let at-unknown-root = at-i .before .before in
     let at-enum-told = at-unknown-root .before in
     let at-judge-lent = at-enum-told .before .before in
     let start = at-judge-lent .before .before .before .before in
-    let q = c .before .before .i .given in
+    let q = at-i .i .given in
     let e = sym (ap said (at-enum-told .enum-told .given .1)) ∙ at-judge-lent .judge-lent .ensures in
-    c .refuse-entry .ensures ∙ judge-unknown (given start) e (q .0 .0 .0) (sym (ap unknownOf (q .1)) ∙ at-unknown-root .unknown-root .ensures)
+    c .refuse-entry .ensures ∙ judge-unknown (given start) e (q .0 .0 .0) (sym (ap firstEntry (q .1)) ∙ at-unknown-root .unknown-root .ensures)
 
 returns-3 : tie.Need-returns-3
 unfolding unknownRoot
 returns-3 c =
-    let at-unknown-root = c .before .before .before in
+    let at-enum-told2 = c .before in
+    let at-unknown-root = at-enum-told2 .before .before in
     let at-enum-told = at-unknown-root .before in
     let at-judge-lent = at-enum-told .before .before in
     let start = at-judge-lent .before .before .before .before in
     let e = sym (ap said (at-enum-told .enum-told .given .1)) ∙ at-judge-lent .judge-lent .ensures in
-    judge-known (given start) e (said (c .judge-size .result)) (sym (ap unknownOf (c .before .enum-told2 .given .1)) ∙ at-unknown-root .unknown-root .ensures) (c .judge-size .ensures)
+    judge-known (given start) e (said (c .judge-size .result)) (sym (ap firstEntry (at-enum-told2 .enum-told2 .given .1)) ∙ at-unknown-root .unknown-root .ensures) (c .judge-size .ensures)
 
 pub judge-spec : {M : Type 1} → statement M
 judge-spec =

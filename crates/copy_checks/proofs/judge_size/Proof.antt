@@ -1,7 +1,7 @@
 -- `copy_checks::judge_size` meets its contract. Assumes nothing.
 use mathlib.Core.Bool.{Bool, cond}
 use mathlib.Core.Path.{sym, ap, _∙_}
-use Rattle.refusals.specs.Verdict.{none, done, refused}
+use Rattle.answer_types.specs.Verdict.{none, done, refused}
 use Rattle.checks.specs.Checks.{judged, addsUp}
 use borrow.Author.Needs.{needs}
 use Rattle.copy_checks.proofs.judge_size.Statement.{statement}
@@ -13,7 +13,9 @@ returns c = sym (ap (λ (b : Bool). cond b done (refused 6 none)) (sym (c .befor
 
 returns-2 : tie.Need-returns-2
 unfolding judged addsUp
-returns-2 c = c .refuse .ensures ∙ sym (ap (λ (b : Bool). cond b done (refused 6 none)) (sym (c .before .before .adds-up .ensures) ∙ c .before .if1 .left))
+returns-2 c =
+    let branch1 = c .before in
+    c .refuse .ensures ∙ sym (ap (λ (b : Bool). cond b done (refused 6 none)) (sym (branch1 .before .adds-up .ensures) ∙ branch1 .if1 .left))
 
 pub judge-size-spec : {M : Type 1} → statement M
 judge-size-spec = tie.close (tie.spec (λ c κs. search needs) returns (λ c κs. search needs) returns-2)

@@ -5,19 +5,19 @@ use borrow.Author.Tests.{lt-ltb, le-ltb}
 use Rattle.byte_strings.specs.Lowest.{Lowest, nowhere, first}
 use Rattle.copy_checks.specs.Least.{lowerOf}
 use Rattle.copy_checks.proofs.Least.{lower-nowhere}
-use Rattle.copy_checks.specs.Meaning.{foundOf}
+use Rattle.lookup.specs.Unknown.{firstEntry}
 use borrow.Author.Needs.{needs}
 use Rattle.copy_checks.proofs.lower_of.Statement.{statement}
 use Rattle.copy_checks.proofs.lower_of.Tie as tie
 
 returns : tie.Need-returns
 unfolding lowerOf
-returns c = sym (ap (λ (x : Lowest). lowerOf x (foundOf (c .before .before .args .b))) (ap foundOf (c .enum-told .given .1)))
+returns c = sym (ap (λ (x : Lowest). lowerOf x (firstEntry (c .before .before .args .b))) (ap firstEntry (c .enum-told .given .1)))
 
 returns-2 : tie.Need-returns-2
 returns-2 c =
     let at-a = c .before .before .before in
-    sym (ap₂ lowerOf (ap foundOf (at-a .a .given .1)) (ap foundOf (c .enum-told2 .given .1)) ∙ lower-nowhere _)
+    sym (ap₂ lowerOf (ap firstEntry (at-a .a .given .1)) (ap firstEntry (c .enum-told2 .given .1)) ∙ lower-nowhere _)
 
 returns-3 : tie.Need-returns-3
 unfolding lowerOf
@@ -26,7 +26,7 @@ returns-3 c =
     let at-a = at-b .before .before .before in
     let i = at-a .a .given .0 .0 .0 in
     let j = at-b .b .given .0 .0 .0 in
-    sym (ap₂ lowerOf (ap foundOf (at-a .a .given .1)) (ap foundOf (at-b .b .given .1)) ∙ ap (λ (x : Bool). cond x (first i) (first j)) (lt-ltb i j (c .if1 .taken)))
+    sym (ap₂ lowerOf (ap firstEntry (at-a .a .given .1)) (ap firstEntry (at-b .b .given .1)) ∙ ap (λ (x : Bool). cond x (first i) (first j)) (lt-ltb i j (c .if1 .taken)))
 
 returns-4 : tie.Need-returns-4
 unfolding lowerOf
@@ -35,7 +35,7 @@ returns-4 c =
     let at-a = at-b .before .before .before in
     let i = at-a .a .given .0 .0 .0 in
     let j = at-b .b .given .0 .0 .0 in
-    sym (ap₂ lowerOf (ap foundOf (at-a .a .given .1)) (ap foundOf (at-b .b .given .1)) ∙ ap (λ (x : Bool). cond x (first i) (first j)) (le-ltb i j (c .if1 .left)))
+    sym (ap₂ lowerOf (ap firstEntry (at-a .a .given .1)) (ap firstEntry (at-b .b .given .1)) ∙ ap (λ (x : Bool). cond x (first i) (first j)) (le-ltb i j (c .if1 .left)))
 
 pub lower-of-spec : {M : Type 1} → statement M
 lower-of-spec =

@@ -1,7 +1,7 @@
 -- `copy_make::make_copy` meets its contract. Assumes nothing.
 use mathlib.Core.Path.{sym, ap, _∙_}
 use borrow.Author.Needs.{needs}
-use Rattle.refusals.specs.Meaning.{said, spotOf}
+use Rattle.answer_types.specs.Meaning.{said, spotOf}
 use Rattle.copy_checks.specs.Copy.{Copy, copyOf}
 use Rattle.copy_make.proofs.Calls.{roomy, made-not, made}
 use Rattle.copy_make.proofs.make_copy.Statement.{statement}
@@ -19,9 +19,10 @@ write-files-requires c κs =
 
 returns : tie.Need-returns
 returns c =
-    let at-judge = c .before .before .before in
+    let at-answer = c .before in
+    let at-judge = at-answer .before .before in
     let start = at-judge .before .before .before .before .before .before .before in
-    let q = c .before .answer .given in
+    let q = at-answer .answer .given in
     made-not (given start) (q .0 .0 .number) (spotOf (q .0 .0 .place)) (sym (ap said (q .1)) ∙ at-judge .judge .ensures)
 
 returns-2 : tie.Need-returns-2

@@ -6,10 +6,13 @@ use Rattle.copy_make.proofs.write_blank.Tie as tie
 
 returns : tie.Need-returns
 returns c =
-    blank (c .before .before .before .before .before .before .before .before .before .before .args .xs .now) _ _
-    (c .before .before .before .before .before .before .before .before .before .before .args .header .now)
-    (c .before .before .before .before .before .before .before .before .before .before .args .count) (search needs)
-    (c .before .before .before .before .before .before .copy-to .ensures) (c .before .before .clear .ensures)
+    let at-clear = c .before .before in
+    let at-copy-to = at-clear .before .before .before .before in
+    let start = at-copy-to .before .before .before .before in
+    blank (start .args .xs .now) _ _
+    (start .args .header .now)
+    (start .args .count) (search needs)
+    (at-copy-to .copy-to .ensures) (at-clear .clear .ensures)
 
 pub write-blank-spec : {M : Type 1} → statement M
 write-blank-spec = tie.close (tie.spec (λ c κs. search needs) (λ c κs. search needs) (λ c. search needs) returns)

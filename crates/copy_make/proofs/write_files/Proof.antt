@@ -31,7 +31,8 @@ write-blank-requires-2 c κs =
 
 returns : tie.Need-returns
 returns c =
-    let at-write-blank2 = c .before .before .before .before .before .before in
+    let at-clear = c .before .before in
+    let at-write-blank2 = at-clear .before .before .before .before in
     let at-used-bitfield = at-write-blank2 .before in
     let at-bitfield-header = at-used-bitfield .before .before .before in
     let at-write-blank = at-bitfield-header .before .before .before in
@@ -40,7 +41,7 @@ returns c =
     let start = at-tree-header .before .before .before .before in
     all-written (given start) _ _ _ _ _ _ _ (at-used-tree .used-tree .ensures) (at-used-bitfield .used-bitfield .ensures) (at-tree-header .tree-header .ensures)
     (at-bitfield-header .bitfield-header .ensures)
-    (at-write-blank .write-blank .ensures) (at-write-blank2 .write-blank2 .ensures) (c .before .before .clear .ensures)
+    (at-write-blank .write-blank .ensures) (at-write-blank2 .write-blank2 .ensures) (at-clear .clear .ensures)
 
 pub write-files-spec : {M : Type 1} → statement M
 write-files-spec =

@@ -1,42 +1,27 @@
 -- `copy_release::release` meets its contract. Assumes nothing.
-use mathlib.Core.Path.{sym, ap, _∙_}
 use borrow.Author.Needs.{needs}
-use Rattle.refusals.specs.Meaning.{spotOf}
 use Rattle.lookup.specs.Meaning.{placedOf}
 use Rattle.copy_checks.specs.Copy.{Copy, copyOf}
-use Rattle.copy_release.proofs.Calls.{release-fits, release-not, release-done}
+use Rattle.copy_release.proofs.Calls.{release-fits, release-post}
 use Rattle.copy_release.proofs.release.Statement.{statement}
 use Rattle.copy_release.proofs.release.Tie as tie
 
 abbrev given : (c : tie.Start) → Copy
 given c = copyOf (c .args .tree .now) (c .args .bitfield .now) (c .args .content .now) (c .args .n) (c .args .size)
 
-clear-chunk-requires : tie.Need-clear-chunk-requires
-clear-chunk-requires c κs =
-    let at-found2 = c .before .before .before in
-    let at-held-place = at-found2 .before .before in
-    let s = at-held-place .before .before .before .before .before .before in
-    let k = at-found2 .found2 .given in
-    release-fits (given s) (s .args .chunk .0) (k .0 .0 .0) (k .0 .1 .0) (sym (ap placedOf (k .1)) ∙ at-held-place .held-place .ensures)
+release-placed-requires : tie.Need-release-placed-requires
+release-placed-requires c κs =
+    let at-held-place = c .before .before in
+    let start = at-held-place .before .before .before .before .before .before in
+    release-fits (given start) (start .args .chunk .0) (placedOf (at-held-place .held-place .result)) (at-held-place .held-place .ensures)
 
 returns : tie.Need-returns
 returns c =
-    let at-held-place = c .before .before .before in
-    let s = at-held-place .before .before .before .before .before .before in
-    let k = c .before .found .given in
-    release-not (given s) (s .args .chunk .0) (k .0 .0 .number) (spotOf (k .0 .0 .place)) (sym (ap placedOf (k .1)) ∙ at-held-place .held-place .ensures)
-
-returns-2 : tie.Need-returns-2
-returns-2 c =
-    let at-clear-chunk = c .before .before .before .before in
-    let at-found2 = at-clear-chunk .before .before .before .before in
-    let at-held-place = at-found2 .before .before in
-    let s = at-held-place .before .before .before .before .before .before in
-    let k = at-found2 .found2 .given in
-    release-done (given s) (s .args .chunk .0) (k .0 .0 .0) (k .0 .1 .0) _ _ (sym (ap placedOf (k .1)) ∙ at-held-place .held-place .ensures)
-    (at-clear-chunk .clear-chunk .ensures)
+    let at-release-placed = c .before .before .before .before in
+    let at-held-place = at-release-placed .before .before .before in
+    let start = at-held-place .before .before .before .before .before .before in
+    release-post (given start) (start .args .chunk .0) _ _ _ (placedOf (at-held-place .held-place .result)) (at-held-place .held-place .ensures)
+    (at-release-placed .release-placed .ensures)
 
 pub release-spec : {M : Type 1} → statement M
-release-spec =
-    tie.close
-    (tie.spec (λ c κs. search needs) (λ c. search needs) (λ c. search needs) clear-chunk-requires (λ c. search needs) (λ c. search needs) returns (λ c. search needs) (λ c. search needs) returns-2)
+release-spec = tie.close (tie.spec (λ c κs. search needs) release-placed-requires (λ c. search needs) (λ c. search needs) returns)

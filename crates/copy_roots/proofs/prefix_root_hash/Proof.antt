@@ -1,6 +1,6 @@
 -- `copy_roots::prefix_root_hash` meets its contract. Assumes nothing.
 use mathlib.Core.Path.{sym, _∙_}
-use Rattle.refusals.specs.Meaning.{said}
+use Rattle.answer_types.specs.Meaning.{said}
 use Rattle.copy_checks.specs.Copy.{Copy, copyOf}
 use Rattle.copy_roots.proofs.Calls.{old-fits, old-post}
 use borrow.Author.Needs.{needs}
@@ -17,8 +17,9 @@ rooted-requires c κs =
 
 returns : tie.Need-returns
 returns c =
-    let s = c .before .before .before .before .before in
-    old-post (given s) (s .args .m) (said (c .before .judge-old .result)) _ _ (c .before .judge-old .ensures) (c .rooted .ensures)
+    let at-judge-old = c .before in
+    let s = at-judge-old .before .before .before .before in
+    old-post (given s) (s .args .m) (said (at-judge-old .judge-old .result)) _ _ (at-judge-old .judge-old .ensures) (c .rooted .ensures)
 
 pub prefix-root-hash-spec : {M : Type 1} → statement M
 prefix-root-hash-spec = tie.close (tie.spec (λ c κs. search needs) rooted-requires returns)

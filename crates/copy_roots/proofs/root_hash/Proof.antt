@@ -1,6 +1,6 @@
 -- `copy_roots::root_hash` meets its contract. Assumes nothing.
 use mathlib.Core.Path.{sym, _∙_}
-use Rattle.refusals.specs.Meaning.{said}
+use Rattle.answer_types.specs.Meaning.{said}
 use Rattle.copy_checks.specs.Copy.{Copy, copyOf}
 use Rattle.copy_roots.proofs.Calls.{root-fits, root-post}
 use borrow.Author.Needs.{needs}
@@ -17,8 +17,9 @@ rooted-requires c κs =
 
 returns : tie.Need-returns
 returns c =
-    let start = c .before .before .before .before .before in
-    root-post (given start) (said (c .before .judge .result)) _ _ (c .before .judge .ensures) (c .rooted .ensures)
+    let at-judge = c .before in
+    let start = at-judge .before .before .before .before in
+    root-post (given start) (said (at-judge .judge .result)) _ _ (at-judge .judge .ensures) (c .rooted .ensures)
 
 pub root-hash-spec : {M : Type 1} → statement M
 root-hash-spec = tie.close (tie.spec (λ c κs. search needs) rooted-requires returns)

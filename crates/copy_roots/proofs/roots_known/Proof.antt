@@ -1,9 +1,9 @@
 -- `copy_roots::roots_known` meets its contract. Assumes nothing.
 use mathlib.Core.Path.{sym, ap, _∙_}
-use Rattle.refusals.specs.Verdict.{tree, done}
+use Rattle.answer_types.specs.Verdict.{tree, done}
 use Rattle.byte_strings.specs.Lowest.{Lowest}
 use Rattle.audit.specs.Audit.{refusedAt}
-use Rattle.lookup.specs.Unknown.{unknownOf}
+use Rattle.lookup.specs.Unknown.{firstEntry}
 use borrow.Author.Needs.{needs}
 use Rattle.copy_roots.proofs.roots_known.Statement.{statement}
 use Rattle.copy_roots.proofs.roots_known.Tie as tie
@@ -11,14 +11,15 @@ use Rattle.copy_roots.proofs.roots_known.Tie as tie
 returns : tie.Need-returns
 unfolding refusedAt
 returns c =
-    let at-unknown-root = c .before .before .before .before in
-    let q = c .before .before .i .given in
-    c .refuse-entry .ensures ∙ ap (λ (l : Lowest). refusedAt 20 tree l done) (sym (ap unknownOf (q .1)) ∙ at-unknown-root .unknown-root .ensures)
+    let at-i = c .before .before in
+    let at-unknown-root = at-i .before .before in
+    let q = at-i .i .given in
+    c .refuse-entry .ensures ∙ ap (λ (l : Lowest). refusedAt 20 tree l done) (sym (ap firstEntry (q .1)) ∙ at-unknown-root .unknown-root .ensures)
 
 returns-2 : tie.Need-returns-2
 unfolding refusedAt
 returns-2 c =
-    ap (λ (l : Lowest). refusedAt 20 tree l done) (sym (ap unknownOf (c .enum-told .given .1)) ∙ c .before .before .unknown-root .ensures)
+    ap (λ (l : Lowest). refusedAt 20 tree l done) (sym (ap firstEntry (c .enum-told .given .1)) ∙ c .before .before .unknown-root .ensures)
 
 pub roots-known-spec : {M : Type 1} → statement M
 roots-known-spec =

@@ -1,11 +1,8 @@
--- `copy_roots::search` meets its contract. Assumes nothing.
-use mathlib.Core.Path.{sym, ap, _∙_}
-use Rattle.refusals.specs.Meaning.{said, spotOf}
-use Rattle.byte_strings.specs.Lowest.{nowhere, first}
-use Rattle.bitfield.specs.Missing.{foundAt}
-use Rattle.search.specs.Search.{firstMissing}
+-- `copy_roots::search` meets its contract: the checks of a copy, and what comes behind them. Assumes nothing.
+use mathlib.Core.Path.{sym, _∙_}
+use Rattle.answer_types.specs.Meaning.{said}
 use Rattle.copy_checks.specs.Copy.{Copy, copyOf}
-use Rattle.copy_roots.proofs.Calls.{search-refused, search-passed, search-room}
+use Rattle.copy_roots.proofs.Calls.{search-by, search-room}
 use borrow.Author.Needs.{needs}
 use Rattle.copy_roots.proofs.search.Statement.{statement}
 use Rattle.copy_roots.proofs.search.Tie as tie
@@ -13,34 +10,16 @@ use Rattle.copy_roots.proofs.search.Tie as tie
 abbrev given : (c : tie.Start) → Copy
 given c = copyOf (c .args .tree .now) (c .args .bitfield .now) (c .args .content .now) (c .args .n) (c .args .size)
 
-by-runs-requires : tie.Need-by-runs-requires
-by-runs-requires c κs =
-    let s = c .before .before .before .before .before .before in
-    search-room (given s) (s .args .from .0) (sym (ap said (c .enum-told .given .1)) ∙ c .before .before .judge .ensures)
+search-behind-requires : tie.Need-search-behind-requires
+search-behind-requires c κs =
+    let start = c .before .before .before .before in
+    λ e. search-room (given start) (start .args .from .0) (sym e ∙ c .judge .ensures)
 
 returns : tie.Need-returns
 returns c =
-    let s = c .before .before .before .before .before .before .before in
-    let q = c .before .refusal .given in
-    search-refused (given s) (s .args .from .0) (q .0 .0 .number) (spotOf (q .0 .0 .place)) (sym (ap said (q .1)) ∙ c .before .before .before .judge .ensures)
-
-returns-2 : tie.Need-returns-2
-unfolding firstMissing
-returns-2 c =
-    let s = c .before .before .before .before .before .before .before .before .before .before in
-    let q = c .before .chunk .given in
-    search-passed (given s) (s .args .from .0)
-    (sym (ap said (c .before .before .before .before .enum-told .given .1)) ∙ c .before .before .before .before .before .before .judge .ensures) (first (q .0 .0 .0))
-    (sym (ap foundAt (q .1)) ∙ c .before .before .before .by-runs .ensures)
-
-returns-3 : tie.Need-returns-3
-unfolding firstMissing
-returns-3 c =
-    let s = c .before .before .before .before .before .before .before .before .before in
-    search-passed (given s) (s .args .from .0) (sym (ap said (c .before .before .before .enum-told .given .1)) ∙ c .before .before .before .before .before .judge .ensures) nowhere
-    (sym (ap foundAt (c .enum-told2 .given .1)) ∙ c .before .before .by-runs .ensures)
+    let at-judge = c .before in
+    let start = at-judge .before .before .before .before in
+    c .search-behind .ensures ∙ search-by (given start) (start .args .from .0) (said (at-judge .judge .result)) (at-judge .judge .ensures)
 
 pub search-spec : {M : Type 1} → statement M
-search-spec =
-    tie.close
-    (tie.spec (λ c κs. search needs) (λ c. search needs) (λ c. search needs) by-runs-requires (λ c. search needs) (λ c. search needs) returns returns-2 returns-3)
+search-spec = tie.close (tie.spec (λ c κs. search needs) search-behind-requires returns)

@@ -1,6 +1,6 @@
 -- `copy_short_lookup::place` meets its contract: the checks of a copy, and what comes behind them. Assumes nothing.
 use mathlib.Core.Path.{sym, _∙_}
-use Rattle.refusals.specs.Meaning.{said}
+use Rattle.answer_types.specs.Meaning.{said}
 use Rattle.copy_checks.specs.Copy.{Copy, copyOf}
 use Rattle.copy_short_lookup.proofs.Calls.{place-by, files-in}
 use borrow.Author.Needs.{needs}
@@ -11,12 +11,15 @@ abbrev given : (c : tie.Start) → Copy
 given c = copyOf (c .args .tree .now) (c .args .bitfield .now) (c .args .content .now) (c .args .n) (c .args .size)
 
 place-behind-requires : tie.Need-place-behind-requires
-place-behind-requires c κs = λ e. files-in (given (c .before .before .before .before)) (sym e ∙ c .judge .ensures)
+place-behind-requires c κs =
+    let start = c .before .before .before .before in
+    λ e. files-in (given start) (sym e ∙ c .judge .ensures)
 
 returns : tie.Need-returns
 returns c =
-    let s = c .before .before .before .before .before in
-    c .place-behind .ensures ∙ place-by (given s) (said (c .before .judge .result)) (c .before .judge .ensures) (s .args .chunk .0)
+    let at-judge = c .before in
+    let s = at-judge .before .before .before .before in
+    c .place-behind .ensures ∙ place-by (given s) (said (at-judge .judge .result)) (at-judge .judge .ensures) (s .args .chunk .0)
 
 pub place-spec : {M : Type 1} → statement M
 place-spec = tie.close (tie.spec (λ c κs. search needs) place-behind-requires returns)

@@ -1,7 +1,10 @@
 -- `copy_take_in::contradiction_of` meets its contract. Assumes nothing.
 use mathlib.Core.Path.{refl}
 use native.Mathlib.Omega.{arith}
-use Rattle.copy_take_in.proofs.Calls.{placed, front, places-fit, chunk-in, chunk-part, held-in, leaf-row, path-row, beside-row, roots-row, lowest-found}
+use Rattle.copy_take_in.proofs.Places.{placed, front, places-fit, chunk-in, chunk-part}
+use Rattle.copy_take_in.proofs.Start.{held-in}
+use Rattle.copy_take_in.proofs.BroughtRows.{leaf-row, path-row, beside-row, roots-row}
+use Rattle.copy_take_in.proofs.LowestFound.{lowest-found}
 use borrow.Author.Needs.{needs}
 use Rattle.copy_take_in.proofs.contradiction_of.Statement.{statement}
 use Rattle.copy_take_in.proofs.contradiction_of.Tie as tie
@@ -61,10 +64,12 @@ part-bytes-contradiction-end c =
 
 bytes-contradiction-requires : tie.Need-bytes-contradiction-requires
 bytes-contradiction-requires c κs =
-    let start = c .before .before .before .before .before .before .before .before .before .before .before .before in
+    let at-siblings-place = c .before in
+    let start = at-siblings-place .before .before .before .before .before .before .before .before .before .before .before in
     held-in (start .args .tree .now) (start .args .bitfield .now) (start .args .content .now) (start .args .packet .now) (start .args .n) (start .args .chunk .0)
     (start .args .start) _ (start .pre .room) (start .pre .begins)
-    (chunk-part (start .args .packet .now) (start .args .n) (start .args .chunk .0) (start .pre .room .packet .shaped) (c .before .siblings-place .result) (c .before .siblings-place .ensures))
+    (chunk-part (start .args .packet .now) (start .args .n) (start .args .chunk .0) (start .pre .room .packet .shaped) (at-siblings-place .siblings-place .result)
+    (at-siblings-place .siblings-place .ensures))
 
 contradiction-at-requires : tie.Need-contradiction-at-requires
 contradiction-at-requires c κs =
@@ -99,7 +104,9 @@ lowest-in-row-requires-3 c κs =
 
 returns : tie.Need-returns
 returns c =
-    let at-lower-of = c .before .before .before in
+    let at-lowest-in-row2 = c .before in
+    let at-lowest-in-row = at-lowest-in-row2 .before in
+    let at-lower-of = at-lowest-in-row .before in
     let at-contradiction-at = at-lower-of .before in
     let at-bytes-contradiction = at-contradiction-at .before in
     let at-siblings-place = at-bytes-contradiction .before .before in
@@ -110,7 +117,8 @@ returns c =
     (start .pre) (at-siblings-place .siblings-place .result) (at-siblings-place .siblings-place .ensures) (at-leaf-index .leaf-index .result .0) _ _ _ _ _ _ _ (at-leaf-index .leaf-index .ensures)
     (chunk-part (start .args .packet .now) (start .args .n) (start .args .chunk .0) (start .pre .room .packet .shaped) (at-siblings-place .siblings-place .result)
     (at-siblings-place .siblings-place .ensures)) (at-bytes-contradiction .bytes-contradiction .ensures)
-    (at-contradiction-at .contradiction-at .ensures) (at-lower-of .lower-of .ensures) (c .before .before .lowest-in-row .ensures) (c .before .lowest-in-row2 .ensures) (c .lowest-in-row3 .ensures)
+    (at-contradiction-at .contradiction-at .ensures) (at-lower-of .lower-of .ensures) (at-lowest-in-row .lowest-in-row .ensures) (at-lowest-in-row2 .lowest-in-row2 .ensures)
+    (c .lowest-in-row3 .ensures)
 
 pub contradiction-of-spec : {M : Type 1} → statement M
 contradiction-of-spec =

@@ -1,10 +1,10 @@
 -- `copy_take_in::judge` meets its contract. Assumes nothing.
 use mathlib.Core.Path.{refl, sym, ap, _∙_}
-use Rattle.refusals.specs.Meaning.{said, spotOf}
+use Rattle.answer_types.specs.Meaning.{said, spotOf}
 use Rattle.blake2b.specs.Hash.{nodeHash}
 use Rattle.packet.proofs.Right.{handed-by}
 use Rattle.copy_checks.specs.Copy.{Copy, copyOf}
-use Rattle.copy_take_in.proofs.Calls.{judge-copy, judge-own}
+use Rattle.copy_take_in.proofs.Stages.{judge-copy, judge-own}
 use borrow.Author.Needs.{needs}
 use Rattle.copy_take_in.proofs.judge.Statement.{statement}
 use Rattle.copy_take_in.proofs.judge.Tie as tie
@@ -14,9 +14,10 @@ given c = copyOf (c .args .tree .now) (c .args .bitfield .now) (c .args .content
 
 returns : tie.Need-returns
 returns c =
-    let at-judge = c .before .before .before .before in
-    let q = c .before .before .refusal .given in
+    let at-refusal = c .before .before in
+    let at-judge = at-refusal .before .before in
     let start = at-judge .before .before .before .before .before in
+    let q = at-refusal .refusal .given in
     let a = start .args in
     let e = judge-copy nodeHash (given start) (a .packet .now) (a .chunk .0) (a .root .now) (q .0 .0 .number) (spotOf (q .0 .0 .place))
     (sym (ap said (q .1)) ∙ at-judge .judge-partly .ensures) in
@@ -24,10 +25,11 @@ returns c =
 
 returns-2 : tie.Need-returns-2
 returns-2 c =
-    let at-judge = c .before .before .before in
+    let at-enum-told = c .before in
+    let at-judge = at-enum-told .before .before in
     let start = at-judge .before .before .before .before .before in
     let a = start .args in
-    let e = judge-own nodeHash (given start) (a .packet .now) (a .chunk .0) (a .root .now) (sym (ap said (c .before .enum-told .given .1)) ∙ at-judge .judge-partly .ensures)
+    let e = judge-own nodeHash (given start) (a .packet .now) (a .chunk .0) (a .root .now) (sym (ap said (at-enum-told .enum-told .given .1)) ∙ at-judge .judge-partly .ensures)
     _ refl in
     (c .judge-packet .ensures .0 ∙ e, handed-by nodeHash (a .packet .now) (a .n) (a .chunk .0) e (c .judge-packet .ensures .1))
 

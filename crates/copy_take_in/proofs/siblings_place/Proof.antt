@@ -9,10 +9,16 @@ use Rattle.copy_take_in.proofs.siblings_place.Statement.{statement}
 use Rattle.copy_take_in.proofs.siblings_place.Tie as tie
 
 add-result : tie.Need-add-result
-add-result c = omega (arith, c .read-be32 .ensures, four-lt (c .before .before .args .packet .now) 0 (λ j. c .before .shared-slice-known .given j .fits) (c .before .before .pre))
+add-result c =
+    let at-shared-slice-known = c .before in
+    let start = at-shared-slice-known .before in
+    omega (arith, c .read-be32 .ensures, four-lt (start .args .packet .now) 0 (λ j. at-shared-slice-known .shared-slice-known .given j .fits) (start .pre))
 
 add-result-2 : tie.Need-add-result-2
-add-result-2 c = omega (arith, c .read-be32 .ensures, four-lt (c .before .before .args .packet .now) 0 (λ j. c .before .shared-slice-known .given j .fits) (c .before .before .pre))
+add-result-2 c =
+    let at-shared-slice-known = c .before in
+    let start = at-shared-slice-known .before in
+    omega (arith, c .read-be32 .ensures, four-lt (start .args .packet .now) 0 (λ j. at-shared-slice-known .shared-slice-known .given j .fits) (start .pre))
 
 returns : tie.Need-returns
 unfolding siblingsPlace chunkLength

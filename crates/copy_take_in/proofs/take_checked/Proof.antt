@@ -1,11 +1,12 @@
 -- `copy_take_in::take_checked` meets its contract. Assumes nothing.
 use mathlib.Core.Path.{sym, ap, _∙_}
-use Rattle.refusals.specs.Meaning.{said}
+use Rattle.answer_types.specs.Meaning.{said}
 use Rattle.blake2b.specs.Hash.{nodeHash}
 use Rattle.copy_checks.specs.Copy.{Copy, copyOf}
-use Rattle.copy_checks.specs.Meaning.{foundOf}
+use Rattle.lookup.specs.Unknown.{firstEntry}
 use Rattle.copy_take_in.specs.Inner.{Ready}
-use Rattle.copy_take_in.proofs.Calls.{led-rows, own-refused, own-done}
+use Rattle.copy_take_in.proofs.BroughtRows.{led-rows}
+use Rattle.copy_take_in.proofs.Written.{own-refused, own-done}
 use borrow.Author.Needs.{needs}
 use Rattle.copy_take_in.proofs.take_checked.Statement.{statement}
 use Rattle.copy_take_in.proofs.take_checked.Tie as tie
@@ -29,10 +30,11 @@ ready : (c : tie.After-entry-row)
     → Ready (start-at c .args .tree .now) (start-at c .args .bitfield .now) (start-at c .args .content .now) (start-at c .args .packet .now) (start-at c .args .n)
     (start-at c .args .chunk .0) (c .before .before .way-of .result) (c .before .start-of .result) (c .entry-row .result) (start-at c .args .path .now)
 ready c =
+    let at-start-of = c .before in
     record {
       room = start-at c .pre .0;
-      way = c .before .before .way-of .ensures;
-      begins = c .before .start-of .ensures;
+      way = at-start-of .before .way-of .ensures;
+      begins = at-start-of .start-of .ensures;
       led = led-rows _ _ _ (start-at c .pre .1) (c .entry-row .ensures);
     }
 
@@ -48,11 +50,12 @@ write-all-requires c κs =
 
 returns : tie.Need-returns
 returns c =
-    let at-contradiction = c .before .before .before .before in
-    let q = c .before .before .found .given in
+    let at-found = c .before .before in
+    let at-contradiction = at-found .before .before in
     let start = at-contradiction .before .before .before .before .before .before .before .before .before .before .before .before .before in
+    let q = at-found .found .given in
     own-refused nodeHash (given start) (start .args .packet .now) (start .args .chunk .0) (said (c .refuse-entry .result)) (q .0 .0 .0)
-    (sym (ap foundOf (q .1)) ∙ at-contradiction .contradiction-of .ensures) (c .refuse-entry .ensures)
+    (sym (ap firstEntry (q .1)) ∙ at-contradiction .contradiction-of .ensures) (c .refuse-entry .ensures)
 
 returns-2 : tie.Need-returns-2
 returns-2 c =
@@ -61,7 +64,7 @@ returns-2 c =
     let at-contradiction = at-told .before .before in
     let start = at-contradiction .before .before .before .before .before .before .before .before .before .before .before .before .before in
     own-done nodeHash (given start) (start .args .packet .now) (start .args .chunk .0) _
-    (sym (ap foundOf (at-told .enum-told .given .1)) ∙ at-contradiction .contradiction-of .ensures) (at-write-all .write-all .ensures)
+    (sym (ap firstEntry (at-told .enum-told .given .1)) ∙ at-contradiction .contradiction-of .ensures) (at-write-all .write-all .ensures)
 
 pub take-checked-spec : {M : Type 1} → statement M
 take-checked-spec =

@@ -5,7 +5,8 @@ use native.Mathlib.Omega.{arith}
 use lib.Dec.{eqb}
 use lib.ListN.{length}
 use Rattle.packet.specs.Check.{chunkLength, siblingsPlace}
-use Rattle.copy_take_in.proofs.Calls.{placed, front, second-is, beside-in, roots-in, total-summed}
+use Rattle.copy_take_in.proofs.Places.{placed, front, second-is, beside-in, roots-in}
+use Rattle.copy_take_in.proofs.Totals.{total-summed}
 use borrow.Author.Needs.{needs}
 use Rattle.copy_take_in.proofs.total_right.Statement.{statement}
 use Rattle.copy_take_in.proofs.total_right.Tie as tie
@@ -39,45 +40,53 @@ mul-second c = omega (arith, c .before .before .sibling-count .ensures .1)
 
 add-second : tie.Need-add-second
 add-second c =
-    let start = c .before .before .before .before in
-    let z = placed (start .args .packet .now) (start .args .n) (start .args .chunk .0) (start .pre .shaped) in omega (arith, length-is (c), c .before .before .sibling-count .ensures .1)
+    let at-sibling-count = c .before .before in
+    let start = at-sibling-count .before .before in
+    let z = placed (start .args .packet .now) (start .args .n) (start .args .chunk .0) (start .pre .shaped) in omega (arith, length-is (c), at-sibling-count .sibling-count .ensures .1)
 
 add-second-2 : tie.Need-add-second-2
 add-second-2 c =
-    let start = c .before .before .before .before in
-    let z = placed (start .args .packet .now) (start .args .n) (start .args .chunk .0) (start .pre .shaped) in omega (arith, length-is (c), c .before .before .sibling-count .ensures .1)
+    let at-sibling-count = c .before .before in
+    let start = at-sibling-count .before .before in
+    let z = placed (start .args .packet .now) (start .args .n) (start .args .chunk .0) (start .pre .shaped) in omega (arith, length-is (c), at-sibling-count .sibling-count .ensures .1)
 
 add-lengths-requires : tie.Need-add-lengths-requires
 add-lengths-requires c κs =
-    let start = c .before .before .before .before in
+    let at-sibling-count = c .before .before in
+    let start = at-sibling-count .before .before in
     let z = placed (start .args .packet .now) (start .args .n) (start .args .chunk .0) (start .pre .shaped) in (
-      beside-in (start .args .packet .now) (start .args .n) (start .args .chunk .0) (start .pre .shaped) _ (first-is (c)) (c .before .before .sibling-count .result)
-          (c .before .before .sibling-count .ensures .0),
+      beside-in (start .args .packet .now) (start .args .n) (start .args .chunk .0) (start .pre .shaped) _ (first-is (c)) (at-sibling-count .sibling-count .result)
+          (at-sibling-count .sibling-count .ensures .0),
       omega (arith, length-is (c)),
     )
 
 add-lengths-requires-2 : tie.Need-add-lengths-requires-2
 add-lengths-requires-2 c κs =
-    let at-sibling-count = c .before .before .before in
-    let start = at-sibling-count .before .before in (
-      roots-in (start .args .packet .now) (start .args .n) (start .args .chunk .0) (start .pre .shaped) _ (first-is (c .before)) (at-sibling-count .sibling-count .result)
-          (c .before .before .other-count .result) (at-sibling-count .sibling-count .ensures .0)
-          (c .before .before .other-count .ensures .0),
+    let earlier = c .before in
+    let at-other-count = earlier .before in
+    let at-sibling-count = at-other-count .before in
+    let start-2 = at-sibling-count .before .before in
+    let start = start-2 in (
+      roots-in (start .args .packet .now) (start .args .n) (start .args .chunk .0) (start .pre .shaped) _ (first-is earlier) (at-sibling-count .sibling-count .result)
+          (at-other-count .other-count .result) (at-sibling-count .sibling-count .ensures .0)
+          (at-other-count .other-count .ensures .0),
       c .add-lengths .ensures .small,
     )
 
 returns : tie.Need-returns
 returns c =
-    let at-other-count = c .before .before .before in
+    let at-add-lengths = c .before in
+    let at-read-be32 = at-add-lengths .before in
+    let at-other-count = at-read-be32 .before in
     let at-sibling-count = at-other-count .before in
     let start = at-sibling-count .before .before in
     ap (λ (x : ℕ). eqb x (start .args .size))
-    (total-summed (start .args .packet .now) (start .args .n) (start .args .chunk .0) (c .before .before .read-be32 .result) _ _ (at-sibling-count .sibling-count .result)
-    (at-other-count .other-count .result) (c .before .add-lengths .result) (c .add-lengths2 .result)
-    (length-is (c .before .before)) (first-is (c .before .before))
-    (second-is (start .args .packet .now) (start .args .n) (start .args .chunk .0) (start .pre .shaped) _ (first-is (c .before .before)) (at-sibling-count .sibling-count .result)
+    (total-summed (start .args .packet .now) (start .args .n) (start .args .chunk .0) (at-read-be32 .read-be32 .result) _ _ (at-sibling-count .sibling-count .result)
+    (at-other-count .other-count .result) (at-add-lengths .add-lengths .result) (c .add-lengths2 .result)
+    (length-is at-read-be32) (first-is at-read-be32)
+    (second-is (start .args .packet .now) (start .args .n) (start .args .chunk .0) (start .pre .shaped) _ (first-is at-read-be32) (at-sibling-count .sibling-count .result)
     (at-sibling-count .sibling-count .ensures .0)) (at-sibling-count .sibling-count .ensures .0)
-    (at-other-count .other-count .ensures .0) (start .pre .small) (c .before .add-lengths .ensures) (c .add-lengths2 .ensures))
+    (at-other-count .other-count .ensures .0) (start .pre .small) (at-add-lengths .add-lengths .ensures) (c .add-lengths2 .ensures))
 
 pub total-right-spec : {M : Type 1} → statement M
 total-right-spec =

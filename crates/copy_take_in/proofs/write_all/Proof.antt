@@ -2,7 +2,9 @@
 use mathlib.Core.Path.{refl}
 use native.Mathlib.Omega.{arith}
 use Rattle.blake2b.specs.Hash.{nodeHash}
-use Rattle.copy_take_in.proofs.Calls.{front, chunk-in, chunk-part, held-in, all-written}
+use Rattle.copy_take_in.proofs.Places.{front, chunk-in, chunk-part}
+use Rattle.copy_take_in.proofs.Start.{held-in}
+use Rattle.copy_take_in.proofs.Written.{all-written}
 use borrow.Author.Needs.{needs}
 use Rattle.copy_take_in.proofs.write_all.Statement.{statement}
 use Rattle.copy_take_in.proofs.write_all.Tie as tie
@@ -60,7 +62,8 @@ copy-to-requires c κs =
 
 returns : tie.Need-returns
 returns c =
-    let at-hold-bits = c .before .before .before .before .before .before .before in
+    let at-copy-to = c .before .before in
+    let at-hold-bits = at-copy-to .before .before .before .before .before in
     let at-write-entries = at-hold-bits .before .before .before .before .before .before in
     let at-siblings-place = at-write-entries .before .before .before .before in
     let start = at-siblings-place .before .before .before .before .before .before .before in
@@ -68,7 +71,7 @@ returns c =
     (start .args .start) _ _ _ _ _ (at-write-entries .write-entries .ensures)
     (at-hold-bits .hold-bits .ensures) (start .pre .begins)
     (chunk-part (start .args .packet .now) (start .args .n) (start .args .chunk .0) (start .pre .room .packet .shaped) (at-siblings-place .siblings-place .result)
-    (at-siblings-place .siblings-place .ensures)) (c .before .before .copy-to .ensures)
+    (at-siblings-place .siblings-place .ensures)) (at-copy-to .copy-to .ensures)
 
 pub write-all-spec : {M : Type 1} → statement M
 write-all-spec =

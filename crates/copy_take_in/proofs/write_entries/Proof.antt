@@ -8,7 +8,8 @@ use Rattle.tree_index.specs.Numbers.{numbers}
 use Rattle.copy_take_in.specs.TakeIn.{Given}
 use Rattle.copy_take_in.specs.Inner.{lies, rowGiven, WithGiven}
 use Rattle.copy_take_in.proofs.Entries.{with-more}
-use Rattle.copy_take_in.proofs.Calls.{placed, front, places-fit, leaf-row, path-row, beside-row, roots-row, all-rows}
+use Rattle.copy_take_in.proofs.Places.{placed, front, places-fit}
+use Rattle.copy_take_in.proofs.BroughtRows.{leaf-row, path-row, beside-row, roots-row, all-rows}
 use borrow.Author.Needs.{needs}
 use Rattle.copy_take_in.proofs.write_entries.Statement.{statement}
 use Rattle.copy_take_in.proofs.write_entries.Tie as tie

@@ -12,10 +12,11 @@ returns c =
 
 returns-2 : tie.Need-returns-2
 returns-2 c =
-    let branch1 = c .before .before .before .before .before .before in
+    let at-copy-to = c .before .before in
+    let branch1 = at-copy-to .before .before .before .before in
     let at-put-listing = branch1 .before .before .before .before .before .before .before .before .before .before .before in
     let start = at-put-listing .before .before .before .before .before .before .before .before .before .before .before .before .before in
-    list-copied (start .args .input .now) (start .args .out .now) (at-put-listing .put-listing .ensures) (branch1 .if1 .left) (c .before .before .copy-to .ensures)
+    list-copied (start .args .input .now) (start .args .out .now) (at-put-listing .put-listing .ensures) (branch1 .if1 .left) (at-copy-to .copy-to .ensures)
 
 pub list-on-spec : {M : Type 1} → statement M
 list-on-spec =

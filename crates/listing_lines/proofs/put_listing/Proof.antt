@@ -10,28 +10,31 @@ use Rattle.listing_lines.proofs.put_listing.Tie as tie
 returns : tie.Need-returns
 unfolding refusedLine
 returns c =
-    let branch1 = c .before .before .before .before .before in
+    let at-put-text = c .before .before in
+    let branch1 = at-put-text .before .before .before in
     let at-read = branch1 .before .before .before .before .before .before .before .before .before .before in
     let start = at-read .before .before .before .before .before .before .before .before .before .before .before in
     let g = at-read .read in
-    refused-put (start .args .input .now) (g .result .read) _ (g .ensures) (not-true (g .result .read) (branch1 .if1 .taken)) (c .before .before .put-text .ensures)
+    refused-put (start .args .input .now) (g .result .read) _ (g .ensures) (not-true (g .result .read) (branch1 .if1 .taken)) (at-put-text .put-text .ensures)
 
 put-lines-requires : tie.Need-put-lines-requires
 put-lines-requires c κs =
-    let at-read = c .before .before .before .before .before .before .before .before .before .before .before .before in
+    let branch1 = c .before .before in
+    let at-read = branch1 .before .before .before .before .before .before .before .before .before .before in
     let start = at-read .before .before .before .before .before .before .before .before .before .before .before in
     let g = at-read .read in (
       omega (arith, start .pre .0),
-      read-printable (start .args .input .now) (g .result .read) _ (g .ensures) (not-false (g .result .read) (c .before .before .if1 .left)),
+      read-printable (start .args .input .now) (g .result .read) _ (g .ensures) (not-false (g .result .read) (branch1 .if1 .left)),
     )
 
 returns-2 : tie.Need-returns-2
 returns-2 c =
-    let branch1 = c .before .before .before .before .before in
+    let at-put-lines = c .before .before in
+    let branch1 = at-put-lines .before .before .before in
     let at-read = branch1 .before .before .before .before .before .before .before .before .before .before in
     let start = at-read .before .before .before .before .before .before .before .before .before .before .before in
     let g = at-read .read in
-    lines-put (start .args .input .now) (g .result .read) _ (g .ensures) (not-false (g .result .read) (branch1 .if1 .left)) (c .before .before .put-lines .ensures)
+    lines-put (start .args .input .now) (g .result .read) _ (g .ensures) (not-false (g .result .read) (branch1 .if1 .left)) (at-put-lines .put-lines .ensures)
 
 pub put-listing-spec : {M : Type 1} → statement M
 put-listing-spec =

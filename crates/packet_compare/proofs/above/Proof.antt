@@ -16,8 +16,9 @@ step-up-requires c κs =
 
 returns : tie.Need-returns
 returns c =
-    let s = c .before .before .before in
-    c .step-up .ensures ∙ ap (ordered (s .args .k) (parentOf nodeHash) (entryOf (s .args .node))) (c .before .entry-node .ensures)
+    let at-entry-node = c .before in
+    let s = at-entry-node .before .before in
+    c .step-up .ensures ∙ ap (ordered (s .args .k) (parentOf nodeHash) (entryOf (s .args .node))) (at-entry-node .entry-node .ensures)
 
 pub above-spec : {M : Type 1} → statement M
 above-spec = tie.close (tie.spec (λ c κs. search needs) step-up-requires returns)

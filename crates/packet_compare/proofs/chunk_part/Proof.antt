@@ -19,10 +19,11 @@ part-result-end c = omega (arith, c .before .before .pre .inside, c .read-be32 .
 returns : tie.Need-returns
 unfolding chunkLength packetChunk part
 returns c =
-    let start = c .before .before .before in
-    let l = c .before .read-be32 .result in
+    let at-read-be32 = c .before in
+    let start = at-read-be32 .before .before in
+    let l = at-read-be32 .read-be32 .result in
     let q : 4 + l - 4 ≡ l = omega arith in
-    ap (part (start .args .lent .now) 4) (q ∙ c .before .read-be32 .ensures)
+    ap (part (start .args .lent .now) 4) (q ∙ at-read-be32 .read-be32 .ensures)
 
 pub chunk-part-spec : {M : Type 1} → statement M
 chunk-part-spec =

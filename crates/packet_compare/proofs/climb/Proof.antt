@@ -56,9 +56,11 @@ add-above c =
 
 above-requires : tie.Need-above-requires Inv-loop μ-loop
 above-requires c κs =
-    let b = c .before .before in
-    let a = b .before .before .before .args in
-    let l = c .before .loop in
+    let looped = c .before in
+    let b = looped .before in
+    let start = b .before .before .before in
+    let a = start .args in
+    let l = looped .loop in
     step-first (a .first .now) (a .at) (entryOf (a .leaf)) (a .second .now) (a .at2) (entryOf (a .leaf2)) (a .count) (b .block-over .result) (given b)
     (entryOf (l .node)) (entryOf (l .node2)) (l .k) (l .j) (l .inv) (c .loop-test .taken)
 
@@ -74,11 +76,14 @@ add-above-2 c =
 
 above-requires-2 : tie.Need-above-requires-2 Inv-loop μ-loop
 above-requires-2 c κs =
-    let b = c .before .before .before in
-    let a = b .before .before .before .args in
-    let l = c .before .before .loop in
+    let tested = c .before in
+    let looped = tested .before in
+    let b = looped .before in
+    let start = b .before .before .before in
+    let a = start .args in
+    let l = looped .loop in
     step-second (a .first .now) (a .at) (entryOf (a .leaf)) (a .second .now) (a .at2) (entryOf (a .leaf2)) (a .count) (b .block-over .result) (given b)
-    (entryOf (l .node)) (entryOf (l .node2)) (l .k) (l .j) (l .inv) (c .before .loop-test .taken)
+    (entryOf (l .node)) (entryOf (l .node2)) (l .k) (l .j) (l .inv) (tested .loop-test .taken)
 
 cast-node-index : tie.Need-cast-node-index Inv-loop μ-loop
 cast-node-index c =
@@ -97,41 +102,50 @@ node-index-requires c κs =
 
 returns : tie.Need-returns Inv-loop μ-loop
 returns c =
-    let at-above2 = c .before .before .before .before .before .before .before in
+    let branch1 = c .before in
+    let at-same = branch1 .before in
+    let at-above2 = at-same .before .before .before .before .before in
     let at-above = at-above2 .before in
     let t = at-above .before in
-    let b = t .before .before in
-    let a = b .before .before .before .args in
-    let l = t .before .loop in
+    let looped = t .before in
+    let b = looped .before in
+    let start = b .before .before .before in
+    let a = start .args in
+    let l = looped .loop in
     walking-found (a .first .now) (a .at) (entryOf (a .leaf)) (a .second .now) (a .at2) (entryOf (a .leaf2)) (a .count) (b .block-over .result) (given b)
     (entryOf (l .node)) (entryOf (l .node2)) (l .k) (l .j) (l .inv) (t .loop-test .taken)
     (entryOf (at-above .above .result)) (entryOf (at-above2 .above2 .result))
     (at-above .above .ensures) (at-above2 .above2 .ensures)
-    (c .before .before .same .result) (c .before .before .same .ensures) (c .before .if1 .taken) (c .node-index .result .0) (c .node-index .ensures)
-    ∙ ap (result (b .before .before .before)) (own-block b)
+    (at-same .same .result) (at-same .same .ensures) (branch1 .if1 .taken) (c .node-index .result .0) (c .node-index .ensures)
+    ∙ ap (result start) (own-block b)
 
 loop-again : tie.Need-loop-again Inv-loop μ-loop
 loop-again c =
-    let at-above2 = c .before .before .before .before .before .before in
+    let at-same = c .before in
+    let at-above2 = at-same .before .before .before .before .before in
     let at-above = at-above2 .before in
     let t = at-above .before in
-    let b = t .before .before in
-    let a = b .before .before .before .args in
-    let l = t .before .loop in
+    let looped = t .before in
+    let b = looped .before in
+    let start = b .before .before .before in
+    let a = start .args in
+    let l = looped .loop in
     walking-next (a .first .now) (a .at) (entryOf (a .leaf)) (a .second .now) (a .at2) (entryOf (a .leaf2)) (a .count) (b .block-over .result) (given b)
     (entryOf (l .node)) (entryOf (l .node2)) (l .k) (l .j) (l .inv) (t .loop-test .taken)
     (entryOf (at-above .above .result)) (entryOf (at-above2 .above2 .result))
     (at-above .above .ensures) (at-above2 .above2 .ensures)
-    (c .before .same .result) (c .before .same .ensures) (c .if1 .left)
+    (at-same .same .result) (at-same .same .ensures) (c .if1 .left)
 
 returns-2 : tie.Need-returns-2 Inv-loop μ-loop
 returns-2 c =
-    let b = c .before .before in
-    let a = b .before .before .before .args in
-    let l = c .before .loop in
+    let looped = c .before in
+    let b = looped .before in
+    let start = b .before .before .before in
+    let a = start .args in
+    let l = looped .loop in
     walking-end (a .first .now) (a .at) (entryOf (a .leaf)) (a .second .now) (a .at2) (entryOf (a .leaf2)) (a .count) (b .block-over .result) (given b)
     (entryOf (l .node)) (entryOf (l .node2)) (l .k) (l .j) (l .inv) (c .loop-test .left)
-    ∙ ap (result (b .before .before .before)) (own-block b)
+    ∙ ap (result start) (own-block b)
 
 pub climb-spec : {M : Type 1} → statement M
 climb-spec =

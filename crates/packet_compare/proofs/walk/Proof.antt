@@ -32,14 +32,17 @@ bytes2 c = λ j. c .shared-slice-known2 .given j .fits
 -- whether the chunks are the same
 told : (c : tie.After-same) → c .same .result
     ≡ sameList (packetChunk (c .before .before .before .before .before .args .first .now)) (packetChunk (c .before .before .before .before .before .args .second .now))
-told c = c .same .ensures ∙ ap₂ sameList (c .before .before .chunk-part .ensures) (c .before .chunk-part2 .ensures)
+told c =
+    let at-chunk-part2 = c .before in
+    c .same .ensures ∙ ap₂ sameList (at-chunk-part2 .before .chunk-part .ensures) (at-chunk-part2 .chunk-part2 .ensures)
 
 -- where the siblings begin
 place : (c : tie.After-chunk-part2) → 4 + length (c .before .chunk-part .result .now) + 1
     ≡ 4 + chunkLength (c .before .before .before .before .args .first .now) + 1
 place c =
-    let s = c .before .before .before .before in
-    ap (λ (l : List ℕ). 4 + length l + 1) (c .before .chunk-part .ensures)
+    let at-chunk-part = c .before in
+    let s = at-chunk-part .before .before .before in
+    ap (λ (l : List ℕ). 4 + length l + 1) (at-chunk-part .chunk-part .ensures)
     ∙ ap (λ (x : ℕ). 4 + x + 1) (chunk-long (s .args .first .now) (s .args .n) (s .args .chunk .0) (s .pre .root) (first s))
 
 place2 : (c : tie.After-chunk-part2) → 4 + length (c .chunk-part2 .result .now) + 1
@@ -60,10 +63,12 @@ chunk-part-requires-2 c κs =
 
 returns : tie.Need-returns
 returns c =
-    let k = c .before .before .before .before in
-    let s = k .before .before in
-    said-same (s .args .first .now) (s .args .second .now) (s .args .n) (s .args .chunk .0) (s .pre .root) (first s) (second s) (bytes (k .before)) (bytes2 k)
-    (c .before .same .result) (told (c .before)) (c .if1 .taken)
+    let at-same = c .before in
+    let k = at-same .before .before .before in
+    let earlier = k .before in
+    let s = earlier .before in
+    said-same (s .args .first .now) (s .args .second .now) (s .args .n) (s .args .chunk .0) (s .pre .root) (first s) (second s) (bytes earlier) (bytes2 k)
+    (at-same .same .result) (told at-same) (c .if1 .taken)
 
 leaf-index-requires : tie.Need-leaf-index-requires
 leaf-index-requires c κs =
@@ -72,15 +77,22 @@ leaf-index-requires c κs =
 
 returns-2 : tie.Need-returns-2
 returns-2 c =
-    let l = c .before .before .before .before .before .before .before in
-    let m = l .before .before .before in
-    let k = m .before .before .before in
-    let s = k .before .before in
-    said-leaf (s .args .first .now) (s .args .second .now) (s .args .n) (s .args .chunk .0) (s .pre .root) (first s) (second s) (bytes (k .before)) (bytes2 k)
-    (m .same .result) (told m) (l .before .before .if1 .left)
-    (entryOf (l .before .leaf-node .result)) (entryOf (l .leaf-node2 .result))
-    (l .before .leaf-node .ensures ∙ ap (leaf nodeHash) (m .before .before .chunk-part .ensures)) (l .leaf-node2 .ensures ∙ ap (leaf nodeHash) (m .before .chunk-part2 .ensures))
-    (c .before .before .same2 .result) (c .before .before .same2 .ensures) (c .before .if2 .taken) (c .leaf-index .result .0) (c .leaf-index .ensures)
+    let branch2 = c .before in
+    let at-same2 = branch2 .before in
+    let l = at-same2 .before .before .before .before .before in
+    let at-leaf-node = l .before in
+    let branch1 = at-leaf-node .before in
+    let m = branch1 .before in
+    let at-chunk-part2 = m .before in
+    let at-chunk-part = at-chunk-part2 .before in
+    let k = at-chunk-part .before in
+    let earlier = k .before in
+    let s = earlier .before in
+    said-leaf (s .args .first .now) (s .args .second .now) (s .args .n) (s .args .chunk .0) (s .pre .root) (first s) (second s) (bytes earlier) (bytes2 k)
+    (m .same .result) (told m) (branch1 .if1 .left)
+    (entryOf (at-leaf-node .leaf-node .result)) (entryOf (l .leaf-node2 .result))
+    (at-leaf-node .leaf-node .ensures ∙ ap (leaf nodeHash) (at-chunk-part .chunk-part .ensures)) (l .leaf-node2 .ensures ∙ ap (leaf nodeHash) (at-chunk-part2 .chunk-part2 .ensures))
+    (at-same2 .same2 .result) (at-same2 .same2 .ensures) (branch2 .if2 .taken) (c .leaf-index .result .0) (c .leaf-index .ensures)
 
 sibling-count-requires : tie.Need-sibling-count-requires
 sibling-count-requires c κs =
@@ -89,32 +101,46 @@ sibling-count-requires c κs =
 
 climb-requires : tie.Need-climb-requires
 climb-requires c κs =
-    let l = c .before .before .before .before .before .before .before in
-    let m = l .before .before .before in
-    let k = m .before .before .before in
-    let s = k .before .before in
-    two-climb (s .args .first .now) (s .args .second .now) (s .args .n) (s .args .chunk .0) (s .pre .root) (first s) (second s) (bytes (k .before)) (bytes2 k)
-    (m .same .result) (told m) (l .before .before .if1 .left)
-    (entryOf (l .before .leaf-node .result)) (entryOf (l .leaf-node2 .result))
-    (l .before .leaf-node .ensures ∙ ap (leaf nodeHash) (m .before .before .chunk-part .ensures)) (l .leaf-node2 .ensures ∙ ap (leaf nodeHash) (m .before .chunk-part2 .ensures))
-    (c .before .before .same2 .result) (c .before .before .same2 .ensures)
-    (c .sibling-count .result) (4 + length (m .before .before .chunk-part .result .now) + 1) (4 + length (m .before .chunk-part2 .result .now) + 1)
-    (c .sibling-count .ensures .0) (place (m .before)) (place2 (m .before)) (c .before .if2 .left)
+    let branch2 = c .before in
+    let at-same2 = branch2 .before in
+    let l = at-same2 .before .before .before .before .before in
+    let at-leaf-node = l .before in
+    let branch1 = at-leaf-node .before in
+    let m = branch1 .before in
+    let at-chunk-part2 = m .before in
+    let at-chunk-part = at-chunk-part2 .before in
+    let k = at-chunk-part .before in
+    let earlier = k .before in
+    let s = earlier .before in
+    two-climb (s .args .first .now) (s .args .second .now) (s .args .n) (s .args .chunk .0) (s .pre .root) (first s) (second s) (bytes earlier) (bytes2 k)
+    (m .same .result) (told m) (branch1 .if1 .left)
+    (entryOf (at-leaf-node .leaf-node .result)) (entryOf (l .leaf-node2 .result))
+    (at-leaf-node .leaf-node .ensures ∙ ap (leaf nodeHash) (at-chunk-part .chunk-part .ensures)) (l .leaf-node2 .ensures ∙ ap (leaf nodeHash) (at-chunk-part2 .chunk-part2 .ensures))
+    (at-same2 .same2 .result) (at-same2 .same2 .ensures)
+    (c .sibling-count .result) (4 + length (at-chunk-part .chunk-part .result .now) + 1) (4 + length (at-chunk-part2 .chunk-part2 .result .now) + 1)
+    (c .sibling-count .ensures .0) (place at-chunk-part2) (place2 at-chunk-part2) (branch2 .if2 .left)
 
 returns-3 : tie.Need-returns-3
 returns-3 c =
-    let at-same2 = c .before .before .before in
+    let at-sibling-count = c .before in
+    let branch2 = at-sibling-count .before in
+    let at-same2 = branch2 .before in
     let l = at-same2 .before .before .before .before .before in
-    let m = l .before .before .before in
-    let k = m .before .before .before in
-    let s = k .before .before in
-    said-up (s .args .first .now) (s .args .second .now) (s .args .n) (s .args .chunk .0) (s .pre .root) (first s) (second s) (bytes (k .before)) (bytes2 k)
-    (m .same .result) (told m) (l .before .before .if1 .left)
-    (entryOf (l .before .leaf-node .result)) (entryOf (l .leaf-node2 .result))
-    (l .before .leaf-node .ensures ∙ ap (leaf nodeHash) (m .before .before .chunk-part .ensures)) (l .leaf-node2 .ensures ∙ ap (leaf nodeHash) (m .before .chunk-part2 .ensures))
+    let at-leaf-node = l .before in
+    let branch1 = at-leaf-node .before in
+    let m = branch1 .before in
+    let at-chunk-part2 = m .before in
+    let at-chunk-part = at-chunk-part2 .before in
+    let k = at-chunk-part .before in
+    let earlier = k .before in
+    let s = earlier .before in
+    said-up (s .args .first .now) (s .args .second .now) (s .args .n) (s .args .chunk .0) (s .pre .root) (first s) (second s) (bytes earlier) (bytes2 k)
+    (m .same .result) (told m) (branch1 .if1 .left)
+    (entryOf (at-leaf-node .leaf-node .result)) (entryOf (l .leaf-node2 .result))
+    (at-leaf-node .leaf-node .ensures ∙ ap (leaf nodeHash) (at-chunk-part .chunk-part .ensures)) (l .leaf-node2 .ensures ∙ ap (leaf nodeHash) (at-chunk-part2 .chunk-part2 .ensures))
     (at-same2 .same2 .result) (at-same2 .same2 .ensures)
-    (c .before .sibling-count .result) (4 + length (m .before .before .chunk-part .result .now) + 1) (4 + length (m .before .chunk-part2 .result .now) + 1)
-    (c .before .sibling-count .ensures .0) (place (m .before)) (place2 (m .before)) (c .before .before .if2 .left)
+    (at-sibling-count .sibling-count .result) (4 + length (at-chunk-part .chunk-part .result .now) + 1) (4 + length (at-chunk-part2 .chunk-part2 .result .now) + 1)
+    (at-sibling-count .sibling-count .ensures .0) (place at-chunk-part2) (place2 at-chunk-part2) (branch2 .if2 .left)
     (walkOf (c .climb .result)) (c .climb .ensures)
 
 pub walk-spec : {M : Type 1} → statement M

@@ -1,8 +1,8 @@
 -- `parts_audit::bitfield_part` meets its contract. Assumes nothing.
 use mathlib.Core.Path.{ap}
 use borrow.Author.Needs.{needs}
-use Rattle.refusals.specs.Verdict.{done}
-use Rattle.refusals.specs.Meaning.{said}
+use Rattle.answer_types.specs.Verdict.{done}
+use Rattle.answer_types.specs.Meaning.{said}
 use Rattle.file_format.specs.Belongs.{Register}
 use Rattle.checks.specs.Lent.{registerOf}
 use Rattle.audit.proofs.Whole.{files-in}
@@ -16,40 +16,46 @@ given c =
 
 returns : tie.Need-returns
 returns c =
-    let s = c .before .before .before .before .before .before .before in
-    let judge = c .before .before .judge in
+    let at-judge = c .before .before in
+    let s = at-judge .before .before .before .before .before in
+    let judge = at-judge .judge in
     let enum-told2 = c .enum-told2 in
     bitfield-refused (given s) (s .args .from) (s .args .to) (judge .result) (judge .ensures) _ (enum-told2 .given .1)
 
 row-count-requires : tie.Need-row-count-requires
 row-count-requires c κs =
-    let s = c .before .before .before .before .before .before .before in
-    let judge = c .before .before .judge in
+    let at-judge = c .before .before in
+    let s = at-judge .before .before .before .before .before in
+    let judge = at-judge .judge in
     let enum-told = c .enum-told in
     files-in (given s) done (judge .result) (judge .ensures) (ap said (enum-told .given .1)) .nodes .count
 
 wrong-in-entries-requires : tie.Need-wrong-in-entries-requires
 wrong-in-entries-requires c κs =
-    let at-judge = c .before .before .before .before in
+    let at-row-count = c .before in
+    let at-enum-told = at-row-count .before in
+    let at-judge = at-enum-told .before .before in
     let s = at-judge .before .before .before .before .before in
     let judge = at-judge .judge in
-    let enum-told = c .before .before .enum-told in
+    let enum-told = at-enum-told .enum-told in
     let lesser = c .lesser in
-    let row-count = c .before .row-count in (
+    let row-count = at-row-count .row-count in (
       files-in (given s) done (judge .result) (judge .ensures) (ap said (enum-told .given .1)) .field,
       end-most (lesser .result) (s .args .to) (row-count .result) _ (lesser .ensures) (row-count .ensures),
     )
 
 returns-2 : tie.Need-returns-2
 returns-2 c =
-    let at-enum-told = c .before .before .before in
+    let at-lesser = c .before in
+    let at-row-count = at-lesser .before in
+    let at-enum-told = at-row-count .before in
     let at-judge = at-enum-told .before .before in
     let s = at-judge .before .before .before .before .before in
     let judge = at-judge .judge in
     let enum-told = at-enum-told .enum-told in
     let wrong-in-entries = c .wrong-in-entries in
-    let lesser = c .before .lesser in
-    let row-count = c .before .before .row-count in
+    let lesser = at-lesser .lesser in
+    let row-count = at-row-count .row-count in
     bitfield-says (given s) (s .args .from) (s .args .to) (judge .result) (judge .ensures) (ap said (enum-told .given .1)) (said (wrong-in-entries .result))
     (lesser .result) (row-count .result) (row-count .ensures) (lesser .ensures) (wrong-in-entries .ensures)
 

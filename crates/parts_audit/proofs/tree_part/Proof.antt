@@ -1,8 +1,8 @@
 -- `parts_audit::tree_part` meets its contract. Assumes nothing.
 use mathlib.Core.Path.{ap}
 use borrow.Author.Needs.{needs}
-use Rattle.refusals.specs.Verdict.{done}
-use Rattle.refusals.specs.Meaning.{said}
+use Rattle.answer_types.specs.Verdict.{done}
+use Rattle.answer_types.specs.Meaning.{said}
 use Rattle.blake2b.specs.Hash.{nodeHash}
 use Rattle.file_format.specs.Belongs.{Register}
 use Rattle.checks.specs.Lent.{registerOf}
@@ -17,40 +17,46 @@ given c =
 
 returns : tie.Need-returns
 returns c =
-    let s = c .before .before .before .before .before .before .before in
-    let judge = c .before .before .judge in
+    let at-judge = c .before .before in
+    let s = at-judge .before .before .before .before .before in
+    let judge = at-judge .judge in
     let enum-told2 = c .enum-told2 in
     tree-refused nodeHash (given s) (s .args .from .0) (s .args .to .0) (judge .result) (judge .ensures) _ (enum-told2 .given .1)
 
 entry-count-requires : tie.Need-entry-count-requires
 entry-count-requires c κs =
-    let s = c .before .before .before .before .before .before .before in
-    let judge = c .before .before .judge in
+    let at-judge = c .before .before in
+    let s = at-judge .before .before .before .before .before in
+    let judge = at-judge .judge in
     let enum-told = c .enum-told in
     files-in (given s) done (judge .result) (judge .ensures) (ap said (enum-told .given .1)) .nodes .count
 
 wrong-between-requires : tie.Need-wrong-between-requires
 wrong-between-requires c κs =
-    let at-judge = c .before .before .before .before in
+    let at-entry-count = c .before in
+    let at-enum-told = at-entry-count .before in
+    let at-judge = at-enum-told .before .before in
     let s = at-judge .before .before .before .before .before in
     let judge = at-judge .judge in
-    let enum-told = c .before .before .enum-told in
+    let enum-told = at-enum-told .enum-told in
     let lesser = c .lesser in
-    let entry-count = c .before .entry-count in (
+    let entry-count = at-entry-count .entry-count in (
       files-in (given s) done (judge .result) (judge .ensures) (ap said (enum-told .given .1)),
       end-most (lesser .result) (s .args .to .0) (entry-count .result) _ (lesser .ensures) (entry-count .ensures),
     )
 
 returns-2 : tie.Need-returns-2
 returns-2 c =
-    let at-enum-told = c .before .before .before in
+    let at-lesser = c .before in
+    let at-entry-count = at-lesser .before in
+    let at-enum-told = at-entry-count .before in
     let at-judge = at-enum-told .before .before in
     let s = at-judge .before .before .before .before .before in
     let judge = at-judge .judge in
     let enum-told = at-enum-told .enum-told in
     let wrong-between = c .wrong-between in
-    let lesser = c .before .lesser in
-    let entry-count = c .before .before .entry-count in
+    let lesser = at-lesser .lesser in
+    let entry-count = at-entry-count .entry-count in
     tree-says nodeHash (given s) (s .args .from .0) (s .args .to .0) (judge .result) (judge .ensures) (ap said (enum-told .given .1)) (said (wrong-between .result))
     (lesser .result) (entry-count .result) (entry-count .ensures) (lesser .ensures) (wrong-between .ensures)
 

@@ -20,38 +20,42 @@ snd c =
 
 returns : tie.Need-returns
 returns c =
-    let at-judge = c .before .before .before in
+    let at-first = c .before in
+    let at-judge = at-first .before .before in
     let s = at-judge .before .before .before .before .before .before .before .before .before in
     let judge = at-judge .judge in
-    let first = c .before .first in
+    let first = at-first .first in
     roots-first nodeHash (fst s) (snd s) (judge .result) (judge .ensures) _ (first .given .1)
 
 returns-2 : tie.Need-returns-2
 returns-2 c =
-    let at-judge2 = c .before .before .before in
+    let at-second = c .before in
+    let at-judge2 = at-second .before .before in
     let at-enum-told = at-judge2 .before in
     let at-judge = at-enum-told .before .before in
     let s = at-judge .before .before .before .before .before .before .before .before .before in
     let judge = at-judge .judge in
     let enum-told = at-enum-told .enum-told in
     let judge2 = at-judge2 .judge2 in
-    let second = c .before .second in
+    let second = at-second .second in
     roots-second nodeHash (fst s) (snd s) (judge .result) (judge .ensures) (enum-told .given .1) (judge2 .result) (judge2 .ensures) _ (second .given .1)
 
 compare-roots-requires : tie.Need-compare-roots-requires
 compare-roots-requires c κs =
-    let at-enum-told = c .before .before .before in
+    let at-judge2 = c .before .before in
+    let at-enum-told = at-judge2 .before in
     let at-judge = at-enum-told .before .before in
     let s = at-judge .before .before .before .before .before .before .before .before .before in
     let judge = at-judge .judge in
     let enum-told = at-enum-told .enum-told in
-    let judge2 = c .before .before .judge2 in
+    let judge2 = at-judge2 .judge2 in
     let enum-told2 = c .enum-told2 in
     roots-room nodeHash (fst s) (snd s) (judge .result) (judge .ensures) (enum-told .given .1) (judge2 .result) (judge2 .ensures) (enum-told2 .given .1)
 
 returns-3 : tie.Need-returns-3
 returns-3 c =
-    let at-enum-told2 = c .before .before .before in
+    let at-compare-roots = c .before .before in
+    let at-enum-told2 = at-compare-roots .before in
     let at-judge2 = at-enum-told2 .before .before in
     let at-enum-told = at-judge2 .before in
     let at-judge = at-enum-told .before .before in
@@ -60,14 +64,15 @@ returns-3 c =
     let enum-told = at-enum-told .enum-told in
     let judge2 = at-judge2 .judge2 in
     let enum-told2 = at-enum-told2 .enum-told2 in
-    let compare-roots = c .before .before .compare-roots in
+    let compare-roots = at-compare-roots .compare-roots in
     let enum-told3 = c .enum-told3 in
     roots-told nodeHash (fst s) (snd s) (judge .result) (judge .ensures) (enum-told .given .1) (judge2 .result) (judge2 .ensures) (enum-told2 .given .1) rootsDiffer
     (rootsTold (compare-roots .result)) (sym (ap rootsTold (enum-told3 .given .1))) (compare-roots .ensures)
 
 returns-4 : tie.Need-returns-4
 returns-4 c =
-    let at-enum-told2 = c .before .before .before in
+    let at-compare-roots = c .before .before in
+    let at-enum-told2 = at-compare-roots .before in
     let at-judge2 = at-enum-told2 .before .before in
     let at-enum-told = at-judge2 .before in
     let at-judge = at-enum-told .before .before in
@@ -76,14 +81,15 @@ returns-4 c =
     let enum-told = at-enum-told .enum-told in
     let judge2 = at-judge2 .judge2 in
     let enum-told2 = at-enum-told2 .enum-told2 in
-    let compare-roots = c .before .before .compare-roots in
+    let compare-roots = at-compare-roots .compare-roots in
     let enum-told4 = c .enum-told4 in
     roots-told nodeHash (fst s) (snd s) (judge .result) (judge .ensures) (enum-told .given .1) (judge2 .result) (judge2 .ensures) (enum-told2 .given .1) atRoots
     (rootsTold (compare-roots .result)) (sym (ap rootsTold (enum-told4 .given .1))) (compare-roots .ensures)
 
 returns-5 : tie.Need-returns-5
 returns-5 c =
-    let at-enum-told2 = c .before .before .before in
+    let at-compare-roots = c .before .before in
+    let at-enum-told2 = at-compare-roots .before in
     let at-judge2 = at-enum-told2 .before .before in
     let at-enum-told = at-judge2 .before in
     let at-judge = at-enum-told .before .before in
@@ -92,7 +98,7 @@ returns-5 c =
     let enum-told = at-enum-told .enum-told in
     let judge2 = at-judge2 .judge2 in
     let enum-told2 = at-enum-told2 .enum-told2 in
-    let compare-roots = c .before .before .compare-roots in
+    let compare-roots = at-compare-roots .compare-roots in
     let enum-told5 = c .enum-told5 in
     roots-told nodeHash (fst s) (snd s) (judge .result) (judge .ensures) (enum-told .given .1) (judge2 .result) (judge2 .ensures) (enum-told2 .given .1) equal
     (rootsTold (compare-roots .result)) (sym (ap rootsTold (enum-told5 .given .1))) (compare-roots .ensures)

@@ -20,48 +20,52 @@ snd c =
 
 returns : tie.Need-returns
 returns c =
-    let at-judge = c .before .before .before in
+    let at-first = c .before in
+    let at-judge = at-first .before .before in
     let s = at-judge .before .before .before .before .before .before .before .before .before in
     let judge = at-judge .judge in
-    let first = c .before .first in
+    let first = at-first .first in
     walk-first (fst s) (snd s) (s .args .from .0) (s .args .to .0) (judge .result) (judge .ensures) _ (first .given .1)
 
 returns-2 : tie.Need-returns-2
 returns-2 c =
-    let at-judge2 = c .before .before .before in
+    let at-second = c .before in
+    let at-judge2 = at-second .before .before in
     let at-enum-told = at-judge2 .before in
     let at-judge = at-enum-told .before .before in
     let s = at-judge .before .before .before .before .before .before .before .before .before in
     let judge = at-judge .judge in
     let enum-told = at-enum-told .enum-told in
     let judge2 = at-judge2 .judge2 in
-    let second = c .before .second in
+    let second = at-second .second in
     walk-second (fst s) (snd s) (s .args .from .0) (s .args .to .0) (judge .result) (judge .ensures) (enum-told .given .1) (judge2 .result) (judge2 .ensures) _ (second .given .1)
 
 returns-3 : tie.Need-returns-3
 returns-3 c =
-    let at-judge2 = c .before .before .before in
+    let at-enum-told2 = c .before in
+    let at-judge2 = at-enum-told2 .before .before in
     let at-enum-told = at-judge2 .before in
     let at-judge = at-enum-told .before .before in
     let s = at-judge .before .before .before .before .before .before .before .before .before in
     let judge = at-judge .judge in
     let enum-told = at-enum-told .enum-told in
     let judge2 = at-judge2 .judge2 in
-    let enum-told2 = c .before .enum-told2 in
+    let enum-told2 = at-enum-told2 .enum-told2 in
     let if1 = c .if1 in
     walk-none (fst s) (snd s) (s .args .from .0) (s .args .to .0) (judge .result) (judge .ensures) (enum-told .given .1) (judge2 .result) (judge2 .ensures) (enum-told2 .given .1)
     (if1 .taken)
 
 entry-count-requires : tie.Need-entry-count-requires
 entry-count-requires c κs =
-    let at-judge2 = c .before .before .before in
+    let at-enum-told2 = c .before in
+    let at-judge2 = at-enum-told2 .before .before in
     let at-enum-told = at-judge2 .before in
     let at-judge = at-enum-told .before .before in
     let s = at-judge .before .before .before .before .before .before .before .before .before in
     let judge = at-judge .judge in
     let enum-told = at-enum-told .enum-told in
     let judge2 = at-judge2 .judge2 in
-    let enum-told2 = c .before .enum-told2 in
+    let enum-told2 = at-enum-told2 .enum-told2 in
     let if1 = c .if1 in
     walk-room (fst s) (snd s) (s .args .from .0) (s .args .to .0) (judge .result) (judge .ensures) (enum-told .given .1) (judge2 .result) (judge2 .ensures) (enum-told2 .given .1)
     (if1 .left) .0 .count
@@ -100,7 +104,8 @@ part-lowest-collision-end-2 c =
 
 lowest-collision-requires : tie.Need-lowest-collision-requires
 lowest-collision-requires c κs =
-    let at-entry-count = c .before .before .before in
+    let at-lesser = c .before .before in
+    let at-entry-count = at-lesser .before in
     let branch1 = at-entry-count .before in
     let at-enum-told2 = branch1 .before in
     let at-judge2 = at-enum-told2 .before .before in
@@ -112,7 +117,7 @@ lowest-collision-requires c κs =
     let judge2 = at-judge2 .judge2 in
     let enum-told2 = at-enum-told2 .enum-told2 in
     let if1 = branch1 .if1 in
-    let lesser = c .before .before .lesser in
+    let lesser = at-lesser .lesser in
     let entry-count = at-entry-count .entry-count in
     let room =
     walk-room (fst s) (snd s) (s .args .from .0) (s .args .to .0) (judge .result) (judge .ensures) (enum-told .given .1) (judge2 .result) (judge2 .ensures) (enum-told2 .given .1)

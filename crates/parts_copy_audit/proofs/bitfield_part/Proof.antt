@@ -1,7 +1,7 @@
 -- `parts_copy_audit::bitfield_part` meets its contract. Assumes nothing.
 use mathlib.Core.Path.{sym, ap, _∙_}
 use borrow.Author.Needs.{needs}
-use Rattle.refusals.specs.Meaning.{said}
+use Rattle.answer_types.specs.Meaning.{said}
 use Rattle.blake2b.specs.Hash.{nodeHash}
 use Rattle.copy_checks.specs.Copy.{Copy, copyOf}
 use Rattle.copy_audit.proofs.Verdicts.{files-in}
@@ -15,40 +15,46 @@ given c = copyOf (c .args .tree .now) (c .args .bitfield .now) (c .args .content
 
 returns : tie.Need-returns
 returns c =
-    let s = c .before .before .before .before .before .before in
-    let judge-partly = c .before .before .judge-partly in
+    let at-judge-partly = c .before .before in
+    let s = at-judge-partly .before .before .before .before in
+    let judge-partly = at-judge-partly .judge-partly in
     let enum-told2 = c .enum-told2 in
     bits-refused (given s) (judge-partly .result) (judge-partly .ensures) (s .args .from) (s .args .to) _ (enum-told2 .given .1)
 
 row-count-requires : tie.Need-row-count-requires
 row-count-requires c κs =
-    let s = c .before .before .before .before .before .before in
+    let at-judge-partly = c .before .before in
+    let s = at-judge-partly .before .before .before .before in
     let enum-told = c .enum-told in
-    let judge-partly = c .before .before .judge-partly in
+    let judge-partly = at-judge-partly .judge-partly in
     files-in nodeHash (given s) (sym (ap said (enum-told .given .1)) ∙ judge-partly .ensures) .nodes .count
 
 wrong-in-entries-requires : tie.Need-wrong-in-entries-requires
 wrong-in-entries-requires c κs =
-    let at-judge-partly = c .before .before .before .before in
+    let at-row-count = c .before in
+    let at-enum-told = at-row-count .before in
+    let at-judge-partly = at-enum-told .before .before in
     let s = at-judge-partly .before .before .before .before in
-    let enum-told = c .before .before .enum-told in
+    let enum-told = at-enum-told .enum-told in
     let judge-partly = at-judge-partly .judge-partly in
     let lesser = c .lesser in
-    let row-count = c .before .row-count in (
+    let row-count = at-row-count .row-count in (
       files-in nodeHash (given s) (sym (ap said (enum-told .given .1)) ∙ judge-partly .ensures) .field,
       end-most (lesser .result) (s .args .to) (row-count .result) _ (lesser .ensures) (row-count .ensures),
     )
 
 returns-2 : tie.Need-returns-2
 returns-2 c =
-    let at-enum-told = c .before .before .before in
+    let at-lesser = c .before in
+    let at-row-count = at-lesser .before in
+    let at-enum-told = at-row-count .before in
     let at-judge-partly = at-enum-told .before .before in
     let s = at-judge-partly .before .before .before .before in
     let judge-partly = at-judge-partly .judge-partly in
     let enum-told = at-enum-told .enum-told in
     let wrong-in-entries = c .wrong-in-entries in
-    let lesser = c .before .lesser in
-    let row-count = c .before .before .row-count in
+    let lesser = at-lesser .lesser in
+    let row-count = at-row-count .row-count in
     bits-say (given s) (judge-partly .result) (judge-partly .ensures) (s .args .from) (s .args .to) (ap said (enum-told .given .1)) (said (wrong-in-entries .result))
     (lesser .result) (row-count .result) (row-count .ensures) (lesser .ensures) (wrong-in-entries .ensures)
 

@@ -1,10 +1,10 @@
 -- `parts_copy_audit::tree_part` meets its contract. Assumes nothing.
 use mathlib.Core.Path.{sym, ap, _∙_}
 use borrow.Author.Needs.{needs}
-use Rattle.refusals.specs.Meaning.{said}
+use Rattle.answer_types.specs.Meaning.{said}
 use Rattle.blake2b.specs.Hash.{nodeHash}
 use Rattle.copy_checks.specs.Copy.{Copy, copyOf}
-use Rattle.copy_checks.specs.Meaning.{foundOf}
+use Rattle.lookup.specs.Unknown.{firstEntry}
 use Rattle.copy_audit.proofs.Verdicts.{files-in}
 use Rattle.parts_audit.proofs.Laws.{end-most}
 use Rattle.parts_copy_audit.proofs.Laws.{entries-refused, entries-at, entries-none}
@@ -16,33 +16,38 @@ given c = copyOf (c .args .tree .now) (c .args .bitfield .now) (c .args .content
 
 returns : tie.Need-returns
 returns c =
-    let s = c .before .before .before .before .before .before in
-    let judge-partly = c .before .before .judge-partly in
+    let at-judge-partly = c .before .before in
+    let s = at-judge-partly .before .before .before .before in
+    let judge-partly = at-judge-partly .judge-partly in
     let enum-told2 = c .enum-told2 in
     entries-refused (given s) (judge-partly .result) (judge-partly .ensures) nodeHash (s .args .from .0) (s .args .to .0) _ (enum-told2 .given .1)
 
 entry-count-requires : tie.Need-entry-count-requires
 entry-count-requires c κs =
-    let s = c .before .before .before .before .before .before in
+    let at-judge-partly = c .before .before in
+    let s = at-judge-partly .before .before .before .before in
     let enum-told = c .enum-told in
-    let judge-partly = c .before .before .judge-partly in
+    let judge-partly = at-judge-partly .judge-partly in
     files-in nodeHash (given s) (sym (ap said (enum-told .given .1)) ∙ judge-partly .ensures) .nodes .count
 
 wrong-between-requires : tie.Need-wrong-between-requires
 wrong-between-requires c κs =
-    let at-judge-partly = c .before .before .before .before in
+    let at-entry-count = c .before in
+    let at-enum-told = at-entry-count .before in
+    let at-judge-partly = at-enum-told .before .before in
     let s = at-judge-partly .before .before .before .before in
-    let enum-told = c .before .before .enum-told in
+    let enum-told = at-enum-told .enum-told in
     let judge-partly = at-judge-partly .judge-partly in
     let lesser = c .lesser in
-    let entry-count = c .before .entry-count in (
+    let entry-count = at-entry-count .entry-count in (
       files-in nodeHash (given s) (sym (ap said (enum-told .given .1)) ∙ judge-partly .ensures),
       end-most (lesser .result) (s .args .to .0) (entry-count .result) _ (lesser .ensures) (entry-count .ensures),
     )
 
 returns-2 : tie.Need-returns-2
 returns-2 c =
-    let at-wrong-between = c .before .before .before .before in
+    let at-i = c .before .before in
+    let at-wrong-between = at-i .before .before in
     let at-lesser = at-wrong-between .before in
     let at-entry-count = at-lesser .before in
     let at-enum-told = at-entry-count .before in
@@ -54,26 +59,27 @@ returns-2 c =
     let wrong-between = at-wrong-between .wrong-between in
     let lesser = at-lesser .lesser in
     let entry-count = at-entry-count .entry-count in
-    let i = c .before .before .i in
+    let i = at-i .i in
     refuse-entry .ensures
     ∙ entries-at (given s) (judge-partly .result) (judge-partly .ensures) nodeHash (s .args .from .0) (s .args .to .0) (ap said (enum-told .given .1))
-    (foundOf (wrong-between .result)) (lesser .result) (entry-count .result) (entry-count .ensures) (lesser .ensures) (wrong-between .ensures) _ (ap foundOf (i .given .1))
+    (firstEntry (wrong-between .result)) (lesser .result) (entry-count .result) (entry-count .ensures) (lesser .ensures) (wrong-between .ensures) _ (ap firstEntry (i .given .1))
 
 returns-3 : tie.Need-returns-3
 returns-3 c =
-    let at-lesser = c .before .before .before in
+    let at-wrong-between = c .before .before in
+    let at-lesser = at-wrong-between .before in
     let at-entry-count = at-lesser .before in
     let at-enum-told = at-entry-count .before in
     let at-judge-partly = at-enum-told .before .before in
     let s = at-judge-partly .before .before .before .before in
     let judge-partly = at-judge-partly .judge-partly in
     let enum-told = at-enum-told .enum-told in
-    let wrong-between = c .before .before .wrong-between in
+    let wrong-between = at-wrong-between .wrong-between in
     let lesser = at-lesser .lesser in
     let entry-count = at-entry-count .entry-count in
     let enum-told3 = c .enum-told3 in
     entries-none (given s) (judge-partly .result) (judge-partly .ensures) nodeHash (s .args .from .0) (s .args .to .0) (ap said (enum-told .given .1))
-    (foundOf (wrong-between .result)) (lesser .result) (entry-count .result) (entry-count .ensures) (lesser .ensures) (wrong-between .ensures) (ap foundOf (enum-told3 .given .1))
+    (firstEntry (wrong-between .result)) (lesser .result) (entry-count .result) (entry-count .ensures) (lesser .ensures) (wrong-between .ensures) (ap firstEntry (enum-told3 .given .1))
 
 pub tree-part-spec : {M : Type 1} → statement M
 tree-part-spec =

@@ -16,14 +16,17 @@ returns-2 c =
 
 returns-3 : tie.Need-returns-3
 returns-3 c =
-    let known = c .before .before .before in
-    let a = known .before .before .before .before .args in
-    chosen-key (a .node) _ (known .field .given .0 .0) _ (known .field .given .1) (c .before .writer-in .ensures)
+    let at-writer-in = c .before in
+    let known = at-writer-in .before .before in
+    let start = known .before .before .before .before in
+    let a = start .args in
+    chosen-key (a .node) _ (known .field .given .0 .0) _ (known .field .given .1) (at-writer-in .writer-in .ensures)
 
 returns-4 : tie.Need-returns-4
 returns-4 c =
     let known = c .before .before in
-    let a = known .before .before .before .before .args in
+    let start = known .before .before .before .before in
+    let a = start .args in
     chosen-permission (a .node) _ (known .field2 .given .0 .0) _ (known .field2 .given .1) (c .writer-in2 .ensures)
 
 pub chosen-spec : {M : Type 1} → statement M

@@ -7,13 +7,15 @@ use Rattle.record_parts.proofs.taken.Tie as tie
 
 add-to : tie.Need-add-to
 add-to c =
-    let start = c .before .before .before .before in
-    omega (arith, part-inside (start .args .bytes .now) (start .args .part) (c .before .before .part .given .0 .0) (c .before .before .part .given .1) (start .pre))
+    let at-part = c .before .before in
+    let start = at-part .before .before in
+    omega (arith, part-inside (start .args .bytes .now) (start .args .part) (at-part .part .given .0 .0) (at-part .part .given .1) (start .pre))
 
 part-result-end-2 : tie.Need-part-result-end-2
 part-result-end-2 c =
-    let start = c .before .before .before .before in
-    omega (arith, part-inside (start .args .bytes .now) (start .args .part) (c .before .before .part .given .0 .0) (c .before .before .part .given .1) (start .pre))
+    let at-part = c .before .before in
+    let start = at-part .before .before in
+    omega (arith, part-inside (start .args .bytes .now) (start .args .part) (at-part .part .given .0 .0) (at-part .part .given .1) (start .pre))
 
 returns : tie.Need-returns
 returns c = part-absent _ _ (c .before .enum-told .given .1)

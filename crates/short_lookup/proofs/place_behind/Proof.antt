@@ -1,10 +1,10 @@
 -- `short_lookup::place_behind` meets its contract: the answer of the checks is handed on, or what comes behind them is. Assumes nothing.
 use mathlib.Core.Path.{sym, ap, _∙_}
-use Rattle.refusals.specs.Verdict.{Verdict}
-use Rattle.refusals.specs.Meaning.{said}
-use Rattle.lookup.specs.Lookup.{Found}
+use Rattle.answer_types.specs.Verdict.{Verdict}
+use Rattle.answer_types.specs.Meaning.{said}
+use Rattle.lookup.specs.Lookup.{Found, foundBehind}
 use Rattle.lookup.specs.Inner.{knownIf}
-use Rattle.short_lookup.specs.ShortLookup.{shortPlaceIn, foundBehind}
+use Rattle.short_lookup.specs.ShortLookup.{shortPlaceIn}
 use borrow.Author.Needs.{needs}
 use Rattle.short_lookup.proofs.place_behind.Statement.{statement}
 use Rattle.short_lookup.proofs.place_behind.Tie as tie
@@ -13,13 +13,21 @@ abbrev answer : tie.Start → Verdict → Found
 answer s v = let a = s .args in foundBehind v (shortPlaceIn (knownIf (a .partly) (a .bitfield .now)) (a .tree .now) (a .n) (a .chunk .0))
 
 place-in-requires : tie.Need-place-in-requires
-place-in-requires c κs = c .before .before .before .before .pre (ap said (c .enum-told .given .1))
+place-in-requires c κs =
+    let start = c .before .before .before .before in
+    start .pre (ap said (c .enum-told .given .1))
 
 returns : tie.Need-returns
-returns c = sym (ap (answer (c .before .before .before .before .before)) (ap said (c .before .checked .given .1)))
+returns c =
+    let at-checked = c .before in
+    let start = at-checked .before .before .before .before in
+    sym (ap (answer start) (ap said (at-checked .checked .given .1)))
 
 returns-2 : tie.Need-returns-2
-returns-2 c = c .place-in .ensures ∙ sym (ap (answer (c .before .before .before .before .before)) (ap said (c .before .enum-told .given .1)))
+returns-2 c =
+    let at-enum-told = c .before in
+    let start = at-enum-told .before .before .before .before in
+    c .place-in .ensures ∙ sym (ap (answer start) (ap said (at-enum-told .enum-told .given .1)))
 
 pub place-behind-spec : {M : Type 1} → statement M
 place-behind-spec = tie.close (tie.spec (λ c. search needs) (λ c. search needs) place-in-requires returns returns-2)

@@ -1,6 +1,6 @@
 -- `short_lookup::search` meets its contract: the checks 2 to 6, and what comes behind them. Assumes nothing.
 use mathlib.Core.Path.{sym, _∙_}
-use Rattle.refusals.specs.Meaning.{said}
+use Rattle.answer_types.specs.Meaning.{said}
 use Rattle.file_format.specs.Belongs.{Register}
 use Rattle.checks.specs.Lent.{registerOf}
 use Rattle.short_lookup.proofs.Calls.{search-by, bits-room}
@@ -12,12 +12,15 @@ abbrev given : (c : tie.Start) → Register
 given c = registerOf (c .args .tree .now) (c .args .signatures .now) (c .args .bitfield .now) (c .args .content .now) (c .args .n) (c .args .s) (c .args .size)
 
 search-behind-requires : tie.Need-search-behind-requires
-search-behind-requires c κs = λ e. bits-room (given (c .before .before .before .before .before)) (sym e ∙ c .judge .ensures)
+search-behind-requires c κs =
+    let start = c .before .before .before .before .before in
+    λ e. bits-room (given start) (sym e ∙ c .judge .ensures)
 
 returns : tie.Need-returns
 returns c =
-    let s = c .before .before .before .before .before .before in
-    c .search-behind .ensures ∙ search-by (given s) (said (c .before .judge .result)) (c .before .judge .ensures) (s .args .from .0)
+    let at-judge = c .before in
+    let start = at-judge .before .before .before .before .before in
+    c .search-behind .ensures ∙ search-by (given start) (said (at-judge .judge .result)) (at-judge .judge .ensures) (start .args .from .0)
 
 pub search-spec : {M : Type 1} → statement M
 search-spec = tie.close (tie.spec (λ c κs. search needs) search-behind-requires returns)

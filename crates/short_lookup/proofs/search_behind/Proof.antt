@@ -1,8 +1,8 @@
 -- `short_lookup::search_behind` meets its contract: the answer of the checks is handed on, or what comes behind them is. Assumes nothing.
 use Prim.Native.Nat.{_-_}
 use mathlib.Core.Path.{sym, ap, _∙_}
-use Rattle.refusals.specs.Verdict.{Verdict}
-use Rattle.refusals.specs.Meaning.{said}
+use Rattle.answer_types.specs.Verdict.{Verdict}
+use Rattle.answer_types.specs.Meaning.{said}
 use Rattle.byte_strings.specs.Lowest.{lowest}
 use Rattle.bitfield.specs.Release.{storedHeld}
 use Rattle.bitfield.specs.Missing.{foundAt}
@@ -15,22 +15,32 @@ abbrev behind : tie.Start → Verdict → Sought
 behind s v = let a = s .args in soughtUnless v (lowest (storedHeld (a .bitfield .now)) (a .from .0) (a .n - a .from .0))
 
 first-missing-requires : tie.Need-first-missing-requires
-first-missing-requires c κs = c .before .before .before .pre (ap said (c .enum-told .given .1))
+first-missing-requires c κs =
+    let start = c .before .before .before in
+    start .pre (ap said (c .enum-told .given .1))
 
 returns : tie.Need-returns
-returns c = sym (ap (behind (c .before .before .before .before)) (ap said (c .before .checked .given .1)))
+returns c =
+    let at-checked = c .before in
+    let start = at-checked .before .before .before in
+    sym (ap (behind start) (ap said (at-checked .checked .given .1)))
 
 returns-2 : tie.Need-returns-2
 returns-2 c =
-    let q = c .before .before .before in
-    ap answer (sym (ap foundAt (c .before .chunk .given .1)) ∙ q .first-missing .ensures)
-    ∙ sym (ap (behind (q .before .before .before .before)) (ap said (q .before .enum-told .given .1)))
+    let at-chunk = c .before in
+    let q = at-chunk .before .before in
+    let at-enum-told = q .before in
+    let start = at-enum-told .before .before .before in
+    ap answer (sym (ap foundAt (at-chunk .chunk .given .1)) ∙ q .first-missing .ensures)
+    ∙ sym (ap (behind start) (ap said (at-enum-told .enum-told .given .1)))
 
 returns-3 : tie.Need-returns-3
 returns-3 c =
     let q = c .before .before in
+    let at-enum-told = q .before in
+    let start = at-enum-told .before .before .before in
     ap answer (sym (ap foundAt (c .enum-told2 .given .1)) ∙ q .first-missing .ensures)
-    ∙ sym (ap (behind (q .before .before .before .before)) (ap said (q .before .enum-told .given .1)))
+    ∙ sym (ap (behind start) (ap said (at-enum-told .enum-told .given .1)))
 
 pub search-behind-spec : {M : Type 1} → statement M
 search-behind-spec =

@@ -1,12 +1,11 @@
 -- `stored_leaf::give_leaf` meets its contract. Assumes nothing.
 use Prim.Native.Nat.{_<_}
 use mathlib.Core.Path.{_≡_, sym, ap, _∙_, subst}
-use Rattle.refusals.specs.Verdict.{Verdict, done}
-use Rattle.refusals.specs.Meaning.{said}
+use Rattle.answer_types.specs.Verdict.{Verdict, done, andThen}
+use Rattle.answer_types.specs.Meaning.{said}
 use Rattle.tree_index.specs.Tree.{index}
 use Rattle.file_format.specs.Stored.{storedHash, storedSize}
 use Rattle.file_format.specs.Inner.{EntryIn}
-use Rattle.lookup.specs.Read.{andThen}
 use Rattle.lookup.specs.Inner.{knownIf}
 use Rattle.lookup.proofs.Calls.{done-first, leaf-in}
 use Rattle.stored_leaf.specs.StoredLeaf.{leafIn}
@@ -31,39 +30,46 @@ leaf-lies s e =
 
 leaf-index-requires : tie.Need-leaf-index-requires
 leaf-index-requires c κs =
-    let s = c .before .before .before .before .before in
-    leaf-lies s (sym (ap said (c .enum-told .given .1)) ∙ c .before .before .judge-behind .ensures) .0
+    let at-judge-behind = c .before .before in
+    let s = at-judge-behind .before .before .before in
+    leaf-lies s (sym (ap said (c .enum-told .given .1)) ∙ at-judge-behind .judge-behind .ensures) .0
 
 stored-hash-requires : tie.Need-stored-hash-requires
 stored-hash-requires c κs =
-    let at-judge-behind = c .before .before .before in
+    let at-enum-told = c .before in
+    let at-judge-behind = at-enum-told .before .before in
     let s = at-judge-behind .before .before .before in
     subst (EntryIn (s .args .tree .now)) (sym (c .leaf-index .ensures))
-    (leaf-lies s (sym (ap said (c .before .enum-told .given .1)) ∙ at-judge-behind .judge-behind .ensures) .1)
+    (leaf-lies s (sym (ap said (at-enum-told .enum-told .given .1)) ∙ at-judge-behind .judge-behind .ensures) .1)
 
 stored-size-requires : tie.Need-stored-size-requires
 stored-size-requires c κs =
-    let at-judge-behind = c .before .before .before .before in
+    let at-leaf-index = c .before in
+    let at-enum-told = at-leaf-index .before in
+    let at-judge-behind = at-enum-told .before .before in
     let s = at-judge-behind .before .before .before in
-    subst (EntryIn (s .args .tree .now)) (sym (c .before .leaf-index .ensures))
-    (leaf-lies s (sym (ap said (c .before .before .enum-told .given .1)) ∙ at-judge-behind .judge-behind .ensures) .1)
+    subst (EntryIn (s .args .tree .now)) (sym (at-leaf-index .leaf-index .ensures))
+    (leaf-lies s (sym (ap said (at-enum-told .enum-told .given .1)) ∙ at-judge-behind .judge-behind .ensures) .1)
 
 returns : tie.Need-returns
 returns c =
-    let at-judge-behind = c .before .before .before in
+    let at-refusal = c .before in
+    let at-judge-behind = at-refusal .before .before in
     let s = at-judge-behind .before .before .before in
-    let q = c .before .refusal .given in
+    let q = at-refusal .refusal .given in
     post-refused (whole s) (s .args .tree .now) (s .args .chunk .0) (s .args .hash .now) (q .0 .0) (sym (ap said (q .1)) ∙ at-judge-behind .judge-behind .ensures)
 
 returns-2 : tie.Need-returns-2
 returns-2 c =
-    let at-enum-told = c .before .before .before in
+    let at-stored-hash = c .before in
+    let at-leaf-index = at-stored-hash .before in
+    let at-enum-told = at-leaf-index .before in
     let at-judge-behind = at-enum-told .before .before in
     let s = at-judge-behind .before .before .before in
-    let at = c .before .before .leaf-index .ensures in
-    post-done (whole s) (s .args .tree .now) (s .args .chunk .0) (s .args .hash .now) (c .stored-size .result) (c .before .stored-hash .result)
+    let at = at-leaf-index .leaf-index .ensures in
+    post-done (whole s) (s .args .tree .now) (s .args .chunk .0) (s .args .hash .now) (c .stored-size .result) (at-stored-hash .stored-hash .result)
     (sym (ap said (at-enum-told .enum-told .given .1)) ∙ at-judge-behind .judge-behind .ensures)
-    (c .stored-size .ensures ∙ ap (storedSize (s .args .tree .now)) at) (c .before .stored-hash .ensures ∙ ap (storedHash (s .args .tree .now)) at)
+    (c .stored-size .ensures ∙ ap (storedSize (s .args .tree .now)) at) (at-stored-hash .stored-hash .ensures ∙ ap (storedHash (s .args .tree .now)) at)
 
 pub give-leaf-spec : {M : Type 1} → statement M
 give-leaf-spec =

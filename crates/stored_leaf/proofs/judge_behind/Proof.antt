@@ -1,8 +1,7 @@
 -- `stored_leaf::judge_behind` meets its contract. Assumes nothing.
 use mathlib.Core.Path.{sym, ap, _∙_}
-use Rattle.refusals.specs.Verdict.{Verdict}
-use Rattle.refusals.specs.Meaning.{said}
-use Rattle.lookup.specs.Read.{andThen}
+use Rattle.answer_types.specs.Verdict.{Verdict, andThen}
+use Rattle.answer_types.specs.Meaning.{said}
 use Rattle.lookup.specs.Inner.{knownIf}
 use Rattle.stored_leaf.specs.StoredLeaf.{leafIn}
 use borrow.Author.Needs.{needs}
@@ -19,13 +18,15 @@ judge-leaf-requires c κs =
 
 returns : tie.Need-returns
 returns c =
-    let s = c .before .before .before .before .before in
-    sym (ap (λ (v : Verdict). andThen v (next s)) (ap said (c .before .found .given .1)))
+    let at-found = c .before in
+    let s = at-found .before .before .before .before in
+    sym (ap (λ (v : Verdict). andThen v (next s)) (ap said (at-found .found .given .1)))
 
 returns-2 : tie.Need-returns-2
 returns-2 c =
-    let s = c .before .before .before .before .before in
-    c .judge-leaf .ensures ∙ sym (ap (λ (v : Verdict). andThen v (next s)) (ap said (c .before .enum-told .given .1)))
+    let at-enum-told = c .before in
+    let s = at-enum-told .before .before .before .before in
+    c .judge-leaf .ensures ∙ sym (ap (λ (v : Verdict). andThen v (next s)) (ap said (at-enum-told .enum-told .given .1)))
 
 pub judge-behind-spec : {M : Type 1} → statement M
 judge-behind-spec =

@@ -4,7 +4,7 @@ use mathlib.Core.Path.{_≡_, refl, sym, ap, _∙_, subst}
 use mathlib.Core.Bool.{Bool, true, false}
 use borrow.Author.Tests.{not-true, not-false}
 use lib.ListN.{length}
-use Rattle.refusals.specs.Verdict.{tree, refused}
+use Rattle.answer_types.specs.Verdict.{tree, refused}
 use Rattle.tree_index.specs.Tree.{index}
 use Rattle.bitfield.specs.Append.{bitsPlace}
 use Rattle.bitfield.specs.Known.{storedKnown}
@@ -23,36 +23,44 @@ known-by s p b e f = ap (λ (q : Bool). knownIf q (s .args .bitfield .now) (inde
 
 returns : tie.Need-returns
 returns c =
-    let s = c .before .before .before .before .before in
-    c .refuse .ensures ∙ sym (leaf-above (known s) (s .args .n) (s .args .chunk .0) (c .before .if1 .taken))
+    let branch1 = c .before in
+    let s = branch1 .before .before .before .before in
+    c .refuse .ensures ∙ sym (leaf-above (known s) (s .args .n) (s .args .chunk .0) (branch1 .if1 .taken))
 
 returns-2 : tie.Need-returns-2
 returns-2 c =
-    let s = c .before .before .before .before .before in
-    sym (leaf-known (known s) (s .args .n) (s .args .chunk .0) (c .before .if1 .left) (known-by s false true (not-true (s .args .partly) (c .if2 .taken)) refl))
+    let branch1 = c .before in
+    let s = branch1 .before .before .before .before in
+    sym (leaf-known (known s) (s .args .n) (s .args .chunk .0) (branch1 .if1 .left) (known-by s false true (not-true (s .args .partly) (c .if2 .taken)) refl))
 
 is-known-requires : tie.Need-is-known-requires
 is-known-requires c κs =
-    let s = c .before .before .before .before .before .before in
+    let branch2 = c .before in
+    let branch1 = branch2 .before in
+    let s = branch1 .before .before .before .before in
     subst (λ (i : ℕ). bitsPlace (i / 16384 + 1) ≤ length (s .args .bitfield .now)) (sym (c .leaf-index .ensures))
-    (leaf-bit (s .args .bitfield .now) (s .args .n) (s .args .chunk .0) (s .pre .bitfield (not-false _ (c .before .if2 .left))) (c .before .before .if1 .left))
+    (leaf-bit (s .args .bitfield .now) (s .args .n) (s .args .chunk .0) (s .pre .bitfield (not-false _ (branch2 .if2 .left))) (branch1 .if1 .left))
 
 returns-3 : tie.Need-returns-3
 returns-3 c =
-    let branch2 = c .before .before .before in
+    let at-is-known = c .before in
+    let at-leaf-index = at-is-known .before in
+    let branch2 = at-leaf-index .before in
     let branch1 = branch2 .before in
     let s = branch1 .before .before .before .before in
-    let bit = sym (ap (storedKnown (s .args .bitfield .now)) (c .before .before .leaf-index .ensures)) ∙ sym (c .before .is-known .ensures) ∙ c .if3 .taken in
+    let bit = sym (ap (storedKnown (s .args .bitfield .now)) (at-leaf-index .leaf-index .ensures)) ∙ sym (at-is-known .is-known .ensures) ∙ c .if3 .taken in
     sym (leaf-known (known s) (s .args .n) (s .args .chunk .0) (branch1 .if1 .left) (known-by s true true (not-false _ (branch2 .if2 .left)) bit))
 
 returns-4 : tie.Need-returns-4
 returns-4 c =
-    let at-leaf-index = c .before .before .before in
+    let branch3 = c .before in
+    let at-is-known = branch3 .before in
+    let at-leaf-index = at-is-known .before in
     let branch2 = at-leaf-index .before in
     let branch1 = branch2 .before in
     let s = branch1 .before .before .before .before in
     let at = at-leaf-index .leaf-index .ensures in
-    let bit = sym (ap (storedKnown (s .args .bitfield .now)) at) ∙ sym (c .before .before .is-known .ensures) ∙ c .before .if3 .left in
+    let bit = sym (ap (storedKnown (s .args .bitfield .now)) at) ∙ sym (at-is-known .is-known .ensures) ∙ branch3 .if3 .left in
     c .refuse-entry .ensures ∙ ap (λ (i : ℕ). refused 20 (tree i)) at
     ∙ sym
     (leaf-unknown (known s) (s .args .n) (s .args .chunk .0) (branch1 .if1 .left)

@@ -1,10 +1,9 @@
 -- `stored_leaf::stored_leaf` meets its contract. Assumes nothing.
 use mathlib.Core.Path.{sym, ap, _∙_}
-use Rattle.refusals.specs.Verdict.{Verdict}
+use Rattle.answer_types.specs.Verdict.{Verdict, andThen}
 use Rattle.file_format.specs.Belongs.{Register}
 use Rattle.checks.specs.Lent.{registerOf}
 use Rattle.lookup.specs.Descent.{always}
-use Rattle.lookup.specs.Read.{andThen}
 use Rattle.stored_leaf.specs.StoredLeaf.{leafIn, leafVerdict}
 use Rattle.stored_leaf.proofs.Calls.{register-files, post-as}
 use borrow.Author.Needs.{needs}
@@ -18,14 +17,16 @@ given c =
 
 give-leaf-requires : tie.Need-give-leaf-requires
 give-leaf-requires c κs =
-    let start = c .before .before .before .before .before .before in
-    λ e. register-files (given start) (sym (c .before .judge .ensures) ∙ e)
+    let at-judge = c .before in
+    let start = at-judge .before .before .before .before .before in
+    λ e. register-files (given start) (sym (at-judge .judge .ensures) ∙ e)
 
 returns : tie.Need-returns
 unfolding leafVerdict
 returns c =
-    let s = c .before .before .before .before .before .before .before in
-    post-as (ap (λ (v : Verdict). andThen v (leafIn always (s .args .n) (s .args .chunk .0))) (c .before .before .judge .ensures)) (c .give-leaf .ensures)
+    let at-judge = c .before .before in
+    let s = at-judge .before .before .before .before .before in
+    post-as (ap (λ (v : Verdict). andThen v (leafIn always (s .args .n) (s .args .chunk .0))) (at-judge .judge .ensures)) (c .give-leaf .ensures)
 
 pub stored-leaf-spec : {M : Type 1} → statement M
 stored-leaf-spec = tie.close (tie.spec (λ c κs. search needs) give-leaf-requires returns)

@@ -9,12 +9,16 @@ add-end : tie.Need-add-end
 add-end c = omega (arith, block-small (c .before .before .args .i .0))
 
 shl-end : tie.Need-shl-end
-shl-end c = omega (arith, depth-small (c .before .before .args .i .0) (c .before .before .pre))
+shl-end c =
+    let start = c .before .before in
+    omega (arith, depth-small (start .args .i .0) (start .pre))
 
 returns : tie.Need-returns
 returns c =
-    filled-word (c .before .before .args .n) (c .before .before .args .i .0) (c .before .depth .result) (c .block .result)
-    (c .before .before .pre) (c .before .depth .ensures) (c .block .ensures)
+    let at-depth = c .before in
+    let start = at-depth .before in
+    filled-word (start .args .n) (start .args .i .0) (at-depth .depth .result) (c .block .result)
+    (start .pre) (at-depth .depth .ensures) (c .block .ensures)
 
 pub is-filled-spec : {M : Type 1} → statement M
 is-filled-spec =

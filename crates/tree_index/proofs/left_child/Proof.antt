@@ -1,26 +1,29 @@
 -- `tree_index::left_child` meets its contract. Assumes nothing.
 use native.Mathlib.Omega.{arith}
 use borrow.Author.Needs.{needs}
-use Rattle.tree_index.proofs.Words.{depth-small, block-small, left-word}
+use Rattle.tree_index.proofs.Words.{depth-small, half-small, left-word}
 use Rattle.tree_index.proofs.left_child.Statement.{statement}
 use Rattle.tree_index.proofs.left_child.Tie as tie
 
-mul-node-index : tie.Need-mul-node-index
-mul-node-index c = omega (arith, block-small (c .before .before .args .i .0))
+sub-half : tie.Need-sub-half
+sub-half c = omega (arith, c .depth .ensures)
 
-node-index-requires : tie.Need-node-index-requires
-node-index-requires c κs =
-    omega (
-      arith,
-      depth-small (c .before .before .args .i .0) (c .before .before .pre .0),
-      block-small (c .before .before .args .i .0),
-    )
+shl-half : tie.Need-shl-half
+shl-half c =
+    let start = c .before in
+    omega (arith, c .depth .ensures, depth-small (start .args .i .0) (start .pre .0))
+
+sub-t5 : tie.Need-sub-t5
+sub-t5 c =
+    let met = c .before in
+    let start = met .before in
+    omega (arith, half-small (start .args .i .0) (met .depth .result) (start .pre .0) (start .pre .1) (met .depth .ensures))
 
 returns : tie.Need-returns
 returns c =
-    let start = c .before .before .before in
-    left-word (start .args .i .0) (c .before .before .depth .result) (c .before .block .result)
-    (c .node-index .result .0) (c .before .before .depth .ensures) (c .before .block .ensures) (c .node-index .ensures)
+    let met = c .before in
+    let start = met .before in
+    omega (arith, left-word (start .args .i .0) (met .depth .result) (start .pre .0) (start .pre .1) (met .depth .ensures))
 
 pub left-child-spec : {M : Type 1} → statement M
-left-child-spec = tie.close (tie.spec (λ c κs. search needs) (λ c κs. search needs) (λ c. search needs) mul-node-index node-index-requires returns)
+left-child-spec = tie.close (tie.spec (λ c. search needs) sub-half (λ c. search needs) shl-half sub-t5 returns)

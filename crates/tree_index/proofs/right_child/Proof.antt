@@ -1,29 +1,29 @@
 -- `tree_index::right_child` meets its contract. Assumes nothing.
 use native.Mathlib.Omega.{arith}
 use borrow.Author.Needs.{needs}
-use Rattle.tree_index.proofs.Words.{depth-small, block-small, right-word}
+use Rattle.tree_index.proofs.Words.{depth-small, half-small, right-word}
 use Rattle.tree_index.proofs.right_child.Statement.{statement}
 use Rattle.tree_index.proofs.right_child.Tie as tie
 
-mul-node-index : tie.Need-mul-node-index
-mul-node-index c = omega (arith, block-small (c .before .before .args .i .0))
+sub-half : tie.Need-sub-half
+sub-half c = omega (arith, c .depth .ensures)
 
-add-node-index : tie.Need-add-node-index
-add-node-index c = omega (arith, block-small (c .before .before .args .i .0))
+shl-half : tie.Need-shl-half
+shl-half c =
+    let start = c .before in
+    omega (arith, c .depth .ensures, depth-small (start .args .i .0) (start .pre .0))
 
-node-index-requires : tie.Need-node-index-requires
-node-index-requires c κs =
-    omega (
-      arith,
-      depth-small (c .before .before .args .i .0) (c .before .before .pre .0),
-      block-small (c .before .before .args .i .0),
-    )
+add-t5 : tie.Need-add-t5
+add-t5 c =
+    let met = c .before in
+    let start = met .before in
+    omega (arith, half-small (start .args .i .0) (met .depth .result) (start .pre .0) (start .pre .1) (met .depth .ensures))
 
 returns : tie.Need-returns
 returns c =
-    let start = c .before .before .before in
-    right-word (start .args .i .0) (c .before .before .depth .result) (c .before .block .result)
-    (c .node-index .result .0) (c .before .before .depth .ensures) (c .before .block .ensures) (c .node-index .ensures)
+    let met = c .before in
+    let start = met .before in
+    omega (arith, right-word (start .args .i .0) (met .depth .result) (start .pre .0) (start .pre .1) (met .depth .ensures))
 
 pub right-child-spec : {M : Type 1} → statement M
-right-child-spec = tie.close (tie.spec (λ c κs. search needs) (λ c κs. search needs) (λ c. search needs) mul-node-index add-node-index node-index-requires returns)
+right-child-spec = tie.close (tie.spec (λ c. search needs) sub-half (λ c. search needs) shl-half add-t5 returns)

@@ -27,16 +27,19 @@ sub-node-index c = omega arith
 
 node-index-requires : tie.Need-node-index-requires Inv-loop μ-loop
 node-index-requires c κs =
-    let start = c .before .before .before in
-    omega (arith, shr-le (start .args .n) (c .before .before .loop .d - 1))
+    let looped = c .before .before in
+    let start = looped .before in
+    omega (arith, shr-le (start .args .n) (looped .loop .d - 1))
 
 room : (c : tie.After-node-index Inv-loop μ-loop) → c .before .before .before .loop .count < 20
 room c =
-    let looped = c .before .before .before in
+    let branch1 = c .before in
+    let tested = branch1 .before in
+    let looped = tested .before in
     let start = looped .before in
     gathered-room (start .args .n) (looped .loop .d) (looped .loop .count)
     (numbers (looped .loop .found)) (looped .loop .inv) (start .pre)
-    (c .before .before .loop-test .taken) (c .before .if1 .taken)
+    (tested .loop-test .taken) (branch1 .if1 .taken)
 
 mul-found : tie.Need-mul-found Inv-loop μ-loop
 mul-found c = omega (arith, room c)
@@ -49,24 +52,29 @@ add-count c = omega (arith, room c)
 
 loop-again : tie.Need-loop-again Inv-loop μ-loop
 loop-again c =
-    let looped = c .before .before .before in
+    let branch1 = c .before in
+    let tested = branch1 .before in
+    let looped = tested .before in
     let start = looped .before in
     subst
     (λ (l : List ℕ). Gathered (start .args .n) (looped .loop .d - 1) (looped .loop .count + 1) l)
     (sym (numbers-set (looped .loop .found) (looped .loop .count) (c .node-index .result)))
     (gathered-root (start .args .n) (looped .loop .d) (looped .loop .count)
     (c .node-index .result .0) (numbers (looped .loop .found)) (looped .loop .inv) (start .pre)
-    (c .before .before .loop-test .taken) (c .before .if1 .taken) (c .node-index .ensures))
+    (tested .loop-test .taken) (branch1 .if1 .taken) (c .node-index .ensures))
 
 loop-again-2 : tie.Need-loop-again-2 Inv-loop μ-loop
 loop-again-2 c =
-    let start = c .before .before .before in
-    gathered-skip (start .args .n) (c .before .before .loop .d) (c .before .before .loop .count)
-    (numbers (c .before .before .loop .found)) (c .before .before .loop .inv) (c .before .loop-test .taken) (omega arith)
+    let tested = c .before in
+    let looped = tested .before in
+    let start = looped .before in
+    gathered-skip (start .args .n) (looped .loop .d) (looped .loop .count)
+    (numbers (looped .loop .found)) (looped .loop .inv) (tested .loop-test .taken) (omega arith)
 
 returns : tie.Need-returns Inv-loop μ-loop
 returns c =
-    gathered-all (c .before .before .args .n) (c .before .loop .d) (c .before .loop .count) (numbers (c .before .loop .found)) (c .before .loop .inv)
+    let looped = c .before in
+    gathered-all (looped .before .args .n) (looped .loop .d) (looped .loop .count) (numbers (looped .loop .found)) (looped .loop .inv)
     (c .loop-test .left)
 
 pub root-indexes-spec : {M : Type 1} → statement M

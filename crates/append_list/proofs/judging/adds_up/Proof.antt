@@ -24,23 +24,28 @@ loop-holds c = omega arith
 
 returns : tie.Need-returns Inv-loop μ-loop
 returns c =
-    let looped = c .before .before .before in
+    let tested = c .before .before in
+    let looped = tested .before in
     let start = looped .before in
     let a = start .args in
     let l = looped .loop in
-    too-much (a .lengths .now) (l .j) (length (a .lengths .now)) (l .left) (a .whole) (c .before .before .loop-test .taken) (c .before .before .loop-test .taken) (l .inv .1) (c .if1 .taken)
+    too-much (a .lengths .now) (l .j) (length (a .lengths .now)) (l .left) (a .whole) (tested .loop-test .taken) (tested .loop-test .taken) (l .inv .1) (c .if1 .taken)
     ∙ ap (λ (xs : List ℕ). eqb (total xs) (a .whole)) (take-length (a .lengths .now))
 
 loop-again : tie.Need-loop-again Inv-loop μ-loop
 loop-again c =
-    let a = c .before .before .before .before .args in
-    let l = c .before .before .before .loop in
-    (search needs, omega (arith, total-next (a .lengths .now) (l .j) (c .before .before .loop-test .taken), l .inv .1, c .if1 .left))
+    let tested = c .before .before in
+    let looped = tested .before in
+    let start = looped .before in
+    let a = start .args in
+    let l = looped .loop in
+    (search needs, omega (arith, total-next (a .lengths .now) (l .j) (tested .loop-test .taken), l .inv .1, c .if1 .left))
 
 returns-2 : tie.Need-returns-2 Inv-loop μ-loop
 returns-2 c =
-    let a = c .before .before .args in
-    let l = c .before .loop in
+    let looped = c .before in
+    let a = looped .before .args in
+    let l = looped .loop in
     none-left (total (a .lengths .now)) (l .left) (a .whole)
     (ap (λ (xs : List ℕ). total xs + l .left) (sym (take-all (l .j) (a .lengths .now) (c .loop-test .left))) ∙ l .inv .1)
 

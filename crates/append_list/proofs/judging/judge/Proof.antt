@@ -1,7 +1,7 @@
 -- `append_list::judging::judge` meets its contract. Assumes nothing.
 use native.Mathlib.Omega.{arith}
 use borrow.Author.Needs.{needs}
-use Rattle.refusals.specs.Meaning.{said}
+use Rattle.answer_types.specs.Meaning.{said}
 use Rattle.file_format.specs.Belongs.{Register}
 use Rattle.checks.specs.Checks.{laterChecks}
 use Rattle.checks.specs.Lent.{registerOf}
@@ -19,45 +19,51 @@ given c =
 
 returns : tie.Need-returns
 returns c =
-    let start = c .before .before .before .before .before .before .before .before in
-    let s = start in list-over (given s) (s .args .lengths .now) (s .args .bytes .now) (said (c .refuse .result)) (c .before .if1 .taken) (c .refuse .ensures)
+    let branch1 = c .before in
+    let start = branch1 .before .before .before .before .before .before .before in
+    let s = start in list-over (given s) (s .args .lengths .now) (s .args .bytes .now) (said (c .refuse .result)) (branch1 .if1 .taken) (c .refuse .ensures)
 
 returns-2 : tie.Need-returns-2
 returns-2 c =
-    let start = c .before .before .before .before .before .before .before .before .before in
-    let s = start in list-past (given s) (s .args .lengths .now) (s .args .bytes .now) (said (c .refuse2 .result)) (c .before .before .if1 .left)
-    (omega (arith, c .before .before .if1 .left, c .before .if2 .taken)) (c .refuse2 .ensures)
+    let branch2 = c .before in
+    let branch1 = branch2 .before in
+    let start = branch1 .before .before .before .before .before .before .before in
+    let s = start in list-past (given s) (s .args .lengths .now) (s .args .bytes .now) (said (c .refuse2 .result)) (branch1 .if1 .left)
+    (omega (arith, branch1 .if1 .left, branch2 .if2 .taken)) (c .refuse2 .ensures)
 
 judge-own-requires : tie.Need-judge-own-requires
 judge-own-requires c κs =
-    let branch2 = c .before .before .before in
+    let at-judge-later = c .before .before in
+    let branch2 = at-judge-later .before in
     let branch1 = branch2 .before in
     let start = branch1 .before .before .before .before .before .before .before in
     let s = start in (
       omega (arith, branch1 .if1 .left, branch2 .if2 .left),
-      data-inside (given s) (c .before .before .judge-later .result) (c .enum-told .given .1)
-          (c .before .before .judge-later .ensures),
+      data-inside (given s) (at-judge-later .judge-later .result) (c .enum-told .given .1)
+          (at-judge-later .judge-later .ensures),
     )
 
 returns-3 : tie.Need-returns-3
 returns-3 c =
-    let at-judge-later = c .before .before .before in
+    let at-found = c .before in
+    let at-judge-later = at-found .before .before in
     let branch2 = at-judge-later .before in
     let branch1 = branch2 .before in
     let start = branch1 .before .before .before .before .before .before .before in
     let s = start in list-within (given s) (s .args .lengths .now) (s .args .bytes .now) _ (branch1 .if1 .left) (omega (arith, branch1 .if1 .left, branch2 .if2 .left))
     (refused-before (laterChecks (given s)) (ownVerdict (given s) (s .args .lengths .now) (s .args .bytes .now)) (at-judge-later .judge-later .result)
-    (c .before .found .given .0 .0) (c .before .found .given .1) (at-judge-later .judge-later .ensures))
+    (at-found .found .given .0 .0) (at-found .found .given .1) (at-judge-later .judge-later .ensures))
 
 returns-4 : tie.Need-returns-4
 returns-4 c =
-    let at-judge-later = c .before .before .before in
+    let at-enum-told = c .before in
+    let at-judge-later = at-enum-told .before .before in
     let branch2 = at-judge-later .before in
     let branch1 = branch2 .before in
     let start = branch1 .before .before .before .before .before .before .before in
     let s = start in list-within (given s) (s .args .lengths .now) (s .args .bytes .now) _ (branch1 .if1 .left) (omega (arith, branch1 .if1 .left, branch2 .if2 .left))
     (passed-before (laterChecks (given s)) (said (c .judge-own .result)) (ownVerdict (given s) (s .args .lengths .now) (s .args .bytes .now))
-    (at-judge-later .judge-later .result) (c .before .enum-told .given .1) (at-judge-later .judge-later .ensures) (c .judge-own .ensures))
+    (at-judge-later .judge-later .result) (at-enum-told .enum-told .given .1) (at-judge-later .judge-later .ensures) (c .judge-own .ensures))
 
 pub judge-spec : {M : Type 1} → statement M
 judge-spec =

@@ -2,7 +2,7 @@
 use borrow.Author.Needs.{needs}
 use Rattle.file_format.specs.Belongs.{Register}
 use Rattle.checks.specs.Lent.{registerOf}
-use Rattle.refusals.specs.Meaning.{said}
+use Rattle.answer_types.specs.Meaning.{said}
 use Rattle.append_list.proofs.Orders.{some-listed, own-refused, own-passed}
 use Rattle.append_list.proofs.judging.judge_own.Statement.{statement}
 use Rattle.append_list.proofs.judging.judge_own.Tie as tie
@@ -14,27 +14,30 @@ given c =
 
 judge-room-requires : tie.Need-judge-room-requires
 judge-room-requires c κs =
-    let start = c .before .before .before .before .before .before .before .before .before in
+    let at-judge-list = c .before .before in
+    let start = at-judge-list .before .before .before .before .before .before .before in
     let s = start in (
-      some-listed (s .args .lengths .now) (s .args .bytes .now) (c .before .before .judge-list .result) (c .enum-told .given .1)
-          (c .before .before .judge-list .ensures),
+      some-listed (s .args .lengths .now) (s .args .bytes .now) (at-judge-list .judge-list .result) (c .enum-told .given .1)
+          (at-judge-list .judge-list .ensures),
       s .pre .0,
       s .pre .1,
     )
 
 returns : tie.Need-returns
 returns c =
-    let at-judge-list = c .before .before .before in
+    let at-found = c .before in
+    let at-judge-list = at-found .before .before in
     let start = at-judge-list .before .before .before .before .before .before .before in
-    let s = start in own-refused (given s) (s .args .lengths .now) (s .args .bytes .now) (at-judge-list .judge-list .result) (c .before .found .given .0 .0)
-    (c .before .found .given .1) (at-judge-list .judge-list .ensures)
+    let s = start in own-refused (given s) (s .args .lengths .now) (s .args .bytes .now) (at-judge-list .judge-list .result) (at-found .found .given .0 .0)
+    (at-found .found .given .1) (at-judge-list .judge-list .ensures)
 
 returns-2 : tie.Need-returns-2
 returns-2 c =
-    let at-judge-list = c .before .before .before in
+    let at-enum-told = c .before in
+    let at-judge-list = at-enum-told .before .before in
     let start = at-judge-list .before .before .before .before .before .before .before in
     let s = start in own-passed (given s) (s .args .lengths .now) (s .args .bytes .now) (said (c .judge-room .result)) (at-judge-list .judge-list .result)
-    (c .before .enum-told .given .1) (at-judge-list .judge-list .ensures) (c .judge-room .ensures)
+    (at-enum-told .enum-told .given .1) (at-judge-list .judge-list .ensures) (c .judge-room .ensures)
 
 pub judge-own-spec : {M : Type 1} → statement M
 judge-own-spec =

@@ -6,8 +6,8 @@ use native.Mathlib.Omega.{arith}
 use borrow.Author.Needs.{needs}
 use borrow.Author.Tests.{le-leb, lt-leb, eq-eqb, ne-eqb}
 use lib.ListN.{length}
-use Rattle.refusals.specs.Verdict.{done}
-use Rattle.refusals.specs.Meaning.{said}
+use Rattle.answer_types.specs.Verdict.{done}
+use Rattle.answer_types.specs.Meaning.{said}
 use Rattle.file_format.specs.Belongs.{Register}
 use Rattle.checks.specs.Lent.{registerOf}
 use Rattle.checks.proofs.Steps.{short-of, long-of}
@@ -22,29 +22,36 @@ given c =
 
 returns : tie.Need-returns
 returns c =
-    let start = c .before .before .before .before .before .before in
-    let s = start in room-answered (given s) (s .args .k) (s .args .whole) (said (c .refuse .result)) false _ _ _ _ (ne-eqb _ _ (c .before .if1 .taken)) refl refl refl refl (c .refuse .ensures)
+    let branch1 = c .before in
+    let start = branch1 .before .before .before .before .before in
+    let s = start in room-answered (given s) (s .args .k) (s .args .whole) (said (c .refuse .result)) false _ _ _ _ (ne-eqb _ _ (branch1 .if1 .taken)) refl refl refl refl (c .refuse .ensures)
 
 returns-2 : tie.Need-returns-2
 returns-2 c =
-    let branch1 = c .before .before .before in
+    let branch2 = c .before in
+    let at-used-tree = branch2 .before in
+    let branch1 = at-used-tree .before in
     let start = branch1 .before .before .before .before .before in
     let s = start in room-answered (given s) (s .args .k) (s .args .whole) (said (c .refuse2 .result)) true false _ _ _ (eq-eqb _ _ (branch1 .if1 .left))
-    (short-of (s .args .tree .now) (c .before .before .used-tree .ensures) (c .before .if2 .taken)) refl refl refl (c .refuse2 .ensures)
+    (short-of (s .args .tree .now) (at-used-tree .used-tree .ensures) (branch2 .if2 .taken)) refl refl refl (c .refuse2 .ensures)
 
 returns-3 : tie.Need-returns-3
 returns-3 c =
-    let branch2 = c .before .before .before in
+    let branch3 = c .before in
+    let at-used-signatures = branch3 .before in
+    let branch2 = at-used-signatures .before in
     let at-used-tree = branch2 .before in
     let branch1 = at-used-tree .before in
     let start = branch1 .before .before .before .before .before in
     let s = start in room-answered (given s) (s .args .k) (s .args .whole) (said (c .refuse3 .result)) true true false _ _ (eq-eqb _ _ (branch1 .if1 .left))
     (long-of (s .args .tree .now) (at-used-tree .used-tree .ensures) (branch2 .if2 .left))
-    (short-of (s .args .signatures .now) (c .before .before .used-signatures .ensures) (c .before .if3 .taken)) refl refl (c .refuse3 .ensures)
+    (short-of (s .args .signatures .now) (at-used-signatures .used-signatures .ensures) (branch3 .if3 .taken)) refl refl (c .refuse3 .ensures)
 
 returns-4 : tie.Need-returns-4
 returns-4 c =
-    let branch3 = c .before .before .before in
+    let branch4 = c .before in
+    let at-used-bitfield = branch4 .before in
+    let branch3 = at-used-bitfield .before in
     let at-used-signatures = branch3 .before in
     let branch2 = at-used-signatures .before in
     let at-used-tree = branch2 .before in
@@ -53,11 +60,13 @@ returns-4 c =
     let s = start in room-answered (given s) (s .args .k) (s .args .whole) (said (c .refuse4 .result)) true true true false _ (eq-eqb _ _ (branch1 .if1 .left))
     (long-of (s .args .tree .now) (at-used-tree .used-tree .ensures) (branch2 .if2 .left))
     (long-of (s .args .signatures .now) (at-used-signatures .used-signatures .ensures) (branch3 .if3 .left))
-    (short-of (s .args .bitfield .now) (c .before .before .used-bitfield .ensures) (c .before .if4 .taken)) refl (c .refuse4 .ensures)
+    (short-of (s .args .bitfield .now) (at-used-bitfield .used-bitfield .ensures) (branch4 .if4 .taken)) refl (c .refuse4 .ensures)
 
 returns-5 : tie.Need-returns-5
 returns-5 c =
-    let at-used-bitfield = c .before .before .before in
+    let branch5 = c .before in
+    let branch4 = branch5 .before in
+    let at-used-bitfield = branch4 .before in
     let branch3 = at-used-bitfield .before in
     let at-used-signatures = branch3 .before in
     let branch2 = at-used-signatures .before in
@@ -67,12 +76,14 @@ returns-5 c =
     let s = start in room-answered (given s) (s .args .k) (s .args .whole) (said (c .refuse5 .result)) true true true true false (eq-eqb _ _ (branch1 .if1 .left))
     (long-of (s .args .tree .now) (at-used-tree .used-tree .ensures) (branch2 .if2 .left))
     (long-of (s .args .signatures .now) (at-used-signatures .used-signatures .ensures) (branch3 .if3 .left))
-    (long-of (s .args .bitfield .now) (at-used-bitfield .used-bitfield .ensures) (c .before .before .if4 .left))
-    (lt-leb (s .args .size + s .args .whole) (length (s .args .content .now)) (omega (arith, s .pre .2, c .before .if5 .taken))) (c .refuse5 .ensures)
+    (long-of (s .args .bitfield .now) (at-used-bitfield .used-bitfield .ensures) (branch4 .if4 .left))
+    (lt-leb (s .args .size + s .args .whole) (length (s .args .content .now)) (omega (arith, s .pre .2, branch5 .if5 .taken))) (c .refuse5 .ensures)
 
 returns-6 : tie.Need-returns-6
 returns-6 c =
-    let branch3 = c .before .before .before in
+    let branch4 = c .before in
+    let at-used-bitfield = branch4 .before in
+    let branch3 = at-used-bitfield .before in
     let at-used-signatures = branch3 .before in
     let branch2 = at-used-signatures .before in
     let at-used-tree = branch2 .before in
@@ -81,7 +92,7 @@ returns-6 c =
     let s = start in room-answered (given s) (s .args .k) (s .args .whole) done true true true true true (eq-eqb _ _ (branch1 .if1 .left))
     (long-of (s .args .tree .now) (at-used-tree .used-tree .ensures) (branch2 .if2 .left))
     (long-of (s .args .signatures .now) (at-used-signatures .used-signatures .ensures) (branch3 .if3 .left))
-    (long-of (s .args .bitfield .now) (c .before .before .used-bitfield .ensures) (c .before .if4 .left))
+    (long-of (s .args .bitfield .now) (at-used-bitfield .used-bitfield .ensures) (branch4 .if4 .left))
     (le-leb (s .args .size + s .args .whole) (length (s .args .content .now)) (omega (arith, s .pre .2, c .if5 .left))) refl
 
 pub judge-room-spec : {M : Type 1} → statement M

@@ -21,15 +21,17 @@ loop-holds c =
 
 add-end : tie.Need-add-end Inv-loop μ-loop
 add-end c =
-    let s = c .before .before .before .before .before .before in
-    let l = c .before .before .loop in
+    let tested = c .before in
+    let looped = tested .before in
+    let s = looped .before .before .before .before in
+    let l = looped .loop in
     let small : length (s .args .content .now) < 2 ^ 64 = s .good .1 .0 .0 in
     record {
       fits =
           omega (
             arith,
             going-end (s .args .tree .now) (s .args .content .now) (s .args .n) (s .args .start) (s .args .lengths .now) (l .tree) (l .at) (l .j) (l .inv .2)
-                (c .before .loop-test .taken) small,
+                (tested .loop-test .taken) small,
           );
     }
 
@@ -40,27 +42,32 @@ add-add-chunk c =
 
 add-chunk-requires : tie.Need-add-chunk-requires Inv-loop μ-loop
 add-chunk-requires c κs =
-    let looped = c .before .before .before in
+    let tested = c .before .before in
+    let looped = tested .before in
     let s = looped .before .before .before .before in
     let l = looped .loop in
     going-fits (s .args .tree .now) (s .args .content .now) (s .args .n) (s .args .start) (s .args .lengths .now) (l .tree) (l .at) (l .j) (l .inv .2)
-    (c .before .before .loop-test .taken) (s .good .1 .0 .0)
+    (tested .loop-test .taken) (s .good .1 .0 .0)
 
 loop-again : tie.Need-loop-again Inv-loop μ-loop
 loop-again c =
-    let s = c .before .before .before .before .before .before .before .before .before .before in
-    let l = c .before .before .before .before .before .before .loop in
-    let t = c .before .before .before .before .before .loop-test .taken in (
+    let at-add-chunk = c .before .before in
+    let tested = at-add-chunk .before .before .before in
+    let looped = tested .before in
+    let s = looped .before .before .before .before in
+    let l = looped .loop in
+    let t = tested .loop-test .taken in (
       omega (arith, t),
       search needs,
       going-next (s .args .tree .now) (s .args .content .now) (s .args .n) (s .args .start) (s .args .lengths .now) (l .tree) (l .at) (l .j)
-          (l .inv .2) t (s .good .1 .0 .0) _ (c .before .before .add-chunk .ensures),
+          (l .inv .2) t (s .good .1 .0 .0) _ (at-add-chunk .add-chunk .ensures),
     )
 
 returns : tie.Need-returns Inv-loop μ-loop
 returns c =
-    let s = c .before .before .before .before .before in
-    let l = c .before .loop in
+    let looped = c .before in
+    let s = looped .before .before .before .before in
+    let l = looped .loop in
     going-all (s .args .tree .now) (s .args .content .now) (s .args .n) (s .args .start) (s .args .lengths .now) (l .tree) (l .at) (l .j) (l .inv .2) (c .loop-test .left)
 
 pub add-leaves-spec : {M : Type 1} → statement M

@@ -3,7 +3,7 @@ use Prim.Native.Nat.{_-_}
 use Rattle.audit.proofs.Bytes.{Entering, entering-start, entering-entry, entering-next, entering-found, entering-done}
 use Rattle.audit.proofs.Search.{stops}
 use Rattle.audit.specs.BitfieldEntries.{treeBits}
-use Rattle.refusals.specs.Meaning.{said}
+use Rattle.answer_types.specs.Meaning.{said}
 use borrow.Author.Needs.{needs}
 use mathlib.Core.Path.{ap}
 use Rattle.audit.proofs.bits.wrong_in_entries.Statement.{statement}
@@ -22,19 +22,21 @@ loop-holds c =
 
 wrong-in-entry-requires : tie.Need-wrong-in-entry-requires Inv-loop μ-loop
 wrong-in-entry-requires c κs =
-    let s = c .before .before .before in
-    let loop = c .before .loop in
+    let looped = c .before in
+    let s = looped .before .before in
+    let loop = looped .loop in
     let loop-test = c .loop-test in
     let a = s .args in
     entering-entry (treeBits (a .partly) (a .xs .now) (a .n)) (a .xs .now) (a .n) (a .from) (a .end) (loop .e) (loop .inv) (s .pre .0) (s .pre .1) (loop-test .taken)
 
 returns : tie.Need-returns Inv-loop μ-loop
 returns c =
-    let tested = c .before .before .before in
+    let at-wrong-in-entry = c .before .before in
+    let tested = at-wrong-in-entry .before in
     let looped = tested .before in
     let s = looped .before .before in
     let loop = looped .loop in
-    let wrong-in-entry = c .before .before .wrong-in-entry in
+    let wrong-in-entry = at-wrong-in-entry .wrong-in-entry in
     let loop-test = tested .loop-test in
     let enum-told2 = c .enum-told2 in
     let a = s .args in
@@ -43,11 +45,12 @@ returns c =
 
 loop-again : tie.Need-loop-again Inv-loop μ-loop
 loop-again c =
-    let tested = c .before .before .before in
+    let at-wrong-in-entry = c .before .before in
+    let tested = at-wrong-in-entry .before in
     let looped = tested .before in
     let s = looped .before .before in
     let loop = looped .loop in
-    let wrong-in-entry = c .before .before .wrong-in-entry in
+    let wrong-in-entry = at-wrong-in-entry .wrong-in-entry in
     let loop-test = tested .loop-test in
     let enum-told = c .enum-told in
     let a = s .args in
@@ -56,8 +59,9 @@ loop-again c =
 
 returns-2 : tie.Need-returns-2 Inv-loop μ-loop
 returns-2 c =
-    let s = c .before .before .before in
-    let loop = c .before .loop in
+    let looped = c .before in
+    let s = looped .before .before in
+    let loop = looped .loop in
     let loop-test = c .loop-test in
     let a = s .args in
     entering-done (treeBits (a .partly) (a .xs .now) (a .n)) (a .xs .now) (a .n) (a .from) (a .end) (loop .e) (loop .inv) (loop-test .left)

@@ -20,47 +20,56 @@ hole-right-requires c κs =
 
 returns : tie.Need-returns
 returns c =
-    let start = c .before .before .before .before .before .before in
+    let branch1 = c .before in
+    let at-is-filled = branch1 .before in
+    let start = at-is-filled .before .before .before .before in
     let a = start .args in hole-entry nodeHash (a .tree .now) (a .bitfield .now) (a .content .now) (a .n) (a .size) (a .i .0) (a .start .0) (start .pre) (c .hole-right .result)
-    (sym (c .before .before .is-filled .ensures) ∙ not-true _ (c .before .if1 .taken)) (c .hole-right .ensures)
+    (sym (at-is-filled .is-filled .ensures) ∙ not-true _ (branch1 .if1 .taken)) (c .hole-right .ensures)
 
 is-held-requires : tie.Need-is-held-requires
 is-held-requires c κs =
-    let start = c .before .before .before .before .before .before .before .before in
+    let branch2 = c .before in
+    let start = branch2 .before .before .before .before .before .before .before in
     let a = start .args in at-bit nodeHash (a .tree .now) (a .bitfield .now) (a .content .now) (a .n) (a .size) (a .i .0) (a .start .0) (start .pre) (c .chunk-of-leaf .result .0)
-    (c .before .if2 .taken) (c .chunk-of-leaf .ensures)
+    (branch2 .if2 .taken) (c .chunk-of-leaf .ensures)
 
 leaf-right-requires : tie.Need-leaf-right-requires
 leaf-right-requires c κs =
-    let start = c .before .before .before .before .before .before .before .before .before in
+    let at-chunk-of-leaf = c .before in
+    let branch2 = at-chunk-of-leaf .before in
+    let start = branch2 .before .before .before .before .before .before .before in
     let a = start .args in at-leaf nodeHash (a .tree .now) (a .bitfield .now) (a .content .now) (a .n) (a .size) (a .i .0) (a .start .0) (start .pre)
-    (c .before .chunk-of-leaf .result .0) (c .before .before .if2 .taken) (c .before .chunk-of-leaf .ensures)
+    (at-chunk-of-leaf .chunk-of-leaf .result .0) (branch2 .if2 .taken) (at-chunk-of-leaf .chunk-of-leaf .ensures)
 
 returns-2 : tie.Need-returns-2
 returns-2 c =
-    let branch2 = c .before .before .before in
+    let at-is-held = c .before in
+    let at-chunk-of-leaf = at-is-held .before in
+    let branch2 = at-chunk-of-leaf .before in
     let branch1 = branch2 .before .before in
     let at-is-filled = branch1 .before in
     let start = at-is-filled .before .before .before .before in
     let a = start .args in leaf-entry nodeHash (a .tree .now) (a .bitfield .now) (a .content .now) (a .n) (a .size) (a .i .0) (a .start .0) (start .pre)
-    (omega (arith, start .good .1 .1 .0 .1, start .pre .files .bytes)) (c .before .before .chunk-of-leaf .result .0) (c .before .is-held .result) (c .leaf-right .result)
-    (branch2 .if2 .taken) (sym (at-is-filled .is-filled .ensures) ∙ not-false _ (branch1 .if1 .left)) (c .before .before .chunk-of-leaf .ensures) (c .before .is-held .ensures)
+    (omega (arith, start .good .1 .1 .0 .1, start .pre .files .bytes)) (at-chunk-of-leaf .chunk-of-leaf .result .0) (at-is-held .is-held .result) (c .leaf-right .result)
+    (branch2 .if2 .taken) (sym (at-is-filled .is-filled .ensures) ∙ not-false _ (branch1 .if1 .left)) (at-chunk-of-leaf .chunk-of-leaf .ensures) (at-is-held .is-held .ensures)
     (c .leaf-right .ensures)
 
 parent-right-requires : tie.Need-parent-right-requires
 parent-right-requires c κs =
-    let at-is-filled = c .before .before .before in
+    let branch1 = c .before .before in
+    let at-is-filled = branch1 .before in
     let start = at-is-filled .before .before .before .before in
     let a = start .args in at-parent nodeHash (a .tree .now) (a .bitfield .now) (a .content .now) (a .n) (a .size) (a .i .0) (a .start .0) (start .pre) (c .if2 .left)
-    (sym (at-is-filled .is-filled .ensures) ∙ not-false _ (c .before .before .if1 .left))
+    (sym (at-is-filled .is-filled .ensures) ∙ not-false _ (branch1 .if1 .left))
 
 returns-3 : tie.Need-returns-3
 returns-3 c =
-    let branch1 = c .before .before .before in
+    let branch2 = c .before in
+    let branch1 = branch2 .before .before in
     let at-is-filled = branch1 .before in
     let start = at-is-filled .before .before .before .before in
     let a = start .args in parent-entry nodeHash (a .tree .now) (a .bitfield .now) (a .content .now) (a .n) (a .size) (a .i .0) (a .start .0) (start .pre) (c .parent-right .result)
-    (c .before .if2 .left) (sym (at-is-filled .is-filled .ensures) ∙ not-false _ (branch1 .if1 .left)) (c .parent-right .ensures)
+    (branch2 .if2 .left) (sym (at-is-filled .is-filled .ensures) ∙ not-false _ (branch1 .if1 .left)) (c .parent-right .ensures)
 
 pub entry-right-spec : {M : Type 1} → statement M
 entry-right-spec =

@@ -20,9 +20,11 @@ stored-size-requires c κs =
 returns : tie.Need-returns
 returns c =
     let found = c .before in
-    let a = found .before .before .before .before .args in
+    let at-leaf-index = found .before in
+    let start = at-leaf-index .before .before .before in
+    let a = start .args in
     leaf-long nodeHash (a .tree .now) (a .content .now) (a .size) (a .held) (a .c .0) (a .start .0) (found .stored-size .result)
-    (found .stored-size .ensures ∙ ap (storedSize (a .tree .now)) (found .before .leaf-index .ensures ∙ index-leaf (a .c .0))) (omega (arith, c .if1 .taken))
+    (found .stored-size .ensures ∙ ap (storedSize (a .tree .now)) (at-leaf-index .leaf-index .ensures ∙ index-leaf (a .c .0))) (omega (arith, c .if1 .taken))
 
 returns-2 : tie.Need-returns-2
 returns-2 c =
@@ -32,23 +34,30 @@ returns-2 c =
 
 returns-3 : tie.Need-returns-3
 returns-3 c =
-    let short = c .before .before .before .before in
+    let branch2 = c .before .before in
+    let short = branch2 .before .before in
     let found = short .before in
-    let a = found .before .before .before .before .args in
+    let at-leaf-index = found .before in
+    let start = at-leaf-index .before .before .before in
+    let a = start .args in
     leaf-past nodeHash (a .tree .now) (a .content .now) (a .size) (a .held) (a .c .0) (a .start .0) (found .stored-size .result)
-    (found .stored-size .ensures ∙ ap (storedSize (a .tree .now)) (found .before .leaf-index .ensures ∙ index-leaf (a .c .0))) (omega (arith, short .if1 .left))
-    (omega (arith, c .if3 .taken, c .before .before .if2 .left))
+    (found .stored-size .ensures ∙ ap (storedSize (a .tree .now)) (at-leaf-index .leaf-index .ensures ∙ index-leaf (a .c .0))) (omega (arith, short .if1 .left))
+    (omega (arith, c .if3 .taken, branch2 .if2 .left))
 
 returns-4 : tie.Need-returns-4
 returns-4 c =
-    let inside = c .before .before .before in
-    let short = inside .before .before .before .before in
+    let branch4 = c .before .before in
+    let inside = branch4 .before in
+    let branch2 = inside .before .before in
+    let short = branch2 .before .before in
     let found = short .before in
-    let a = found .before .before .before .before .args in
+    let at-leaf-index = found .before in
+    let start = at-leaf-index .before .before .before in
+    let a = start .args in
     leaf-zero nodeHash (a .tree .now) (a .content .now) (a .size) (a .held) (a .c .0) (a .start .0) (found .stored-size .result)
-    (found .stored-size .ensures ∙ ap (storedSize (a .tree .now)) (found .before .leaf-index .ensures ∙ index-leaf (a .c .0))) (omega (arith, short .if1 .left))
-    (a .start .0 + found .stored-size .result - a .start .0) (omega (arith, inside .if3 .left, inside .before .before .if2 .left)) (omega arith) (c .is-zero .result)
-    (not-true _ (c .before .before .if4 .taken)) (c .is-zero .ensures)
+    (found .stored-size .ensures ∙ ap (storedSize (a .tree .now)) (at-leaf-index .leaf-index .ensures ∙ index-leaf (a .c .0))) (omega (arith, short .if1 .left))
+    (a .start .0 + found .stored-size .result - a .start .0) (omega (arith, inside .if3 .left, branch2 .if2 .left)) (omega arith) (c .is-zero .result)
+    (not-true _ (branch4 .if4 .taken)) (c .is-zero .ensures)
 
 stored-hash-requires : tie.Need-stored-hash-requires
 stored-hash-requires c κs =
@@ -59,16 +68,20 @@ stored-hash-requires c κs =
 returns-5 : tie.Need-returns-5
 returns-5 c =
     let hashed = c .before .before .before in
-    let inside = hashed .before .before .before .before in
-    let short = inside .before .before .before .before in
+    let at-leaf-hash = hashed .before in
+    let branch4 = at-leaf-hash .before .before in
+    let inside = branch4 .before in
+    let branch2 = inside .before .before in
+    let short = branch2 .before .before in
     let found = short .before in
     let leaf = found .before in
-    let a = leaf .before .before .before .args in
+    let start = leaf .before .before .before in
+    let a = start .args in
     leaf-same nodeHash (a .tree .now) (a .content .now) (a .size) (a .held) (a .c .0) (a .start .0) (found .stored-size .result)
     (found .stored-size .ensures ∙ ap (storedSize (a .tree .now)) (leaf .leaf-index .ensures ∙ index-leaf (a .c .0))) (omega (arith, short .if1 .left))
-    (a .start .0 + found .stored-size .result - a .start .0) (omega (arith, inside .if3 .left, inside .before .before .if2 .left)) (omega arith) (c .same .result)
-    (not-false _ (hashed .before .before .before .if4 .left)) (hashed .stored-hash .result) (hashed .before .leaf-hash .result)
-    (hashed .stored-hash .ensures ∙ ap (storedHash (a .tree .now)) (leaf .leaf-index .ensures ∙ index-leaf (a .c .0))) (hashed .before .leaf-hash .ensures)
+    (a .start .0 + found .stored-size .result - a .start .0) (omega (arith, inside .if3 .left, branch2 .if2 .left)) (omega arith) (c .same .result)
+    (not-false _ (branch4 .if4 .left)) (hashed .stored-hash .result) (at-leaf-hash .leaf-hash .result)
+    (hashed .stored-hash .ensures ∙ ap (storedHash (a .tree .now)) (leaf .leaf-index .ensures ∙ index-leaf (a .c .0))) (at-leaf-hash .leaf-hash .ensures)
     (c .same .ensures)
 
 pub leaf-right-spec : {M : Type 1} → statement M

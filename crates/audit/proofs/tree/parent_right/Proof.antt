@@ -9,15 +9,18 @@ use Rattle.audit.proofs.tree.parent_right.Tie as tie
 
 stored-size-requires-2 : tie.Need-stored-size-requires-2
 stored-size-requires-2 c κs =
-    let start = c .before .before .before .before in
-    let a = start .args in entry-as (a .tree .now) (c .before .before .left-child .ensures) (start .pre .left)
+    let at-left-child = c .before .before in
+    let start = at-left-child .before .before in
+    let a = start .args in entry-as (a .tree .now) (at-left-child .left-child .ensures) (start .pre .left)
 
 returns : tie.Need-returns
 returns c =
-    let at-left-child = c .before .before .before .before in
+    let at-stored-size2 = c .before in
+    let at-stored-size = at-stored-size2 .before in
+    let at-left-child = at-stored-size .before .before in
     let start = at-left-child .before .before in
-    let a = start .args in parent-less nodeHash (a .tree .now) (a .i .0) (c .before .before .stored-size .result) (c .before .stored-size2 .result)
-    (c .before .before .stored-size .ensures) (c .before .stored-size2 .ensures ∙ ap (storedSize (a .tree .now)) (at-left-child .left-child .ensures)) (c .if1 .taken)
+    let a = start .args in parent-less nodeHash (a .tree .now) (a .i .0) (at-stored-size .stored-size .result) (at-stored-size2 .stored-size2 .result)
+    (at-stored-size .stored-size .ensures) (at-stored-size2 .stored-size2 .ensures ∙ ap (storedSize (a .tree .now)) (at-left-child .left-child .ensures)) (c .if1 .taken)
 
 stored-size-requires-3 : tie.Need-stored-size-requires-3
 stored-size-requires-3 c κs =
@@ -27,14 +30,16 @@ stored-size-requires-3 c κs =
 
 returns-2 : tie.Need-returns-2
 returns-2 c =
-    let at-stored-size2 = c .before .before .before in
+    let at-stored-size3 = c .before in
+    let branch1 = at-stored-size3 .before in
+    let at-stored-size2 = branch1 .before in
     let at-stored-size = at-stored-size2 .before in
     let at-right-child = at-stored-size .before in
     let at-left-child = at-right-child .before in
     let start = at-left-child .before .before in
     let a = start .args in parent-off nodeHash (a .tree .now) (a .i .0) (at-stored-size .stored-size .result) (at-stored-size2 .stored-size2 .result)
     (at-stored-size .stored-size .ensures) (at-stored-size2 .stored-size2 .ensures ∙ ap (storedSize (a .tree .now)) (at-left-child .left-child .ensures))
-    (c .before .stored-size3 .result) (c .before .stored-size3 .ensures ∙ ap (storedSize (a .tree .now)) (at-right-child .right-child .ensures)) (c .before .before .if1 .left) (c .if2 .taken)
+    (at-stored-size3 .stored-size3 .result) (at-stored-size3 .stored-size3 .ensures ∙ ap (storedSize (a .tree .now)) (at-right-child .right-child .ensures)) (branch1 .if1 .left) (c .if2 .taken)
 
 stored-hash-requires : tie.Need-stored-hash-requires
 stored-hash-requires c κs =

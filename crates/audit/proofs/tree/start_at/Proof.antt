@@ -36,27 +36,30 @@ leaf-index-requires c κs =
 
 stored-size-requires : tie.Need-stored-size-requires Inv-loop μ-loop
 stored-size-requires c κs =
-    let looped = c .before .before .before .before in
+    let branch1 = c .before in
+    let looped = branch1 .before .before .before in
     let at-next-chunk = looped .before in
     let s = at-next-chunk .before .before in
     let leaf-index = c .leaf-index in
     let loop = looped .loop in
     let next-chunk = at-next-chunk .next-chunk in
-    let if1 = c .before .if1 in
+    let if1 = branch1 .if1 in
     subst (EntryIn (s .args .tree .now)) (sym (leaf-index .ensures))
     (before-leaf (s .args .tree .now) (s .args .n) (s .args .i .0) (loop .c .0) (s .pre .0) (s .pre .1) (omega (arith, next-chunk .ensures, if1 .taken)))
 
 loop-again : tie.Need-loop-again Inv-loop μ-loop
 loop-again c =
-    let at-leaf-index = c .before .before .before in
+    let at-add-capped = c .before in
+    let at-stored-size = at-add-capped .before in
+    let at-leaf-index = at-stored-size .before in
     let branch1 = at-leaf-index .before in
     let looped = branch1 .before .before .before in
     let s = looped .before .before .before in
     let if1 = branch1 .if1 in
     let loop = looped .loop in
     let leaf-index = at-leaf-index .leaf-index in
-    let stored-size = c .before .before .stored-size in
-    let add-capped = c .before .add-capped in (
+    let stored-size = at-stored-size .stored-size in
+    let add-capped = at-add-capped .add-capped in (
       omega (arith, if1 .taken),
       adding-next (s .args .tree .now) (loop .c .0) (loop .start .0) (loop .inv .1) (leaf-index .result .0) (stored-size .result)
           (add-capped .result .0) (leaf-index .ensures) (stored-size .ensures) (add-capped .ensures),

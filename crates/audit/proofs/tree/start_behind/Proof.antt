@@ -6,10 +6,12 @@ use Rattle.audit.proofs.tree.start_behind.Tie as tie
 
 returns : tie.Need-returns
 returns c =
-    let s = c .before .before .before .before .before in
-    let stored-size = c .before .stored-size in
+    let at-stored-size = c .before in
+    let branch1 = at-stored-size .before in
+    let s = branch1 .before .before .before in
+    let stored-size = at-stored-size .stored-size in
     let add-capped = c .add-capped in
-    let if1 = c .before .before .if1 in
+    let if1 = branch1 .if1 in
     behind-leaf (s .args .tree .now) (s .args .i .0) (s .args .start .0) (s .pre .here) (stored-size .result) (add-capped .result .0) (if1 .taken) (stored-size .ensures)
     (add-capped .ensures)
 

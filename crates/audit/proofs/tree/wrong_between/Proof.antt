@@ -3,7 +3,7 @@ use Prim.Native.Nat.{_-_}
 use Rattle.audit.proofs.Entries.{Walking, at-entry, walking-start, walking-none, walking-entry, walking-next, walking-found, walking-done}
 use Rattle.audit.specs.TreeWalk.{AtEntry}
 use Rattle.blake2b.specs.Hash.{nodeHash}
-use Rattle.refusals.specs.Meaning.{said}
+use Rattle.answer_types.specs.Meaning.{said}
 use borrow.Author.Needs.{needs}
 use borrow.Author.Tests.{not-true, not-false}
 use mathlib.Core.Path.{_∙_, sym}
@@ -49,24 +49,27 @@ entry-right-requires c κs =
 
 returns-2 : tie.Need-returns-2 Inv-loop μ-loop
 returns-2 c =
-    let branch2 = c .before .before .before in
+    let branch3 = c .before in
+    let at-entry-right = branch3 .before in
+    let branch2 = at-entry-right .before in
     let looped = branch2 .before .before .before in
     let s = looped .before .before .before .before .before .before .before .before in
     let loop = looped .loop in
     let refuse-entry = c .refuse-entry in
     let if2 = branch2 .if2 in
-    let entry-right = c .before .before .entry-right in
-    let if3 = c .before .if3 in
+    let entry-right = at-entry-right .entry-right in
+    let if3 = branch3 .if3 in
     let a = s .args in
     walking-found nodeHash (a .tree .now) (a .bitfield .now) (a .content .now) (a .n) (a .size) (a .from .0) (a .end .0) (loop .i .0) (loop .start .0) (loop .inv)
     (said (refuse-entry .result)) (if2 .taken) (sym (entry-right .ensures) ∙ not-true _ (if3 .taken)) (refuse-entry .ensures)
 
 start-behind-requires : tie.Need-start-behind-requires Inv-loop μ-loop
 start-behind-requires c κs =
-    let looped = c .before .before .before .before .before in
+    let branch2 = c .before .before in
+    let looped = branch2 .before .before .before in
     let s = looped .before .before .before .before .before .before .before .before in
     let loop = looped .loop in
-    let if2 = c .before .before .if2 in
+    let if2 = branch2 .if2 in
     let a = s .args in
     let at : AtEntry (a .tree .now) (a .bitfield .now) (a .content .now) (a .n) (a .size) (loop .i .0) (loop .start .0) =
     walking-entry nodeHash (a .tree .now) (a .bitfield .now) (a .content .now) (a .n) (a .size) (a .from .0) (a .end .0) (loop .i .0) (loop .start .0) (loop .inv) (s .pre .0) (s .pre .1)
@@ -75,15 +78,17 @@ start-behind-requires c κs =
 
 loop-again : tie.Need-loop-again Inv-loop μ-loop
 loop-again c =
-    let at-entry-right = c .before .before .before in
+    let at-start-behind = c .before in
+    let branch3 = at-start-behind .before in
+    let at-entry-right = branch3 .before in
     let branch2 = at-entry-right .before in
     let looped = branch2 .before .before .before in
     let s = looped .before .before .before .before .before .before .before .before in
     let loop = looped .loop in
-    let start-behind = c .before .start-behind in
+    let start-behind = at-start-behind .start-behind in
     let if2 = branch2 .if2 in
     let entry-right = at-entry-right .entry-right in
-    let if3 = c .before .before .if3 in
+    let if3 = branch3 .if3 in
     let a = s .args in
     walking-next nodeHash (a .tree .now) (a .bitfield .now) (a .content .now) (a .n) (a .size) (a .from .0) (a .end .0) (loop .i .0) (loop .start .0) (loop .inv)
     (start-behind .result .0) (if2 .taken) (sym (entry-right .ensures) ∙ not-false _ (if3 .left)) (start-behind .ensures)

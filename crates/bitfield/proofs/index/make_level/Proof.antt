@@ -29,36 +29,44 @@ loop-holds c = (search needs, omega arith, level-zero (c .args .out .now) (c .ar
 
 sub-combined-of : tie.Need-sub-combined-of Inv-loop μ-loop
 sub-combined-of c =
+    let looped = c .before in
+    let start = looped .before in
     omega (
       arith,
-      within (c .before .before .args .half) (c .before .before .args .count) (c .before .loop .k) (c .before .loop .p) (c .before .before .pre .0)
-          (c .before .before .pre .1) (c .loop-test .taken) (c .before .loop .inv .1),
+      within (start .args .half) (start .args .count) (looped .loop .k) (looped .loop .p) (start .pre .0)
+          (start .pre .1) (c .loop-test .taken) (looped .loop .inv .1),
     )
 
 element-copy-out-combined-of : tie.Need-element-copy-out-combined-of Inv-loop μ-loop
 element-copy-out-combined-of c =
+    let looped = c .before in
+    let start = looped .before in
     omega (
       arith,
-      within (c .before .before .args .half) (c .before .before .args .count) (c .before .loop .k) (c .before .loop .p) (c .before .before .pre .0)
-          (c .before .before .pre .1) (c .loop-test .taken) (c .before .loop .inv .1),
+      within (start .args .half) (start .args .count) (looped .loop .k) (looped .loop .p) (start .pre .0)
+          (start .pre .1) (c .loop-test .taken) (looped .loop .inv .1),
     )
 
 add-combined-of : tie.Need-add-combined-of Inv-loop μ-loop
 add-combined-of c =
-    let start = c .before .before .before in
+    let tested = c .before in
+    let looped = tested .before in
+    let start = looped .before in
     omega (
       arith,
-      within (start .args .half) (start .args .count) (c .before .before .loop .k) (c .before .before .loop .p) (start .pre .0) (start .pre .1)
-          (c .before .loop-test .taken) (c .before .before .loop .inv .1),
+      within (start .args .half) (start .args .count) (looped .loop .k) (looped .loop .p) (start .pre .0) (start .pre .1)
+          (tested .loop-test .taken) (looped .loop .inv .1),
     )
 
 element-copy-out-combined-of-2 : tie.Need-element-copy-out-combined-of-2 Inv-loop μ-loop
 element-copy-out-combined-of-2 c =
-    let start = c .before .before .before in
+    let tested = c .before in
+    let looped = tested .before in
+    let start = looped .before in
     omega (
       arith,
-      within (start .args .half) (start .args .count) (c .before .before .loop .k) (c .before .before .loop .p) (start .pre .0) (start .pre .1)
-          (c .before .loop-test .taken) (c .before .before .loop .inv .1),
+      within (start .args .half) (start .args .count) (looped .loop .k) (looped .loop .p) (start .pre .0) (start .pre .1)
+          (tested .loop-test .taken) (looped .loop .inv .1),
     )
 
 element-write-out : tie.Need-element-write-out Inv-loop μ-loop
@@ -84,12 +92,13 @@ add-p c =
 
 loop-again : tie.Need-loop-again Inv-loop μ-loop
 loop-again c =
-    let at-loop = c .before .before .before .before in
+    let tested = c .before .before .before in
+    let at-loop = tested .before in
     let start = at-loop .before in
     let k = at-loop .loop .k in
     let p = at-loop .loop .p in
     let half = start .args .half in
-    let w = within half (start .args .count) k p (start .pre .0) (start .pre .1) (c .before .before .before .loop-test .taken) (at-loop .loop .inv .1) in (
+    let w = within half (start .args .count) k p (start .pre .0) (start .pre .1) (tested .loop-test .taken) (at-loop .loop .inv .1) in (
       search needs,
       next-place half k p (at-loop .loop .inv .1),
       ap (λ (v : ℕ). set (at-loop .loop .out) p v) (c .combined-of .ensures)

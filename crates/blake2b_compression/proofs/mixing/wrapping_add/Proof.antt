@@ -6,8 +6,10 @@ use Rattle.blake2b_compression.proofs.mixing.wrapping_add.Tie as tie
 
 returns : tie.Need-returns
 returns c =
-    let at-sum2 = c .before .before .before in
-    rowed (at-sum2 .sum2 .ensures) (c .before .before .sum22 .ensures) (c .before .sum23 .ensures) (c .sum24 .ensures)
+    let at-sum23 = c .before in
+    let at-sum22 = at-sum23 .before in
+    let at-sum2 = at-sum22 .before in
+    rowed (at-sum2 .sum2 .ensures) (at-sum22 .sum22 .ensures) (at-sum23 .sum23 .ensures) (c .sum24 .ensures)
 
 pub wrapping-add-spec : {M : Type 1} → statement M
 wrapping-add-spec =

@@ -6,8 +6,10 @@ use Rattle.blake2b_compression.proofs.mixing.wrapping_add3.Tie as tie
 
 returns : tie.Need-returns
 returns c =
-    let at-sum3 = c .before .before .before in
-    rowed (at-sum3 .sum3 .ensures) (c .before .before .sum32 .ensures) (c .before .sum33 .ensures) (c .sum34 .ensures)
+    let at-sum33 = c .before in
+    let at-sum32 = at-sum33 .before in
+    let at-sum3 = at-sum32 .before in
+    rowed (at-sum3 .sum3 .ensures) (at-sum32 .sum32 .ensures) (at-sum33 .sum33 .ensures) (c .sum34 .ensures)
 
 pub wrapping-add3-spec : {M : Type 1} → statement M
 wrapping-add3-spec =

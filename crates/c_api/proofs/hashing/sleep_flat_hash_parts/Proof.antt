@@ -2,7 +2,7 @@
 use lib.ListN.{length}
 use native.Mathlib.Omega.{arith}
 use borrow.Author.Needs.{needs}
-use Rattle.refusals.specs.Verdict.{none}
+use Rattle.answer_types.specs.Verdict.{none}
 use Rattle.blake2b.proofs.Calls.{key-too-long, all-right}
 use Rattle.c_encoding.proofs.Laws.{done-by, refused-by}
 use Rattle.c_api.proofs.hashing.sleep_flat_hash_parts.Statement.{statement}
@@ -18,7 +18,8 @@ returns c =
 returns-2 : tie.Need-returns-2
 returns-2 c =
     let f = c .before in
-    let a = f .before .before .before .before .args in
+    let start = f .before .before .before .before in
+    let a = start .args in
     let e = all-right 32 (length (a .key .now)) (omega arith) (omega arith) (omega (arith, f .if1 .left)) in
     done-by _ _ _ _ e (c .hash-parts .ensures)
 

@@ -12,7 +12,8 @@ use Rattle.c_api.proofs.lookups.sleep_flat_read.Tie as tie
 give-part-requires : tie.Need-give-part-requires
 give-part-requires c κs from end e =
     let called = c .before in
-    let a = called .before .before .before .before .before .args in
+    let start = called .before .before .before .before .before in
+    let a = start .args in
     lying nodeHash (registerOf (a .tree .now) (a .signatures .now) (a .bitfield .now) (a .content .now) (a .n) (a .s) (a .size)) (a .chunk) from end
     (sym e ∙ called .verify .ensures) .ordered
 

@@ -6,9 +6,11 @@ use Rattle.c_api.proofs.metadata.flat.Tie as tie
 
 returns : tie.Need-returns
 returns c =
-    let start = c .before .before .before .before in
+    let at-flat-node = c .before in
+    let at-encode = at-flat-node .before in
+    let start = at-encode .before .before in
     let read = start .args .read in
-    node-told _ _ (read .answer) _ (read .node) (c .answered .ensures) (c .before .before .encode .ensures) (c .before .flat-node .ensures)
+    node-told _ _ (read .answer) _ (read .node) (c .answered .ensures) (at-encode .encode .ensures) (at-flat-node .flat-node .ensures)
 
 pub flat-spec : {M : Type 1} → statement M
 flat-spec = tie.close (tie.spec (λ c κs. search needs) (λ c κs. search needs) (λ c κs. search needs) returns)

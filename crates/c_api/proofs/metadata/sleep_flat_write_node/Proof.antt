@@ -8,8 +8,10 @@ returns : tie.Need-returns
 returns c =
     let made = c .before .before .before .before in
     let fields = made .before .before in
-    let a = fields .before .before .before .before .args in
-    writes-node (a .bytes .now) (a .node .now) _ _ (fields .before .flat-at .ensures) (fields .node-in .ensures) _ _ _ (made .write-node .ensures) _ _ _
+    let at-flat-at = fields .before in
+    let start = at-flat-at .before .before .before in
+    let a = start .args in
+    writes-node (a .bytes .now) (a .node .now) _ _ (at-flat-at .flat-at .ensures) (fields .node-in .ensures) _ _ _ (made .write-node .ensures) _ _ _
     (c .give-length .ensures)
 
 pub sleep-flat-write-node-spec : {M : Type 1} → statement M

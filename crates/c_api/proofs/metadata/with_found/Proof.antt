@@ -2,7 +2,7 @@
 use Prim.Native.Nat.{ℕ}
 use mathlib.Core.Path.{ap}
 use mathlib.Core.List.{List, _∷_}
-use Rattle.refusals.specs.Meaning.{said}
+use Rattle.answer_types.specs.Meaning.{said}
 use Rattle.c_encoding.proofs.Laws.{three-of}
 use borrow.Author.Needs.{needs}
 use Rattle.c_api.proofs.metadata.with_found.Statement.{statement}

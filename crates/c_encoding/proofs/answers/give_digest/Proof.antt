@@ -9,7 +9,9 @@ returns : tie.Need-returns
 returns c = on-done _ _ refl _ _ _ (c .enum-told .given .1) refl
 
 returns-2 : tie.Need-returns-2
-returns-2 c = on-refused _ _ refl _ _ (c .before .answer .given .0 .0) (c .before .answer .given .1)
+returns-2 c =
+    let at-answer = c .before in
+    on-refused _ _ refl _ _ (at-answer .answer .given .0 .0) (at-answer .answer .given .1)
 
 pub give-digest-spec : {M : Type 1} → statement M
 give-digest-spec =

@@ -5,7 +5,9 @@ use Rattle.c_encoding.proofs.answers.give_hash.Statement.{statement}
 use Rattle.c_encoding.proofs.answers.give_hash.Tie as tie
 
 returns-2 : tie.Need-returns-2
-returns-2 c = kept _ _ (c .before .before .answer .given .0 .0) _ _ (c .before .before .answer .given .1) (c .refused .ensures)
+returns-2 c =
+    let at-answer = c .before .before in
+    kept _ _ (at-answer .answer .given .0 .0) _ _ (at-answer .answer .given .1) (c .refused .ensures)
 
 pub give-hash-spec : {M : Type 1} → statement M
 give-hash-spec =

@@ -10,7 +10,8 @@ use Rattle.c_encoding.proofs.lookups.give_part.Tie as tie
 sub-t7 : tie.Need-sub-t7
 sub-t7 c =
     let told = c .before .before .before in
-    told .before .before .pre _ _ (ap verifiedOf (told .found2 .given .1))
+    let entered = told .before .before in
+    entered .pre _ _ (ap verifiedOf (told .found2 .given .1))
 
 returns : tie.Need-returns
 returns c =

@@ -7,13 +7,15 @@ use Rattle.compare.proofs.messages.same_chunk.Tie as tie
 
 returns : tie.Need-returns
 returns c =
-    let at-stored-size2 = c .before .before .before in
+    let at-bytes-from2 = c .before in
+    let at-bytes-from = at-bytes-from2 .before in
+    let at-stored-size2 = at-bytes-from .before in
     let at-stored-size = at-stored-size2 .before in
     let s = at-stored-size .before .before .before .before .before in
     let same = c .same in
-    let bytes-from = c .before .before .bytes-from in
+    let bytes-from = at-bytes-from .bytes-from in
     let stored-size = at-stored-size .stored-size in
-    let bytes-from2 = c .before .bytes-from2 in
+    let bytes-from2 = at-bytes-from2 .bytes-from2 in
     let stored-size2 = at-stored-size2 .stored-size2 in
     let a = s .args in
     same .ensures

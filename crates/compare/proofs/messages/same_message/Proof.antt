@@ -12,9 +12,10 @@ same-chunk-requires c κs =
 
 returns : tie.Need-returns
 returns c =
-    let s = c .before .before .before .before .before .before .before in
+    let branch1 = c .before in
+    let s = branch1 .before .before .before .before .before .before in
     let same-chunk = c .same-chunk in
-    let if1 = c .before .if1 in
+    let if1 = branch1 .if1 in
     let a = s .args in
     leaf-messages (a .tree .now) (a .content .now) (a .tree2 .now) (a .content2 .now) (a .n) (a .i .0) (a .start .0) (a .start2 .0) (s .pre .1) (s .pre .2) (same-chunk .result)
     (omega (arith, s .good .1 .0 .1)) (omega (arith, s .good .1 .1 .1 .1 .0 .1)) (if1 .taken) (same-chunk .ensures)
@@ -28,13 +29,14 @@ same-parent-requires c κs =
 
 returns-2 : tie.Need-returns-2
 returns-2 c =
-    let at-shared-slice-known3 = c .before .before .before .before in
+    let branch1 = c .before in
+    let at-shared-slice-known3 = branch1 .before .before .before in
     let at-shared-slice-known = at-shared-slice-known3 .before .before in
     let s = at-shared-slice-known .before in
     let same-parent = c .same-parent in
     let shared-slice-known = at-shared-slice-known .shared-slice-known in
     let shared-slice-known3 = at-shared-slice-known3 .shared-slice-known3 in
-    let if1 = c .before .if1 in
+    let if1 = branch1 .if1 in
     let a = s .args in
     parent-messages (a .tree .now) (a .content .now) (a .tree2 .now) (a .content2 .now) (a .n) (a .i .0) (a .start .0) (a .start2 .0) (s .pre .1) (s .pre .2) (same-parent .result)
     (λ j. shared-slice-known .given j .fits) (λ j. shared-slice-known3 .given j .fits) (if1 .left) (s .pre .0) (same-parent .ensures)

@@ -8,9 +8,11 @@ use Rattle.compare.proofs.messages.same_parent.Tie as tie
 
 returns : tie.Need-returns
 returns c =
-    let s = c .before .before .before .before .before in
-    let sum-below = c .before .before .sum-below in
-    let sum-below2 = c .before .sum-below2 in
+    let at-sum-below2 = c .before in
+    let at-sum-below = at-sum-below2 .before in
+    let s = at-sum-below .before .before .before in
+    let sum-below = at-sum-below .sum-below in
+    let sum-below2 = at-sum-below2 .sum-below2 in
     let if1 = c .if1 in
     let a = s .args in
     parent-sums (a .tree .now) (a .tree2 .now) (a .i .0) (sum-below .result) (sum-below2 .result) (sum-below .ensures) (sum-below2 .ensures) (if1 .taken)
@@ -23,15 +25,17 @@ same-hash-requires c κs =
 
 returns-2 : tie.Need-returns-2
 returns-2 c =
-    let branch1 = c .before .before .before in
+    let at-same-hash = c .before in
+    let at-left-child = at-same-hash .before in
+    let branch1 = at-left-child .before in
     let at-sum-below2 = branch1 .before in
     let at-sum-below = at-sum-below2 .before in
     let s = at-sum-below .before .before .before in
     let sum-below = at-sum-below .sum-below in
     let sum-below2 = at-sum-below2 .sum-below2 in
     let if1 = branch1 .if1 in
-    let left-child = c .before .before .left-child in
-    let same-hash = c .before .same-hash in
+    let left-child = at-left-child .left-child in
+    let same-hash = at-same-hash .same-hash in
     let if2 = c .if2 in
     let a = s .args in
     parent-left (a .tree .now) (a .tree2 .now) (a .i .0) (sum-below .result) (sum-below2 .result) (sum-below .ensures) (sum-below2 .ensures) (if1 .left)
@@ -45,7 +49,9 @@ same-hash-requires-2 c κs =
 
 returns-3 : tie.Need-returns-3
 returns-3 c =
-    let at-same-hash = c .before .before .before in
+    let at-right-child = c .before in
+    let branch2 = at-right-child .before in
+    let at-same-hash = branch2 .before in
     let at-left-child = at-same-hash .before in
     let branch1 = at-left-child .before in
     let at-sum-below2 = branch1 .before in
@@ -56,8 +62,8 @@ returns-3 c =
     let if1 = branch1 .if1 in
     let left-child = at-left-child .left-child in
     let same-hash = at-same-hash .same-hash in
-    let if2 = c .before .before .if2 in
-    let right-child = c .before .right-child in
+    let if2 = branch2 .if2 in
+    let right-child = at-right-child .right-child in
     let same-hash2 = c .same-hash2 in
     let a = s .args in
     parent-right (a .tree .now) (a .tree2 .now) (a .i .0) (sum-below .result) (sum-below2 .result) (sum-below .ensures) (sum-below2 .ensures) (if1 .left)

@@ -28,8 +28,9 @@ add-end2 c =
 
 part-same-end : tie.Need-part-same-end
 part-same-end c =
-    let start = c .before .before .before .before .before .before .before in
-    let a = start .args in omega (arith, c .before .before .root-count .ensures, length-roots-le (a .n) (start .pre .0 .count))
+    let at-root-count = c .before .before in
+    let start = at-root-count .before .before .before .before .before in
+    let a = start .args in omega (arith, at-root-count .root-count .ensures, length-roots-le (a .n) (start .pre .0 .count))
 
 part-same-end-2 : tie.Need-part-same-end-2
 part-same-end-2 c =

@@ -21,14 +21,16 @@ stored-size-requires-2 c κs =
 
 returns : tie.Need-returns
 returns c =
-    let at-stored-size = c .before .before .before in
+    let at-stored-size2 = c .before in
+    let at-right-child = at-stored-size2 .before in
+    let at-stored-size = at-right-child .before in
     let at-left-child = at-stored-size .before in
     let s = at-left-child .before .before in
     let wrapping-add-u64 = c .wrapping-add-u64 in
     let stored-size = at-stored-size .stored-size in
     let left-child = at-left-child .left-child in
-    let stored-size2 = c .before .stored-size2 in
-    let right-child = c .before .before .right-child in
+    let stored-size2 = at-stored-size2 .stored-size2 in
+    let right-child = at-right-child .right-child in
     let size = storedSize (s .args .tree .now) in
     wrapping-add-u64 .ensures
     ∙ ap₂ (λ (x y : ℕ). (x + y) % 2 ^ 64) (stored-size .ensures ∙ ap size (left-child .ensures)) (stored-size2 .ensures ∙ ap size (right-child .ensures))

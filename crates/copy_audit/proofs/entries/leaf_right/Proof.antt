@@ -21,9 +21,10 @@ leaf-right-requires c κs =
 
 returns : tie.Need-returns
 returns c =
-    let start = c .before .before .before .before .before in
+    let at-is-held = c .before in
+    let start = at-is-held .before .before .before .before in
     let a = start .args in
-    c .leaf-right .ensures ∙ ap (λ (h : Bool). leafFrom nodeHash (a .tree .now) (a .content .now) (a .size) h (2 * a .c .0) (a .start .0)) (c .before .is-held .ensures)
+    c .leaf-right .ensures ∙ ap (λ (h : Bool). leafFrom nodeHash (a .tree .now) (a .content .now) (a .size) h (2 * a .c .0) (a .start .0)) (at-is-held .is-held .ensures)
 
 pub leaf-right-spec : {M : Type 1} → statement M
 leaf-right-spec = tie.close (tie.spec is-held-requires leaf-right-requires returns)

@@ -4,13 +4,13 @@ use borrow.Author.Needs.{needs}
 use native.Mathlib.Omega.{arith}
 use Rattle.blake2b.specs.Hash.{nodeHash}
 use Rattle.copy_checks.specs.Copy.{Copy, copyOf}
-use Rattle.copy_checks.specs.Meaning.{foundOf}
+use Rattle.lookup.specs.Unknown.{firstEntry}
 use Rattle.copy_audit.proofs.Judged.{Seeking, seeking-none, seeking-next, seeking-all}
 use Rattle.copy_audit.proofs.entries.wrong_between.Statement.{statement}
 use Rattle.copy_audit.proofs.entries.wrong_between.Tie as tie
 
 abbrev Inv-loop : tie.InvT-loop
-Inv-loop tree bitfield content n size end found₀ i₀ found i = Seeking nodeHash (copyOf tree bitfield content n size) (i₀ .0) (end .0) (i .0) (foundOf found)
+Inv-loop tree bitfield content n size end found₀ i₀ found i = Seeking nodeHash (copyOf tree bitfield content n size) (i₀ .0) (end .0) (i .0) (firstEntry found)
 
 abbrev μ-loop : tie.MeasureT-loop
 μ-loop tree bitfield content n size end found₀ i₀ found i = end .0 - i .0
@@ -31,15 +31,17 @@ wrong-by-requires c κs =
 
 loop-again : tie.Need-loop-again Inv-loop μ-loop
 loop-again c =
-    let branch1 = c .before .before .before in
+    let at-lower-of = c .before in
+    let at-wrong-by = at-lower-of .before in
+    let branch1 = at-wrong-by .before in
     let looped = branch1 .before .before .before in
     let s = looped .before .before .before .before in
     let loop = looped .loop in
-    let wrong-by = c .before .before .wrong-by in
-    let lower-of = c .before .lower-of in
+    let wrong-by = at-wrong-by .wrong-by in
+    let lower-of = at-lower-of .lower-of in
     let if1 = branch1 .if1 in
-    seeking-next nodeHash (given s) (s .args .from .0) (s .args .end .0) (loop .i .0) (foundOf (loop .found)) (loop .inv) (foundOf (wrong-by .result))
-    (foundOf (lower-of .result)) (if1 .taken) (wrong-by .ensures) (lower-of .ensures)
+    seeking-next nodeHash (given s) (s .args .from .0) (s .args .end .0) (loop .i .0) (firstEntry (loop .found)) (loop .inv) (firstEntry (wrong-by .result))
+    (firstEntry (lower-of .result)) (if1 .taken) (wrong-by .ensures) (lower-of .ensures)
 
 returns : tie.Need-returns Inv-loop μ-loop
 returns c =
@@ -47,7 +49,7 @@ returns c =
     let s = looped .before .before .before .before in
     let loop = looped .loop in
     let if1 = c .if1 in
-    seeking-all nodeHash (given s) (s .args .from .0) (s .args .end .0) (loop .i .0) (foundOf (loop .found)) (loop .inv) (if1 .left)
+    seeking-all nodeHash (given s) (s .args .from .0) (s .args .end .0) (loop .i .0) (firstEntry (loop .found)) (loop .inv) (if1 .left)
 
 pub wrong-between-spec : {M : Type 1} → statement M
 wrong-between-spec = tie.close (tie.spec Inv-loop μ-loop loop-holds wrong-by-requires (λ c κs. search needs) (λ c. search needs) (λ c. search needs) loop-again returns)

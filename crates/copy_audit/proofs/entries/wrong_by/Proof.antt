@@ -6,7 +6,7 @@ use Rattle.blake2b.specs.Hash.{nodeHash}
 use Rattle.audit.proofs.Bytes.{tree-bit}
 use Rattle.audit.proofs.Entries.{entry-in}
 use Rattle.copy_checks.specs.Copy.{Copy, copyOf}
-use Rattle.copy_checks.specs.Meaning.{foundOf}
+use Rattle.lookup.specs.Unknown.{firstEntry}
 use Rattle.copy_audit.proofs.Judged.{leaf-chunk, node-at, family-at, by-hole, by-unknown, by-leaf, by-parent}
 use Rattle.copy_audit.proofs.entries.wrong_by.Statement.{statement}
 use Rattle.copy_audit.proofs.entries.wrong_by.Tie as tie
@@ -26,19 +26,23 @@ hole-right-requires c κs =
 
 returns : tie.Need-returns
 returns c =
-    let at-is-filled = c .before .before .before in
+    let at-hole-right = c .before in
+    let branch1 = at-hole-right .before in
+    let at-is-filled = branch1 .before in
     let s = at-is-filled .before .before .before .before in
-    by-hole nodeHash (given s) (s .args .i .0) (c .before .hole-right .result) (foundOf (c .wrong-unless .result))
-    (sym (at-is-filled .is-filled .ensures) ∙ not-true _ (c .before .before .if1 .taken)) (c .before .hole-right .ensures) (c .wrong-unless .ensures)
+    by-hole nodeHash (given s) (s .args .i .0) (at-hole-right .hole-right .result) (firstEntry (c .wrong-unless .result))
+    (sym (at-is-filled .is-filled .ensures) ∙ not-true _ (branch1 .if1 .taken)) (at-hole-right .hole-right .ensures) (c .wrong-unless .ensures)
 
 is-known-requires : tie.Need-is-known-requires
 is-known-requires c κs =
-    let s = c .before .before .before .before .before in
-    tree-bit (s .args .bitfield .now) (s .args .n) (s .args .i .0) (s .pre .0 .field) (sym (c .before .is-filled .ensures) ∙ not-false _ (c .if1 .left))
+    let at-is-filled = c .before in
+    let s = at-is-filled .before .before .before .before in
+    tree-bit (s .args .bitfield .now) (s .args .n) (s .args .i .0) (s .pre .0 .field) (sym (at-is-filled .is-filled .ensures) ∙ not-false _ (c .if1 .left))
 
 unknown-right-requires : tie.Need-unknown-right-requires
 unknown-right-requires c κs =
-    let s = c .before .before .before .before .before .before .before in (
+    let start = c .before .before .before .before .before .before .before in
+    let s = start in (
       entry-in (s .args .tree .now) (s .args .n) (s .args .i .0) (s .pre .0 .nodes) (s .pre .1),
       node-at (s .args .tree .now) (s .args .bitfield .now) (s .args .content .now)
           (s .args .n) (s .args .size) (s .pre .0) (s .args .i .0) (s .pre .1),
@@ -46,27 +50,33 @@ unknown-right-requires c κs =
 
 returns-2 : tie.Need-returns-2
 returns-2 c =
-    let at-is-known = c .before .before .before in
+    let at-unknown-right = c .before in
+    let branch2 = at-unknown-right .before in
+    let at-is-known = branch2 .before in
     let branch1 = at-is-known .before in
     let at-is-filled = branch1 .before in
     let s = at-is-filled .before .before .before .before in
-    by-unknown nodeHash (given s) (s .args .i .0) (c .before .unknown-right .result) (foundOf (c .wrong-unless2 .result)) (sym (at-is-filled .is-filled .ensures) ∙ not-false _ (branch1 .if1 .left))
-    (sym (at-is-known .is-known .ensures) ∙ not-true _ (c .before .before .if2 .taken)) (c .before .unknown-right .ensures) (c .wrong-unless2 .ensures)
+    by-unknown nodeHash (given s) (s .args .i .0) (at-unknown-right .unknown-right .result) (firstEntry (c .wrong-unless2 .result))
+    (sym (at-is-filled .is-filled .ensures) ∙ not-false _ (branch1 .if1 .left))
+    (sym (at-is-known .is-known .ensures) ∙ not-true _ (branch2 .if2 .taken)) (at-unknown-right .unknown-right .ensures) (c .wrong-unless2 .ensures)
 
 wrong-by-leaf-requires : tie.Need-wrong-by-leaf-requires
 wrong-by-leaf-requires c κs =
-    let s = c .before .before .before .before .before .before .before .before .before .before in
-    record { files = s .pre .0; chunk = leaf-chunk (s .args .n) (s .args .i .0) (c .chunk-of-leaf .result .0) (s .pre .1) (c .before .if3 .taken) (c .chunk-of-leaf .ensures) }
+    let branch3 = c .before in
+    let s = branch3 .before .before .before .before .before .before .before .before .before in
+    record { files = s .pre .0; chunk = leaf-chunk (s .args .n) (s .args .i .0) (c .chunk-of-leaf .result .0) (s .pre .1) (branch3 .if3 .taken) (c .chunk-of-leaf .ensures) }
 
 returns-3 : tie.Need-returns-3
 returns-3 c =
-    let branch2 = c .before .before .before .before in
+    let at-chunk-of-leaf = c .before in
+    let branch3 = at-chunk-of-leaf .before in
+    let branch2 = branch3 .before .before in
     let at-is-known = branch2 .before in
     let branch1 = at-is-known .before in
     let at-is-filled = branch1 .before in
     let s = at-is-filled .before .before .before .before in
     by-leaf nodeHash (given s) (s .args .i .0) (sym (at-is-filled .is-filled .ensures) ∙ not-false _ (branch1 .if1 .left)) (sym (at-is-known .is-known .ensures) ∙ not-false _ (branch2 .if2 .left))
-    (c .before .chunk-of-leaf .result .0) (foundOf (c .wrong-by-leaf .result)) (c .before .before .if3 .taken) (c .before .chunk-of-leaf .ensures) (c .wrong-by-leaf .ensures)
+    (at-chunk-of-leaf .chunk-of-leaf .result .0) (firstEntry (c .wrong-by-leaf .result)) (branch3 .if3 .taken) (at-chunk-of-leaf .chunk-of-leaf .ensures) (c .wrong-by-leaf .ensures)
 
 parent-right-requires : tie.Need-parent-right-requires
 parent-right-requires c κs =
@@ -78,13 +88,15 @@ parent-right-requires c κs =
 
 returns-4 : tie.Need-returns-4
 returns-4 c =
-    let branch2 = c .before .before .before .before in
+    let at-parent-right = c .before in
+    let branch3 = at-parent-right .before in
+    let branch2 = branch3 .before .before in
     let at-is-known = branch2 .before in
     let branch1 = at-is-known .before in
     let at-is-filled = branch1 .before in
     let s = at-is-filled .before .before .before .before in
     by-parent nodeHash (given s) (s .args .i .0) (sym (at-is-filled .is-filled .ensures) ∙ not-false _ (branch1 .if1 .left)) (sym (at-is-known .is-known .ensures) ∙ not-false _ (branch2 .if2 .left))
-    (c .before .parent-right .result) (foundOf (c .wrong-unless3 .result)) (c .before .before .if3 .left) (c .before .parent-right .ensures) (c .wrong-unless3 .ensures)
+    (at-parent-right .parent-right .result) (firstEntry (c .wrong-unless3 .result)) (branch3 .if3 .left) (at-parent-right .parent-right .ensures) (c .wrong-unless3 .ensures)
 
 pub wrong-by-spec : {M : Type 1} → statement M
 wrong-by-spec =

@@ -1,10 +1,10 @@
 -- `copy_lookup::places::place` meets its contract: the checks of a copy, and what comes behind them. Assumes nothing.
 use Prim.Native.Nat.{_^_, _<_}
-use mathlib.Core.Path.{sym, ap, _∙_}
+use mathlib.Core.Path.{sym, _∙_}
 use native.Mathlib.Omega.{arith}
-use Rattle.refusals.specs.Meaning.{said, spotOf}
+use Rattle.answer_types.specs.Meaning.{said}
 use Rattle.copy_checks.specs.Copy.{Copy, copyOf}
-use Rattle.copy_lookup.proofs.Calls.{copy-searched, place-refused, place-passed}
+use Rattle.copy_lookup.proofs.Calls.{copy-searched, place-by}
 use borrow.Author.Needs.{needs}
 use Rattle.copy_lookup.proofs.places.place.Statement.{statement}
 use Rattle.copy_lookup.proofs.places.place.Tie as tie
@@ -12,26 +12,17 @@ use Rattle.copy_lookup.proofs.places.place.Tie as tie
 abbrev given : (c : tie.Start) → Copy
 given c = copyOf (c .args .tree .now) (c .args .bitfield .now) (c .args .content .now) (c .args .n) (c .args .size)
 
-place-in-requires : tie.Need-place-in-requires
-place-in-requires c κs =
-    let s = c .before .before .before .before .before .before in
-    let h : s .args .size < 2 ^ 64 = omega arith in
-    let e = sym (ap said (c .enum-told .given .1)) ∙ c .before .before .judge .ensures in
-    copy-searched (given s) e h .searched
+place-behind-requires : tie.Need-place-behind-requires
+place-behind-requires c κs =
+    let start = c .before .before .before .before in
+    let h : start .args .size < 2 ^ 64 = omega arith in
+    λ e. copy-searched (given start) (sym e ∙ c .judge .ensures) h .searched
 
 returns : tie.Need-returns
 returns c =
-    let at-judge = c .before .before .before in
-    let s = at-judge .before .before .before .before in
-    let q = c .before .refusal .given in
-    place-refused (given s) (s .args .chunk .0) (q .0 .0 .number) (spotOf (q .0 .0 .place)) (sym (ap said (q .1)) ∙ at-judge .judge .ensures)
-
-returns-2 : tie.Need-returns-2
-returns-2 c =
-    let at-judge = c .before .before .before in
-    let s = at-judge .before .before .before .before in
-    c .place-in .ensures ∙ place-passed (given s) (s .args .chunk .0) (sym (ap said (c .before .enum-told .given .1)) ∙ at-judge .judge .ensures)
+    let at-judge = c .before in
+    let start = at-judge .before .before .before .before in
+    c .place-behind .ensures ∙ place-by (given start) (said (at-judge .judge .result)) (at-judge .judge .ensures) (start .args .chunk .0)
 
 pub place-spec : {M : Type 1} → statement M
-place-spec =
-    tie.close (tie.spec (λ c κs. search needs) (λ c. search needs) (λ c. search needs) place-in-requires returns returns-2)
+place-spec = tie.close (tie.spec (λ c κs. search needs) place-behind-requires returns)

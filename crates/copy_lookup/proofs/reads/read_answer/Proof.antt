@@ -1,10 +1,9 @@
 -- `copy_lookup::reads::read_answer` meets its contract. Assumes nothing.
-use mathlib.Core.Path.{sym, ap, _∙_}
-use Rattle.refusals.specs.Meaning.{spotOf}
+use mathlib.Core.Path.{_∙_}
 use Rattle.blake2b.specs.Hash.{nodeHash}
 use Rattle.lookup.specs.Meaning.{verifiedOf}
 use Rattle.copy_checks.specs.Copy.{Copy, copyOf}
-use Rattle.copy_lookup.proofs.Calls.{copy-lying, copy-nothing}
+use Rattle.copy_lookup.proofs.Calls.{read-says}
 use borrow.Author.Needs.{needs}
 use Rattle.copy_lookup.proofs.reads.read_answer.Statement.{statement}
 use Rattle.copy_lookup.proofs.reads.read_answer.Tie as tie
@@ -14,16 +13,9 @@ given c = copyOf (c .args .tree .now) (c .args .bitfield .now) (c .args .content
 
 returns : tie.Need-returns
 returns c =
-    let start = c .before .before .before .before .before .before in
-    let k = c .enum-told .given in
-    copy-lying nodeHash (given start) (start .args .chunk .0) (k .0 .0 .0) (k .0 .1 .0 .0) (sym (ap verifiedOf (k .1)) ∙ c .before .before .verify .ensures) .verdict
-
-returns-2 : tie.Need-returns-2
-returns-2 c =
-    let at-verify = c .before .before .before in
+    let at-verify = c .before in
     let start = at-verify .before .before .before .before in
-    let k = c .before .refusal .given in
-    copy-nothing nodeHash (given start) (start .args .chunk .0) (k .0 .0 .number) (spotOf (k .0 .0 .place)) (sym (ap verifiedOf (k .1)) ∙ at-verify .verify .ensures) .0
+    c .answer-of .ensures ∙ read-says nodeHash (given start) (start .args .chunk .0) (verifiedOf (at-verify .verify .result)) (at-verify .verify .ensures)
 
 pub read-answer-spec : {M : Type 1} → statement M
-read-answer-spec = tie.close (tie.spec (λ c κs. search needs) (λ c. search needs) (λ c. search needs) returns returns-2)
+read-answer-spec = tie.close (tie.spec (λ c κs. search needs) (λ c κs. search needs) returns)

@@ -18,9 +18,10 @@ verify-placed-requires c κs =
 
 returns : tie.Need-returns
 returns c =
-    let start = c .before .before .before .before .before in
+    let at-held-place = c .before in
+    let start = at-held-place .before .before .before .before in
     c .verify-placed .ensures
-    ∙ copy-verified nodeHash (given start) (start .args .chunk .0) (placedOf (c .before .held-place .result)) (c .before .held-place .ensures)
+    ∙ copy-verified nodeHash (given start) (start .args .chunk .0) (placedOf (at-held-place .held-place .result)) (at-held-place .held-place .ensures)
 
 pub verify-spec : {M : Type 1} → statement M
 verify-spec = tie.close (tie.spec (λ c κs. search needs) verify-placed-requires returns)

@@ -1,7 +1,7 @@
 -- The read's own refusal, or what is said of the bytes read.
 use mathlib.Core.Path.{sym, ap, _∙_}
-use Rattle.refusals.specs.Verdict.{tree}
-use Rattle.refusals.specs.Meaning.{spotOf}
+use Rattle.answer_types.specs.Verdict.{tree}
+use Rattle.answer_types.specs.Meaning.{spotOf}
 use Rattle.tree_index.specs.Tree.{index}
 use Rattle.blake2b.specs.Hash.{nodeHash}
 use Rattle.lookup.specs.Meaning.{verifiedOf}
@@ -17,47 +17,52 @@ use Rattle.copy_records.proofs.chunks.header_of.Tie as tie
 
 sub-header-at : tie.Need-sub-header-at
 sub-header-at c =
-    let at-verify = c .before .before .before in
+    let at-start = c .before in
+    let at-verify = at-start .before .before in
     let start = at-verify .before .before .before .before in
     let a = start .args in
-    let k = c .before .start .given in
+    let k = at-start .start .given in
     copy-lying nodeHash (copyOf (a .tree .now) (a .bitfield .now) (a .content .now) (a .n) (a .size)) (a .chunk .0) (k .0 .0 .0) (k .0 .1 .0 .0)
     (sym (ap verifiedOf (k .1)) ∙ at-verify .verify .ensures) .ordered
 
 part-header-at-start : tie.Need-part-header-at-start
 part-header-at-start c =
-    let at-verify = c .before .before .before in
+    let at-start = c .before in
+    let at-verify = at-start .before .before in
     let start = at-verify .before .before .before .before in
     let a = start .args in
-    let k = c .before .start .given in
+    let k = at-start .start .given in
     copy-lying nodeHash (copyOf (a .tree .now) (a .bitfield .now) (a .content .now) (a .n) (a .size)) (a .chunk .0) (k .0 .0 .0) (k .0 .1 .0 .0)
     (sym (ap verifiedOf (k .1)) ∙ at-verify .verify .ensures) .ordered
 
 part-header-at-end : tie.Need-part-header-at-end
 part-header-at-end c =
-    let at-verify = c .before .before .before in
+    let at-start = c .before in
+    let at-verify = at-start .before .before in
     let start = at-verify .before .before .before .before in
     let a = start .args in
-    let k = c .before .start .given in
+    let k = at-start .start .given in
     copy-lying nodeHash (copyOf (a .tree .now) (a .bitfield .now) (a .content .now) (a .n) (a .size)) (a .chunk .0) (k .0 .0 .0) (k .0 .1 .0 .0)
     (sym (ap verifiedOf (k .1)) ∙ at-verify .verify .ensures) .inside
 
 header-at-requires : tie.Need-header-at-requires
 header-at-requires c κs =
-    let at-verify = c .before .before .before .before in
+    let at-start = c .before .before in
+    let at-verify = at-start .before .before in
     let start = at-verify .before .before .before .before in
     let a = start .args in
-    let k = c .before .before .start .given in
+    let k = at-start .start .given in
     copy-small nodeHash (copyOf (a .tree .now) (a .bitfield .now) (a .content .now) (a .n) (a .size)) (a .chunk .0) (k .0 .0 .0) (k .0 .1 .0 .0)
     (sym (ap verifiedOf (k .1)) ∙ at-verify .verify .ensures)
 
 returns : tie.Need-returns
 returns c =
-    let at-verify = c .before .before .before in
+    let at-refusal = c .before in
+    let at-verify = at-refusal .before .before in
     let start = at-verify .before .before .before .before in
     let a = start .args in
     let d = copyOf (a .tree .now) (a .bitfield .now) (a .content .now) (a .n) (a .size) in
-    let k = c .before .refusal .given in
+    let k = at-refusal .refusal .given in
     let e = sym (ap verifiedOf (k .1)) ∙ at-verify .verify .ensures in
     read-refused (copyReadVerdict nodeHash d (a .chunk .0)) noPart (readHeader (tree (index 0 (a .chunk .0))) (copyReadPart nodeHash d (a .chunk .0))) (k .0 .0 .number) (spotOf (k .0 .0 .place))
     (copy-nothing nodeHash d (a .chunk .0) (k .0 .0 .number) (spotOf (k .0 .0 .place)) e .0)

@@ -1,8 +1,8 @@
 -- The read's own refusal, or what is said of the bytes read.
 use mathlib.Core.Path.{sym, ap, _∙_}
-use Rattle.refusals.specs.Verdict.{Verdict, tree}
-use Rattle.refusals.specs.Meaning.{spotOf}
-use Rattle.refusals.specs.declared.Answer.the-variants.{Refused}
+use Rattle.answer_types.specs.Verdict.{Verdict, tree}
+use Rattle.answer_types.specs.Meaning.{spotOf}
+use Rattle.answer_types.specs.declared.Answer.the-variants.{Refused}
 use Rattle.record_node.specs.declared.reading.Node.{Node}
 use Rattle.tree_index.specs.Tree.{index}
 use Rattle.blake2b.specs.Hash.{nodeHash}
@@ -19,50 +19,55 @@ use Rattle.copy_records.proofs.chunks.node_of.Tie as tie
 
 sub-node-at : tie.Need-sub-node-at
 sub-node-at c =
-    let at-verify = c .before .before .before in
+    let at-start = c .before in
+    let at-verify = at-start .before .before in
     let start = at-verify .before .before .before .before in
     let a = start .args in
-    let k = c .before .start .given in
+    let k = at-start .start .given in
     copy-lying nodeHash (copyOf (a .tree .now) (a .bitfield .now) (a .content .now) (a .n) (a .size)) (a .chunk .0) (k .0 .0 .0) (k .0 .1 .0 .0)
     (sym (ap verifiedOf (k .1)) ∙ at-verify .verify .ensures) .ordered
 
 part-node-at-start : tie.Need-part-node-at-start
 part-node-at-start c =
-    let at-verify = c .before .before .before in
+    let at-start = c .before in
+    let at-verify = at-start .before .before in
     let start = at-verify .before .before .before .before in
     let a = start .args in
-    let k = c .before .start .given in
+    let k = at-start .start .given in
     copy-lying nodeHash (copyOf (a .tree .now) (a .bitfield .now) (a .content .now) (a .n) (a .size)) (a .chunk .0) (k .0 .0 .0) (k .0 .1 .0 .0)
     (sym (ap verifiedOf (k .1)) ∙ at-verify .verify .ensures) .ordered
 
 part-node-at-end : tie.Need-part-node-at-end
 part-node-at-end c =
-    let at-verify = c .before .before .before in
+    let at-start = c .before in
+    let at-verify = at-start .before .before in
     let start = at-verify .before .before .before .before in
     let a = start .args in
-    let k = c .before .start .given in
+    let k = at-start .start .given in
     copy-lying nodeHash (copyOf (a .tree .now) (a .bitfield .now) (a .content .now) (a .n) (a .size)) (a .chunk .0) (k .0 .0 .0) (k .0 .1 .0 .0)
     (sym (ap verifiedOf (k .1)) ∙ at-verify .verify .ensures) .inside
 
 node-at-requires : tie.Need-node-at-requires
 node-at-requires c κs =
-    let at-verify = c .before .before .before .before in
+    let at-start = c .before .before in
+    let at-verify = at-start .before .before in
     let start = at-verify .before .before .before .before in
     let a = start .args in
-    let k = c .before .before .start .given in
+    let k = at-start .start .given in
     copy-small nodeHash (copyOf (a .tree .now) (a .bitfield .now) (a .content .now) (a .n) (a .size)) (a .chunk .0) (k .0 .0 .0) (k .0 .1 .0 .0)
     (sym (ap verifiedOf (k .1)) ∙ at-verify .verify .ensures)
 
 returns : tie.Need-returns
 returns c =
-    let at-refusal = c .before .before .before in
+    let at-no-node = c .before in
+    let at-refusal = at-no-node .before .before in
     let at-verify = at-refusal .before .before in
     let start = at-verify .before .before .before .before in
     let a = start .args in
     let d = copyOf (a .tree .now) (a .bitfield .now) (a .content .now) (a .n) (a .size) in
     let k = at-refusal .refusal .given in
     let e = sym (ap verifiedOf (k .1)) ∙ at-verify .verify .ensures in
-    ap (nodeTold (Refused (k .0 .0))) (ap (λ (x : Verdict × Node). x .1) (c .before .no-node .ensures))
+    ap (nodeTold (Refused (k .0 .0))) (ap (λ (x : Verdict × Node). x .1) (at-no-node .no-node .ensures))
     ∙ read-refused (copyReadVerdict nodeHash d (a .chunk .0)) noNode (readNode (tree (index 0 (a .chunk .0))) (copyReadPart nodeHash d (a .chunk .0))) (k .0 .0 .number) (spotOf (k .0 .0 .place))
     (copy-nothing nodeHash d (a .chunk .0) (k .0 .0 .number) (spotOf (k .0 .0 .place)) e .0)
 

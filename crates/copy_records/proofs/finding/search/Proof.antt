@@ -26,7 +26,8 @@ sub-t10 c = omega (arith, c .before .if1 .taken)
 
 returns : tie.Need-returns Inv-loop μ-loop
 returns c =
-    let at-path-of = c .before .before .before in
+    let at-refusal = c .before in
+    let at-path-of = at-refusal .before .before in
     let branch1 = at-path-of .before .before in
     let looped = branch1 .before .before in
     let start = looped .before .before .before .before .before .before in
@@ -34,17 +35,18 @@ returns c =
     let d = copyOf (a .tree .now) (a .bitfield .now) (a .content .now) (a .n) (a .size) in
     let l = looped .loop in
     let p = at-path-of .path-of in
-    left-failed (copyJudge nodeHash d (a .path .now)) (a .n) (l .chunk .0) (l .inv) (branch1 .if1 .taken) (p .result) (p .ensures) _ (c .before .refusal .given .1)
+    left-failed (copyJudge nodeHash d (a .path .now)) (a .n) (l .chunk .0) (l .inv) (branch1 .if1 .taken) (p .result) (p .ensures) _ (at-refusal .refusal .given .1)
 
 returns-2 : tie.Need-returns-2 Inv-loop μ-loop
 returns-2 c =
-    let branch1 = c .before .before .before .before in
+    let at-path-of = c .before .before in
+    let branch1 = at-path-of .before .before in
     let looped = branch1 .before .before in
     let start = looped .before .before .before .before .before .before in
     let a = start .args in
     let d = copyOf (a .tree .now) (a .bitfield .now) (a .content .now) (a .n) (a .size) in
     let l = looped .loop in
-    let p = c .before .before .path-of in
+    let p = at-path-of .path-of in
     left-found (copyJudge nodeHash d (a .path .now)) (a .n) (l .chunk .0) (l .inv) (branch1 .if1 .taken) (p .result) (p .ensures) (c .enum-told .given .1)
 
 loop-less : tie.Need-loop-less Inv-loop μ-loop
@@ -54,21 +56,23 @@ loop-less c =
 
 loop-again : tie.Need-loop-again Inv-loop μ-loop
 loop-again c =
-    let branch1 = c .before .before .before .before in
+    let at-path-of = c .before .before in
+    let branch1 = at-path-of .before .before in
     let looped = branch1 .before .before in
     let start = looped .before .before .before .before .before .before in
     let a = start .args in
     let d = copyOf (a .tree .now) (a .bitfield .now) (a .content .now) (a .n) (a .size) in
     let l = looped .loop in
-    let p = c .before .before .path-of in
+    let p = at-path-of .path-of in
     left-less (copyJudge nodeHash d (a .path .now)) (a .n) (l .chunk .0) (l .inv) (branch1 .if1 .taken) (p .result) (p .ensures) (c .enum-told2 .given .1)
 
 returns-3 : tie.Need-returns-3 Inv-loop μ-loop
 returns-3 c =
-    let start = c .before .before .before .before .before .before .before .before in
+    let looped = c .before .before in
+    let start = looped .before .before .before .before .before .before in
     let a = start .args in
     let d = copyOf (a .tree .now) (a .bitfield .now) (a .content .now) (a .n) (a .size) in
-    let l = c .before .before .loop in
+    let l = looped .loop in
     left-none (copyJudge nodeHash d (a .path .now)) (a .n) (l .chunk .0) (l .inv) (c .if1 .left)
 
 pub search-spec : {M : Type 1} → statement M

@@ -17,8 +17,9 @@ is-known-requires c κs =
 
 returns : tie.Need-returns
 returns c =
-    let start = c .before .before .before .before .before in
-    not-known (start .args .tree .now) (start .args .bitfield .now) (start .args .row .now) (start .args .at) (start .args .i .0) (sym (c .before .is-known .ensures) ∙ not-true _ (c .if1 .taken))
+    let at-is-known = c .before in
+    let start = at-is-known .before .before .before .before in
+    not-known (start .args .tree .now) (start .args .bitfield .now) (start .args .row .now) (start .args .at) (start .args .i .0) (sym (at-is-known .is-known .ensures) ∙ not-true _ (c .if1 .taken))
 
 entry-place-requires : tie.Need-entry-place-requires
 entry-place-requires c κs =
@@ -37,7 +38,8 @@ part-same-end c =
 
 returns-2 : tie.Need-returns-2
 returns-2 c =
-    let at-entry-place = c .before .before .before .before in
+    let at-same = c .before in
+    let at-entry-place = at-same .before .before .before in
     let branch1 = at-entry-place .before in
     let at-is-known = branch1 .before in
     let at-shared-slice-known3 = at-is-known .before in
@@ -47,11 +49,12 @@ returns-2 c =
     (sym (at-is-known .is-known .ensures) ∙ not-false _ (branch1 .if1 .left))
     (λ j. at-shared-slice-known3 .shared-slice-known3 .given j .fits) (start .pre .1) _ _ _
     (lent-entry (start .args .tree .now) (at-entry-place .entry-place .result) _ (at-entry-place .entry-place .ensures))
-    (lent-entry (start .args .row .now) (start .args .at) _ refl) (c .before .same .ensures)
+    (lent-entry (start .args .row .now) (start .args .at) _ refl) (at-same .same .ensures)
 
 returns-3 : tie.Need-returns-3
 returns-3 c =
-    let at-entry-place = c .before .before .before .before in
+    let at-same = c .before in
+    let at-entry-place = at-same .before .before .before in
     let branch1 = at-entry-place .before in
     let at-is-known = branch1 .before in
     let at-shared-slice-known3 = at-is-known .before in
@@ -61,7 +64,7 @@ returns-3 c =
     (sym (at-is-known .is-known .ensures) ∙ not-false _ (branch1 .if1 .left))
     (λ j. at-shared-slice-known3 .shared-slice-known3 .given j .fits) (start .pre .1) _ _ _
     (lent-entry (start .args .tree .now) (at-entry-place .entry-place .result) _ (at-entry-place .entry-place .ensures))
-    (lent-entry (start .args .row .now) (start .args .at) _ refl) (c .before .same .ensures)
+    (lent-entry (start .args .row .now) (start .args .at) _ refl) (at-same .same .ensures)
 
 pub contradiction-at-spec : {M : Type 1} → statement M
 contradiction-at-spec =

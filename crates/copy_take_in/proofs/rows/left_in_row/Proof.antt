@@ -36,7 +36,9 @@ step c =
     (c .left-size .ensures))
 
 loop-holds : tie.Need-loop-holds Inv-loop μ-loop
-loop-holds c = (omega arith, omega (arith, left-none (c .before .args .leaf .0) (c .before .args .row .now) (c .before .args .at) (numbers (c .before .args .t3))))
+loop-holds c =
+    let start = c .before in
+    (omega arith, omega (arith, left-none (start .args .leaf .0) (start .args .row .now) (start .args .at) (numbers (start .args .t3))))
 
 mul-left-size : tie.Need-mul-left-size Inv-loop μ-loop
 mul-left-size c =
@@ -83,9 +85,10 @@ loop-again c =
 
 returns : tie.Need-returns Inv-loop μ-loop
 returns c =
-    let start = c .before .before .before in
-    let e : c .before .loop .j ≡ start .args .count = omega arith in
-    c .before .loop .inv .1 ∙ ap (λ (j : ℕ). start .args .from + total (map (leftSize (start .args .leaf .0)) (rowGiven (start .args .row .now) (start .args .at) (numbers (start .args .t3)) j))) e
+    let looped = c .before in
+    let start = looped .before .before in
+    let e : looped .loop .j ≡ start .args .count = omega arith in
+    looped .loop .inv .1 ∙ ap (λ (j : ℕ). start .args .from + total (map (leftSize (start .args .leaf .0)) (rowGiven (start .args .row .now) (start .args .at) (numbers (start .args .t3)) j))) e
 
 pub left-in-row-spec : {M : Type 1} → statement M
 left-in-row-spec =

@@ -9,8 +9,9 @@ use Rattle.copy_take_in.proofs.rows.left_size.Tie as tie
 returns : tie.Need-returns
 unfolding entryIn
 returns c =
-    let start = c .before .before .before .before .before in
-    c .read-be64 .ensures ∙ left-of (start .args .leaf .0) (start .args .row .now) (start .args .at) (start .args .i .0) (c .before .if1 .taken)
+    let branch1 = c .before in
+    let start = branch1 .before .before .before .before in
+    c .read-be64 .ensures ∙ left-of (start .args .leaf .0) (start .args .row .now) (start .args .at) (start .args .i .0) (branch1 .if1 .taken)
 
 returns-2 : tie.Need-returns-2
 returns-2 c =

@@ -14,8 +14,9 @@ entry-place-requires c κs =
 
 copy-to-requires : tie.Need-copy-to-requires
 copy-to-requires c κs =
-    let start = c .before .before .before .before .before .before in
-    omega (arith, c .before .before .entry-place .ensures, start .pre .0 .entry .inside, lent-length (start .args .row .now) (start .args .at) (start .pre .1))
+    let at-entry-place = c .before .before in
+    let start = at-entry-place .before .before .before .before in
+    omega (arith, at-entry-place .entry-place .ensures, start .pre .0 .entry .inside, lent-length (start .args .row .now) (start .args .at) (start .pre .1))
 
 make-known-requires : tie.Need-make-known-requires
 make-known-requires c κs =
@@ -24,13 +25,14 @@ make-known-requires c κs =
 
 returns : tie.Need-returns
 returns c =
-    let at-copy-to = c .before .before .before .before .before .before in
+    let at-make-known = c .before .before in
+    let at-copy-to = at-make-known .before .before .before .before in
     let at-entry-place = at-copy-to .before .before .before in
     let at-shared-slice-known = at-entry-place .before in
     let start = at-shared-slice-known .before .before .before in
     one-written (start .args .tree .now) (start .args .bitfield .now) (start .args .row .now) (start .args .at) (start .args .i .0) (at-entry-place .entry-place .result) _ _ _
     (λ j. at-shared-slice-known .shared-slice-known .given j .fits) (start .pre .1)
-    (at-entry-place .entry-place .ensures) (lent-entry (start .args .row .now) (start .args .at) _ refl) (at-copy-to .copy-to .ensures) (c .before .before .make-known .ensures)
+    (at-entry-place .entry-place .ensures) (lent-entry (start .args .row .now) (start .args .at) _ refl) (at-copy-to .copy-to .ensures) (at-make-known .make-known .ensures)
 
 pub write-one-spec : {M : Type 1} → statement M
 write-one-spec =

@@ -46,7 +46,8 @@ write-one-requires : tie.Need-write-one-requires Inv-loop μ-loop
 write-one-requires c κs =
     let tested = c .before .before .before in
     let looped = tested .before in
-    let start = looped .before .before .before .before in (
+    let start-2 = looped .before .before .before .before in
+    let start = start-2 in (
       still (start .args .tree .now) (start .args .bitfield .now) _ _ _ (looped .loop .inv .treeLong) (looped .loop .inv .bitsLong)
           (subst (KnowableIn (start .args .tree .now) (start .args .bitfield .now)) (number-at (start .args .t5) (looped .loop .j)) (start .pre .each (looped .loop .j) (tested .loop-test .taken))),
       omega (arith, start .pre .inside .inside, tested .loop-test .taken),
@@ -70,9 +71,10 @@ same-length-2 c = c .before .loop .inv .bitsLong
 
 returns : tie.Need-returns Inv-loop μ-loop
 returns c =
-    let start = c .before .before .before .before .before in
+    let looped = c .before in
+    let start = looped .before .before .before .before in
     written-all (start .args .tree .now) (start .args .bitfield .now) (start .args .row .now) (start .args .at) (numbers (start .args .t5)) (start .args .count)
-    (c .before .loop .j) _ _ (c .before .loop .inv) (c .loop-test .left)
+    (looped .loop .j) _ _ (looped .loop .inv) (c .loop-test .left)
 
 pub write-row-spec : {M : Type 1} → statement M
 write-row-spec =

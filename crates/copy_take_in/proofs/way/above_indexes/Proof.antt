@@ -45,16 +45,19 @@ array-set-from-found c =
 
 node-index-requires : tie.Need-node-index-requires Inv-loop μ-loop
 node-index-requires c κs =
-    let start = c .before .before .before in
-    omega (arith, start .pre .1, c .block-over .ensures, shr-le (start .args .chunk .0) (c .before .before .loop .h + 1))
+    let looped = c .before .before in
+    let start = looped .before in
+    omega (arith, start .pre .1, c .block-over .ensures, shr-le (start .args .chunk .0) (looped .loop .h + 1))
 
 loop-again : tie.Need-loop-again Inv-loop μ-loop
 loop-again c =
-    let looped = c .before .before .before in
+    let at-block-over = c .before in
+    let tested = at-block-over .before in
+    let looped = tested .before in
     let l = looped .loop in
     let i = c .node-index in
-    filling-next _ _ _ (l .h) (numbers (l .found)) (l .inv) _ (i .result .0) (c .before .before .loop-test .taken)
-    (i .ensures ∙ ap (index (l .h + 1)) (c .before .block-over .ensures)) (numbers-set (l .found) (l .h) (i .result))
+    filling-next _ _ _ (l .h) (numbers (l .found)) (l .inv) _ (i .result .0) (tested .loop-test .taken)
+    (i .ensures ∙ ap (index (l .h + 1)) (at-block-over .block-over .ensures)) (numbers-set (l .found) (l .h) (i .result))
 
 returns : tie.Need-returns Inv-loop μ-loop
 unfolding aboveRow

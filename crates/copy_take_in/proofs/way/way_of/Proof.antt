@@ -11,10 +11,15 @@ use Rattle.copy_take_in.proofs.way.way_of.Statement.{statement}
 use Rattle.copy_take_in.proofs.way.way_of.Tie as tie
 
 above-indexes-requires : tie.Need-above-indexes-requires
-above-indexes-requires c κs = (omega (arith, c .before .pre .count, c .before .pre .below), c .sibling-count .ensures .1)
+above-indexes-requires c κs =
+    let entered = c .before in
+    (omega (arith, entered .pre .count, entered .pre .below), c .sibling-count .ensures .1)
 
 sibling-indexes-requires : tie.Need-sibling-indexes-requires
-sibling-indexes-requires c κs = (omega (arith, c .before .before .pre .count, c .before .before .pre .below), c .before .sibling-count .ensures .1)
+sibling-indexes-requires c κs =
+    let at-sibling-count = c .before in
+    let entered = at-sibling-count .before in
+    (omega (arith, entered .pre .count, entered .pre .below), at-sibling-count .sibling-count .ensures .1)
 
 root-place-requires : tie.Need-root-place-requires
 root-place-requires c κs =
@@ -23,20 +28,23 @@ root-place-requires c κs =
 
 other-indexes-requires : tie.Need-other-indexes-requires
 other-indexes-requires c κs =
-    let start = c .before .before .before .before .before in (
+    let start-2 = c .before .before .before .before .before in
+    let start = start-2 in (
       start .pre .count,
       subst (λ (x : ℕ). x < length (roots (start .args .n))) (sym (c .root-place .ensures)) (place-below (start .args .n) (start .args .chunk .0) (start .pre)),
     )
 
 returns : tie.Need-returns
 returns c =
-    let at-sibling-indexes = c .before .before .before in
+    let at-root-place = c .before in
+    let at-other-count = at-root-place .before in
+    let at-sibling-indexes = at-other-count .before in
     let at-above-indexes = at-sibling-indexes .before in
     let at-sibling-count = at-above-indexes .before in
     let start = at-sibling-count .before in
-    way-is (start .args .n) (start .args .chunk .0) _ (at-sibling-count .sibling-count .result) (c .before .root-place .result) (start .pre)
+    way-is (start .args .n) (start .args .chunk .0) _ (at-sibling-count .sibling-count .result) (at-root-place .root-place .result) (start .pre)
     (at-sibling-count .sibling-count .ensures .0) refl (at-above-indexes .above-indexes .ensures) (at-sibling-indexes .sibling-indexes .ensures)
-    (c .before .before .other-count .ensures .0) (c .before .root-place .ensures) (c .other-indexes .ensures)
+    (at-other-count .other-count .ensures .0) (at-root-place .root-place .ensures) (c .other-indexes .ensures)
 
 pub way-of-spec : {M : Type 1} → statement M
 way-of-spec =

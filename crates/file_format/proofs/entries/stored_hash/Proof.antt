@@ -9,8 +9,11 @@ use Rattle.file_format.proofs.entries.stored_hash.Tie as tie
 returns : tie.Need-returns
 unfolding storedHash part
 returns c =
-    let a = c .before .before .before .before .before .before .args in
-    read-hash (a .tree .now) (c .before .before .before .before .entry-place .ensures) (search needs) (c .before .copy-to .ensures)
+    let at-copy-to = c .before in
+    let at-entry-place = at-copy-to .before .before .before in
+    let start = at-entry-place .before .before in
+    let a = start .args in
+    read-hash (a .tree .now) (at-entry-place .entry-place .ensures) (search needs) (at-copy-to .copy-to .ensures)
 
 pub stored-hash-spec : {M : Type 1} → statement M
 stored-hash-spec =

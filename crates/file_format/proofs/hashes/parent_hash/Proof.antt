@@ -12,7 +12,8 @@ returns c =
     let s = t .before .before .before .before in
     let f = s .before .before .before .before in
     let b = f .before .before .before in
-    let a = b .before .args in
+    let start = b .before in
+    let a = start .args in
     parent-pieces (a .left .now) (a .right .now) (a .sum) (b .be64 .ensures) (search needs) (search needs) (f .copy-to .ensures)
     (s .copy-to2 .ensures) (t .copy-to3 .ensures) (c .hash-parts .ensures ∙ node-keyless _)
 

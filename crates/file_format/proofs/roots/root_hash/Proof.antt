@@ -13,7 +13,8 @@ part-hash-parts-end c = omega arith
 returns : tie.Need-returns
 returns c =
     let m = c .before .before .before .before .before .before in
-    front-hashed (m .before .args .roots .count) (m .root-message .result) _ (c .hash-parts .result) (c .hash-parts .ensures ∙ node-keyless _)
+    let start = m .before in
+    front-hashed (start .args .roots .count) (m .root-message .result) _ (c .hash-parts .result) (c .hash-parts .ensures ∙ node-keyless _)
     (m .root-message .ensures)
 
 pub root-hash-spec : {M : Type 1} → statement M

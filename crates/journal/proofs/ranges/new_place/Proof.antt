@@ -21,8 +21,9 @@ read-be64-requires c κs = search needs
 
 add-result : tie.Need-add-result
 add-result c =
-    let s = c .before .before .before .before in
-    let e = new-twice (s .args .journal .now) (s .args .at) _ (c .before .if1 .taken) (c .read-be64 .ensures) in
+    let branch1 = c .before in
+    let s = branch1 .before .before .before in
+    let e = new-twice (s .args .journal .now) (s .args .at) _ (branch1 .if1 .taken) (c .read-be64 .ensures) in
     search needs
 
 returns : tie.Need-returns

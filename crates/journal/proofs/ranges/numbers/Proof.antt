@@ -36,9 +36,11 @@ new-place-requires c κs = search needs
 
 returns : tie.Need-returns
 returns c =
-    let at-wide2 = c .before .before .before in
+    let at-read-be642 = c .before in
+    let at-read-be64 = at-read-be642 .before in
+    let at-wide2 = at-read-be64 .before in
     let at-wide = at-wide2 .before .before in
-    five-said _ _ _ _ _ _ _ (at-wide .wide .ensures) (at-wide2 .wide2 .ensures) (c .before .before .read-be64 .ensures) (c .before .read-be642 .ensures) (c .new-place .ensures)
+    five-said _ _ _ _ _ _ _ (at-wide .wide .ensures) (at-wide2 .wide2 .ensures) (at-read-be64 .read-be64 .ensures) (at-read-be642 .read-be642 .ensures) (c .new-place .ensures)
 
 pub numbers-spec : {M : Type 1} → statement M
 numbers-spec =

@@ -40,8 +40,9 @@ bytes-end-requires c κs = search needs
 
 returns-5 : tie.Need-returns-5
 returns-5 c =
-    let at-wide = c .before .before .before .before in
-    by-bytes _ _ _ _ _ _ (omega arith) (at-wide .wide .ensures) (omega arith) (omega arith) (c .before .read-be64 .ensures) (c .bytes-end .ensures)
+    let at-read-be64 = c .before in
+    let at-wide = at-read-be64 .before .before .before in
+    by-bytes _ _ _ _ _ _ (omega arith) (at-wide .wide .ensures) (omega arith) (omega arith) (at-read-be64 .read-be64 .ensures) (c .bytes-end .ensures)
 
 pub place-behind-spec : {M : Type 1} → statement M
 place-behind-spec =

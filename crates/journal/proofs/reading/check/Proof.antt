@@ -20,39 +20,54 @@ begins-requires c κs = let h = right-least _ (sym (c .before .length-right .ens
 
 returns-2 : tie.Need-returns-2
 returns-2 c =
-    let at-length-right = c .before .before .before in
-    read-first _ _ (sym (at-length-right .length-right .ensures) ∙ not-false _ (c .before .before .if1 .left)) (sym (c .before .begins .ensures) ∙ not-true _ (c .if2 .taken))
+    let at-begins = c .before in
+    let branch1 = at-begins .before in
+    let at-length-right = branch1 .before in
+    read-first _ _ (sym (at-length-right .length-right .ensures) ∙ not-false _ (branch1 .if1 .left)) (sym (at-begins .begins .ensures) ∙ not-true _ (c .if2 .taken))
 
 read-be64-requires : tie.Need-read-be64-requires
-read-be64-requires c κs = let h = right-least _ (sym (c .before .before .before .length-right .ensures) ∙ not-false _ (c .before .before .if1 .left)) in search needs
+read-be64-requires c κs =
+    let branch1 = c .before .before in
+    let at-length-right = branch1 .before in
+    let h = right-least _ (sym (at-length-right .length-right .ensures) ∙ not-false _ (branch1 .if1 .left)) in search needs
 
 returns-3 : tie.Need-returns-3
 returns-3 c =
-    let at-begins = c .before .before .before in
+    let at-read-be64 = c .before in
+    let branch2 = at-read-be64 .before in
+    let at-begins = branch2 .before in
     let branch1 = at-begins .before in
     let at-length-right = branch1 .before in
-    read-own _ _ (sym (at-length-right .length-right .ensures) ∙ not-false _ (branch1 .if1 .left)) (sym (at-begins .begins .ensures) ∙ not-false _ (c .before .before .if2 .left))
-    (ne-eqb _ _ (λ e. c .if3 .taken (c .before .read-be64 .ensures ∙ e)))
+    read-own _ _ (sym (at-length-right .length-right .ensures) ∙ not-false _ (branch1 .if1 .left)) (sym (at-begins .begins .ensures) ∙ not-false _ (branch2 .if2 .left))
+    (ne-eqb _ _ (λ e. c .if3 .taken (at-read-be64 .read-be64 .ensures ∙ e)))
 
 sub-end : tie.Need-sub-end
-sub-end c = let h = right-least _ (sym (c .before .before .before .before .before .length-right .ensures) ∙ not-false _ (c .before .before .before .before .if1 .left)) in search needs
+sub-end c =
+    let branch1 = c .before .before .before .before in
+    let at-length-right = branch1 .before in
+    let h = right-least _ (sym (at-length-right .length-right .ensures) ∙ not-false _ (branch1 .if1 .left)) in search needs
 
 judge-table-requires : tie.Need-judge-table-requires
-judge-table-requires c κs = let h = right-least _ (sym (c .before .before .before .before .before .length-right .ensures) ∙ not-false _ (c .before .before .before .before .if1 .left)) in search needs
+judge-table-requires c κs =
+    let branch1 = c .before .before .before .before in
+    let at-length-right = branch1 .before in
+    let h = right-least _ (sym (at-length-right .length-right .ensures) ∙ not-false _ (branch1 .if1 .left)) in search needs
 
 is-done-requires : tie.Need-is-done-requires
 is-done-requires c κs = search needs
 
 returns-4 : tie.Need-returns-4
 returns-4 c =
-    let branch3 = c .before .before .before in
+    let at-is-done = c .before in
+    let at-judge-table = at-is-done .before in
+    let branch3 = at-judge-table .before in
     let at-read-be64 = branch3 .before in
     let branch2 = at-read-be64 .before in
     let at-begins = branch2 .before in
     let branch1 = at-begins .before in
     let at-length-right = branch1 .before in
     read-table _ _ (sym (at-length-right .length-right .ensures) ∙ not-false _ (branch1 .if1 .left)) (sym (at-begins .begins .ensures) ∙ not-false _ (branch2 .if2 .left))
-    (eq-eqb _ _ (sym (at-read-be64 .read-be64 .ensures) ∙ branch3 .if3 .left)) _ (c .before .before .judge-table .ensures) (sym (c .before .is-done .ensures) ∙ not-true _ (c .if4 .taken))
+    (eq-eqb _ _ (sym (at-read-be64 .read-be64 .ensures) ∙ branch3 .if3 .left)) _ (at-judge-table .judge-table .ensures) (sym (at-is-done .is-done .ensures) ∙ not-true _ (c .if4 .taken))
 
 slice-aggregate-hash-parts : tie.Need-slice-aggregate-hash-parts
 slice-aggregate-hash-parts c = search needs
@@ -89,27 +104,47 @@ same-requires c κs = search needs
 
 returns-5 : tie.Need-returns-5
 returns-5 c =
-    let at-hash-parts = c .before .before .before .before in
+    let at-same = c .before in
+    let at-hash-parts = at-same .before .before .before in
     let a = at-hash-parts .before .before .before .before in
-    let j = a .before .before .before .before .before .before .before .before .before .before .args .journal .now in
-    read-done _ _ (sym (a .before .before .before .before .before .before .before .before .length-right .ensures) ∙ not-false _
-    (a .before .before .before .before .before .before .before .if1 .left))
-    (sym (a .before .before .before .before .before .before .begins .ensures) ∙ not-false _ (a .before .before .before .before .before .if2 .left))
-    (eq-eqb _ _ (sym (a .before .before .before .before .read-be64 .ensures) ∙ a .before .before .before .if3 .left)) _ (a .before .before .judge-table .ensures)
-    (sym (a .before .is-done .ensures) ∙ not-false _ (a .if4 .left))
-    (same-said j _ (length j - 32) _ true (hash-said j _ (length j - 32) (at-hash-parts .hash-parts .ensures)) (c .before .same .ensures) (c .if5 .taken))
+    let at-is-done = a .before in
+    let at-judge-table = at-is-done .before in
+    let branch3 = at-judge-table .before in
+    let at-read-be64 = branch3 .before in
+    let branch2 = at-read-be64 .before in
+    let at-begins = branch2 .before in
+    let branch1 = at-begins .before in
+    let at-length-right = branch1 .before in
+    let start = at-length-right .before .before in
+    let j = start .args .journal .now in
+    read-done _ _ (sym (at-length-right .length-right .ensures) ∙ not-false _
+    (branch1 .if1 .left))
+    (sym (at-begins .begins .ensures) ∙ not-false _ (branch2 .if2 .left))
+    (eq-eqb _ _ (sym (at-read-be64 .read-be64 .ensures) ∙ branch3 .if3 .left)) _ (at-judge-table .judge-table .ensures)
+    (sym (at-is-done .is-done .ensures) ∙ not-false _ (a .if4 .left))
+    (same-said j _ (length j - 32) _ true (hash-said j _ (length j - 32) (at-hash-parts .hash-parts .ensures)) (at-same .same .ensures) (c .if5 .taken))
 
 returns-6 : tie.Need-returns-6
 returns-6 c =
-    let at-hash-parts = c .before .before .before .before in
+    let at-same = c .before in
+    let at-hash-parts = at-same .before .before .before in
     let a = at-hash-parts .before .before .before .before in
-    let j = a .before .before .before .before .before .before .before .before .before .before .args .journal .now in
-    read-hash _ _ (sym (a .before .before .before .before .before .before .before .before .length-right .ensures) ∙ not-false _
-    (a .before .before .before .before .before .before .before .if1 .left))
-    (sym (a .before .before .before .before .before .before .begins .ensures) ∙ not-false _ (a .before .before .before .before .before .if2 .left))
-    (eq-eqb _ _ (sym (a .before .before .before .before .read-be64 .ensures) ∙ a .before .before .before .if3 .left)) _ (a .before .before .judge-table .ensures)
-    (sym (a .before .is-done .ensures) ∙ not-false _ (a .if4 .left))
-    (same-said j _ (length j - 32) _ false (hash-said j _ (length j - 32) (at-hash-parts .hash-parts .ensures)) (c .before .same .ensures) (c .if5 .left))
+    let at-is-done = a .before in
+    let at-judge-table = at-is-done .before in
+    let branch3 = at-judge-table .before in
+    let at-read-be64 = branch3 .before in
+    let branch2 = at-read-be64 .before in
+    let at-begins = branch2 .before in
+    let branch1 = at-begins .before in
+    let at-length-right = branch1 .before in
+    let start = at-length-right .before .before in
+    let j = start .args .journal .now in
+    read-hash _ _ (sym (at-length-right .length-right .ensures) ∙ not-false _
+    (branch1 .if1 .left))
+    (sym (at-begins .begins .ensures) ∙ not-false _ (branch2 .if2 .left))
+    (eq-eqb _ _ (sym (at-read-be64 .read-be64 .ensures) ∙ branch3 .if3 .left)) _ (at-judge-table .judge-table .ensures)
+    (sym (at-is-done .is-done .ensures) ∙ not-false _ (a .if4 .left))
+    (same-said j _ (length j - 32) _ false (hash-said j _ (length j - 32) (at-hash-parts .hash-parts .ensures)) (at-same .same .ensures) (c .if5 .left))
 
 pub check-spec : {M : Type 1} → statement M
 check-spec =

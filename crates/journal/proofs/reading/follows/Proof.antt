@@ -25,8 +25,9 @@ read-be64-requires c κs = search needs
 
 returns-3 : tie.Need-returns-3
 returns-3 c =
-    let at-wide = c .before .before .before .before in
-    empty _ _ _ _ _ _ _ (at-wide .wide .ensures) (c .before .read-be64 .ensures) (omega arith) (omega arith) (omega arith)
+    let at-read-be64 = c .before in
+    let at-wide = at-read-be64 .before .before .before in
+    empty _ _ _ _ _ _ _ (at-wide .wide .ensures) (at-read-be64 .read-be64 .ensures) (omega arith) (omega arith) (omega arith)
 
 add-wide : tie.Need-add-wide
 add-wide c = search needs
@@ -63,14 +64,15 @@ numbers-right-requires c κs = search needs
 
 returns-4 : tie.Need-returns-4
 returns-4 c =
-    let at-new-length = c .before .before .before in
+    let at-reach-of = c .before .before in
+    let at-new-length = at-reach-of .before in
     let at-old-length = at-new-length .before in
     let at-read-be642 = at-old-length .before in
     let at-wide2 = at-read-be642 .before in
     let at-read-be64 = at-wide2 .before .before .before in
     let at-wide = at-read-be64 .before .before .before in
     by-numbers _ _ _ _ _ _ _ _ _ _ _ _ _ (at-wide .wide .ensures) (at-read-be64 .read-be64 .ensures) (at-wide2 .wide2 .ensures) (at-read-be642 .read-be642 .ensures)
-    (at-old-length .old-length .ensures) (at-new-length .new-length .ensures) (c .before .before .reach-of .ensures) (omega arith) (omega arith) (omega arith) (c .numbers-right .ensures)
+    (at-old-length .old-length .ensures) (at-new-length .new-length .ensures) (at-reach-of .reach-of .ensures) (omega arith) (omega arith) (omega arith) (c .numbers-right .ensures)
 
 pub follows-spec : {M : Type 1} → statement M
 follows-spec =

@@ -31,8 +31,9 @@ new-length-requires c κs = search needs
 
 returns : tie.Need-returns Inv-loop μ-loop
 returns c =
-    let l = c .before .before .before .before in
-    let right = full-said _ _ _ _ _ (c .before .new-length .ensures) (lt-leb _ _ (c .if1 .taken)) in
+    let at-new-length = c .before in
+    let l = at-new-length .before .before .before in
+    let right = full-said _ _ _ _ _ (at-new-length .new-length .ensures) (lt-leb _ _ (c .if1 .taken)) in
     sym (l .loop .inv .1 ∙ lowest-off _ (l .loop .i) 10 (omega arith) right)
 
 add-i : tie.Need-add-i Inv-loop μ-loop
@@ -43,8 +44,9 @@ loop-less c = search needs
 
 loop-again : tie.Need-loop-again Inv-loop μ-loop
 loop-again c =
-    let l = c .before .before .before .before in
-    let right = full-said _ _ _ _ _ (c .before .new-length .ensures) (le-leb _ _ (c .if1 .left)) in
+    let at-new-length = c .before in
+    let l = at-new-length .before .before .before in
+    let right = full-said _ _ _ _ _ (at-new-length .new-length .ensures) (le-leb _ _ (c .if1 .left)) in
     (omega arith, l .loop .inv .1 ∙ lowest-on _ (l .loop .i) 10 (omega arith) right)
 
 returns-2 : tie.Need-returns-2 Inv-loop μ-loop

@@ -13,8 +13,9 @@ length-right-requires c κs = search needs
 
 returns : tie.Need-returns
 returns c =
-    let start = c .before .before .before in
-    let e = next-length _ (start .args .at) (sym (c .before .length-right .ensures) ∙ not-true _ (c .if1 .taken)) in
+    let at-length-right = c .before in
+    let start = at-length-right .before .before in
+    let e = next-length _ (start .args .at) (sym (at-length-right .length-right .ensures) ∙ not-true _ (c .if1 .taken)) in
     (e, refused-kept _ _ _ _ refl e)
 
 sub-place-behind : tie.Need-sub-place-behind
@@ -25,22 +26,27 @@ place-behind-requires c κs = search needs
 
 returns-2 : tie.Need-returns-2
 returns-2 c =
-    let at-length-right = c .before .before .before in
-    let e = next-none _ _ (sym (at-length-right .length-right .ensures) ∙ not-false _ (c .before .before .if1 .left)) (behind-none _ _ _ _ (c .before .place-behind .ensures) (c .if2 .taken)) in
+    let at-place-behind = c .before in
+    let branch1 = at-place-behind .before in
+    let at-length-right = branch1 .before in
+    let e = next-none _ _ (sym (at-length-right .length-right .ensures) ∙ not-false _ (branch1 .if1 .left)) (behind-none _ _ _ _ (at-place-behind .place-behind .ensures) (c .if2 .taken)) in
     (e, refused-kept _ _ _ _ refl e)
 
 numbers-requires : tie.Need-numbers-requires
 numbers-requires c κs =
-    let start = c .before .before .before .before .before in
-    let w = behind-some _ _ _ _ (c .before .place-behind .ensures) (c .if2 .left) in
+    let at-place-behind = c .before in
+    let start = at-place-behind .before .before .before .before in
+    let w = behind-some _ _ _ _ (at-place-behind .place-behind .ensures) (c .if2 .left) in
     let h = place-within (start .args .journal .now) (start .args .at) in
     (omega (arith, w .place, w .end), omega (arith, w .room, w .end))
 
 returns-3 : tie.Need-returns-3
 returns-3 c =
-    let branch1 = c .before .before .before in
+    let branch2 = c .before in
+    let at-place-behind = branch2 .before in
+    let branch1 = at-place-behind .before in
     let at-length-right = branch1 .before in
-    let w = behind-some _ _ _ _ (c .before .before .place-behind .ensures) (c .before .if2 .left) in
+    let w = behind-some _ _ _ _ (at-place-behind .place-behind .ensures) (branch2 .if2 .left) in
     let e = next-some _ _ _ (sym (at-length-right .length-right .ensures) ∙ not-false _ (branch1 .if1 .left)) (w .is) (w .place) in
     (e, c .numbers .ensures ∙ done-written _ _ _ _ refl e)
 

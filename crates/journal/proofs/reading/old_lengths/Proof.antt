@@ -36,7 +36,9 @@ old-length-requires-10 c κs = search needs
 
 returns : tie.Need-returns
 returns c =
-    let at-old-length7 = c .before .before .before in
+    let at-old-length9 = c .before in
+    let at-old-length8 = at-old-length9 .before in
+    let at-old-length7 = at-old-length8 .before in
     let at-old-length6 = at-old-length7 .before in
     let at-old-length5 = at-old-length6 .before in
     let at-old-length4 = at-old-length5 .before in
@@ -45,7 +47,7 @@ returns c =
     let at-old-length = at-old-length2 .before in
     ten-lengths _ _ _ _ _ _ _ _ _ _ _ (at-old-length .old-length .ensures) (at-old-length2 .old-length2 .ensures) (at-old-length3 .old-length3 .ensures)
     (at-old-length4 .old-length4 .ensures) (at-old-length5 .old-length5 .ensures) (at-old-length6 .old-length6 .ensures) (at-old-length7 .old-length7 .ensures)
-    (c .before .before .old-length8 .ensures) (c .before .old-length9 .ensures) (c .old-length10 .ensures)
+    (at-old-length8 .old-length8 .ensures) (at-old-length9 .old-length9 .ensures) (c .old-length10 .ensures)
 
 pub old-lengths-spec : {M : Type 1} → statement M
 old-lengths-spec =

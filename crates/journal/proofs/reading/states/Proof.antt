@@ -12,14 +12,17 @@ length-right-requires c κs = search needs
 
 returns : tie.Need-returns
 returns c =
-    let start = c .before .before .before in
-    let e = states-length _ (start .args .file) (sym (c .before .length-right .ensures) ∙ not-true _ (c .if1 .taken)) in
+    let at-length-right = c .before in
+    let start = at-length-right .before .before in
+    let e = states-length _ (start .args .file) (sym (at-length-right .length-right .ensures) ∙ not-true _ (c .if1 .taken)) in
     (e, refused-kept _ _ _ _ refl e)
 
 returns-2 : tie.Need-returns-2
 returns-2 c =
-    let start = c .before .before .before .before in
-    let e = states-unfit _ (start .args .file) (sym (c .before .before .length-right .ensures) ∙ not-false _ (c .before .if1 .left)) (omega arith) in
+    let branch1 = c .before in
+    let at-length-right = branch1 .before in
+    let start = at-length-right .before .before in
+    let e = states-unfit _ (start .args .file) (sym (at-length-right .length-right .ensures) ∙ not-false _ (branch1 .if1 .left)) (omega arith) in
     (e, refused-kept _ _ _ _ refl e)
 
 mul-read-be64 : tie.Need-mul-read-be64
@@ -29,7 +32,9 @@ add-read-be64 : tie.Need-add-read-be64
 add-read-be64 c = search needs
 
 read-be64-requires : tie.Need-read-be64-requires
-read-be64-requires c κs = let h = right-least _ (sym (c .before .before .length-right .ensures) ∙ not-false _ (c .before .if1 .left)) in search needs
+read-be64-requires c κs =
+    let branch1 = c .before in
+    let h = right-least _ (sym (branch1 .before .length-right .ensures) ∙ not-false _ (branch1 .if1 .left)) in search needs
 
 mul-read-be64-2 : tie.Need-mul-read-be64-2
 mul-read-be64-2 c = search needs
@@ -38,15 +43,20 @@ add-read-be64-2 : tie.Need-add-read-be64-2
 add-read-be64-2 c = search needs
 
 read-be64-requires-2 : tie.Need-read-be64-requires-2
-read-be64-requires-2 c κs = let h = right-least _ (sym (c .before .before .before .length-right .ensures) ∙ not-false _ (c .before .before .if1 .left)) in search needs
+read-be64-requires-2 c κs =
+    let branch1 = c .before .before in
+    let at-length-right = branch1 .before in
+    let h = right-least _ (sym (at-length-right .length-right .ensures) ∙ not-false _ (branch1 .if1 .left)) in search needs
 
 returns-3 : tie.Need-returns-3
 returns-3 c =
-    let branch1 = c .before .before .before .before in
+    let at-read-be642 = c .before in
+    let at-read-be64 = at-read-be642 .before in
+    let branch1 = at-read-be64 .before .before in
     let at-length-right = branch1 .before in
     let start = at-length-right .before .before in
     let e = states-done _ (start .args .file) (sym (at-length-right .length-right .ensures) ∙ not-false _ (branch1 .if1 .left)) (omega arith) in
-    (e, two-said _ _ _ _ (c .before .before .read-be64 .ensures) (c .before .read-be642 .ensures) ∙ done-written _ _ _ _ refl e)
+    (e, two-said _ _ _ _ (at-read-be64 .read-be64 .ensures) (at-read-be642 .read-be642 .ensures) ∙ done-written _ _ _ _ refl e)
 
 pub states-spec : {M : Type 1} → statement M
 states-spec =

@@ -44,10 +44,13 @@ states-right-requires c κs = search needs
 
 returns : tie.Need-returns Inv-loop μ-loop
 returns c =
-    let at-read-be64 = c .before .before .before in
+    let at-states-right = c .before in
+    let at-read-be642 = at-states-right .before in
+    let at-read-be64 = at-read-be642 .before in
     let l = at-read-be64 .before .before in
-    let j = l .before .before .args .journal .now in
-    let right = state-said j (l .loop .i) _ _ _ false (at-read-be64 .read-be64 .ensures) (c .before .before .read-be642 .ensures) (c .before .states-right .ensures) (not-true _ (c .if1 .taken)) in
+    let start = l .before .before in
+    let j = start .args .journal .now in
+    let right = state-said j (l .loop .i) _ _ _ false (at-read-be64 .read-be64 .ensures) (at-read-be642 .read-be642 .ensures) (at-states-right .states-right .ensures) (not-true _ (c .if1 .taken)) in
     sym (l .loop .inv .1 ∙ lowest-off (stateRight j) (l .loop .i) 10 (omega arith) right)
 
 add-i : tie.Need-add-i Inv-loop μ-loop
@@ -58,10 +61,13 @@ loop-less c = search needs
 
 loop-again : tie.Need-loop-again Inv-loop μ-loop
 loop-again c =
-    let at-read-be64 = c .before .before .before in
+    let at-states-right = c .before in
+    let at-read-be642 = at-states-right .before in
+    let at-read-be64 = at-read-be642 .before in
     let l = at-read-be64 .before .before in
-    let j = l .before .before .args .journal .now in
-    let right = state-said j (l .loop .i) _ _ _ true (at-read-be64 .read-be64 .ensures) (c .before .before .read-be642 .ensures) (c .before .states-right .ensures) (not-false _ (c .if1 .left)) in
+    let start = l .before .before in
+    let j = start .args .journal .now in
+    let right = state-said j (l .loop .i) _ _ _ true (at-read-be64 .read-be64 .ensures) (at-read-be642 .read-be642 .ensures) (at-states-right .states-right .ensures) (not-false _ (c .if1 .left)) in
     (omega arith, l .loop .inv .1 ∙ lowest-on (stateRight j) (l .loop .i) 10 (omega arith) right)
 
 returns-2 : tie.Need-returns-2 Inv-loop μ-loop

@@ -13,9 +13,11 @@ returns c =
 
 returns-2 : tie.Need-returns-2
 returns-2 c =
-    let start = c .before .before .before .before .before .before .before .before in
+    let at-read-be32 = c .before in
+    let branch1 = at-read-be32 .before in
+    let start = branch1 .before .before .before .before .before .before in
     read-stopped _ _
-    (input-many (start .args .input .now) (c .before .read-be32 .result) (c .before .before .if1 .left) (c .before .read-be32 .ensures) (omega (arith, c .if2 .taken)))
+    (input-many (start .args .input .now) (at-read-be32 .read-be32 .result) (branch1 .if1 .left) (at-read-be32 .read-be32 .ensures) (omega (arith, c .if2 .taken)))
     (omega arith) (omega arith)
 
 read-chunks-requires : tie.Need-read-chunks-requires

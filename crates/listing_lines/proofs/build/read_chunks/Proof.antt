@@ -33,7 +33,9 @@ loop-holds c =
     )
 
 stands-requires : tie.Need-stands-requires Inv-loop μ-loop
-stands-requires c κs = (c .before .loop .inv .1, c .before .loop .inv .2)
+stands-requires c κs =
+    let looped = c .before in
+    (looped .loop .inv .1, looped .loop .inv .2)
 
 same-length : tie.Need-same-length Inv-loop μ-loop
 same-length c =
@@ -61,47 +63,54 @@ same-length-4 c =
 
 returns : tie.Need-returns Inv-loop μ-loop
 returns c =
-    let looped = c .before .before .before in
+    let at-stands = c .before in
+    let tested = at-stands .before in
+    let looped = tested .before in
     let s = looped .before .before .before .before .before .before in
     let l = looped .loop in
     let r = registerOf (l .tree) (l .signatures) (l .bitfield) (l .content) (l .n) (l .n) (l .size) in
     let w = chunksIn (s .args .count) (drop 4 (s .args .input .now)) 4096 in
     read-stopped w r
-    (stopped w (s .args .input .now) (s .args .count) (l .n) (l .at) (l .size) r (c .before .before .loop-test .taken)
-    (sym (c .before .stands .ensures) ∙ not-true (c .before .stands .result) (c .if1 .taken)) (l .inv .3))
+    (stopped w (s .args .input .now) (s .args .count) (l .n) (l .at) (l .size) r (tested .loop-test .taken)
+    (sym (at-stands .stands .ensures) ∙ not-true (at-stands .stands .result) (c .if1 .taken)) (l .inv .3))
     (omega (arith, l .inv .0, s .pre .1)) (l .inv .2)
 
 read-be32-requires : tie.Need-read-be32-requires Inv-loop μ-loop
 read-be32-requires c κs =
-    let looped = c .before .before .before in
+    let at-stands = c .before in
+    let looped = at-stands .before .before in
     let start = looped .before .before .before .before .before .before in
     let l = looped .loop in
     omega (
       arith,
       stands-facts (start .args .input .now) (l .at) (4096 - l .size) (l .inv .1)
-          (sym (c .before .stands .ensures) ∙ not-false (c .before .stands .result) (c .if1 .left)) .0,
+          (sym (at-stands .stands .ensures) ∙ not-false (at-stands .stands .result) (c .if1 .left)) .0,
     )
 
 add-start : tie.Need-add-start Inv-loop μ-loop
 add-start c =
-    let looped = c .before .before .before .before in
+    let branch1 = c .before in
+    let at-stands = branch1 .before in
+    let looped = at-stands .before .before in
     let start = looped .before .before .before .before .before .before in
     let l = looped .loop in
     omega (
       arith,
-      stood-room (start .args .input .now) (l .at) (l .size) (c .read-be32 .result) (c .before .before .stands .result) (l .inv .1) (l .inv .2)
-          (c .before .before .stands .ensures) (c .before .if1 .left) (c .read-be32 .ensures) .0,
+      stood-room (start .args .input .now) (l .at) (l .size) (c .read-be32 .result) (at-stands .stands .result) (l .inv .1) (l .inv .2)
+          (at-stands .stands .ensures) (branch1 .if1 .left) (c .read-be32 .ensures) .0,
     )
 
 add-end : tie.Need-add-end Inv-loop μ-loop
 add-end c =
-    let looped = c .before .before .before .before in
+    let branch1 = c .before in
+    let at-stands = branch1 .before in
+    let looped = at-stands .before .before in
     let start = looped .before .before .before .before .before .before in
     let l = looped .loop in
     omega (
       arith,
-      stood-room (start .args .input .now) (l .at) (l .size) (c .read-be32 .result) (c .before .before .stands .result) (l .inv .1) (l .inv .2)
-          (c .before .before .stands .ensures) (c .before .if1 .left) (c .read-be32 .ensures) .0,
+      stood-room (start .args .input .now) (l .at) (l .size) (c .read-be32 .result) (at-stands .stands .result) (l .inv .1) (l .inv .2)
+          (at-stands .stands .ensures) (branch1 .if1 .left) (c .read-be32 .ensures) .0,
     )
 
 sub-add : tie.Need-sub-add Inv-loop μ-loop
@@ -210,28 +219,33 @@ loop-again c =
 
 same-length-5 : tie.Need-same-length-5 Inv-loop μ-loop
 same-length-5 c =
-    let entered = c .before .before .before .before .before .before .before in
-    omega (arith, c .before .loop .inv .3 .ready .tree, entered .pre .2 .tree)
+    let looped = c .before in
+    let entered = looped .before .before .before .before .before .before in
+    omega (arith, looped .loop .inv .3 .ready .tree, entered .pre .2 .tree)
 
 same-length-6 : tie.Need-same-length-6 Inv-loop μ-loop
 same-length-6 c =
-    let entered = c .before .before .before .before .before .before .before in
-    omega (arith, c .before .loop .inv .3 .ready .signatures, entered .pre .2 .signatures)
+    let looped = c .before in
+    let entered = looped .before .before .before .before .before .before in
+    omega (arith, looped .loop .inv .3 .ready .signatures, entered .pre .2 .signatures)
 
 same-length-7 : tie.Need-same-length-7 Inv-loop μ-loop
 same-length-7 c =
-    let entered = c .before .before .before .before .before .before .before in
-    omega (arith, c .before .loop .inv .3 .ready .bitfield, entered .pre .2 .bitfield)
+    let looped = c .before in
+    let entered = looped .before .before .before .before .before .before in
+    omega (arith, looped .loop .inv .3 .ready .bitfield, entered .pre .2 .bitfield)
 
 same-length-8 : tie.Need-same-length-8 Inv-loop μ-loop
 same-length-8 c =
-    let entered = c .before .before .before .before .before .before .before in
-    omega (arith, c .before .loop .inv .3 .ready .content, entered .pre .2 .content)
+    let looped = c .before in
+    let entered = looped .before .before .before .before .before .before in
+    omega (arith, looped .loop .inv .3 .ready .content, entered .pre .2 .content)
 
 returns-2 : tie.Need-returns-2 Inv-loop μ-loop
 returns-2 c =
-    let s = c .before .before .before .before .before .before .before in
-    let l = c .before .loop in
+    let looped = c .before in
+    let s = looped .before .before .before .before .before .before in
+    let l = looped .loop in
     read-all (chunksIn (s .args .count) (drop 4 (s .args .input .now)) 4096) (s .args .input .now) (s .args .count) (l .n) (l .at) (4096 - l .size)
     (registerOf (l .tree) (l .signatures) (l .bitfield) (l .content) (l .n) (l .n) (l .size)) (c .loop-test .left) (l .inv .1)
     (omega (arith, l .inv .0, s .pre .1)) (l .inv .2) (l .inv .3)

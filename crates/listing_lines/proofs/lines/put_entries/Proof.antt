@@ -17,12 +17,15 @@ abbrev μ-loop : tie.MeasureT-loop
 μ-loop out₀ at tree n next₀ i₀ out next i = 2 * n - i .0
 
 loop-holds : tie.Need-loop-holds Inv-loop μ-loop
-loop-holds c = (omega arith, entries-none (storedLine (c .before .before .args .tree .now) (c .before .before .args .n)) (c .before .before .args .out .now) (c .before .before .args .at))
+loop-holds c =
+    let start = c .before .before in
+    (omega arith, entries-none (storedLine (start .args .tree .now) (start .args .n)) (start .args .out .now) (start .args .at))
 
 add-if1 : tie.Need-add-if1 Inv-loop μ-loop
 add-if1 c =
-    let start = c .before .before .before .before in
-    omega (arith, most (start .args .n) (c .before .loop .i .0) (start .pre .1 .few) (c .before .loop .inv .0))
+    let looped = c .before in
+    let start = looped .before .before .before in
+    omega (arith, most (start .args .n) (looped .loop .i .0) (start .pre .1 .few) (looped .loop .inv .0))
 
 mul-if1 : tie.Need-mul-if1 Inv-loop μ-loop
 mul-if1 c =
@@ -31,8 +34,10 @@ mul-if1 c =
 
 put-entry-requires : tie.Need-put-entry-requires Inv-loop μ-loop
 put-entry-requires c κs =
-    let looped = c .before .before .before in
-    let start = looped .before .before .before in (
+    let branch1 = c .before in
+    let looped = branch1 .before .before in
+    let start-2 = looped .before .before .before in
+    let start = start-2 in (
       omega (
         arith,
         looped .loop .inv .1 .few,
@@ -40,10 +45,10 @@ put-entry-requires c κs =
         looped .loop .inv .1 .same,
         start .pre .0,
         entry-small (start .args .n) (looped .loop .i .0)
-            (start .pre .1 .few) (entry-next (start .args .n) (looped .loop .i .0) (c .before .if1 .taken)),
+            (start .pre .1 .few) (entry-next (start .args .n) (looped .loop .i .0) (branch1 .if1 .taken)),
       ),
       start .pre .1,
-      entry-next (start .args .n) (looped .loop .i .0) (c .before .if1 .taken),
+      entry-next (start .args .n) (looped .loop .i .0) (branch1 .if1 .taken),
     )
 
 add-t8 : tie.Need-add-t8 Inv-loop μ-loop
@@ -62,7 +67,8 @@ loop-again c =
     let at-put-entry = c .before .before .before in
     let branch1 = at-put-entry .before .before in
     let looped = branch1 .before .before in
-    let start = looped .before .before .before in (
+    let start-2 = looped .before .before .before in
+    let start = start-2 in (
       omega (arith, entry-next (start .args .n) (looped .loop .i .0) (branch1 .if1 .taken)),
       entries-more (storedLine (start .args .tree .now) (start .args .n)) (looped .loop .i .0)
           (looped .loop .inv .1) (at-put-entry .put-entry .ensures),
@@ -70,8 +76,9 @@ loop-again c =
 
 returns : tie.Need-returns Inv-loop μ-loop
 returns c =
-    let start = c .before .before .before .before .before in
-    entries-all (start .args .tree .now) (start .args .n) (c .before .before .loop .i .0) (start .pre .1 .few) (c .before .before .loop .inv .0) (c .if1 .left) (c .before .before .loop .inv .1)
+    let looped = c .before .before in
+    let start = looped .before .before .before in
+    entries-all (start .args .tree .now) (start .args .n) (looped .loop .i .0) (start .pre .1 .few) (looped .loop .inv .0) (c .if1 .left) (looped .loop .inv .1)
 
 pub put-entries-spec : {M : Type 1} → statement M
 put-entries-spec = tie.close (tie.spec Inv-loop μ-loop loop-holds add-if1 mul-if1 put-entry-requires add-t8 loop-less loop-again (λ c. search needs) returns)

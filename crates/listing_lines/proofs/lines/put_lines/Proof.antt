@@ -8,8 +8,9 @@ use Rattle.listing_lines.proofs.lines.put_lines.Tie as tie
 returns : tie.Need-returns
 unfolding storedLines
 returns c =
-    let at-put-first = c .before .before .before .before .before .before in
-    both-put (at-put-first .put-first .ensures) (c .before .before .put-entries .ensures)
+    let at-put-entries = c .before .before in
+    let at-put-first = at-put-entries .before .before .before .before in
+    both-put (at-put-first .put-first .ensures) (at-put-entries .put-entries .ensures)
 
 pub put-lines-spec : {M : Type 1} → statement M
 put-lines-spec = tie.close (tie.spec (λ c κs. search needs) (λ c κs. search needs) (λ c. search needs) returns)

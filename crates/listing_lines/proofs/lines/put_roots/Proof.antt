@@ -92,24 +92,27 @@ loop-less c =
 
 loop-again : tie.Need-loop-again Inv-loop μ-loop
 loop-again c =
-    let at-put-text = c .before .before .before .before .before .before in
+    let at-put-digits = c .before .before in
+    let at-put-text = at-put-digits .before .before .before .before in
     let tested = at-put-text .before .before .before .before in
     let looped = tested .before in
     let at-root-indexes = looped .before in
     let at-root-count = at-root-indexes .before in
-    let start = at-root-count .before .before in (
+    let start-2 = at-root-count .before .before in
+    let start = start-2 in (
       omega (arith, tested .loop-test .taken),
       roots-more (start .args .n) (looped .loop .j) (at-root-indexes .root-indexes .result) (at-root-indexes .root-indexes .ensures)
           (subst (λ (x : ℕ). looped .loop .j < x) (at-root-count .root-count .ensures) (tested .loop-test .taken)) (looped .loop .inv .1) (at-put-text .put-text .ensures)
-          (c .before .before .put-digits .ensures),
+          (at-put-digits .put-digits .ensures),
     )
 
 returns : tie.Need-returns Inv-loop μ-loop
 returns c =
-    let at-root-count = c .before .before .before in
+    let looped = c .before in
+    let at-root-count = looped .before .before in
     let start = at-root-count .before .before in
-    roots-all (start .args .n) (c .before .loop .j) (start .pre .1) (omega (arith, c .before .loop .inv .0, at-root-count .root-count .ensures))
-    (omega (arith, c .loop-test .left, at-root-count .root-count .ensures)) (c .before .loop .inv .1)
+    roots-all (start .args .n) (looped .loop .j) (start .pre .1) (omega (arith, looped .loop .inv .0, at-root-count .root-count .ensures))
+    (omega (arith, c .loop-test .left, at-root-count .root-count .ensures)) (looped .loop .inv .1)
 
 pub put-roots-spec : {M : Type 1} → statement M
 put-roots-spec =

@@ -19,31 +19,36 @@ loop-holds c = (omega arith, start-none (c .before .args .tree .now))
 
 stored-size-requires : tie.Need-stored-size-requires Inv-loop μ-loop
 stored-size-requires c κs =
-    let looped = c .before .before .before .before in
+    let branch1 = c .before in
+    let looped = branch1 .before .before .before in
     let start = looped .before .before in
-    entry-in (start .args .tree .now) (c .leaf-index .result .0) (omega (arith, c .leaf-index .ensures ∙ index-leaf (looped .loop .j .0), start .pre .few, c .before .if1 .taken)) (start .pre .room)
+    entry-in (start .args .tree .now) (c .leaf-index .result .0) (omega (arith, c .leaf-index .ensures ∙ index-leaf (looped .loop .j .0), start .pre .few, branch1 .if1 .taken)) (start .pre .room)
 
 add-t8 : tie.Need-add-t8 Inv-loop μ-loop
 add-t8 c =
-    let branch1 = c .before .before .before in
+    let at-stored-size = c .before in
+    let at-leaf-index = at-stored-size .before in
+    let branch1 = at-leaf-index .before in
     let looped = branch1 .before .before .before in
     let start = looped .before .before in
     omega (
       arith,
-      start-more (start .args .tree .now) (looped .loop .j .0) (looped .loop .start .0) (c .before .stored-size .result) (looped .loop .inv .1)
-          (c .before .stored-size .ensures ∙ ap (storedSize (start .args .tree .now)) (c .before .before .leaf-index .ensures ∙ index-leaf (looped .loop .j .0))),
+      start-more (start .args .tree .now) (looped .loop .j .0) (looped .loop .start .0) (at-stored-size .stored-size .result) (looped .loop .inv .1)
+          (at-stored-size .stored-size .ensures ∙ ap (storedSize (start .args .tree .now)) (at-leaf-index .leaf-index .ensures ∙ index-leaf (looped .loop .j .0))),
       start .pre .small
           (looped .loop .j .0 + 1) (omega (arith, branch1 .if1 .taken)),
     )
 
 loop-again : tie.Need-loop-again Inv-loop μ-loop
 loop-again c =
-    let at-leaf-index = c .before .before .before in
+    let at-stored-size = c .before .before in
+    let at-leaf-index = at-stored-size .before in
     let looped = at-leaf-index .before .before .before .before in
-    let start = looped .before .before in (
+    let start-2 = looped .before .before in
+    let start = start-2 in (
       omega arith,
-      start-more (start .args .tree .now) (looped .loop .j .0) (looped .loop .start .0) (c .before .before .stored-size .result) (looped .loop .inv .1)
-          (c .before .before .stored-size .ensures ∙ ap (storedSize (start .args .tree .now)) (at-leaf-index .leaf-index .ensures ∙ index-leaf (looped .loop .j .0))),
+      start-more (start .args .tree .now) (looped .loop .j .0) (looped .loop .start .0) (at-stored-size .stored-size .result) (looped .loop .inv .1)
+          (at-stored-size .stored-size .ensures ∙ ap (storedSize (start .args .tree .now)) (at-leaf-index .leaf-index .ensures ∙ index-leaf (looped .loop .j .0))),
     )
 
 returns : tie.Need-returns Inv-loop μ-loop

@@ -29,7 +29,9 @@ put-digits-returns : (t : ℕ) → put-digits-lts.Need-returns (
   put-digits-below t,
   put-digits.Post,
 ) (put-digits-at t) put-digits.Post
-put-digits-returns t c = none-digits (c .before .before .args .out .now) (c .before .before .args .at) (c .before .before .args .k) (c .before .before .args .x) (c .if1 .taken)
+put-digits-returns t c =
+    let start = c .before .before in
+    none-digits (start .args .out .now) (start .args .at) (start .args .k) (start .args .x) (c .if1 .taken)
 
 put-digits-put-digit-requires : (t : ℕ) → put-digits-lts.Need-put-digit-requires (
   put-digit-reads.Asked,
@@ -54,10 +56,11 @@ put-digits-returns-2 : (t : ℕ) → put-digits-lts.Need-returns-2 (
   put-digits.Post,
 ) (put-digits-at t) put-digits.Post
 put-digits-returns-2 t c =
-    let branch2 = c .before .before .before .before in
+    let at-put-digit = c .before .before in
+    let branch2 = at-put-digit .before .before in
     let branch1 = branch2 .before in
     let start = branch1 .before .before in
-    one-digit (start .args .k) (start .args .x) (branch1 .if1 .left) (branch2 .if2 .taken) (c .before .before .put-digit .ensures)
+    one-digit (start .args .k) (start .args .x) (branch1 .if1 .left) (branch2 .if2 .taken) (at-put-digit .put-digit .ensures)
 
 put-digits-sub-put-digits : (t : ℕ) → put-digits-lts.Need-sub-put-digits (
   put-digit-reads.Asked,
@@ -74,8 +77,9 @@ put-digits-put-digits-requires : (t : ℕ) → put-digits-lts.Need-put-digits-re
   put-digits.Post,
 ) (put-digits-at t) put-digits.Post
 put-digits-put-digits-requires t c κs =
-    let entered = c .before .before .before .before in
-    (omega (arith, entered .pre .0, c .before .before .if1 .left), omega (arith, entered .pre .1))
+    let branch1 = c .before .before in
+    let entered = branch1 .before .before in
+    (omega (arith, entered .pre .0, branch1 .if1 .left), omega (arith, entered .pre .1))
 
 put-digits-put-digit-requires-2 : (t : ℕ) → put-digits-lts.Need-put-digit-requires-2 (
   put-digit-reads.Asked,
@@ -100,11 +104,12 @@ put-digits-returns-3 : (t : ℕ) → put-digits-lts.Need-returns-3 (
   put-digits.Post,
 ) (put-digits-at t) put-digits.Post
 put-digits-returns-3 t c =
-    let at-put-digits = c .before .before .before .before .before .before in
+    let at-put-digit2 = c .before .before in
+    let at-put-digits = at-put-digit2 .before .before .before .before in
     let branch2 = at-put-digits .before .before in
     let branch1 = branch2 .before in
     let start = branch1 .before .before in
-    more-digits (start .args .k) (start .args .x) (branch1 .if1 .left) (branch2 .if2 .left) (at-put-digits .put-digits .ensures) (c .before .before .put-digit2 .ensures)
+    more-digits (start .args .k) (start .args .x) (branch1 .if1 .left) (branch2 .if2 .left) (at-put-digits .put-digits .ensures) (at-put-digit2 .put-digit2 .ensures)
 
 pub +put-digits-spec : {M : Type 1} → statement M
 +put-digits-spec = close μ-put-digits λ t. put-digits-lts.spec (

@@ -1,7 +1,7 @@
 -- The proof of the cycle of calls {descend}. The measure is the depth of the node. Assumes nothing.
 use mathlib.Core.Path.{sym, ap, _∙_, subst}
 use Rattle.tree_index.specs.Tree.{depth}
-use Rattle.lookup.specs.Unknown.{unknownOf}
+use Rattle.lookup.specs.Unknown.{firstEntry}
 use Rattle.lookup.specs.Inner.{withinOf, knownIf, followed, Lower, Way}
 use Rattle.lookup.proofs.Steps.{standing-in, standing-children, standing-next, at-unknown, at-end, at-down}
 use borrow.Author.Needs.{needs}
@@ -96,10 +96,11 @@ descend-descend-requires : (t : ℕ) → descend-lts.Need-descend-requires (
   descend.Post,
 ) (descend-at t) descend.Post
 descend-descend-requires t c κs =
-    let at-visit = c .before .before .before in
+    let at-child2 = c .before in
+    let at-visit = at-child2 .before .before in
     let s = at-visit .before .before .before .before .before .before in
     let a = s .args in
-    let k = c .before .child2 .given in
+    let k = at-child2 .child2 .given in
     let v = at-visit .visit .ensures in
     let l = subst (Lower (a .tree .now) (a .i .0)) (k .1) (v .lower) in
     let w = subst (Way (withinOf (a .sought)) (a .tree .now) (a .i .0) (a .start .0)) (k .1) (v .way) in
@@ -114,12 +115,13 @@ descend-returns : (t : ℕ) → descend-lts.Need-returns (
   descend.Post,
 ) (descend-at t) descend.Post
 descend-returns t c =
-    let at-unknown-child = c .before .before .before in
+    let at-child = c .before in
+    let at-unknown-child = at-child .before .before in
     let start = at-unknown-child .before .before .before in
     let a = start .args in
-    let k = c .before .child .given in
+    let k = at-child .child .given in
     at-unknown (knownIf (a .partly) (a .bitfield .now)) (withinOf (a .sought)) (a .tree .now) (a .start .0) (a .i .0) (k .0 .0 .0)
-    (sym (ap unknownOf (k .1)) ∙ at-unknown-child .unknown-child .ensures)
+    (sym (ap firstEntry (k .1)) ∙ at-unknown-child .unknown-child .ensures)
 
 descend-returns-2 : (t : ℕ) → descend-lts.Need-returns-2 (
   unknown-child-reads.Asked,
@@ -130,17 +132,18 @@ descend-returns-2 : (t : ℕ) → descend-lts.Need-returns-2 (
   descend.Post,
 ) (descend-at t) descend.Post
 descend-returns-2 t c =
-    let at-visit = c .before .before .before in
+    let at-ending = c .before in
+    let at-visit = at-ending .before .before in
     let at-enum-told = at-visit .before in
     let at-unknown-child = at-enum-told .before .before in
     let start = at-unknown-child .before .before .before in
     let a = start .args in
-    let k = c .before .ending .given in
+    let k = at-ending .ending .given in
     let v = at-visit .visit .ensures in
     let w = subst (Way (withinOf (a .sought)) (a .tree .now) (a .i .0) (a .start .0)) (k .1) (v .way) in
     sym (ap (followed (withinOf (a .sought)) (a .tree .now)) (k .1)) ∙ v .same
     ∙ at-end (knownIf (a .partly) (a .bitfield .now)) (withinOf (a .sought)) (a .tree .now) (a .start .0) (a .i .0)
-    (sym (ap unknownOf (at-enum-told .enum-told .given .1)) ∙ at-unknown-child .unknown-child .ensures) w
+    (sym (ap firstEntry (at-enum-told .enum-told .given .1)) ∙ at-unknown-child .unknown-child .ensures) w
 
 descend-returns-3 : (t : ℕ) → descend-lts.Need-returns-3 (
   unknown-child-reads.Asked,
@@ -151,16 +154,17 @@ descend-returns-3 : (t : ℕ) → descend-lts.Need-returns-3 (
   descend.Post,
 ) (descend-at t) descend.Post
 descend-returns-3 t c =
-    let at-visit = c .before .before .before .before in
+    let at-child2 = c .before .before in
+    let at-visit = at-child2 .before .before in
     let at-enum-told = at-visit .before in
     let at-unknown-child = at-enum-told .before .before in
     let start = at-unknown-child .before .before .before in
     let a = start .args in
-    let k = c .before .before .child2 .given in
+    let k = at-child2 .child2 .given in
     let w = subst (Way (withinOf (a .sought)) (a .tree .now) (a .i .0) (a .start .0)) (k .1) (at-visit .visit .ensures .way) in
     c .descend .ensures
     ∙ at-down (knownIf (a .partly) (a .bitfield .now)) (withinOf (a .sought)) (a .tree .now) (a .start .0) (a .i .0) (k .0 .0 .0) (k .0 .1 .0 .0)
-    (sym (ap unknownOf (at-enum-told .enum-told .given .1)) ∙ at-unknown-child .unknown-child .ensures) w
+    (sym (ap firstEntry (at-enum-told .enum-told .given .1)) ∙ at-unknown-child .unknown-child .ensures) w
 
 pub +descend-spec : {M : Type 1} → statement M
 +descend-spec = close μ-descend λ t. descend-lts.spec (

@@ -17,22 +17,25 @@ enum-known-sought-2 c = search needs
 
 sub-t6 : tie.Need-sub-t6
 sub-t6 c =
-    let s = c .before .before .before .before in
-    let k = c .before .before .sought2 .given in
+    let at-sought2 = c .before .before in
+    let s = at-sought2 .before .before in
+    let k = at-sought2 .sought2 .given in
     subst (λ (q : Sought). Passed q (s .args .size)) (k .1) (s .pre)
 
 returns : tie.Need-returns
 returns c d k s z =
-    let start = c .before .before .before in
+    let at-sought = c .before in
+    let start = at-sought .before .before in
     let a = start .args in
-    let g = c .before .sought .given in
+    let g = at-sought .sought .given in
     behind-chunk (g .0 .0) (a .size) d k s z ∙ sym (ap (λ (q : Sought). withinOf q d k (a .size + s) z) (g .1))
 
 returns-2 : tie.Need-returns-2
 returns-2 c d k s z =
-    let b = c .before .before .before .before in
+    let at-sought2 = c .before .before in
+    let b = at-sought2 .before .before in
     let a = b .args in
-    let g = c .before .before .sought2 .given in
+    let g = at-sought2 .sought2 .given in
     behind-byte (g .0 .0) (record { 0 = g .0 .0 .0 - a .size }) (a .size) (subst (λ (q : Sought). Passed q (a .size)) (g .1) (b .pre)) refl d k s z
     ∙ sym (ap (λ (q : Sought). withinOf q d k (a .size + s) z) (g .1))
 

@@ -23,14 +23,17 @@ abbrev μ-loop : tie.MeasureT-loop
 -- in the loop: there is another root, and it is the one that the array has
 among : (l : tie.In-loop Inv-loop μ-loop) → l .before .loop .j < length (roots (l .before .before .before .before .before .before .args .n))
 among l =
-    let at-root-count = l .before .before .before in
-    subst (λ (x : ℕ). l .before .loop .j < x) (at-root-count .root-count .ensures) (l .loop-test .taken)
+    let looped = l .before in
+    let at-root-count = looped .before .before in
+    subst (λ (x : ℕ). looped .loop .j < x) (at-root-count .root-count .ensures) (l .loop-test .taken)
 
 root : (l : tie.In-loop Inv-loop μ-loop)
     → getD (l .before .before .root-indexes .result) (l .before .loop .j) (record { 0 = 0 }) .0 ≡ getD (roots (l .before .before .before .before .before .before .args .n)) (l .before .loop .j) 0
 root l =
-    let start = l .before .before .before .before .before .before in
-    root-of (l .before .before .root-indexes .result) (start .args .n) (l .before .loop .j) (l .before .before .root-indexes .ensures) (among l)
+    let looped = l .before in
+    let at-root-indexes = looped .before in
+    let start = at-root-indexes .before .before .before .before in
+    root-of (at-root-indexes .root-indexes .result) (start .args .n) (looped .loop .j) (at-root-indexes .root-indexes .ensures) (among l)
 
 root-count-requires : tie.Need-root-count-requires Inv-loop μ-loop
 root-count-requires c κs = c .before .before .pre .roots .count
@@ -60,65 +63,77 @@ array-copy-out-i c =
 is-known-requires : tie.Need-is-known-requires Inv-loop μ-loop
 is-known-requires c κs =
     let l = c .before in
-    let s = l .before .before .before .before .before .before in
+    let looped = l .before in
+    let s = looped .before .before .before .before .before in
     let a = s .args in
-    root-bit (a .partly) (a .sought) (a .tree .now) (a .bitfield .now) (a .n) (l .before .loop .inv) (s .pre) (among l) (root l)
+    root-bit (a .partly) (a .sought) (a .tree .now) (a .bitfield .now) (a .n) (looped .loop .inv) (s .pre) (among l) (root l)
 
 returns : tie.Need-returns Inv-loop μ-loop
 returns c =
-    let l = c .before .before .before in
-    let s = l .before .before .before .before .before .before in
+    let at-is-known = c .before in
+    let l = at-is-known .before .before in
+    let looped = l .before in
+    let s = looped .before .before .before .before .before in
     let a = s .args in
-    root-unknown (a .partly) (a .sought) (a .tree .now) (a .bitfield .now) (a .n) (l .before .loop .inv) (s .pre) (among l) (root l)
-    (sym (c .before .is-known .ensures) ∙ not-true _ (c .if1 .taken))
+    root-unknown (a .partly) (a .sought) (a .tree .now) (a .bitfield .now) (a .n) (looped .loop .inv) (s .pre) (among l) (root l)
+    (sym (at-is-known .is-known .ensures) ∙ not-true _ (c .if1 .taken))
 
 stored-size-requires : tie.Need-stored-size-requires Inv-loop μ-loop
 stored-size-requires c κs =
     let l = c .before .before .before in
-    let s = l .before .before .before .before .before .before in
+    let looped = l .before in
+    let s = looped .before .before .before .before .before in
     let a = s .args in
-    root-entry (a .partly) (a .sought) (a .tree .now) (a .bitfield .now) (a .n) (l .before .loop .inv) (s .pre) (among l) (root l)
+    root-entry (a .partly) (a .sought) (a .tree .now) (a .bitfield .now) (a .n) (looped .loop .inv) (s .pre) (among l) (root l)
 
 is-within-requires : tie.Need-is-within-requires Inv-loop μ-loop
 is-within-requires c κs =
     let l = c .before .before .before .before in
-    let s = l .before .before .before .before .before .before in
+    let looped = l .before in
+    let s = looped .before .before .before .before .before in
     let a = s .args in
     let z : c .stored-size .result < 2 ^ 64 = omega arith in
-    (root-entry (a .partly) (a .sought) (a .tree .now) (a .bitfield .now) (a .n) (l .before .loop .inv) (s .pre) (among l) (root l) .small, omega arith)
+    (root-entry (a .partly) (a .sought) (a .tree .now) (a .bitfield .now) (a .n) (looped .loop .inv) (s .pre) (among l) (root l) .small, omega arith)
 
 descend-requires : tie.Need-descend-requires Inv-loop μ-loop
 descend-requires c κs =
-    let l = c .before .before .before .before .before .before in
-    let s = l .before .before .before .before .before .before in
+    let at-stored-size = c .before .before in
+    let l = at-stored-size .before .before .before .before in
+    let looped = l .before in
+    let s = looped .before .before .before .before .before in
     let a = s .args in
-    let z : c .before .before .stored-size .result < 2 ^ 64 = omega arith in
-    root-stands (a .partly) (a .sought) (a .tree .now) (a .bitfield .now) (a .n) (l .before .loop .inv) (s .pre) (among l) (root l) (c .before .before .stored-size .ensures) z
+    let z : at-stored-size .stored-size .result < 2 ^ 64 = omega arith in
+    root-stands (a .partly) (a .sought) (a .tree .now) (a .bitfield .now) (a .n) (looped .loop .inv) (s .pre) (among l) (root l) (at-stored-size .stored-size .ensures) z
 
 moved-requires : tie.Need-moved-requires Inv-loop μ-loop
 moved-requires c κs = search needs
 
 returns-2 : tie.Need-returns-2 Inv-loop μ-loop
 returns-2 c =
-    let at-is-within = c .before .before .before in
+    let at-descend = c .before in
+    let branch2 = at-descend .before in
+    let at-is-within = branch2 .before in
     let at-stored-size = at-is-within .before in
     let branch1 = at-stored-size .before in
     let at-is-known = branch1 .before in
     let l = at-is-known .before .before in
-    let s = l .before .before .before .before .before .before in
+    let looped = l .before in
+    let s = looped .before .before .before .before .before in
     let a = s .args in
     c .moved .ensures
-    ∙ ap (λ (e : Ending). cappedEnding (movedBy (l .before .loop .start .0) e)) (c .before .descend .ensures)
-    ∙ found-here (a .partly) (a .sought) (a .tree .now) (a .bitfield .now) (a .n) (l .before .loop .inv) (s .pre) (among l) (root l)
+    ∙ ap (λ (e : Ending). cappedEnding (movedBy (looped .loop .start .0) e)) (at-descend .descend .ensures)
+    ∙ found-here (a .partly) (a .sought) (a .tree .now) (a .bitfield .now) (a .n) (looped .loop .inv) (s .pre) (among l) (root l)
     (sym (at-is-known .is-known .ensures) ∙ not-false _ (branch1 .if1 .left))
-    (at-stored-size .stored-size .ensures) (sym (at-is-within .is-within .ensures) ∙ c .before .before .if2 .taken)
+    (at-stored-size .stored-size .ensures) (sym (at-is-within .is-within .ensures) ∙ branch2 .if2 .taken)
 
 behind-requires : tie.Need-behind-requires Inv-loop μ-loop
 behind-requires c κs =
-    let l = c .before .before .before .before .before .before in
-    let s = l .before .before .before .before .before .before in
+    let at-is-within = c .before in
+    let at-stored-size = at-is-within .before in
+    let looped = at-stored-size .before .before .before .before .before in
+    let s = looped .before .before .before .before .before in
     let a = s .args in
-    passed (l .before .loop .left) (c .before .before .stored-size .result) _ _ (sym (c .before .is-within .ensures) ∙ c .if2 .left)
+    passed (looped .loop .left) (at-stored-size .stored-size .result) _ _ (sym (at-is-within .is-within .ensures) ∙ c .if2 .left)
 
 add-capped-requires : tie.Need-add-capped-requires Inv-loop μ-loop
 add-capped-requires c κs = search needs
@@ -131,25 +146,29 @@ loop-less c = search needs
 
 loop-again : tie.Need-loop-again Inv-loop μ-loop
 loop-again c =
-    let at-is-within = c .before .before .before in
+    let at-behind = c .before in
+    let branch2 = at-behind .before in
+    let at-is-within = branch2 .before in
     let at-stored-size = at-is-within .before in
     let branch1 = at-stored-size .before in
     let at-is-known = branch1 .before in
     let l = at-is-known .before .before in
-    let s = l .before .before .before .before .before .before in
+    let looped = l .before in
+    let s = looped .before .before .before .before .before in
     let a = s .args in
-    not-here (a .partly) (a .sought) (a .tree .now) (a .bitfield .now) (a .n) (l .before .loop .inv) (s .pre) (among l) (root l)
+    not-here (a .partly) (a .sought) (a .tree .now) (a .bitfield .now) (a .n) (looped .loop .inv) (s .pre) (among l) (root l)
     (sym (at-is-known .is-known .ensures) ∙ not-false _ (branch1 .if1 .left))
-    (at-stored-size .stored-size .ensures) (sym (at-is-within .is-within .ensures) ∙ c .before .before .if2 .left)
-    (c .add-capped .ensures) (c .before .behind .ensures)
+    (at-stored-size .stored-size .ensures) (sym (at-is-within .is-within .ensures) ∙ branch2 .if2 .left)
+    (c .add-capped .ensures) (at-behind .behind .ensures)
 
 returns-3 : tie.Need-returns-3 Inv-loop μ-loop
 returns-3 c =
-    let at-root-count = c .before .before .before in
+    let looped = c .before in
+    let at-root-count = looped .before .before in
     let start = at-root-count .before .before .before in
     let a = start .args in
-    none-left (a .partly) (a .sought) (a .tree .now) (a .bitfield .now) (a .n) (c .before .loop .inv)
-    (subst (λ (x : ℕ). x ≤ c .before .loop .j) (at-root-count .root-count .ensures) (c .loop-test .left))
+    none-left (a .partly) (a .sought) (a .tree .now) (a .bitfield .now) (a .n) (looped .loop .inv)
+    (subst (λ (x : ℕ). x ≤ looped .loop .j) (at-root-count .root-count .ensures) (c .loop-test .left))
 
 pub from-roots-spec : {M : Type 1} → statement M
 from-roots-spec =

@@ -10,9 +10,10 @@ is-known-requires c κs = c .before .before .pre (c .if1 .taken)
 
 returns : tie.Need-returns
 returns c =
-    let start = c .before .before .before in
+    let branch1 = c .before in
+    let start = branch1 .before .before in
     let a = start .args in
-    c .is-known .ensures ∙ sym (ap (λ (p : Bool). knownIf p (a .bitfield .now) (a .i .0)) (c .before .if1 .taken))
+    c .is-known .ensures ∙ sym (ap (λ (p : Bool). knownIf p (a .bitfield .now) (a .i .0)) (branch1 .if1 .taken))
 
 returns-2 : tie.Need-returns-2
 returns-2 c =

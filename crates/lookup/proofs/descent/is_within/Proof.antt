@@ -23,9 +23,10 @@ add-result c = search needs
 
 returns : tie.Need-returns
 returns c =
-    let start = c .before .before .before .before in
+    let at-sought = c .before .before in
+    let start = at-sought .before .before in
     let a = start .args in
-    let k = c .before .before .sought .given in
+    let k = at-sought .sought .given in
     ap not (c .ends-before .ensures)
     ∙ chunk-within (k .0 .0 .0) (a .i .0) (a .start .0) (a .size)
     ∙ sym (ap (λ s. withinOf s (depth (a .i .0)) (block (a .i .0)) (a .start .0) (a .size)) (k .1))

@@ -24,15 +24,17 @@ depth-requires c κs = c .before .before .pre .small
 
 deep : (c : tie.Else2) → 0 < depth (c .before .before .before .before .args .i .0)
 deep c =
-    let start = c .before .before .before .before in
-    deeper (start .args .i .0) (c .before .depth .ensures) (c .if2 .left)
+    let at-depth = c .before in
+    let start = at-depth .before .before .before in
+    deeper (start .args .i .0) (at-depth .depth .ensures) (c .if2 .left)
 
 returns-2 : tie.Need-returns-2
 unfolding firstUnknown
 returns-2 c =
-    let start = c .before .before .before .before in
+    let at-depth = c .before in
+    let start = at-depth .before .before .before in
     let a = start .args in
-    sym (ap (firstUnknown (knownIf (a .partly) (a .bitfield .now))) (children-leaf (a .i .0) (sym (c .before .depth .ensures) ∙ c .if2 .taken)))
+    sym (ap (firstUnknown (knownIf (a .partly) (a .bitfield .now))) (children-leaf (a .i .0) (sym (at-depth .depth .ensures) ∙ c .if2 .taken)))
 
 left-child-requires : tie.Need-left-child-requires
 left-child-requires c κs =
@@ -41,18 +43,21 @@ left-child-requires c κs =
 
 is-known-requires : tie.Need-is-known-requires
 is-known-requires c κs =
-    let s = c .before .before .before .before .before in
-    subst (BitIn (s .args .partly) (s .args .bitfield .now)) (sym (c .left-child .ensures)) (s .pre .left (deep (c .before)))
+    let earlier = c .before in
+    let s = earlier .before .before .before .before in
+    subst (BitIn (s .args .partly) (s .args .bitfield .now)) (sym (c .left-child .ensures)) (s .pre .left (deep earlier))
 
 returns-3 : tie.Need-returns-3
 returns-3 c =
-    let earlier = c .before .before .before in
+    let at-is-known = c .before in
+    let at-left-child = at-is-known .before in
+    let earlier = at-left-child .before in
     let start = earlier .before .before .before .before in
     let a = start .args in
     let k = knownIf (a .partly) (a .bitfield .now) in
-    let l = c .before .before .left-child .ensures in
+    let l = at-left-child .left-child .ensures in
     ap first l
-    ∙ sym (first-unknown k (leftChild (a .i .0)) (rightChild (a .i .0) ∷ []) (sym (not-true _ (c .if3 .taken)) ∙ c .before .is-known .ensures ∙ ap k l))
+    ∙ sym (first-unknown k (leftChild (a .i .0)) (rightChild (a .i .0) ∷ []) (sym (not-true _ (c .if3 .taken)) ∙ at-is-known .is-known .ensures ∙ ap k l))
     ∙ sym (ap (firstUnknown k) (children-parent (a .i .0) (deep earlier)))
 
 right-child-requires : tie.Need-right-child-requires
@@ -69,27 +74,39 @@ is-known-requires-2 c κs =
 
 returns-4 : tie.Need-returns-4
 returns-4 c =
-    let b = c .before .before .before in
-    let a = b .before .before .before .before .before .before .before .args in
+    let at-is-known2 = c .before in
+    let at-right-child = at-is-known2 .before in
+    let b = at-right-child .before in
+    let at-is-known = b .before in
+    let at-left-child = at-is-known .before in
+    let earlier = at-left-child .before in
+    let start = earlier .before .before .before .before in
+    let a = start .args in
     let k = knownIf (a .partly) (a .bitfield .now) in
-    let l = b .before .before .left-child .ensures in
-    let r = c .before .before .right-child .ensures in
+    let l = at-left-child .left-child .ensures in
+    let r = at-right-child .right-child .ensures in
     ap first r
-    ∙ sym (first-unknown k (rightChild (a .i .0)) [] (sym (not-true _ (c .if4 .taken)) ∙ c .before .is-known2 .ensures ∙ ap k r))
-    ∙ sym (first-known k (leftChild (a .i .0)) (rightChild (a .i .0) ∷ []) (sym (not-false _ (b .if3 .left)) ∙ b .before .is-known .ensures ∙ ap k l))
-    ∙ sym (ap (firstUnknown k) (children-parent (a .i .0) (deep (b .before .before .before))))
+    ∙ sym (first-unknown k (rightChild (a .i .0)) [] (sym (not-true _ (c .if4 .taken)) ∙ at-is-known2 .is-known2 .ensures ∙ ap k r))
+    ∙ sym (first-known k (leftChild (a .i .0)) (rightChild (a .i .0) ∷ []) (sym (not-false _ (b .if3 .left)) ∙ at-is-known .is-known .ensures ∙ ap k l))
+    ∙ sym (ap (firstUnknown k) (children-parent (a .i .0) (deep earlier)))
 
 returns-5 : tie.Need-returns-5
 unfolding firstUnknown
 returns-5 c =
-    let b = c .before .before .before in
-    let a = b .before .before .before .before .before .before .before .args in
+    let at-is-known2 = c .before in
+    let at-right-child = at-is-known2 .before in
+    let b = at-right-child .before in
+    let at-is-known = b .before in
+    let at-left-child = at-is-known .before in
+    let earlier = at-left-child .before in
+    let start = earlier .before .before .before .before in
+    let a = start .args in
     let k = knownIf (a .partly) (a .bitfield .now) in
-    let l = b .before .before .left-child .ensures in
-    let r = c .before .before .right-child .ensures in
-    sym (first-known k (rightChild (a .i .0)) [] (sym (not-false _ (c .if4 .left)) ∙ c .before .is-known2 .ensures ∙ ap k r))
-    ∙ sym (first-known k (leftChild (a .i .0)) (rightChild (a .i .0) ∷ []) (sym (not-false _ (b .if3 .left)) ∙ b .before .is-known .ensures ∙ ap k l))
-    ∙ sym (ap (firstUnknown k) (children-parent (a .i .0) (deep (b .before .before .before))))
+    let l = at-left-child .left-child .ensures in
+    let r = at-right-child .right-child .ensures in
+    sym (first-known k (rightChild (a .i .0)) [] (sym (not-false _ (c .if4 .left)) ∙ at-is-known2 .is-known2 .ensures ∙ ap k r))
+    ∙ sym (first-known k (leftChild (a .i .0)) (rightChild (a .i .0) ∷ []) (sym (not-false _ (b .if3 .left)) ∙ at-is-known .is-known .ensures ∙ ap k l))
+    ∙ sym (ap (firstUnknown k) (children-parent (a .i .0) (deep earlier)))
 
 pub unknown-child-spec : {M : Type 1} → statement M
 unknown-child-spec =

@@ -1,49 +1,29 @@
 -- `lookup::places::held_place` meets its contract: the checks 2 to 6, and what comes behind them. Assumes nothing.
 use Prim.Native.Nat.{_^_, _<_}
-use mathlib.Core.Path.{sym, ap, _∙_}
+use mathlib.Core.Path.{sym, _∙_}
 use native.Mathlib.Omega.{arith}
-use Rattle.refusals.specs.Meaning.{said, spotOf}
+use Rattle.answer_types.specs.Meaning.{said}
+use Rattle.file_format.specs.Belongs.{Register}
 use Rattle.checks.specs.Lent.{registerOf}
-use Rattle.lookup.proofs.Calls.{searched-held, held-refused, held-passed}
+use Rattle.lookup.proofs.Calls.{searched-held, held-by}
 use borrow.Author.Needs.{needs}
 use Rattle.lookup.proofs.places.held_place.Statement.{statement}
 use Rattle.lookup.proofs.places.held_place.Tie as tie
 
-judge-requires : tie.Need-judge-requires
-judge-requires c κs = search needs
+abbrev given : (c : tie.Start) → Register
+given c = registerOf (c .args .tree .now) (c .args .signatures .now) (c .args .bitfield .now) (c .args .content .now) (c .args .n) (c .args .s) (c .args .size)
 
-enum-known-refusal : tie.Need-enum-known-refusal
-enum-known-refusal c = search needs
-
-enum-told : tie.Need-enum-told
-enum-told c = search needs
-
-held-place-in-requires : tie.Need-held-place-in-requires
-held-place-in-requires c κs =
-    let start = c .before .before .before .before .before .before .before in
-    let a = start .args in
-    let r = registerOf (a .tree .now) (a .signatures .now) (a .bitfield .now) (a .content .now) (a .n) (a .s) (a .size) in
-    let h : a .size < 2 ^ 64 = omega arith in
-    searched-held r (sym (ap said (c .enum-told .given .1)) ∙ c .before .before .judge .ensures) h
+held-place-behind-requires : tie.Need-held-place-behind-requires
+held-place-behind-requires c κs =
+    let start = c .before .before .before .before .before in
+    let h : start .args .size < 2 ^ 64 = omega arith in
+    λ e. searched-held (given start) (sym e ∙ c .judge .ensures) h
 
 returns : tie.Need-returns
 returns c =
-    let at-judge = c .before .before .before in
+    let at-judge = c .before in
     let start = at-judge .before .before .before .before .before in
-    let a = start .args in
-    let r = registerOf (a .tree .now) (a .signatures .now) (a .bitfield .now) (a .content .now) (a .n) (a .s) (a .size) in
-    let q = c .before .refusal .given in
-    held-refused r (a .chunk .0) (q .0 .0 .number) (spotOf (q .0 .0 .place)) (sym (ap said (q .1)) ∙ at-judge .judge .ensures)
-
-returns-2 : tie.Need-returns-2
-returns-2 c =
-    let at-judge = c .before .before .before in
-    let start = at-judge .before .before .before .before .before in
-    let a = start .args in
-    let r = registerOf (a .tree .now) (a .signatures .now) (a .bitfield .now) (a .content .now) (a .n) (a .s) (a .size) in
-    c .held-place-in .ensures ∙ held-passed r (a .chunk .0) (sym (ap said (c .before .enum-told .given .1)) ∙ at-judge .judge .ensures)
+    c .held-place-behind .ensures ∙ held-by (given start) (said (at-judge .judge .result)) (at-judge .judge .ensures) (start .args .chunk .0)
 
 pub held-place-spec : {M : Type 1} → statement M
-held-place-spec =
-    tie.close
-    (tie.spec judge-requires enum-known-refusal enum-told held-place-in-requires returns returns-2)
+held-place-spec = tie.close (tie.spec (λ c κs. search needs) held-place-behind-requires returns)

@@ -2,7 +2,7 @@
 use Prim.Native.Nat.{ℕ}
 use mathlib.Core.Path.{sym, ap, _∙_}
 use borrow.Author.Tests.{not-true, not-false}
-use Rattle.refusals.specs.Verdict.{tree}
+use Rattle.answer_types.specs.Verdict.{tree}
 use Rattle.lookup.specs.Lookup.{refusal}
 use Rattle.lookup.specs.Inner.{knownIf}
 use Rattle.lookup.proofs.Calls.{bit-in, held-above, held-gone, held-here}
@@ -26,24 +26,28 @@ leaf-index-requires c κs = search needs
 
 returns-2 : tie.Need-returns-2
 returns-2 c =
-    let branch1 = c .before .before .before in
+    let branch2 = c .before in
+    let at-is-held = branch2 .before in
+    let branch1 = at-is-held .before in
     let start = branch1 .before .before .before .before in
     let a = start .args in
     ap (λ (i : ℕ). refusal 18 (tree i)) (c .leaf-index .ensures)
     ∙ held-gone (knownIf (a .partly) (a .bitfield .now)) (a .tree .now) (a .n) (a .chunk .0) (a .bitfield .now) (branch1 .if1 .left)
-    (sym (not-true _ (c .before .if2 .taken)) ∙ c .before .before .is-held .ensures)
+    (sym (not-true _ (branch2 .if2 .taken)) ∙ at-is-held .is-held .ensures)
 
 place-in-requires : tie.Need-place-in-requires
 place-in-requires c κs = search needs
 
 returns-3 : tie.Need-returns-3
 returns-3 c =
-    let branch1 = c .before .before .before in
+    let branch2 = c .before in
+    let at-is-held = branch2 .before in
+    let branch1 = at-is-held .before in
     let start = branch1 .before .before .before .before in
     let a = start .args in
     c .place-in .ensures
     ∙ held-here (knownIf (a .partly) (a .bitfield .now)) (a .tree .now) (a .n) (a .chunk .0) (a .bitfield .now) (branch1 .if1 .left)
-    (sym (not-false _ (c .before .if2 .left)) ∙ c .before .before .is-held .ensures)
+    (sym (not-false _ (branch2 .if2 .left)) ∙ at-is-held .is-held .ensures)
 
 pub held-place-in-spec : {M : Type 1} → statement M
 held-place-in-spec =

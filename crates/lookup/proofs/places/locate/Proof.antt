@@ -1,49 +1,29 @@
 -- `lookup::places::locate` meets its contract: the checks 2 to 6, and what comes behind them. Assumes nothing.
 use Prim.Native.Nat.{_^_, _<_}
-use mathlib.Core.Path.{sym, ap, _∙_}
+use mathlib.Core.Path.{sym, _∙_}
 use native.Mathlib.Omega.{arith}
-use Rattle.refusals.specs.Meaning.{said, spotOf}
+use Rattle.answer_types.specs.Meaning.{said}
+use Rattle.file_format.specs.Belongs.{Register}
 use Rattle.checks.specs.Lent.{registerOf}
-use Rattle.lookup.proofs.Calls.{searched, byte-refused, byte-passed}
+use Rattle.lookup.proofs.Calls.{searched, byte-by}
 use borrow.Author.Needs.{needs}
 use Rattle.lookup.proofs.places.locate.Statement.{statement}
 use Rattle.lookup.proofs.places.locate.Tie as tie
 
-judge-requires : tie.Need-judge-requires
-judge-requires c κs = search needs
+abbrev given : (c : tie.Start) → Register
+given c = registerOf (c .args .tree .now) (c .args .signatures .now) (c .args .bitfield .now) (c .args .content .now) (c .args .n) (c .args .s) (c .args .size)
 
-enum-known-refusal : tie.Need-enum-known-refusal
-enum-known-refusal c = search needs
-
-enum-told : tie.Need-enum-told
-enum-told c = search needs
-
-locate-in-requires : tie.Need-locate-in-requires
-locate-in-requires c κs =
-    let start = c .before .before .before .before .before .before .before in
-    let a = start .args in
-    let r = registerOf (a .tree .now) (a .signatures .now) (a .bitfield .now) (a .content .now) (a .n) (a .s) (a .size) in
-    let h : a .size < 2 ^ 64 = omega arith in
-    searched r (sym (ap said (c .enum-told .given .1)) ∙ c .before .before .judge .ensures) h
+locate-behind-requires : tie.Need-locate-behind-requires
+locate-behind-requires c κs =
+    let start = c .before .before .before .before .before in
+    let h : start .args .size < 2 ^ 64 = omega arith in
+    λ e. searched (given start) (sym e ∙ c .judge .ensures) h
 
 returns : tie.Need-returns
 returns c =
-    let at-judge = c .before .before .before in
+    let at-judge = c .before in
     let start = at-judge .before .before .before .before .before in
-    let a = start .args in
-    let r = registerOf (a .tree .now) (a .signatures .now) (a .bitfield .now) (a .content .now) (a .n) (a .s) (a .size) in
-    let q = c .before .refusal .given in
-    byte-refused r (a .offset .0) (q .0 .0 .number) (spotOf (q .0 .0 .place)) (sym (ap said (q .1)) ∙ at-judge .judge .ensures)
-
-returns-2 : tie.Need-returns-2
-returns-2 c =
-    let at-judge = c .before .before .before in
-    let start = at-judge .before .before .before .before .before in
-    let a = start .args in
-    let r = registerOf (a .tree .now) (a .signatures .now) (a .bitfield .now) (a .content .now) (a .n) (a .s) (a .size) in
-    c .locate-in .ensures ∙ byte-passed r (a .offset .0) (sym (ap said (c .before .enum-told .given .1)) ∙ at-judge .judge .ensures)
+    c .locate-behind .ensures ∙ byte-by (given start) (said (at-judge .judge .result)) (at-judge .judge .ensures) (start .args .offset .0)
 
 pub locate-spec : {M : Type 1} → statement M
-locate-spec =
-    tie.close
-    (tie.spec judge-requires enum-known-refusal enum-told locate-in-requires returns returns-2)
+locate-spec = tie.close (tie.spec (λ c κs. search needs) locate-behind-requires returns)

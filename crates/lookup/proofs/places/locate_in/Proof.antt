@@ -2,7 +2,7 @@
 use Prim.Native.Nat.{ℕ, _^_, _<_}
 use native.Mathlib.Omega.{arith}
 use mathlib.Core.Path.{sym, ap, _∙_}
-use Rattle.refusals.specs.Verdict.{tree}
+use Rattle.answer_types.specs.Verdict.{tree}
 use Rattle.lookup.specs.Lookup.{found}
 use Rattle.lookup.specs.Inner.{knownIf, endingOf}
 use Rattle.lookup.proofs.Calls.{byte-above, byte-end, byte-from, byte-told, byte-stopped, byte-unknown, byte-reached}
@@ -20,9 +20,10 @@ chunk-behind-requires c κs = search needs
 
 returns-2 : tie.Need-returns-2
 returns-2 c =
-    let start = c .before .before .before .before .before .before .before in
+    let branch2 = c .before in
+    let start = branch2 .before .before .before .before .before .before in
     let a = start .args in
-    ap (λ (k : ℕ). found k 0) (c .chunk-behind .ensures) ∙ byte-end (knownIf (a .partly) (a .bitfield .now)) (a .tree .now) (a .n) (a .size) (a .offset .0) (c .before .if2 .taken)
+    ap (λ (k : ℕ). found k 0) (c .chunk-behind .ensures) ∙ byte-end (knownIf (a .partly) (a .bitfield .now)) (a .tree .now) (a .n) (a .size) (a .offset .0) (branch2 .if2 .taken)
 
 from-roots-requires : tie.Need-from-roots-requires
 from-roots-requires c κs = search needs
@@ -55,7 +56,8 @@ sub-t22 c =
 
 returns-3 : tie.Need-returns-3
 returns-3 c =
-    let at-from-roots = c .before .before .before in
+    let at-i = c .before in
+    let at-from-roots = at-i .before .before in
     let branch2 = at-from-roots .before in
     let branch1 = branch2 .before .before in
     let s = branch1 .before .before .before .before in
@@ -64,14 +66,15 @@ returns-3 c =
     let z : a .size < 2 ^ 64 = omega arith in
     let below = branch1 .if1 .left in
     let other = branch2 .if2 .left in
-    let k = c .before .i .given in
+    let k = at-i .i .given in
     byte-stopped known (a .tree .now) (a .n) (a .size) (a .offset .0) below other (k .0 .0 .0)
     (sym (ap endingOf (k .1)) ∙ at-from-roots .from-roots .ensures
     ∙ byte-told known (a .tree .now) (a .n) (a .size) (a .offset .0) (s .pre) below other z)
 
 returns-4 : tie.Need-returns-4
 returns-4 c =
-    let at-from-roots = c .before .before .before in
+    let at-i2 = c .before in
+    let at-from-roots = at-i2 .before .before in
     let branch2 = at-from-roots .before in
     let branch1 = branch2 .before .before in
     let s = branch1 .before .before .before .before in
@@ -80,7 +83,7 @@ returns-4 c =
     let z : a .size < 2 ^ 64 = omega arith in
     let below = branch1 .if1 .left in
     let other = branch2 .if2 .left in
-    let k = c .before .i2 .given in
+    let k = at-i2 .i2 .given in
     byte-unknown known (a .tree .now) (a .n) (a .size) (a .offset .0) below other (k .0 .0 .0)
     (sym (ap endingOf (k .1)) ∙ at-from-roots .from-roots .ensures
     ∙ byte-told known (a .tree .now) (a .n) (a .size) (a .offset .0) (s .pre) below other z)

@@ -1,6 +1,6 @@
 -- `lookup::places::place_in` meets its contract. Assumes nothing.
 use mathlib.Core.Path.{sym, ap, _∙_, subst}
-use Rattle.refusals.specs.Verdict.{tree}
+use Rattle.answer_types.specs.Verdict.{tree}
 use Rattle.file_format.specs.Stored.{storedSize}
 use Rattle.file_format.specs.Inner.{EntryIn}
 use Rattle.lookup.specs.Inner.{knownIf, endingOf}
@@ -38,33 +38,36 @@ stored-size-requires c κs =
 
 returns-2 : tie.Need-returns-2
 returns-2 c =
-    let at-from-roots = c .before .before .before in
+    let at-i = c .before in
+    let at-from-roots = at-i .before .before in
     let branch1 = at-from-roots .before in
     let s = branch1 .before .before .before .before in
     let a = s .args in
     let known = knownIf (a .partly) (a .bitfield .now) in
     let below = branch1 .if1 .left in
-    let k = c .before .i .given in
+    let k = at-i .i .given in
     place-stopped known (a .tree .now) (a .n) (a .chunk .0) below (k .0 .0 .0)
     (sym (ap endingOf (k .1)) ∙ at-from-roots .from-roots .ensures
     ∙ chunk-told known (a .tree .now) (a .n) (a .chunk .0) (s .pre) below)
 
 returns-3 : tie.Need-returns-3
 returns-3 c =
-    let at-from-roots = c .before .before .before in
+    let at-i2 = c .before in
+    let at-from-roots = at-i2 .before .before in
     let branch1 = at-from-roots .before in
     let s = branch1 .before .before .before .before in
     let a = s .args in
     let known = knownIf (a .partly) (a .bitfield .now) in
     let below = branch1 .if1 .left in
-    let k = c .before .i2 .given in
+    let k = at-i2 .i2 .given in
     place-unknown known (a .tree .now) (a .n) (a .chunk .0) below (k .0 .0 .0)
     (sym (ap endingOf (k .1)) ∙ at-from-roots .from-roots .ensures
     ∙ chunk-told known (a .tree .now) (a .n) (a .chunk .0) (s .pre) below)
 
 returns-4 : tie.Need-returns-4
 returns-4 c =
-    let at-start = c .before .before .before in
+    let at-leaf-index = c .before in
+    let at-start = at-leaf-index .before .before in
     let at-from-roots = at-start .before .before in
     let branch1 = at-from-roots .before in
     let s = branch1 .before .before .before .before in
@@ -75,7 +78,7 @@ returns-4 c =
     place-reached known (a .tree .now) (a .n) (a .chunk .0) below (k .0 .0 .0) (k .0 .1 .0 .0) (c .stored-size .result)
     (sym (ap endingOf (k .1)) ∙ at-from-roots .from-roots .ensures
     ∙ chunk-told known (a .tree .now) (a .n) (a .chunk .0) (s .pre) below)
-    (c .stored-size .ensures ∙ ap (storedSize (a .tree .now)) (c .before .leaf-index .ensures))
+    (c .stored-size .ensures ∙ ap (storedSize (a .tree .now)) (at-leaf-index .leaf-index .ensures))
 
 pub place-in-spec : {M : Type 1} → statement M
 place-in-spec =

@@ -19,8 +19,9 @@ verify-placed-requires c κs =
 
 returns : tie.Need-returns
 returns c =
-    let b = c .before .before .before .before .before .before in
-    c .verify-placed .ensures ∙ verified nodeHash (given b) (b .args .chunk .0) (placedOf (c .before .held-place .result)) (c .before .held-place .ensures)
+    let at-held-place = c .before in
+    let b = at-held-place .before .before .before .before .before in
+    c .verify-placed .ensures ∙ verified nodeHash (given b) (b .args .chunk .0) (placedOf (at-held-place .held-place .result)) (at-held-place .held-place .ensures)
 
 pub verify-spec : {M : Type 1} → statement M
 verify-spec = tie.close (tie.spec (λ c κs. search needs) verify-placed-requires returns)

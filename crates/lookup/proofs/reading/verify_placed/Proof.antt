@@ -3,8 +3,8 @@ use Prim.Native.Nat.{ℕ, _+_, _-_}
 use mathlib.Core.Path.{sym, ap, ap₂, _∙_, subst}
 use native.Mathlib.Omega.{arith}
 use lib.ListN.{take, drop}
-use Rattle.refusals.specs.Verdict.{tree}
-use Rattle.refusals.specs.Meaning.{spotOf}
+use Rattle.answer_types.specs.Verdict.{tree}
+use Rattle.answer_types.specs.Meaning.{spotOf}
 use Rattle.byte_strings.specs.Lists.{sameList}
 use Rattle.blake2b.specs.Hash.{nodeHash}
 use Rattle.file_format.specs.Stored.{storedHash}
@@ -21,9 +21,10 @@ lies : (c : tie.After-struct-known)
     → LiesAt (c .before .before .before .before .before .before .args .tree .now) (c .before .before .before .before .before .before .args .content .now)
     (c .before .before .before .before .before .before .args .chunk .0) (c .before .before .placed2 .given .0 .0 .0) (c .before .before .placed2 .given .0 .1 .0)
 lies c =
-    let start = c .before .before .before .before .before .before in
+    let at-placed2 = c .before .before in
+    let start = at-placed2 .before .before .before .before in
     let a = start .args in
-    subst (PlacedIn (a .tree .now) (a .content .now) (a .chunk .0)) (ap placedOf (c .before .before .placed2 .given .1)) (start .pre)
+    subst (PlacedIn (a .tree .now) (a .content .now) (a .chunk .0)) (ap placedOf (at-placed2 .placed2 .given .1)) (start .pre)
 
 add-t15 : tie.Need-add-t15
 add-t15 c = let h = lies c .inside in record { fits = omega arith }
@@ -33,24 +34,27 @@ leaf-index-requires c κs = lies c .small
 
 stored-hash-requires : tie.Need-stored-hash-requires
 stored-hash-requires c κs =
-    let start = c .before .before .before .before .before .before .before in
+    let earlier = c .before in
+    let start = earlier .before .before .before .before .before .before in
     let a = start .args in
-    subst (EntryIn (a .tree .now)) (sym (c .leaf-index .ensures)) (lies (c .before) .entry)
+    subst (EntryIn (a .tree .now)) (sym (c .leaf-index .ensures)) (lies earlier .entry)
 
 part-leaf-hash-end : tie.Need-part-leaf-hash-end
 part-leaf-hash-end c = lies (c .before .before) .inside
 
 returns : tie.Need-returns
 returns c =
-    let start = c .before .before .before .before .before in
+    let at-placed = c .before in
+    let start = at-placed .before .before .before .before in
     let a = start .args in
-    let q = c .before .placed .given in
+    let q = at-placed .placed .given in
     hash-refused nodeHash (a .tree .now) (a .content .now) (a .chunk .0) (q .0 .0 .number) (spotOf (q .0 .0 .place))
     ∙ sym (ap (λ (p : Found). hashJudged nodeHash (a .tree .now) (a .content .now) (a .chunk .0) p) (ap placedOf (q .1)))
 
 returns-2 : tie.Need-returns-2
 returns-2 c =
-    let at-leaf-hash = c .before .before .before .before in
+    let at-same = c .before in
+    let at-leaf-hash = at-same .before .before .before in
     let at-stored-hash = at-leaf-hash .before .before in
     let at-leaf-index = at-stored-hash .before in
     let at-placed2 = at-leaf-index .before .before .before in
@@ -59,13 +63,14 @@ returns-2 c =
     let k = at-placed2 .placed2 .given in
     hash-right nodeHash (a .tree .now) (a .content .now) (a .chunk .0) (k .0 .0 .0) (k .0 .1 .0)
     (take (k .0 .0 .0 + k .0 .1 .0 - k .0 .0 .0) (drop (k .0 .0 .0) (a .content .now))) (as-part (a .content .now) (k .0 .0 .0) (k .0 .1 .0))
-    (sym (c .if1 .taken) ∙ c .before .same .ensures
+    (sym (c .if1 .taken) ∙ at-same .same .ensures
     ∙ ap₂ sameList (at-stored-hash .stored-hash .ensures ∙ ap (storedHash (a .tree .now)) (at-leaf-index .leaf-index .ensures)) (at-leaf-hash .leaf-hash .ensures))
     ∙ sym (ap (λ (p : Found). hashJudged nodeHash (a .tree .now) (a .content .now) (a .chunk .0) p) (ap placedOf (k .1)))
 
 returns-3 : tie.Need-returns-3
 returns-3 c =
-    let at-leaf-hash = c .before .before .before .before in
+    let at-same = c .before in
+    let at-leaf-hash = at-same .before .before .before in
     let at-stored-hash = at-leaf-hash .before .before in
     let at-leaf-index = at-stored-hash .before in
     let at-placed2 = at-leaf-index .before .before .before in
@@ -75,7 +80,7 @@ returns-3 c =
     ap (λ (i : ℕ). refusal 10 (tree i)) (at-leaf-index .leaf-index .ensures)
     ∙ hash-other nodeHash (a .tree .now) (a .content .now) (a .chunk .0) (k .0 .0 .0) (k .0 .1 .0)
     (take (k .0 .0 .0 + k .0 .1 .0 - k .0 .0 .0) (drop (k .0 .0 .0) (a .content .now))) (as-part (a .content .now) (k .0 .0 .0) (k .0 .1 .0))
-    (sym (c .if1 .left) ∙ c .before .same .ensures
+    (sym (c .if1 .left) ∙ at-same .same .ensures
     ∙ ap₂ sameList (at-stored-hash .stored-hash .ensures ∙ ap (storedHash (a .tree .now)) (at-leaf-index .leaf-index .ensures)) (at-leaf-hash .leaf-hash .ensures))
     ∙ sym (ap (λ (p : Found). hashJudged nodeHash (a .tree .now) (a .content .now) (a .chunk .0) p) (ap placedOf (k .1)))
 

@@ -15,7 +15,9 @@ abbrev μ-loop : tie.MeasureT-loop
 μ-loop packet at count from sum₀ j₀ sum j = count - j
 
 loop-holds : tie.Need-loop-holds Inv-loop μ-loop
-loop-holds c = let a = c .before .args in (omega arith, adding-none (sizesIn (a .packet .now) (a .at) (a .count)) (a .from) (c .before .pre .1))
+loop-holds c =
+    let start = c .before in
+    let a = start .args in (omega arith, adding-none (sizesIn (a .packet .now) (a .at) (a .count)) (a .from) (start .pre .1))
 
 mul-entry-size : tie.Need-mul-entry-size Inv-loop μ-loop
 mul-entry-size c =
@@ -32,36 +34,41 @@ sub-if1 c = c .before .before .loop .inv .1 .small
 
 returns : tie.Need-returns Inv-loop μ-loop
 returns c =
-    let looped = c .before .before .before in
+    let at-entry-size = c .before in
+    let tested = at-entry-size .before in
+    let looped = tested .before in
     let start = looped .before .before in
     let a = start .args in
     let l = looped .loop in
-    let h : l .j < a .count = c .before .before .loop-test .taken in
-    adding-over (sizesIn (a .packet .now) (a .at) (a .count)) (a .from) (l .j) (l .sum) (c .before .entry-size .result) (l .inv .1)
+    let h : l .j < a .count = tested .loop-test .taken in
+    adding-over (sizesIn (a .packet .now) (a .at) (a .count)) (a .from) (l .j) (l .sum) (at-entry-size .entry-size .result) (l .inv .1)
     (subst (λ (x : ℕ). l .j < x) (sym (length-sizes (a .packet .now) (a .at) (a .count))) h)
-    (c .before .entry-size .ensures ∙ sym (size-at (a .packet .now) (a .at) (a .count) (l .j) h)) (c .if1 .taken)
+    (at-entry-size .entry-size .ensures ∙ sym (size-at (a .packet .now) (a .at) (a .count) (l .j) h)) (c .if1 .taken)
 
 add-sum : tie.Need-add-sum Inv-loop μ-loop
 add-sum c = omega arith
 
 loop-again : tie.Need-loop-again Inv-loop μ-loop
 loop-again c =
-    let looped = c .before .before .before in
+    let at-entry-size = c .before in
+    let tested = at-entry-size .before in
+    let looped = tested .before in
     let start = looped .before .before in
     let a = start .args in
     let l = looped .loop in
-    let h : l .j < a .count = c .before .before .loop-test .taken in (
+    let h : l .j < a .count = tested .loop-test .taken in (
       omega arith,
-      adding-next (sizesIn (a .packet .now) (a .at) (a .count)) (a .from) (l .j) (l .sum) (c .before .entry-size .result) (l .inv .1)
+      adding-next (sizesIn (a .packet .now) (a .at) (a .count)) (a .from) (l .j) (l .sum) (at-entry-size .entry-size .result) (l .inv .1)
           (subst (λ (x : ℕ). l .j < x) (sym (length-sizes (a .packet .now) (a .at) (a .count))) h)
-          (c .before .entry-size .ensures ∙ sym (size-at (a .packet .now) (a .at) (a .count) (l .j) h)) (c .if1 .left),
+          (at-entry-size .entry-size .ensures ∙ sym (size-at (a .packet .now) (a .at) (a .count) (l .j) h)) (c .if1 .left),
     )
 
 returns-2 : tie.Need-returns-2 Inv-loop μ-loop
 returns-2 c =
-    let start = c .before .before .before in
+    let looped = c .before in
+    let start = looped .before .before in
     let a = start .args in
-    let l = c .before .loop in
+    let l = looped .loop in
     adding-all (sizesIn (a .packet .now) (a .at) (a .count)) (a .from) (l .j) (l .sum) (l .inv .1)
     (subst (λ (x : ℕ). x ≤ l .j) (sym (length-sizes (a .packet .now) (a .at) (a .count))) (c .loop-test .left))
 

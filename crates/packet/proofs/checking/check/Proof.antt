@@ -1,7 +1,7 @@
 -- `packet::checking::check` meets its contract. Assumes nothing.
 use mathlib.Core.Path.{sym, ap, _∙_}
 use native.Mathlib.Omega.{arith}
-use Rattle.refusals.specs.Meaning.{said, refusalOf}
+use Rattle.answer_types.specs.Meaning.{said, refusalOf}
 use Rattle.byte_strings.specs.Lists.{part}
 use Rattle.blake2b.specs.Hash.{nodeHash}
 use Rattle.packet.specs.Check.{chunkLength}
@@ -12,49 +12,55 @@ use Rattle.packet.proofs.checking.check.Tie as tie
 
 read-be32-requires : tie.Need-read-be32-requires
 read-be32-requires c κs =
-    let start = c .before .before .before .before in
+    let at-check-answer = c .before .before in
+    let start = at-check-answer .before .before in
     let a = start .args in
     let z = passed-shape nodeHash (a .packet .now) (a .n) (a .chunk .0) (a .root .now)
-    (sym (ap said (c .enum-told2 .given .1)) ∙ c .before .before .check-answer .ensures) in
+    (sym (ap said (c .enum-told2 .given .1)) ∙ at-check-answer .check-answer .ensures) in
     z .front
 
 add-end : tie.Need-add-end
 unfolding chunkLength
 add-end c =
-    let at-check-answer = c .before .before .before in
+    let at-enum-told2 = c .before in
+    let at-check-answer = at-enum-told2 .before .before in
     let start = at-check-answer .before .before in
     let a = start .args in
     let z = passed-shape nodeHash (a .packet .now) (a .n) (a .chunk .0) (a .root .now)
-    (sym (ap said (c .before .enum-told2 .given .1)) ∙ at-check-answer .check-answer .ensures) in
+    (sym (ap said (at-enum-told2 .enum-told2 .given .1)) ∙ at-check-answer .check-answer .ensures) in
     omega (arith, z .chunk, c .read-be32 .ensures)
 
 part-result-end-2 : tie.Need-part-result-end-2
 unfolding chunkLength
 part-result-end-2 c =
-    let at-check-answer = c .before .before .before in
+    let at-enum-told2 = c .before in
+    let at-check-answer = at-enum-told2 .before .before in
     let start = at-check-answer .before .before in
     let a = start .args in
     let z = passed-shape nodeHash (a .packet .now) (a .n) (a .chunk .0) (a .root .now)
-    (sym (ap said (c .before .enum-told2 .given .1)) ∙ at-check-answer .check-answer .ensures) in
+    (sym (ap said (at-enum-told2 .enum-told2 .given .1)) ∙ at-check-answer .check-answer .ensures) in
     omega (arith, z .whole, c .read-be32 .ensures)
 
 returns : tie.Need-returns
 returns c =
-    let at-check-answer = c .before .before .before in
+    let at-enum-told = c .before in
+    let at-check-answer = at-enum-told .before .before in
     let start = at-check-answer .before .before in
     let a = start .args in
-    let k = c .before .enum-told .given in
+    let k = at-enum-told .enum-told .given in
     checked-by nodeHash (a .packet .now) (a .n) (a .chunk .0) (a .root .now) (refusalOf (k .0 .0))
     (sym (ap said (k .1)) ∙ at-check-answer .check-answer .ensures)
 
 returns-2 : tie.Need-returns-2
 unfolding chunkLength part
 returns-2 c =
-    let at-check-answer = c .before .before .before .before in
+    let at-read-be32 = c .before in
+    let at-enum-told2 = at-read-be32 .before in
+    let at-check-answer = at-enum-told2 .before .before in
     let start = at-check-answer .before .before in
     let a = start .args in
-    checked-part nodeHash (a .packet .now) (a .n) (a .chunk .0) (a .root .now) (c .before .read-be32 .result) (c .before .read-be32 .ensures)
-    (sym (ap said (c .before .before .enum-told2 .given .1)) ∙ at-check-answer .check-answer .ensures)
+    checked-part nodeHash (a .packet .now) (a .n) (a .chunk .0) (a .root .now) (at-read-be32 .read-be32 .result) (at-read-be32 .read-be32 .ensures)
+    (sym (ap said (at-enum-told2 .enum-told2 .given .1)) ∙ at-check-answer .check-answer .ensures)
 
 pub check-spec : {M : Type 1} → statement M
 check-spec =

@@ -21,8 +21,9 @@ abbrev μ-loop : tie.MeasureT-loop
 
 loop-holds : tie.Need-loop-holds Inv-loop μ-loop
 loop-holds c =
-    rising-none nodeHash (c .before .before .args .packet .now) (c .before .before .args .at) (c .before .before .args .count) (c .block-over .result)
-    (entryOf (c .before .before .args .leaf)) (c .before .before .pre)
+    let start = c .before .before in
+    rising-none nodeHash (start .args .packet .now) (start .args .at) (start .args .count) (c .block-over .result)
+    (entryOf (start .args .leaf)) (start .pre)
 
 mul-entry-node : tie.Need-mul-entry-node Inv-loop μ-loop
 mul-entry-node c =
@@ -36,11 +37,13 @@ entry-node-requires c κs =
 
 step-up-requires : tie.Need-step-up-requires Inv-loop μ-loop
 step-up-requires c κs =
-    let at-block-over = c .before .before .before in
+    let tested = c .before in
+    let looped = tested .before in
+    let at-block-over = looped .before in
     let start = at-block-over .before .before in
-    climbing-fits nodeHash (start .args .packet .now) (start .args .at) (start .args .count) (at-block-over .block-over .result) (c .before .before .loop .k)
-    (entryOf (start .args .leaf)) (entryOf (c .before .before .loop .node)) (c .before .before .loop .j) (c .before .before .loop .inv .climbing)
-    (c .before .loop-test .taken) (entryOf (c .entry-node .result)) (c .entry-node .ensures)
+    climbing-fits nodeHash (start .args .packet .now) (start .args .at) (start .args .count) (at-block-over .block-over .result) (looped .loop .k)
+    (entryOf (start .args .leaf)) (entryOf (looped .loop .node)) (looped .loop .j) (looped .loop .inv .climbing)
+    (tested .loop-test .taken) (entryOf (c .entry-node .result)) (c .entry-node .ensures)
 
 mul-put-entry : tie.Need-mul-put-entry Inv-loop μ-loop
 mul-put-entry c =
@@ -56,7 +59,8 @@ put-entry-requires c κs =
 loop-again : tie.Need-loop-again Inv-loop μ-loop
 unfolding entryBytes
 loop-again c =
-    let at-step-up = c .before .before .before .before .before in
+    let at-put-entry = c .before in
+    let at-step-up = at-put-entry .before .before .before .before in
     let at-entry-node = at-step-up .before in
     let tested = at-entry-node .before in
     let looped = tested .before in
@@ -64,20 +68,22 @@ loop-again c =
     let start = at-block-over .before .before in
     rising-next nodeHash (start .args .packet .now) (start .args .at) (start .args .count) (at-block-over .block-over .result) (entryOf (start .args .leaf)) (looped .loop .k)
     (entryOf (looped .loop .node)) (looped .loop .j) (looped .loop .row) (looped .loop .inv)
-    (entryOf (at-entry-node .entry-node .result)) (entryOf (at-step-up .step-up .result)) (c .before .put-entry .last .0) (tested .loop-test .taken) (start .pre .row .few)
-    (at-entry-node .entry-node .ensures) (at-step-up .step-up .ensures) (c .before .put-entry .ensures .0)
-    (c .before .put-entry .ensures .1) (c .before .put-entry .kept .0)
+    (entryOf (at-entry-node .entry-node .result)) (entryOf (at-step-up .step-up .result)) (at-put-entry .put-entry .last .0) (tested .loop-test .taken) (start .pre .row .few)
+    (at-entry-node .entry-node .ensures) (at-step-up .step-up .ensures) (at-put-entry .put-entry .ensures .0)
+    (at-put-entry .put-entry .ensures .1) (at-put-entry .put-entry .kept .0)
 
 returns : tie.Need-returns Inv-loop μ-loop
 returns c =
-    let start = c .before .before .before .before in
+    let looped = c .before in
+    let at-block-over = looped .before in
+    let start = at-block-over .before .before in
     let a = start .args in
-    let l = c .before .loop in
-    let first = c .before .before .block-over .ensures ∙ div-one (a .chunk .0) in (
-      climbing-end nodeHash (a .packet .now) (a .at) (a .count) (c .before .before .block-over .result) (l .k) (entryOf (a .leaf)) (entryOf (l .node)) (l .j)
+    let l = looped .loop in
+    let first = at-block-over .block-over .ensures ∙ div-one (a .chunk .0) in (
+      climbing-end nodeHash (a .packet .now) (a .at) (a .count) (at-block-over .block-over .result) (l .k) (entryOf (a .leaf)) (entryOf (l .node)) (l .j)
           (l .inv .climbing) (c .loop-test .left)
           ∙ ap (λ (k : ℕ). climbed nodeHash k (entryOf (a .leaf)) (entriesIn (a .packet .now) (a .at) (a .count))) first,
-      rising-end nodeHash (a .packet .now) (a .at) (a .count) (c .before .before .block-over .result) (entryOf (a .leaf)) (l .k) (entryOf (l .node)) (l .j)
+      rising-end nodeHash (a .packet .now) (a .at) (a .count) (at-block-over .block-over .result) (entryOf (a .leaf)) (l .k) (entryOf (l .node)) (l .j)
           (l .row) (l .inv) (c .loop-test .left)
           ∙ ap (λ (k : ℕ). pathRow (stepsAbove nodeHash 0 k (entryOf (a .leaf)) (entriesIn (a .packet .now) (a .at) (a .count)))) first,
     )

@@ -10,8 +10,10 @@ use Rattle.packet.proofs.checking.entry_hash.Tie as tie
 returns : tie.Need-returns
 unfolding entryIn part
 returns c =
-    let a = c .before .before .before .before .before .args in
-    read-hash (a .packet .now) {at = a .at} refl (search needs) (c .before .copy-to .ensures)
+    let at-copy-to = c .before in
+    let start = at-copy-to .before .before .before .before in
+    let a = start .args in
+    read-hash (a .packet .now) {at = a .at} refl (search needs) (at-copy-to .copy-to .ensures)
 
 pub entry-hash-spec : {M : Type 1} → statement M
 entry-hash-spec =

@@ -21,15 +21,18 @@ loop-holds c = filling-none _ _ _ (c .before .pre .few)
 
 in-turn-requires : tie.Need-in-turn-requires Inv-loop μ-loop
 in-turn-requires c κs =
-    let start = c .before .before .before in
-    let a = start .args in turn-in (a .packet .now) (a .at) (a .place) (a .count) (c .before .loop .j) (start .pre) (c .loop-test .taken)
+    let looped = c .before in
+    let start = looped .before .before in
+    let a = start .args in turn-in (a .packet .now) (a .at) (a .place) (a .count) (looped .loop .j) (start .pre) (c .loop-test .taken)
 
 loop-again : tie.Need-loop-again Inv-loop μ-loop
 loop-again c =
-    let looped = c .before .before .before in
+    let at-in-turn = c .before in
+    let tested = at-in-turn .before in
+    let looped = tested .before in
     let l = looped .loop in
-    filling-next _ _ _ (l .j) (l .hashes) (l .inv) _ (c .before .in-turn .result .hash) (c .before .before .loop-test .taken)
-    (ap (λ (e : Entry). e .hash) (c .before .in-turn .ensures)) refl
+    filling-next _ _ _ (l .j) (l .hashes) (l .inv) _ (at-in-turn .in-turn .result .hash) (tested .loop-test .taken)
+    (ap (λ (e : Entry). e .hash) (at-in-turn .in-turn .ensures)) refl
 
 returns : tie.Need-returns Inv-loop μ-loop
 unfolding hashRow

@@ -28,10 +28,11 @@ entry-node-requires c κs = c .before .before .pre .before (c .if1 .taken)
 returns : tie.Need-returns
 unfolding turnEntry
 returns c =
-    let start = c .before .before .before in
+    let branch1 = c .before in
+    let start = branch1 .before .before in
     let a = start .args in
     c .entry-node .ensures
-    ∙ sym (turned-before (λ i. entryIn (a .packet .now) (a .at + 40 * i)) (a .place) (entryOf (a .node)) (a .j) (c .before .if1 .taken))
+    ∙ sym (turned-before (λ i. entryIn (a .packet .now) (a .at + 40 * i)) (a .place) (entryOf (a .node)) (a .j) (branch1 .if1 .taken))
 
 returns-2 : tie.Need-returns-2
 unfolding turnEntry
@@ -49,10 +50,12 @@ entry-node-requires-2 c κs = omega (arith, behind c)
 returns-3 : tie.Need-returns-3
 unfolding turnEntry
 returns-3 c =
-    let start = c .before .before .before .before in
+    let branch2 = c .before in
+    let branch1 = branch2 .before in
+    let start = branch1 .before .before in
     let a = start .args in
     c .entry-node2 .ensures
-    ∙ sym (turned-behind (λ i. entryIn (a .packet .now) (a .at + 40 * i)) (a .place) (entryOf (a .node)) (a .j) (c .before .before .if1 .left) (c .before .if2 .left))
+    ∙ sym (turned-behind (λ i. entryIn (a .packet .now) (a .at + 40 * i)) (a .place) (entryOf (a .node)) (a .j) (branch1 .if1 .left) (branch2 .if2 .left))
 
 pub in-turn-spec : {M : Type 1} → statement M
 in-turn-spec =

@@ -11,12 +11,13 @@ use Rattle.packet.proofs.checking.put_entry.Tie as tie
 
 returns : tie.Need-returns
 returns c =
-    let at-copy-to = c .before .before .before .before .before .before .before in
+    let at-copy-to2 = c .before .before in
+    let at-copy-to = at-copy-to2 .before .before .before .before .before in
     let at-be64 = at-copy-to .before .before .before in
     let start = at-be64 .before .before in
     let l : length (start .args .hash .now) ≡ 32 = search needs in (
       written-entry (start .args .row .now) (start .args .hash .now) (start .args .size) refl l (search needs) (at-copy-to .copy-to .ensures) (at-be64 .be64 .ensures)
-          (c .before .before .copy-to2 .ensures),
+          (at-copy-to2 .copy-to2 .ensures),
       omega (arith, length-append (start .args .hash .now) (be 8 (start .args .size)), length-be 8 (start .args .size)),
     )
 

@@ -12,18 +12,21 @@ use Rattle.packet.proofs.checking.root_hash_with.Tie as tie
 
 sizes-in-turn-requires : tie.Need-sizes-in-turn-requires
 sizes-in-turn-requires c κs =
-    let start = c .before .before .before .before in
+    let at-root-count = c .before in
+    let at-root-place = at-root-count .before in
+    let start = at-root-place .before .before in
     let a = start .args in
-    turns-in (a .packet .now) (a .at) (a .n) (a .chunk .0) (c .before .root-count .result) (c .before .before .root-place .result) (start .pre)
-    (c .before .root-count .ensures) (c .before .before .root-place .ensures)
+    turns-in (a .packet .now) (a .at) (a .n) (a .chunk .0) (at-root-count .root-count .result) (at-root-place .root-place .result) (start .pre)
+    (at-root-count .root-count .ensures) (at-root-place .root-place .ensures)
 
 hashes-in-turn-requires : tie.Need-hashes-in-turn-requires
 hashes-in-turn-requires c κs =
-    let at-root-place = c .before .before .before in
+    let at-root-count = c .before .before in
+    let at-root-place = at-root-count .before in
     let start = at-root-place .before .before in
     let a = start .args in
-    turns-in (a .packet .now) (a .at) (a .n) (a .chunk .0) (c .before .before .root-count .result) (at-root-place .root-place .result) (start .pre)
-    (c .before .before .root-count .ensures) (at-root-place .root-place .ensures)
+    turns-in (a .packet .now) (a .at) (a .n) (a .chunk .0) (at-root-count .root-count .result) (at-root-place .root-place .result) (start .pre)
+    (at-root-count .root-count .ensures) (at-root-place .root-place .ensures)
 
 root-hash-requires : tie.Need-root-hash-requires
 root-hash-requires c κs =
@@ -33,17 +36,19 @@ root-hash-requires c κs =
 
 returns : tie.Need-returns
 returns c =
-    let at-root-indexes = c .before .before .before in
+    let at-hashes-in-turn = c .before in
+    let at-sizes-in-turn = at-hashes-in-turn .before in
+    let at-root-indexes = at-sizes-in-turn .before in
     let at-root-count = at-root-indexes .before in
     let at-root-place = at-root-count .before in
     let start = at-root-place .before .before in
     let a = start .args in
     c .root-hash .ensures
     ∙ ap nodeHash
-    (gathered-message (a .packet .now) (a .at) (a .n) (a .chunk .0) (entryOf (a .node)) (start .pre .chunk) (c .before .hashes-in-turn .result)
-    (numbers (at-root-indexes .root-indexes .result)) (c .before .before .sizes-in-turn .result) (at-root-count .root-count .result) (at-root-place .root-place .result)
-    (at-root-count .root-count .ensures) (at-root-place .root-place .ensures) (c .before .hashes-in-turn .ensures) (at-root-indexes .root-indexes .ensures)
-    (c .before .before .sizes-in-turn .ensures))
+    (gathered-message (a .packet .now) (a .at) (a .n) (a .chunk .0) (entryOf (a .node)) (start .pre .chunk) (at-hashes-in-turn .hashes-in-turn .result)
+    (numbers (at-root-indexes .root-indexes .result)) (at-sizes-in-turn .sizes-in-turn .result) (at-root-count .root-count .result) (at-root-place .root-place .result)
+    (at-root-count .root-count .ensures) (at-root-place .root-place .ensures) (at-hashes-in-turn .hashes-in-turn .ensures) (at-root-indexes .root-indexes .ensures)
+    (at-sizes-in-turn .sizes-in-turn .ensures))
 
 pub root-hash-with-spec : {M : Type 1} → statement M
 root-hash-with-spec =

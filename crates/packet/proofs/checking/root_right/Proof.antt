@@ -16,10 +16,12 @@ use Rattle.packet.proofs.checking.root_right.Tie as tie
 lies : (c : tie.After-read-be32) → Laid (c .before .before .before .before .args .packet .now) (c .read-be32 .result) (c .before .before .sibling-count .result) (c .before .other-count .result)
 unfolding chunkLength
 lies c =
-    let start = c .before .before .before .before in
+    let at-other-count = c .before in
+    let at-sibling-count = at-other-count .before in
+    let start = at-sibling-count .before .before in
     let a = start .args in
-    let u = c .before .before .sibling-count in
-    let o = c .before .other-count in
+    let u = at-sibling-count .sibling-count in
+    let o = at-other-count .other-count in
     let l = c .read-be32 in
     laid (a .packet .now) (a .n) (a .chunk .0) (start .pre) (l .result) (u .result) (o .result) (l .ensures) (u .ensures .0) (o .ensures .0)
 
@@ -43,10 +45,12 @@ add-add-lengths c = omega (arith, lies c)
 add-lengths-requires : tie.Need-add-lengths-requires
 unfolding chunkLength
 add-lengths-requires c κs =
-    let start = c .before .before .before .before in
+    let at-other-count = c .before in
+    let at-sibling-count = at-other-count .before in
+    let start = at-sibling-count .before .before in
     let a = start .args in
-    let u = c .before .before .sibling-count in
-    let o = c .before .other-count in
+    let u = at-sibling-count .sibling-count in
+    let o = at-other-count .other-count in
     let l = c .read-be32 in
     (siblings-row (a .packet .now) (a .n) (a .chunk .0) (start .pre) (l .result) (u .result) (o .result) (l .ensures) (u .ensures .0) (o .ensures .0), omega (arith, lies c))
 
@@ -56,18 +60,22 @@ add-add-lengths-2 c = omega (arith, lies (c .before))
 add-lengths-requires-2 : tie.Need-add-lengths-requires-2
 unfolding chunkLength
 add-lengths-requires-2 c κs =
-    let at-sibling-count = c .before .before .before in
+    let at-read-be32 = c .before in
+    let at-other-count = at-read-be32 .before in
+    let at-sibling-count = at-other-count .before in
     let start = at-sibling-count .before .before in
     let a = start .args in
     let u = at-sibling-count .sibling-count in
-    let o = c .before .before .other-count in
-    let l = c .before .read-be32 in
+    let o = at-other-count .other-count in
+    let l = at-read-be32 .read-be32 in
     (others-row (a .packet .now) (a .n) (a .chunk .0) (start .pre) (l .result) (u .result) (o .result) (l .ensures) (u .ensures .0) (o .ensures .0), c .add-lengths .ensures .small)
 
 returns : tie.Need-returns
 unfolding chunkLength
 returns c =
-    let at-add-lengths = c .before .before .before in
+    let branch1 = c .before in
+    let at-add-lengths2 = branch1 .before in
+    let at-add-lengths = at-add-lengths2 .before in
     let at-read-be32 = at-add-lengths .before in
     let at-other-count = at-read-be32 .before in
     let at-sibling-count = at-other-count .before in
@@ -77,8 +85,8 @@ returns c =
     let o = at-other-count .other-count in
     let l = at-read-be32 .read-be32 in (
       sum-wrong (a .packet .now) (a .n) (a .chunk .0) (start .pre) (l .result) (u .result) (o .result) (l .ensures) (u .ensures .0) (o .ensures .0) nodeHash (a .root .now)
-          (at-add-lengths .add-lengths .result) (c .before .before .add-lengths2 .result) (at-add-lengths .add-lengths .ensures)
-          (c .before .before .add-lengths2 .ensures) (c .before .if1 .taken),
+          (at-add-lengths .add-lengths .result) (at-add-lengths2 .add-lengths2 .result) (at-add-lengths .add-lengths .ensures)
+          (at-add-lengths2 .add-lengths2 .ensures) (branch1 .if1 .taken),
       λ h. let z : _≡_ {A = ℕ} 0 1 = cc in absurd (omega arith),
     )
 
@@ -95,7 +103,8 @@ add-climb c =
 climb-requires : tie.Need-climb-requires
 unfolding chunkLength part
 climb-requires c κs =
-    let at-add-lengths2 = c .before .before .before in
+    let branch1 = c .before .before in
+    let at-add-lengths2 = branch1 .before in
     let at-add-lengths = at-add-lengths2 .before in
     let at-read-be32 = at-add-lengths .before in
     let at-other-count = at-read-be32 .before in
@@ -106,7 +115,7 @@ climb-requires c κs =
     let o = at-other-count .other-count in
     let l = at-read-be32 .read-be32 in
     climbable (a .packet .now) (a .n) (a .chunk .0) (start .pre) (l .result) (u .result) (o .result) (l .ensures) (u .ensures .0) (o .ensures .0) nodeHash (a .root .now)
-    (at-add-lengths .add-lengths .result) (at-add-lengths2 .add-lengths2 .result) (at-add-lengths .add-lengths .ensures) (at-add-lengths2 .add-lengths2 .ensures) (c .before .before .if1 .left)
+    (at-add-lengths .add-lengths .result) (at-add-lengths2 .add-lengths2 .result) (at-add-lengths .add-lengths .ensures) (at-add-lengths2 .add-lengths2 .ensures) (branch1 .if1 .left)
     (entryOf (c .leaf-node .result)) (c .leaf-node .ensures)
 
 add-root-hash-with : tie.Need-add-root-hash-with

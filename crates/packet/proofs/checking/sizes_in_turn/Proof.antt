@@ -20,13 +20,15 @@ loop-holds c = filling-none _ _ _ (c .before .pre .few)
 
 in-turn-requires : tie.Need-in-turn-requires Inv-loop μ-loop
 in-turn-requires c κs =
-    let start = c .before .before .before in
-    let a = start .args in turn-in (a .packet .now) (a .at) (a .place) (a .count) (c .before .loop .j) (start .pre) (c .loop-test .taken)
+    let looped = c .before in
+    let start = looped .before .before in
+    let a = start .args in turn-in (a .packet .now) (a .at) (a .place) (a .count) (looped .loop .j) (start .pre) (c .loop-test .taken)
 
 loop-again : tie.Need-loop-again Inv-loop μ-loop
 loop-again c =
-    let l = c .before .before .loop in
-    filling-next _ _ _ (l .j) (l .sizes) (l .inv) _ (c .in-turn .result .size) (c .before .loop-test .taken)
+    let tested = c .before in
+    let l = tested .before .loop in
+    filling-next _ _ _ (l .j) (l .sizes) (l .inv) _ (c .in-turn .result .size) (tested .loop-test .taken)
     (ap (λ (e : Entry). e .size) (c .in-turn .ensures)) refl
 
 returns : tie.Need-returns Inv-loop μ-loop

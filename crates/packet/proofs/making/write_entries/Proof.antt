@@ -23,10 +23,11 @@ abbrev μ-loop : tie.MeasureT-loop
 -- the entry lies in the tree file
 inside : (c : tie.After-entry-place Inv-loop μ-loop) → c .entry-place .result + 40 ≤ length (c .before .before .before .before .before .before .args .tree .now)
 inside c =
-    let looped = c .before .before .before in
+    let tested = c .before .before in
+    let looped = tested .before in
     let start = looped .before .before .before in
     subst (λ (x : ℕ). x + 40 ≤ length (start .args .tree .now)) (sym (c .entry-place .ensures))
-    (subst (EntryIn (start .args .tree .now)) (number-at (start .args .t2) (looped .loop .j)) (start .pre .0 .each (looped .loop .j) (c .before .before .loop-test .taken)) .inside)
+    (subst (EntryIn (start .args .tree .now)) (number-at (start .args .t2) (looped .loop .j)) (start .pre .0 .each (looped .loop .j) (tested .loop-test .taken)) .inside)
 
 loop-holds : tie.Need-loop-holds Inv-loop μ-loop
 loop-holds c = let a = c .before .before .args in (zero-le, writing-none (a .tree .now) (numbers (a .t2)) (a .out .now) (a .at))
@@ -43,8 +44,10 @@ array-copy-out-entry-place c =
 
 entry-place-requires : tie.Need-entry-place-requires Inv-loop μ-loop
 entry-place-requires c κs =
-    let start = c .before .before .before .before .before in
-    subst (EntryIn (start .args .tree .now)) (number-at (start .args .t2) (c .before .before .loop .j)) (start .pre .0 .each (c .before .before .loop .j) (c .before .loop-test .taken)) .small
+    let tested = c .before in
+    let looped = tested .before in
+    let start = looped .before .before .before in
+    subst (EntryIn (start .args .tree .now)) (number-at (start .args .t2) (looped .loop .j)) (start .pre .0 .each (looped .loop .j) (tested .loop-test .taken)) .small
 
 add-end : tie.Need-add-end Inv-loop μ-loop
 add-end c = omega (arith, inside c)
@@ -65,13 +68,15 @@ part-copy-to-end c = omega (arith, inside (c .before))
 
 copy-to-requires : tie.Need-copy-to-requires Inv-loop μ-loop
 copy-to-requires c κs =
-    let looped = c .before .before .before .before .before in
+    let at-entry-place = c .before .before in
+    let looped = at-entry-place .before .before .before in
     let start = looped .before .before .before in
-    omega (arith, start .pre .1, looped .loop .inv .1 .long, lent-length (start .args .tree .now) (c .before .before .entry-place .result) (inside (c .before .before)))
+    omega (arith, start .pre .1, looped .loop .inv .1 .long, lent-length (start .args .tree .now) (at-entry-place .entry-place .result) (inside at-entry-place))
 
 loop-again : tie.Need-loop-again Inv-loop μ-loop
 loop-again c =
-    let at-entry-place = c .before .before .before .before .before in
+    let at-copy-to = c .before .before in
+    let at-entry-place = at-copy-to .before .before .before in
     let tested = at-entry-place .before .before in
     let looped = tested .before in
     let start = looped .before .before .before in
@@ -79,10 +84,10 @@ loop-again c =
     let l = looped .loop in
     let p = at-entry-place .entry-place in (
       omega arith,
-      writing-next (a .tree .now) (numbers (a .t2)) (a .out .now) (a .at) (a .count) (l .j) (l .out) (c .before .before .copy-to .last .0) _ (start .pre .0)
-          (tested .loop-test .taken) (start .pre .1) (l .inv .1) (c .before .before .copy-to .kept .0)
+      writing-next (a .tree .now) (numbers (a .t2)) (a .out .now) (a .at) (a .count) (l .j) (l .out) (at-copy-to .copy-to .last .0) _ (start .pre .0)
+          (tested .loop-test .taken) (start .pre .1) (l .inv .1) (at-copy-to .copy-to .kept .0)
           (lent-entry (a .tree .now) (p .result) (entryPlace (getD (numbers (a .t2)) (l .j) 0)) (p .ensures ∙ ap entryPlace (sym (number-at (a .t2) (l .j)))))
-          (c .before .before .copy-to .ensures),
+          (at-copy-to .copy-to .ensures),
     )
 
 same-length : tie.Need-same-length Inv-loop μ-loop
@@ -90,10 +95,11 @@ same-length c = c .before .loop .inv .1 .long
 
 returns : tie.Need-returns Inv-loop μ-loop
 returns c =
-    let start = c .before .before .before .before in
+    let looped = c .before in
+    let start = looped .before .before .before in
     let a = start .args in
-    let e : c .before .loop .j ≡ a .count = omega arith in
-    c .before .loop .inv .1 .holds ∙ ap (λ (i : ℕ). put (a .out .now) (a .at) (entriesAt (a .tree .now) (numbers (a .t2)) i)) e
+    let e : looped .loop .j ≡ a .count = omega arith in
+    looped .loop .inv .1 .holds ∙ ap (λ (i : ℕ). put (a .out .now) (a .at) (entriesAt (a .tree .now) (numbers (a .t2)) i)) e
 
 pub write-entries-spec : {M : Type 1} → statement M
 write-entries-spec =

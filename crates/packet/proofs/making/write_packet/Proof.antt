@@ -21,7 +21,8 @@ other-indexes-requires c κs =
 
 copy-to-requires : tie.Need-copy-to-requires
 copy-to-requires c κs =
-    let at-other-count = c .before .before .before in
+    let at-be32 = c .before .before in
+    let at-other-count = at-be32 .before in
     let at-sibling-count = at-other-count .before .before .before .before in
     let start = at-sibling-count .before .before .before .before in
     let a = start .args in
@@ -33,7 +34,7 @@ copy-to-requires c κs =
       packet-long (a .tree .now) (a .n) (a .chunk .0) (a .bytes .now) (r .readable) (u .result) (o .result) (u .ensures .0) (o .ensures .0),
       r .room,
       ap length
-          (c .before .before .be32 .ensures),
+          (at-be32 .be32 .ensures),
       length-be 4 (length (a .bytes .now)),
     )
 
@@ -102,7 +103,8 @@ write-section-requires-2 c κs =
 
 returns : tie.Need-returns
 returns c =
-    let at-write-section = c .before .before .before .before .before .before in
+    let at-write-section2 = c .before .before in
+    let at-write-section = at-write-section2 .before .before .before .before in
     let at-copy-to2 = at-write-section .before .before .before .before in
     let at-copy-to = at-copy-to2 .before .before .before .before in
     let at-be32 = at-copy-to .before .before .before in
@@ -117,14 +119,14 @@ returns c =
     let u = at-sibling-count .sibling-count in
     let o = at-other-count .other-count in
     packet-written (a .tree .now) (a .n) (a .chunk .0) (a .bytes .now) (r .readable) (a .out .now) (at-copy-to .copy-to .last .0) (at-copy-to2 .copy-to2 .last .0)
-    (at-write-section .write-section .last .1 .1 .1 .0) (c .before .before .write-section2 .last .1 .1 .1 .0) (at-be32 .be32 .result) _ _ (u .result) (u .ensures .0)
+    (at-write-section .write-section .last .1 .1 .1 .0) (at-write-section2 .write-section2 .last .1 .1 .1 .0) (at-be32 .be32 .result) _ _ (u .result) (u .ensures .0)
     (r .room) (at-be32 .be32 .ensures) (at-copy-to .copy-to .ensures) (at-copy-to2 .copy-to2 .ensures)
     (siblings-section (a .tree .now) (a .n) (a .chunk .0) (a .bytes .now) (r .readable) (numbers (at-sibling-indexes .sibling-indexes .result)) (u .result) (u .ensures .0)
     (at-sibling-indexes .sibling-indexes .ensures))
     (at-write-section .write-section .ensures)
     (others-section (a .tree .now) (a .n) (a .chunk .0) (a .bytes .now) (r .readable) (numbers (at-other-indexes .other-indexes .result)) (o .result)
     (at-root-place .root-place .result) (o .ensures .0) (at-root-place .root-place .ensures) (at-other-indexes .other-indexes .ensures))
-    (c .before .before .write-section2 .ensures)
+    (at-write-section2 .write-section2 .ensures)
 
 pub write-packet-spec : {M : Type 1} → statement M
 write-packet-spec =

@@ -14,10 +14,11 @@ same-length c = c .before .before .write-entries .kept .1 .1 .1 .0 ∙ simp leng
 
 returns : tie.Need-returns
 returns c =
-    let start = c .before .before .before .before .before .before in
+    let at-write-entries = c .before .before in
+    let start = at-write-entries .before .before .before .before in
     let a = start .args in
-    section-written (a .out .now) (set (a .out .now) (a .at) (a .count)) (c .before .before .write-entries .last .1 .1 .1 .0) (a .at) (a .count)
-    (entriesAt (a .tree .now) (numbers (a .indexes)) (a .count)) (omega (arith, start .pre .1)) refl (c .before .before .write-entries .ensures)
+    section-written (a .out .now) (set (a .out .now) (a .at) (a .count)) (at-write-entries .write-entries .last .1 .1 .1 .0) (a .at) (a .count)
+    (entriesAt (a .tree .now) (numbers (a .indexes)) (a .count)) (omega (arith, start .pre .1)) refl (at-write-entries .write-entries .ensures)
 
 pub write-section-spec : {M : Type 1} → statement M
 write-section-spec =

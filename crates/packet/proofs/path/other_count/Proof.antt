@@ -9,13 +9,15 @@ use Rattle.packet.proofs.path.other_count.Tie as tie
 
 sub-result : tie.Need-sub-result
 sub-result c =
-    let a = c .before .args in omega (arith, place-below (a .n) (a .chunk .0) (c .before .pre), c .root-count .ensures)
+    let start = c .before in
+    let a = start .args in omega (arith, place-below (a .n) (a .chunk .0) (start .pre), c .root-count .ensures)
 
 returns : tie.Need-returns
 returns c =
-    let a = c .before .args in (
-      ap (λ (x : ℕ). x - 1) (c .root-count .ensures) ∙ sym (other-count (a .n) (a .chunk .0) (c .before .pre)),
-      omega (arith, c .root-count .ensures, other-count (a .n) (a .chunk .0) (c .before .pre), few-others (a .n) (a .chunk .0) (c .before .pre)),
+    let start = c .before in
+    let a = start .args in (
+      ap (λ (x : ℕ). x - 1) (c .root-count .ensures) ∙ sym (other-count (a .n) (a .chunk .0) (start .pre)),
+      omega (arith, c .root-count .ensures, other-count (a .n) (a .chunk .0) (start .pre), few-others (a .n) (a .chunk .0) (start .pre)),
     )
 
 pub other-count-spec : {M : Type 1} → statement M

@@ -10,8 +10,8 @@ use Rattle.tree_index.proofs.Numbers.{numbers-set}
 use Rattle.tree_index.proofs.Roots.{length-roots-le}
 use Rattle.file_format.specs.RootsByValue.{padded}
 use Rattle.file_format.proofs.ByValue.{Filling, filling-none, filling-next, filling-all}
+use Rattle.lookup.proofs.Capped.{root-of}
 use Rattle.packet.specs.Inner.{skipped, otherRow}
-use Rattle.packet.proofs.Above.{root-in}
 use Rattle.packet.proofs.Rows.{skipped-below}
 use borrow.Author.Needs.{needs}
 use Rattle.packet.proofs.path.other_indexes.Statement.{statement}
@@ -26,24 +26,29 @@ abbrev μ-loop : tie.MeasureT-loop
 -- the place that is read lies in the array
 place : (c : tie.After-skipping Inv-loop μ-loop) → c .skipping .result < 20
 place c =
-    let at-root-count = c .before .before .before in
+    let tested = c .before in
+    let looped = tested .before in
+    let at-root-count = looped .before in
     let start = at-root-count .before .before in
     let a = start .args in
     let m = at-root-count .root-count in
-    let g : c .before .before .loop .j < length (roots (a .n)) - 1 = subst (λ (x : ℕ). c .before .before .loop .j < x - 1) (m .ensures) (c .before .loop-test .taken) in
-    omega (arith, c .skipping .ensures, skipped-below (a .place) (c .before .before .loop .j) (length (roots (a .n))) g (start .pre .1), length-roots-le (a .n) (start .pre .0))
+    let g : looped .loop .j < length (roots (a .n)) - 1 = subst (λ (x : ℕ). looped .loop .j < x - 1) (m .ensures) (tested .loop-test .taken) in
+    omega (arith, c .skipping .ensures, skipped-below (a .place) (looped .loop .j) (length (roots (a .n))) g (start .pre .1), length-roots-le (a .n) (start .pre .0))
 
 sub-count : tie.Need-sub-count Inv-loop μ-loop
 sub-count c = omega (arith, c .root-count .ensures)
 
 loop-holds : tie.Need-loop-holds Inv-loop μ-loop
 unfolding numbers
-loop-holds c = filling-none _ _ _ (omega (arith, c .root-count .ensures, length-roots-le (c .before .before .args .n) (c .before .before .pre .0)))
+loop-holds c =
+    let start = c .before .before in
+    filling-none _ _ _ (omega (arith, c .root-count .ensures, length-roots-le (start .args .n) (start .pre .0)))
 
 skipping-requires : tie.Need-skipping-requires Inv-loop μ-loop
 skipping-requires c κs =
-    let start = c .before .before .before .before in
-    omega (arith, c .before .before .root-count .ensures, length-roots-le (start .args .n) (start .pre .0))
+    let at-root-count = c .before .before in
+    let start = at-root-count .before .before in
+    omega (arith, at-root-count .root-count .ensures, length-roots-le (start .args .n) (start .pre .0))
 
 mul-found : tie.Need-mul-found Inv-loop μ-loop
 mul-found c = omega (arith, place c)
@@ -65,29 +70,33 @@ array-set-from-found c =
 
 loop-again : tie.Need-loop-again Inv-loop μ-loop
 loop-again c =
-    let looped = c .before .before .before in
+    let at-skipping = c .before in
+    let tested = at-skipping .before in
+    let looped = tested .before in
     let at-root-count = looped .before in
     let at-root-indexes = at-root-count .before in
     let start = at-root-indexes .before in
     let a = start .args in
     let l = looped .loop in
     let is = at-root-indexes .root-indexes in
-    let q = c .before .skipping in
+    let q = at-skipping .skipping in
     let m = at-root-count .root-count in
-    let g : l .j < length (roots (a .n)) - 1 = subst (λ (x : ℕ). l .j < x - 1) (m .ensures) (c .before .before .loop-test .taken) in
+    let g : l .j < length (roots (a .n)) - 1 = subst (λ (x : ℕ). l .j < x - 1) (m .ensures) (tested .loop-test .taken) in
     let s : q .result < length (roots (a .n)) =
     subst (λ (x : ℕ). x < length (roots (a .n))) (sym (q .ensures)) (skipped-below (a .place) (l .j) (length (roots (a .n))) g (start .pre .1)) in
-    filling-next _ _ _ (l .j) (numbers (l .found)) (l .inv) _ (getD (is .result) (q .result) (record { 0 = 0 }) .0) (c .before .before .loop-test .taken)
-    (root-in (is .result) (a .n) (q .result) (is .ensures) s ∙ ap (λ (i : ℕ). getD (roots (a .n)) i 0) (q .ensures))
+    filling-next _ _ _ (l .j) (numbers (l .found)) (l .inv) _ (getD (is .result) (q .result) (record { 0 = 0 }) .0) (tested .loop-test .taken)
+    (root-of (is .result) (a .n) (q .result) (is .ensures) s ∙ ap (λ (i : ℕ). getD (roots (a .n)) i 0) (q .ensures))
     (numbers-set (l .found) (l .j) (getD (is .result) (q .result) (record { 0 = 0 })))
 
 returns : tie.Need-returns Inv-loop μ-loop
 unfolding otherRow
 returns c =
-    let start = c .before .before .before .before in
+    let looped = c .before in
+    let at-root-count = looped .before in
+    let start = at-root-count .before .before in
     let a = start .args in
-    filling-all _ _ _ _ _ (c .before .loop .inv) (c .loop-test .left)
-    ∙ ap (λ (i : ℕ). padded 0 (i - 1) (run (λ j. getD (roots (a .n)) (skipped (a .place) j) 0) 0 (i - 1))) (c .before .before .root-count .ensures)
+    filling-all _ _ _ _ _ (looped .loop .inv) (c .loop-test .left)
+    ∙ ap (λ (i : ℕ). padded 0 (i - 1) (run (λ j. getD (roots (a .n)) (skipped (a .place) j) 0) 0 (i - 1))) (at-root-count .root-count .ensures)
 
 pub other-indexes-spec : {M : Type 1} → statement M
 other-indexes-spec =

@@ -6,7 +6,8 @@ use lib.ListN.{length}
 use borrow.Author.Tests.{not-true, not-false}
 use Rattle.tree_index.specs.Tree.{filled, roots}
 use Rattle.tree_index.proofs.Roots.{length-roots-le}
-use Rattle.packet.proofs.Above.{Seeking, seeking-none, seeking-found, seeking-next, seeking-end, root-in, root-small}
+use Rattle.lookup.proofs.Capped.{root-of}
+use Rattle.packet.proofs.Above.{Seeking, seeking-none, seeking-found, seeking-next, seeking-end, root-small}
 use borrow.Author.Needs.{needs}
 use Rattle.packet.proofs.path.root_place.Statement.{statement}
 use Rattle.packet.specs.Packet.{placeAbove}
@@ -35,17 +36,20 @@ array-copy-out-ends-before c =
 
 ends-before-requires : tie.Need-ends-before-requires Inv-loop μ-loop
 ends-before-requires c κs =
-    let at-root-indexes = c .before .before .before in
+    let tested = c .before in
+    let looped = tested .before in
+    let at-root-indexes = looped .before in
     let at-root-count = at-root-indexes .before in
     let start = at-root-count .before in
     let a = start .args in
     let is = at-root-indexes .root-indexes in
-    root-small (is .result) (a .n) (c .before .before .loop .j) (start .pre) (is .ensures)
-    (subst (λ (x : ℕ). c .before .before .loop .j < x) (at-root-count .root-count .ensures) (c .before .loop-test .taken))
+    root-small (is .result) (a .n) (looped .loop .j) (start .pre) (is .ensures)
+    (subst (λ (x : ℕ). looped .loop .j < x) (at-root-count .root-count .ensures) (tested .loop-test .taken))
 
 returns : tie.Need-returns Inv-loop μ-loop
 returns c =
-    let tested = c .before .before .before in
+    let at-ends-before = c .before in
+    let tested = at-ends-before .before .before in
     let looped = tested .before in
     let at-root-indexes = looped .before in
     let at-root-count = at-root-indexes .before in
@@ -55,11 +59,12 @@ returns c =
     let j = looped .loop .j in
     let h : j < length (roots (a .n)) = subst (λ (x : ℕ). j < x) (at-root-count .root-count .ensures) (tested .loop-test .taken) in
     seeking-found (roots (a .n)) (a .chunk .0) j (placeAbove (roots (a .n)) (a .chunk .0)) (looped .loop .inv) h
-    (ap (filled (a .chunk .0)) (sym (root-in (is .result) (a .n) j (is .ensures) h)) ∙ sym (c .before .ends-before .ensures) ∙ not-true _ (c .if1 .taken))
+    (ap (filled (a .chunk .0)) (sym (root-of (is .result) (a .n) j (is .ensures) h)) ∙ sym (at-ends-before .ends-before .ensures) ∙ not-true _ (c .if1 .taken))
 
 loop-again : tie.Need-loop-again Inv-loop μ-loop
 loop-again c =
-    let tested = c .before .before .before in
+    let at-ends-before = c .before in
+    let tested = at-ends-before .before .before in
     let looped = tested .before in
     let at-root-indexes = looped .before in
     let at-root-count = at-root-indexes .before in
@@ -69,15 +74,16 @@ loop-again c =
     let j = looped .loop .j in
     let h : j < length (roots (a .n)) = subst (λ (x : ℕ). j < x) (at-root-count .root-count .ensures) (tested .loop-test .taken) in
     seeking-next (roots (a .n)) (a .chunk .0) j (placeAbove (roots (a .n)) (a .chunk .0)) (looped .loop .inv) h
-    (ap (filled (a .chunk .0)) (sym (root-in (is .result) (a .n) j (is .ensures) h)) ∙ sym (c .before .ends-before .ensures) ∙ not-false _ (c .if1 .left))
+    (ap (filled (a .chunk .0)) (sym (root-of (is .result) (a .n) j (is .ensures) h)) ∙ sym (at-ends-before .ends-before .ensures) ∙ not-false _ (c .if1 .left))
 
 returns-2 : tie.Need-returns-2 Inv-loop μ-loop
 returns-2 c =
-    let at-root-count = c .before .before .before in
+    let looped = c .before in
+    let at-root-count = looped .before .before in
     let start = at-root-count .before in
     let a = start .args in
-    seeking-end (roots (a .n)) (a .chunk .0) (c .before .loop .j) (placeAbove (roots (a .n)) (a .chunk .0)) (c .before .loop .inv)
-    (subst (λ (x : ℕ). x ≤ c .before .loop .j) (at-root-count .root-count .ensures) (c .loop-test .left))
+    seeking-end (roots (a .n)) (a .chunk .0) (looped .loop .j) (placeAbove (roots (a .n)) (a .chunk .0)) (looped .loop .inv)
+    (subst (λ (x : ℕ). x ≤ looped .loop .j) (at-root-count .root-count .ensures) (c .loop-test .left))
 
 pub root-place-spec : {M : Type 1} → statement M
 root-place-spec =

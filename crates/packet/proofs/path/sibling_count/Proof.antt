@@ -2,11 +2,12 @@
 use Prim.Native.Nat.{ℕ, _≤_, _<_}
 use lib.ListN.{length, getD}
 use Rattle.tree_index.specs.Tree.{roots}
+use Rattle.lookup.proofs.Capped.{root-of}
 use Rattle.packet.specs.Packet.{siblings}
 use mathlib.Core.Path.{_≡_, sym, ap, _∙_, subst}
 use native.Mathlib.Omega.{arith}
 use Rattle.tree_index.proofs.Roots.{length-roots-le}
-use Rattle.packet.proofs.Above.{place-below, sibling-count, few-siblings, root-in, root-small}
+use Rattle.packet.proofs.Above.{place-below, sibling-count, few-siblings, root-small}
 use borrow.Author.Needs.{needs}
 use Rattle.packet.proofs.path.sibling_count.Statement.{statement}
 use Rattle.packet.proofs.path.sibling_count.Tie as tie
@@ -14,8 +15,9 @@ use Rattle.packet.proofs.path.sibling_count.Tie as tie
 -- the root's place in the array
 place : (c : tie.After-root-place) → c .root-place .result < 20
 place c =
-    let a = c .before .before .args in
-    omega (arith, c .root-place .ensures, place-below (a .n) (a .chunk .0) (c .before .before .pre), length-roots-le (a .n) (c .before .before .pre .count))
+    let start = c .before .before in
+    let a = start .args in
+    omega (arith, c .root-place .ensures, place-below (a .n) (a .chunk .0) (start .pre), length-roots-le (a .n) (start .pre .count))
 
 mul-depth : tie.Need-mul-depth
 mul-depth c = omega (arith, place c)
@@ -25,24 +27,27 @@ array-copy-out-depth c = omega (arith, place c)
 
 depth-requires : tie.Need-depth-requires
 depth-requires c κs =
-    let start = c .before .before .before in
+    let at-root-place = c .before in
+    let at-root-indexes = at-root-place .before in
+    let start = at-root-indexes .before in
     let a = start .args in
-    let is = c .before .before .root-indexes in
-    let q = c .before .root-place in
+    let is = at-root-indexes .root-indexes in
+    let q = at-root-place .root-place in
     root-small (is .result) (a .n) (q .result) (start .pre .count) (is .ensures)
     (subst (λ (x : ℕ). x < length (roots (a .n))) (sym (q .ensures)) (place-below (a .n) (a .chunk .0) (start .pre)))
 
 returns : tie.Need-returns
 returns c =
-    let at-root-indexes = c .before .before .before in
+    let at-root-place = c .before .before in
+    let at-root-indexes = at-root-place .before in
     let start = at-root-indexes .before in
     let a = start .args in
     let is = at-root-indexes .root-indexes in
-    let q = c .before .before .root-place in
+    let q = at-root-place .root-place in
     let h : q .result < length (roots (a .n)) = subst (λ (x : ℕ). x < length (roots (a .n))) (sym (q .ensures)) (place-below (a .n) (a .chunk .0) (start .pre)) in
     let e : c .depth .result ≡ length (siblings (a .n) (a .chunk .0)) =
     c .depth .ensures ∙ sibling-count (a .n) (a .chunk .0) (getD (is .result) (q .result) (record { 0 = 0 }) .0)
-    (root-in (is .result) (a .n) (q .result) (is .ensures) h ∙ ap (λ (j : ℕ). getD (roots (a .n)) j 0) (q .ensures)) in
+    (root-of (is .result) (a .n) (q .result) (is .ensures) h ∙ ap (λ (j : ℕ). getD (roots (a .n)) j 0) (q .ensures)) in
     (e, subst (λ (x : ℕ). x ≤ 20) (sym e) (few-siblings (a .n) (a .chunk .0) (start .pre)))
 
 pub sibling-count-spec : {M : Type 1} → statement M

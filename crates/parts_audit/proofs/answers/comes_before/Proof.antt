@@ -1,7 +1,7 @@
 -- `parts_audit::answers::comes_before` meets its contract. The tests come in the definition's order. Assumes nothing.
 use mathlib.Core.Path.{refl}
 use borrow.Author.Needs.{needs}
-use Rattle.refusals.specs.Meaning.{spotOf}
+use Rattle.answer_types.specs.Meaning.{spotOf}
 use Rattle.parts_audit.proofs.Laws.{before-number, before-other, before-place}
 use Rattle.parts_audit.proofs.answers.comes_before.Statement.{statement}
 use Rattle.parts_audit.proofs.answers.comes_before.Tie as tie
@@ -26,11 +26,13 @@ returns-2 c =
 
 returns-3 : tie.Need-returns-3
 returns-3 c =
-    let branch1 = c .before .before .before .before .before in
+    let at-place-number = c .before in
+    let branch2 = at-place-number .before in
+    let branch1 = branch2 .before .before .before in
     let s = branch1 .before .before .before in
     let if1 = branch1 .if1 in
-    let if2 = c .before .before .if2 in
-    let place-number = c .before .place-number in
+    let if2 = branch2 .if2 in
+    let place-number = at-place-number .place-number in
     let place-number2 = c .place-number2 in
     let x = s .args .a in
     let y = s .args .b in

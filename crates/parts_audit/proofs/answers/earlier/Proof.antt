@@ -2,8 +2,8 @@
 use mathlib.Core.Path.{sym, ap, ap₂, _∙_}
 use mathlib.Core.Bool.{Bool, cond}
 use borrow.Author.Needs.{needs}
-use Rattle.refusals.specs.declared.Answer.{Answer}
-use Rattle.refusals.specs.Meaning.{said, refusalOf}
+use Rattle.answer_types.specs.declared.Answer.{Answer}
+use Rattle.answer_types.specs.Meaning.{said, refusalOf}
 use Rattle.parts_audit.specs.Together as spec
 use Rattle.parts_audit.proofs.answers.earlier.Statement.{statement}
 use Rattle.parts_audit.proofs.answers.earlier.Tie as tie
@@ -26,11 +26,12 @@ returns-2 c =
 returns-3 : tie.Need-returns-3
 unfolding spec.earlier
 returns-3 c =
-    let at-b = c .before .before .before in
+    let at-comes-before = c .before in
+    let at-b = at-comes-before .before .before in
     let at-a = at-b .before .before .before in
     let a = at-a .a in
     let b = at-b .b in
-    let comes-before = c .before .comes-before in
+    let comes-before = at-comes-before .comes-before in
     let if1 = c .if1 in
     sym
     (ap₂ (λ (x y : Answer). spec.earlier (said x) (said y)) (a .given .1) (b .given .1)
@@ -39,11 +40,12 @@ returns-3 c =
 returns-4 : tie.Need-returns-4
 unfolding spec.earlier
 returns-4 c =
-    let at-b = c .before .before .before in
+    let at-comes-before = c .before in
+    let at-b = at-comes-before .before .before in
     let at-a = at-b .before .before .before in
     let a = at-a .a in
     let b = at-b .b in
-    let comes-before = c .before .comes-before in
+    let comes-before = at-comes-before .comes-before in
     let if1 = c .if1 in
     sym
     (ap₂ (λ (x y : Answer). spec.earlier (said x) (said y)) (a .given .1) (b .given .1)

@@ -1,8 +1,8 @@
 -- `parts_audit::answers::place_number` meets its contract: case by case. Assumes nothing.
 use mathlib.Core.Path.{sym, ap}
 use borrow.Author.Needs.{needs}
-use Rattle.refusals.specs.declared.Place.{Place}
-use Rattle.refusals.specs.Meaning.{spotOf}
+use Rattle.answer_types.specs.declared.Place.{Place}
+use Rattle.answer_types.specs.Meaning.{spotOf}
 use Rattle.parts_audit.specs.Together.{placeNumber}
 use Rattle.parts_audit.proofs.answers.place_number.Statement.{statement}
 use Rattle.parts_audit.proofs.answers.place_number.Tie as tie

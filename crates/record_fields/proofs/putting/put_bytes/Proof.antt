@@ -8,9 +8,10 @@ use Rattle.record_fields.proofs.putting.put_bytes.Tie as tie
 
 add-to : tie.Need-add-to
 add-to c =
-    let start = c .before .before .before .before .before .before in
+    let at-field = c .before .before in
+    let start = at-field .before .before .before .before in
     let a = start .args in
-    omega (arith, given-inside (a .d .now) (a .field) (a .k) (a .out .now) (a .at) (start .pre) _ (c .before .before .field .given .1))
+    omega (arith, given-inside (a .d .now) (a .field) (a .k) (a .out .now) (a .at) (start .pre) _ (at-field .field .given .1))
 
 part-put-part-end : tie.Need-part-put-part-end
 part-put-part-end c =
@@ -33,10 +34,11 @@ returns c =
 
 returns-2 : tie.Need-returns-2
 returns-2 c =
-    let at-field = c .before .before .before .before .before .before .before in
+    let at-put-part = c .before .before in
+    let at-field = at-put-part .before .before .before .before .before in
     let start = at-field .before .before .before .before in
     let a = start .args in
-    given-put (a .d .now) (a .field) (a .k) (a .out .now) (a .at) (start .pre) _ (at-field .field .given .1) _ _ _ refl (c .before .before .put-part .ensures)
+    given-put (a .d .now) (a .field) (a .k) (a .out .now) (a .at) (start .pre) _ (at-field .field .given .1) _ _ _ refl (at-put-part .put-part .ensures)
 
 pub put-bytes-spec : {M : Type 1} → statement M
 put-bytes-spec =

@@ -7,9 +7,10 @@ use Rattle.record_fields.proofs.putting.put_number.Tie as tie
 
 put-digits-requires : tie.Need-put-digits-requires
 put-digits-requires c κs =
-    let start = c .before .before .before .before .before in
+    let at-field = c .before .before in
+    let start = at-field .before .before .before in
     let a = start .args in
-    let w = number-roomy (a .k) (a .out .now) (a .at) (a .field) _ (c .before .before .field .given .1) (start .pre .0) (start .pre .1) in
+    let w = number-roomy (a .k) (a .out .now) (a .at) (a .field) _ (at-field .field .given .1) (start .pre .0) (start .pre .1) in
     record { fits = search needs; room = w (omega arith) .room }
 
 returns : tie.Need-returns
@@ -19,17 +20,19 @@ returns c =
 
 same-length : tie.Need-same-length
 same-length c =
-    let at-field = c .before .before .before .before .before in
+    let at-put-digits = c .before .before in
+    let at-field = at-put-digits .before .before .before in
     let start = at-field .before .before .before in
     let a = start .args in
-    number-kept (a .k) (a .out .now) (a .at) (a .field) _ (at-field .field .given .1) (start .pre .0) (start .pre .1) _ _ (c .before .before .put-digits .ensures)
+    number-kept (a .k) (a .out .now) (a .at) (a .field) _ (at-field .field .given .1) (start .pre .0) (start .pre .1) _ _ (at-put-digits .put-digits .ensures)
 
 returns-2 : tie.Need-returns-2
 returns-2 c =
-    let at-field = c .before .before .before .before .before in
+    let at-put-digits = c .before .before in
+    let at-field = at-put-digits .before .before .before in
     let start = at-field .before .before .before in
     let a = start .args in
-    number-put (a .k) (a .out .now) (a .at) (a .field) _ (at-field .field .given .1) (start .pre .0) (start .pre .1) _ _ (c .before .before .put-digits .ensures)
+    number-put (a .k) (a .out .now) (a .at) (a .field) _ (at-field .field .given .1) (start .pre .0) (start .pre .1) _ _ (at-put-digits .put-digits .ensures)
 
 pub put-number-spec : {M : Type 1} → statement M
 put-number-spec =

@@ -27,17 +27,19 @@ add-result c =
 
 same-length : tie.Need-same-length
 same-length c =
-    let at-put-digits = c .before .before .before .before .before .before in
+    let at-copy-to = c .before .before in
+    let at-put-digits = at-copy-to .before .before .before .before in
     let start = at-put-digits .before .before .before .before in
     let a = start .args in
-    part-kept (a .k) (a .out .now) (a .at) (a .bytes .now) (start .pre .0) (start .pre .1) (omega arith) _ _ (at-put-digits .put-digits .ensures) _ (c .before .before .copy-to .ensures)
+    part-kept (a .k) (a .out .now) (a .at) (a .bytes .now) (start .pre .0) (start .pre .1) (omega arith) _ _ (at-put-digits .put-digits .ensures) _ (at-copy-to .copy-to .ensures)
 
 returns : tie.Need-returns
 returns c =
-    let at-put-digits = c .before .before .before .before .before .before in
+    let at-copy-to = c .before .before in
+    let at-put-digits = at-copy-to .before .before .before .before in
     let start = at-put-digits .before .before .before .before in
     let a = start .args in
-    part-put (a .k) (a .out .now) (a .at) (a .bytes .now) (start .pre .0) (start .pre .1) (omega arith) _ _ (at-put-digits .put-digits .ensures) _ (c .before .before .copy-to .ensures)
+    part-put (a .k) (a .out .now) (a .at) (a .bytes .now) (start .pre .0) (start .pre .1) (omega arith) _ _ (at-put-digits .put-digits .ensures) _ (at-copy-to .copy-to .ensures)
 
 pub put-part-spec : {M : Type 1} → statement M
 put-part-spec =

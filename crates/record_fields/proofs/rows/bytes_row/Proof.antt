@@ -13,62 +13,70 @@ returns c =
 
 returns-2 : tie.Need-returns-2
 returns-2 c =
-    let start = c .before .before .before .before in
+    let branch1 = c .before .before in
+    let start = branch1 .before .before in
     let a = start .args in
-    bytes-row-other (a .d .now) (a .at) (a .k) (a .longest) (start .pre .1) (omega arith) (c .before .before .if1 .left) (c .if2 .taken)
+    bytes-row-other (a .d .now) (a .at) (a .k) (a .longest) (start .pre .1) (omega arith) (branch1 .if1 .left) (c .if2 .taken)
 
 returns-3 : tie.Need-returns-3
 returns-3 c =
-    let read = c .before .before .before .before in
+    let at-x = c .before .before in
+    let read = at-x .before .before in
     let tag = read .before in
-    let start = tag .before .before .before .before in
+    let branch1 = tag .before .before in
+    let start = branch1 .before .before in
     let a = start .args in
-    bytes-row-over (a .d .now) (a .at) (a .k) (a .longest) (start .pre .1) (omega arith) (tag .before .before .if1 .left) (tag .if2 .left)
-    (read .digits .result) _ _ (c .before .before .x .given .1) (read .digits .ensures) (c .if3 .taken)
+    bytes-row-over (a .d .now) (a .at) (a .k) (a .longest) (start .pre .1) (omega arith) (branch1 .if1 .left) (tag .if2 .left)
+    (read .digits .result) _ _ (at-x .x .given .1) (read .digits .ensures) (c .if3 .taken)
 
 sub-if4 : tie.Need-sub-if4
 sub-if4 c =
-    let read = c .before .before .before .before in
-    let tag = read .before in
-    let a = tag .before .before .before .before .args in
-    omega (arith, next-inside (a .d .now) (a .at) (read .digits .result) _ _ (c .before .before .x .given .1) (read .digits .ensures))
+    let at-x = c .before .before in
+    let read = at-x .before .before in
+    let start = read .before .before .before .before .before in
+    let a = start .args in
+    omega (arith, next-inside (a .d .now) (a .at) (read .digits .result) _ _ (at-x .x .given .1) (read .digits .ensures))
 
 returns-4 : tie.Need-returns-4
 returns-4 c =
     let at-x = c .before .before .before in
     let read = at-x .before .before in
     let tag = read .before in
-    let start = tag .before .before .before .before in
+    let branch1 = tag .before .before in
+    let start = branch1 .before .before in
     let a = start .args in
-    bytes-row-short (a .d .now) (a .at) (a .k) (a .longest) (start .pre .1) (omega arith) (tag .before .before .if1 .left) (tag .if2 .left)
+    bytes-row-short (a .d .now) (a .at) (a .k) (a .longest) (start .pre .1) (omega arith) (branch1 .if1 .left) (tag .if2 .left)
     (read .digits .result) _ _ (at-x .x .given .1) (read .digits .ensures) (c .if4 .taken)
 
 add-t19 : tie.Need-add-t19
 add-t19 c =
     let at-x = c .before .before .before in
     let read = at-x .before .before in
-    let tag = read .before in
-    let a = tag .before .before .before .before .args in
+    let start = read .before .before .before .before .before in
+    let a = start .args in
     omega (arith, c .if4 .left, next-inside (a .d .now) (a .at) (read .digits .result) _ _ (at-x .x .given .1) (read .digits .ensures))
 
 returns-5 : tie.Need-returns-5
 returns-5 c =
     let read = c .before .before in
     let tag = read .before in
-    let start = tag .before .before .before .before in
+    let branch1 = tag .before .before in
+    let start = branch1 .before .before in
     let a = start .args in
-    bytes-row-bad (a .d .now) (a .at) (a .k) (a .longest) (start .pre .1) (omega arith) (tag .before .before .if1 .left) (tag .if2 .left)
+    bytes-row-bad (a .d .now) (a .at) (a .k) (a .longest) (start .pre .1) (omega arith) (branch1 .if1 .left) (tag .if2 .left)
     (read .digits .result) (c .enum-told .given .1) (read .digits .ensures)
 
 returns-6 : tie.Need-returns-6
 returns-6 c =
-    let at-x = c .before .before .before in
+    let branch3 = c .before in
+    let at-x = branch3 .before .before in
     let read = at-x .before .before in
     let tag = read .before in
-    let start = tag .before .before .before .before in
+    let branch1 = tag .before .before in
+    let start = branch1 .before .before in
     let a = start .args in
-    bytes-row-given (a .d .now) (a .at) (a .k) (a .longest) (start .pre .1) (omega arith) (tag .before .before .if1 .left) (tag .if2 .left)
-    (read .digits .result) _ _ (at-x .x .given .1) (read .digits .ensures) (c .before .if3 .left) (c .if4 .left)
+    bytes-row-given (a .d .now) (a .at) (a .k) (a .longest) (start .pre .1) (omega arith) (branch1 .if1 .left) (tag .if2 .left)
+    (read .digits .result) _ _ (at-x .x .given .1) (read .digits .ensures) (branch3 .if3 .left) (c .if4 .left)
 
 pub bytes-row-spec : {M : Type 1} → statement M
 bytes-row-spec =

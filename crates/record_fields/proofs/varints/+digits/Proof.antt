@@ -72,8 +72,10 @@ digits-returns-2 : (t : ℕ) → digits-lts.Need-returns-2 (
 ) (digits-at t) digits.Post
 digits-returns-2 t c =
     let read = c .before in
-    let a = read .before .before .before .before .args in
-    digits-last (a .d .now) (a .k) (a .at) (read .wide .result) (read .before .before .if1 .left) (read .wide .ensures) (c .if2 .taken)
+    let branch1 = read .before .before in
+    let start = branch1 .before .before in
+    let a = start .args in
+    digits-last (a .d .now) (a .k) (a .at) (read .wide .result) (branch1 .if1 .left) (read .wide .ensures) (c .if2 .taken)
 
 digits-returns-3 : (t : ℕ) → digits-lts.Need-returns-3 (
   wide-reads.Asked,
@@ -84,9 +86,12 @@ digits-returns-3 : (t : ℕ) → digits-lts.Need-returns-3 (
   joined-reads.Learnt,
 ) (digits-at t) digits.Post
 digits-returns-3 t c =
-    let read = c .before .before in
-    let a = read .before .before .before .before .args in
-    digits-none (a .d .now) (a .k) (a .at) (read .wide .result) (read .before .before .if1 .left) (read .wide .ensures) (c .before .if2 .left) (c .if3 .taken)
+    let branch2 = c .before in
+    let read = branch2 .before in
+    let branch1 = read .before .before in
+    let start = branch1 .before .before in
+    let a = start .args in
+    digits-none (a .d .now) (a .k) (a .at) (read .wide .result) (branch1 .if1 .left) (read .wide .ensures) (branch2 .if2 .left) (c .if3 .taken)
 
 digits-add-digits : (t : ℕ) → digits-lts.Need-add-digits (
   wide-reads.Asked,
@@ -131,8 +136,10 @@ digits-joined-requires : (t : ℕ) → digits-lts.Need-joined-requires (
 ) (digits-at t) digits.Post
 digits-joined-requires t c κs =
     let read = c .before .before .before in
-    let a = read .before .before .before .before .args in
-    omega (arith, read .wide .ensures, read .before .shared-slice-known2 .given (a .at))
+    let at-shared-slice-known2 = read .before in
+    let start = at-shared-slice-known2 .before .before .before in
+    let a = start .args in
+    omega (arith, read .wide .ensures, at-shared-slice-known2 .shared-slice-known2 .given (a .at))
 
 digits-returns-4 : (t : ℕ) → digits-lts.Need-returns-4 (
   wide-reads.Asked,
@@ -143,11 +150,16 @@ digits-returns-4 : (t : ℕ) → digits-lts.Need-returns-4 (
   joined-reads.Learnt,
 ) (digits-at t) digits.Post
 digits-returns-4 t c =
-    let branch2 = c .before .before .before in
+    let at-digits = c .before in
+    let branch3 = at-digits .before in
+    let branch2 = branch3 .before in
     let read = branch2 .before in
-    let a = read .before .before .before .before .args in
-    digits-more (a .d .now) (a .k) (a .at) (read .wide .result) (c .before .digits .result) (c .joined .result) (read .before .before .if1 .left) (read .wide .ensures)
-    (branch2 .if2 .left) (omega (arith, read .wide .ensures, read .before .shared-slice-known2 .given (a .at))) (c .before .before .if3 .left) (c .before .digits .ensures) (c .joined .ensures)
+    let at-shared-slice-known2 = read .before in
+    let branch1 = at-shared-slice-known2 .before in
+    let start = branch1 .before .before in
+    let a = start .args in
+    digits-more (a .d .now) (a .k) (a .at) (read .wide .result) (at-digits .digits .result) (c .joined .result) (branch1 .if1 .left) (read .wide .ensures)
+    (branch2 .if2 .left) (omega (arith, read .wide .ensures, at-shared-slice-known2 .shared-slice-known2 .given (a .at))) (branch3 .if3 .left) (at-digits .digits .ensures) (c .joined .ensures)
 
 pub +digits-spec : {M : Type 1} → statement M
 +digits-spec = close μ-digits λ t. digits-lts.spec (

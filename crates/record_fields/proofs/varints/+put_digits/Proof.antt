@@ -81,18 +81,20 @@ put-digits-sub-put-digits : (t : ℕ) → put-digits-lts.Need-sub-put-digits (
   put-digits.Post,
 ) (put-digits-at t) put-digits.Post
 put-digits-sub-put-digits t c =
-    let start-2 = c .before .before .before in
-    let start = start-2 in omega (arith, longer (start .args .k) (start .args .x) (start .pre .1 .fits) (c .before .if1 .left))
+    let branch1 = c .before in
+    let start-2 = branch1 .before .before in
+    let start = start-2 in omega (arith, longer (start .args .k) (start .args .x) (start .pre .1 .fits) (branch1 .if1 .left))
 
 put-digits-put-digits-requires : (t : ℕ) → put-digits-lts.Need-put-digits-requires (
   put-digits-below t,
   put-digits.Post,
 ) (put-digits-at t) put-digits.Post
 put-digits-put-digits-requires t c κs =
-    let start = c .before .before .before in
+    let branch1 = c .before in
+    let start = branch1 .before .before in
     let a = start .args in (
-      omega (arith, start .pre .0, longer (a .k) (a .x) (start .pre .1 .fits) (c .before .if1 .left)),
-      put-room (a .k) (a .x) (a .out .now) (a .at) _ (c .before .if1 .left) (start .pre .1),
+      omega (arith, start .pre .0, longer (a .k) (a .x) (start .pre .1 .fits) (branch1 .if1 .left)),
+      put-room (a .k) (a .x) (a .out .now) (a .at) _ (branch1 .if1 .left) (start .pre .1),
     )
 
 put-digits-same-length-2 : (t : ℕ) → put-digits-lts.Need-same-length-2 (
@@ -101,9 +103,10 @@ put-digits-same-length-2 : (t : ℕ) → put-digits-lts.Need-same-length-2 (
 ) (put-digits-at t) put-digits.Post
 put-digits-same-length-2 t c =
     let called = c .before .before in
-    let start = called .before .before .before .before in
+    let branch1 = called .before .before in
+    let start = branch1 .before .before in
     let a = start .args in
-    put-same (a .k) (a .x) (a .out .now) (a .at) _ _ _ (called .before .before .if1 .left) (start .pre .1) (called .put-digits .ensures)
+    put-same (a .k) (a .x) (a .out .now) (a .at) _ _ _ (branch1 .if1 .left) (start .pre .1) (called .put-digits .ensures)
 
 put-digits-returns-2 : (t : ℕ) → put-digits-lts.Need-returns-2 (
   put-digits-below t,
@@ -111,9 +114,10 @@ put-digits-returns-2 : (t : ℕ) → put-digits-lts.Need-returns-2 (
 ) (put-digits-at t) put-digits.Post
 put-digits-returns-2 t c =
     let called = c .before .before in
-    let start = called .before .before .before .before in
+    let branch1 = called .before .before in
+    let start = branch1 .before .before in
     let a = start .args in
-    put-more (a .k) (a .x) (a .out .now) (a .at) _ _ (called .before .before .if1 .left) (start .pre .1) (called .put-digits .ensures)
+    put-more (a .k) (a .x) (a .out .now) (a .at) _ _ (branch1 .if1 .left) (start .pre .1) (called .put-digits .ensures)
 
 pub +put-digits-spec : {M : Type 1} → statement M
 +put-digits-spec = close μ-put-digits λ t. put-digits-lts.spec (

@@ -9,13 +9,15 @@ returns c = joined-zero _ _ _ _ (c .before .before .high .given .1) (c .if1 .tak
 
 returns-2 : tie.Need-returns-2
 returns-2 c =
-    let at-high = c .before .before .before in
-    joined-is _ _ _ _ (at-high .high .given .1) (c .before .if1 .left) (c .if2 .taken)
+    let branch1 = c .before in
+    let at-high = branch1 .before .before in
+    joined-is _ _ _ _ (at-high .high .given .1) (branch1 .if1 .left) (c .if2 .taken)
 
 returns-4 : tie.Need-returns-4
 returns-4 c =
-    let at-high = c .before .before .before in
-    joined-large _ _ _ _ (at-high .high .given .1) (c .before .if1 .left) (c .if2 .left)
+    let branch1 = c .before in
+    let at-high = branch1 .before .before in
+    joined-large _ _ _ _ (at-high .high .given .1) (branch1 .if1 .left) (c .if2 .left)
 
 pub joined-spec : {M : Type 1} → statement M
 joined-spec =

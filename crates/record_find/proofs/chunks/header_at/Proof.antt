@@ -7,18 +7,20 @@ use Rattle.record_find.proofs.chunks.header_at.Tie as tie
 
 returns : tie.Need-returns
 returns c =
-    let at-read-header = c .before .before .before in
+    let at-enum-told = c .before in
+    let at-read-header = at-enum-told .before .before in
     let start = at-read-header .before .before in
     let a = start .args in
-    header-none (a .bytes .now) (index 0 (a .chunk .0)) (at-read-header .read-header .result) _ (c .no-record .result) (c .before .enum-told .given .1)
+    header-none (a .bytes .now) (index 0 (a .chunk .0)) (at-read-header .read-header .result) _ (c .no-record .result) (at-enum-told .enum-told .given .1)
     (at-read-header .read-header .ensures) (c .no-record .ensures)
 
 returns-2 : tie.Need-returns-2
 returns-2 c =
-    let at-read-header = c .before .before .before in
+    let at-part = c .before in
+    let at-read-header = at-part .before .before in
     let start = at-read-header .before .before in
     let a = start .args in
-    header-done (a .bytes .now) (index 0 (a .chunk .0)) (at-read-header .read-header .result) _ (c .before .part .given .1) (at-read-header .read-header .ensures)
+    header-done (a .bytes .now) (index 0 (a .chunk .0)) (at-read-header .read-header .result) _ (at-part .part .given .1) (at-read-header .read-header .ensures)
 
 pub header-at-spec : {M : Type 1} → statement M
 header-at-spec =

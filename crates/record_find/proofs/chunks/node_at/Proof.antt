@@ -15,12 +15,13 @@ returns c =
 
 returns-2 : tie.Need-returns-2
 returns-2 c =
-    let at-read-node = c .before .before .before .before in
+    let at-enum-told2 = c .before in
+    let at-read-node = at-enum-told2 .before .before .before in
     let start = at-read-node .before .before in
     let a = start .args in
     let read = at-read-node .read-node in
-    node-none (a .bytes .now) (index 0 (a .chunk .0)) (read .result .answer) (read .result .node) (read .ensures) (c .before .enum-told2 .given .0 .0) (c .no-record .result)
-    (c .before .enum-told2 .given .1) (c .no-record .ensures)
+    node-none (a .bytes .now) (index 0 (a .chunk .0)) (read .result .answer) (read .result .node) (read .ensures) (at-enum-told2 .enum-told2 .given .0 .0) (c .no-record .result)
+    (at-enum-told2 .enum-told2 .given .1) (c .no-record .ensures)
 
 pub node-at-spec : {M : Type 1} → statement M
 node-at-spec =

@@ -1,8 +1,8 @@
 -- The read's own refusal, or what is said of the bytes read.
 use mathlib.Core.Path.{sym, ap, _∙_}
 use mathlib.Core.Bool.{false}
-use Rattle.refusals.specs.Verdict.{tree}
-use Rattle.refusals.specs.Meaning.{spotOf}
+use Rattle.answer_types.specs.Verdict.{tree}
+use Rattle.answer_types.specs.Meaning.{spotOf}
 use Rattle.blake2b.specs.Hash.{nodeHash}
 use Rattle.checks.specs.Lent.{registerOf}
 use Rattle.tree_index.specs.Tree.{index}
@@ -17,47 +17,52 @@ use Rattle.record_find.proofs.chunks.path_of.Tie as tie
 
 sub-path-at : tie.Need-sub-path-at
 sub-path-at c =
-    let at-verify = c .before .before .before in
+    let at-start = c .before in
+    let at-verify = at-start .before .before in
     let start = at-verify .before .before .before .before .before .before in
     let a = start .args in
-    let k = c .before .start .given in
+    let k = at-start .start .given in
     lies nodeHash (registerOf (a .tree .now) (a .signatures .now) (a .bitfield .now) (a .content .now) (a .n) (a .s) (a .size)) (a .chunk .0) (k .0 .0 .0) (k .0 .1 .0 .0)
     (sym (ap verifiedOf (k .1)) ∙ at-verify .verify .ensures) .ordered
 
 part-path-at-start : tie.Need-part-path-at-start
 part-path-at-start c =
-    let at-verify = c .before .before .before in
+    let at-start = c .before in
+    let at-verify = at-start .before .before in
     let start = at-verify .before .before .before .before .before .before in
     let a = start .args in
-    let k = c .before .start .given in
+    let k = at-start .start .given in
     lies nodeHash (registerOf (a .tree .now) (a .signatures .now) (a .bitfield .now) (a .content .now) (a .n) (a .s) (a .size)) (a .chunk .0) (k .0 .0 .0) (k .0 .1 .0 .0)
     (sym (ap verifiedOf (k .1)) ∙ at-verify .verify .ensures) .ordered
 
 part-path-at-end : tie.Need-part-path-at-end
 part-path-at-end c =
-    let at-verify = c .before .before .before in
+    let at-start = c .before in
+    let at-verify = at-start .before .before in
     let start = at-verify .before .before .before .before .before .before in
     let a = start .args in
-    let k = c .before .start .given in
+    let k = at-start .start .given in
     lies nodeHash (registerOf (a .tree .now) (a .signatures .now) (a .bitfield .now) (a .content .now) (a .n) (a .s) (a .size)) (a .chunk .0) (k .0 .0 .0) (k .0 .1 .0 .0)
     (sym (ap verifiedOf (k .1)) ∙ at-verify .verify .ensures) .inside
 
 path-at-requires : tie.Need-path-at-requires
 path-at-requires c κs =
-    let at-verify = c .before .before .before .before in
+    let at-start = c .before .before in
+    let at-verify = at-start .before .before in
     let start = at-verify .before .before .before .before .before .before in
     let a = start .args in
-    let k = c .before .before .start .given in
+    let k = at-start .start .given in
     small nodeHash (registerOf (a .tree .now) (a .signatures .now) (a .bitfield .now) (a .content .now) (a .n) (a .s) (a .size)) (a .chunk .0) (k .0 .0 .0) (k .0 .1 .0 .0)
     (sym (ap verifiedOf (k .1)) ∙ at-verify .verify .ensures)
 
 returns : tie.Need-returns
 returns c =
-    let at-verify = c .before .before .before in
+    let at-refusal = c .before in
+    let at-verify = at-refusal .before .before in
     let start = at-verify .before .before .before .before .before .before in
     let a = start .args in
     let r = registerOf (a .tree .now) (a .signatures .now) (a .bitfield .now) (a .content .now) (a .n) (a .s) (a .size) in
-    let k = c .before .refusal .given in
+    let k = at-refusal .refusal .given in
     let e = sym (ap verifiedOf (k .1)) ∙ at-verify .verify .ensures in
     read-refused (readVerdict nodeHash r (a .chunk .0)) false (readPath (a .path .now) (tree (index 0 (a .chunk .0))) (readPart nodeHash r (a .chunk .0))) (k .0 .0 .number) (spotOf (k .0 .0 .place))
     (nothing nodeHash r (a .chunk .0) (k .0 .0 .number) (spotOf (k .0 .0 .place)) e .0)

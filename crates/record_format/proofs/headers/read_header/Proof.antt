@@ -7,23 +7,26 @@ use Rattle.record_format.proofs.headers.read_header.Tie as tie
 
 returns : tie.Need-returns
 returns c =
-    let start = c .before .before .before in
-    read-sized (start .args .bytes .now) (c .refusal .result) (c .before .if1 .taken) (c .refusal .ensures)
+    let branch1 = c .before in
+    let start = branch1 .before .before in
+    read-sized (start .args .bytes .now) (c .refusal .result) (branch1 .if1 .taken) (c .refusal .ensures)
 
 returns-2 : tie.Need-returns-2
 returns-2 c =
-    let compared = c .before .before in
+    let branch2 = c .before in
+    let compared = branch2 .before in
     let first = compared .before .before .before in
     let start = first .before .before .before in
     read-started (start .args .bytes .now) (first .first-bytes .result) (compared .same .result) (c .refusal2 .result) (first .first-bytes .ensures) (compared .same .ensures)
-    (not-true _ (c .before .if2 .taken)) (c .refusal2 .ensures)
+    (not-true _ (branch2 .if2 .taken)) (c .refusal2 .ensures)
 
 returns-3 : tie.Need-returns-3
 returns-3 c =
     let compared = c .before in
     let first = compared .before .before .before in
-    let start = first .before .before .before in
-    read-content (start .args .bytes .now) (first .first-bytes .result) (compared .same .result) (first .before .if1 .left) (first .first-bytes .ensures) (compared .same .ensures)
+    let branch1 = first .before in
+    let start = branch1 .before .before in
+    read-content (start .args .bytes .now) (first .first-bytes .result) (compared .same .result) (branch1 .if1 .left) (first .first-bytes .ensures) (compared .same .ensures)
     (not-false _ (c .if2 .left))
 
 pub read-header-spec : {M : Type 1} → statement M

@@ -6,15 +6,18 @@ use Rattle.record_format.proofs.headers.write_header.Tie as tie
 
 returns : tie.Need-returns
 returns c =
-    let start = c .before .before .before .before in
+    let branch1 = c .before in
+    let start = branch1 .before .before .before in
     let a = start .args in
-    header-15 (a .content .now) (a .out .now) (c .refusal .result) (c .before .if1 .taken) (c .refusal .ensures)
+    header-15 (a .content .now) (a .out .now) (c .refusal .result) (branch1 .if1 .taken) (c .refusal .ensures)
 
 returns-2 : tie.Need-returns-2
 returns-2 c =
-    let start = c .before .before .before .before .before in
+    let branch2 = c .before in
+    let branch1 = branch2 .before in
+    let start = branch1 .before .before .before in
     let a = start .args in
-    header-14 (a .content .now) (a .out .now) (c .refusal2 .result) (c .before .before .if1 .left) (c .before .if2 .taken) (c .refusal2 .ensures)
+    header-14 (a .content .now) (a .out .now) (c .refusal2 .result) (branch1 .if1 .left) (branch2 .if2 .taken) (c .refusal2 .ensures)
 
 returns-3 : tie.Need-returns-3
 returns-3 c =
@@ -22,8 +25,10 @@ returns-3 c =
     let first = second .before .before .before .before in
     let began = first .before .before .before in
     let tests = began .before in
-    let a = tests .before .before .before .before .args in
-    header-done (a .content .now) (a .out .now) (began .first-bytes .result) _ _ (tests .before .if1 .left) (tests .if2 .left) (began .first-bytes .ensures)
+    let branch1 = tests .before in
+    let start = branch1 .before .before .before in
+    let a = start .args in
+    header-done (a .content .now) (a .out .now) (began .first-bytes .result) _ _ (branch1 .if1 .left) (tests .if2 .left) (began .first-bytes .ensures)
     (first .copy-to .ensures) (second .copy-to2 .ensures)
 
 pub write-header-spec : {M : Type 1} → statement M

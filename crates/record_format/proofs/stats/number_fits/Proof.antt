@@ -6,16 +6,18 @@ use Rattle.record_format.proofs.stats.number_fits.Tie as tie
 
 returns : tie.Need-returns
 returns c =
-    let start = c .before .before .before .before in
-    let a = start .args in fits-given (a .field) (a .most) _ (c .before .before .field .given .1) (c .if1 .taken)
+    let at-field = c .before .before in
+    let start = at-field .before .before in
+    let a = start .args in fits-given (a .field) (a .most) _ (at-field .field .given .1) (c .if1 .taken)
 
 returns-2 : tie.Need-returns-2
 returns-2 c = let a = c .before .before .args in fits-absent (a .field) (a .most) (c .enum-told .given .1)
 
 returns-3 : tie.Need-returns-3
 returns-3 c =
-    let start = c .before .before .before .before in
-    let a = start .args in fits-over (a .field) (a .most) _ (c .before .before .field .given .1) (c .if1 .left)
+    let at-field = c .before .before in
+    let start = at-field .before .before in
+    let a = start .args in fits-over (a .field) (a .most) _ (at-field .field .given .1) (c .if1 .left)
 
 pub number-fits-spec : {M : Type 1} → statement M
 number-fits-spec =

@@ -26,11 +26,12 @@ put-three-requires-3 c κs =
 
 returns : tie.Need-returns
 returns c =
-    let at-put-three2 = c .before .before .before .before .before .before in
+    let at-put-three3 = c .before .before in
+    let at-put-three2 = at-put-three3 .before .before .before .before in
     let at-put-three = at-put-three2 .before .before .before .before in
     let start = at-put-three .before .before .before in
     let a = start .args in
-    stat-put (statOf (a .stat)) (a .out .now) _ _ _ _ _ _ (start .pre) (at-put-three .put-three .ensures) (at-put-three2 .put-three2 .ensures) (c .before .before .put-three3 .ensures)
+    stat-put (statOf (a .stat)) (a .out .now) _ _ _ _ _ _ (start .pre) (at-put-three .put-three .ensures) (at-put-three2 .put-three2 .ensures) (at-put-three3 .put-three3 .ensures)
 
 pub put-stat-spec : {M : Type 1} → statement M
 put-stat-spec =

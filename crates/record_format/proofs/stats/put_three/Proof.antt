@@ -25,12 +25,13 @@ put-number-requires-3 c κs =
 
 returns : tie.Need-returns
 returns c =
-    let at-put-number2 = c .before .before .before .before .before .before in
+    let at-put-number3 = c .before .before in
+    let at-put-number2 = at-put-number3 .before .before .before .before in
     let at-put-number = at-put-number2 .before .before .before .before in
     let start = at-put-number .before .before .before in
     let a = start .args in
     three-put (a .k) _ _ _ (a .out .now) (a .at) _ _ _ _ _ _ (start .pre .0) (start .pre .1) (at-put-number .put-number .ensures) (at-put-number2 .put-number2 .ensures)
-    (c .before .before .put-number3 .ensures)
+    (at-put-number3 .put-number3 .ensures)
 
 pub put-three-spec : {M : Type 1} → statement M
 put-three-spec =

@@ -9,21 +9,26 @@ use Rattle.record_format.proofs.stats.three_fit.Statement.{statement}
 use Rattle.record_format.proofs.stats.three_fit.Tie as tie
 
 returns : tie.Need-returns
-returns c w = let a = c .before .before .args in no (Most (a .most) (numberOf (a .a))) (c .before .number-fits .result) (not-true _ (c .if1 .taken)) (c .before .number-fits .ensures) (w .0)
+returns c w =
+    let at-number-fits = c .before in
+    let a = at-number-fits .before .args in no (Most (a .most) (numberOf (a .a))) (at-number-fits .number-fits .result) (not-true _ (c .if1 .taken)) (at-number-fits .number-fits .ensures) (w .0)
 
 returns-2 : tie.Need-returns-2
 returns-2 c w =
-    let start = c .before .before .before .before in
-    let a = start .args in no (Most (a .most) (numberOf (a .b))) (c .before .number-fits2 .result) (not-true _ (c .if2 .taken)) (c .before .number-fits2 .ensures) (w .1 .0)
+    let at-number-fits2 = c .before in
+    let start = at-number-fits2 .before .before .before in
+    let a = start .args in no (Most (a .most) (numberOf (a .b))) (at-number-fits2 .number-fits2 .result) (not-true _ (c .if2 .taken)) (at-number-fits2 .number-fits2 .ensures) (w .1 .0)
 
 returns-3 : tie.Need-returns-3
 returns-3 c =
-    let branch1 = c .before .before .before in
+    let branch2 = c .before in
+    let at-number-fits2 = branch2 .before in
+    let branch1 = at-number-fits2 .before in
     let at-number-fits = branch1 .before in
     let start = at-number-fits .before in
     let a = start .args in
     let first = yes (Most (a .most) (numberOf (a .a))) (at-number-fits .number-fits .result) (not-false _ (branch1 .if1 .left)) (at-number-fits .number-fits .ensures) in
-    let second = yes (Most (a .most) (numberOf (a .b))) (c .before .before .number-fits2 .result) (not-false _ (c .before .if2 .left)) (c .before .before .number-fits2 .ensures) in
+    let second = yes (Most (a .most) (numberOf (a .b))) (at-number-fits2 .number-fits2 .result) (not-false _ (branch2 .if2 .left)) (at-number-fits2 .number-fits2 .ensures) in
     carried (Most (a .most) (numberOf (a .c))) (ThreeMost (a .most) (numberOf (a .a), (numberOf (a .b), numberOf (a .c)))) (c .number-fits3 .result)
     (λ z. (first, (second, z))) (λ w. w .1 .1) (c .number-fits3 .ensures)
 

@@ -17,9 +17,10 @@ returns-2 c =
 
 returns-3 : tie.Need-returns-3
 returns-3 c =
-    let at-field = c .before .before .before .before in
+    let branch1 = c .before in
+    let at-field = branch1 .before .before .before in
     let start = at-field .before .before .before in
-    let a = start .args in lie-given (a .d .now) (a .field) (a .longest) _ (at-field .field .given .1) (c .before .if1 .left) (c .lies .result) (c .lies .ensures)
+    let a = start .args in lie-given (a .d .now) (a .field) (a .longest) _ (at-field .field .given .1) (branch1 .if1 .left) (c .lies .result) (c .lies .ensures)
 
 pub bytes-lie-spec : {M : Type 1} → statement M
 bytes-lie-spec =

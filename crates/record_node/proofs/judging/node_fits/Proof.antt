@@ -11,32 +11,38 @@ use Rattle.record_node.proofs.judging.node_fits.Tie as tie
 
 returns : tie.Need-returns
 returns c =
-    let start = c .before .before .before .before .before in
+    let at-path-lies = c .before in
+    let start = at-path-lies .before .before .before .before in
     let a = start .args in
-    no-path (a .d .now) (a .node) (no (PathLies (a .d .now) (a .node .path)) (c .before .path-lies .result) (not-true _ (c .if1 .taken)) (c .before .path-lies .ensures))
+    no-path (a .d .now) (a .node) (no (PathLies (a .d .now) (a .node .path)) (at-path-lies .path-lies .result) (not-true _ (c .if1 .taken)) (at-path-lies .path-lies .ensures))
 
 returns-2 : tie.Need-returns-2
 returns-2 c =
-    let start = c .before .before .before .before .before .before .before in
+    let at-value-fits = c .before in
+    let start = at-value-fits .before .before .before .before .before .before in
     let a = start .args in
-    no-value (a .d .now) (a .node) (no (ValueFits (a .node .value)) (c .before .value-fits .result) (not-true _ (c .if2 .taken)) (c .before .value-fits .ensures))
+    no-value (a .d .now) (a .node) (no (ValueFits (a .node .value)) (at-value-fits .value-fits .result) (not-true _ (c .if2 .taken)) (at-value-fits .value-fits .ensures))
 
 returns-3 : tie.Need-returns-3
 returns-3 c =
-    let start = c .before .before .before .before .before .before .before .before .before in
+    let at-bytes-lie = c .before in
+    let start = at-bytes-lie .before .before .before .before .before .before .before .before in
     let a = start .args in
-    no-trie (a .d .now) (a .node) (no (BytesLie (a .d .now) (a .node .trie) 1024) (c .before .bytes-lie .result) (not-true _ (c .if3 .taken)) (c .before .bytes-lie .ensures))
+    no-trie (a .d .now) (a .node) (no (BytesLie (a .d .now) (a .node .trie) 1024) (at-bytes-lie .bytes-lie .result) (not-true _ (c .if3 .taken)) (at-bytes-lie .bytes-lie .ensures))
 
 returns-4 : tie.Need-returns-4
 returns-4 c =
-    let start = c .before .before .before .before .before .before .before .before .before .before .before in
+    let at-number-fits = c .before in
+    let start = at-number-fits .before .before .before .before .before .before .before .before .before .before in
     let a = start .args in
     no-sequence (a .d .now) (a .node)
-    (no (Most 18446744073709551615 (numberOf (a .node .sequence))) (c .before .number-fits .result) (not-true _ (c .if4 .taken)) (c .before .number-fits .ensures))
+    (no (Most 18446744073709551615 (numberOf (a .node .sequence))) (at-number-fits .number-fits .result) (not-true _ (c .if4 .taken)) (at-number-fits .number-fits .ensures))
 
 returns-5 : tie.Need-returns-5
 returns-5 c =
-    let branch3 = c .before .before .before in
+    let branch4 = c .before in
+    let at-number-fits = branch4 .before in
+    let branch3 = at-number-fits .before in
     let at-bytes-lie = branch3 .before in
     let branch2 = at-bytes-lie .before in
     let at-value-fits = branch2 .before in
@@ -45,7 +51,7 @@ returns-5 c =
     let start = at-path-lies .before .before .before .before in
     let a = start .args in
     node-lies (a .d .now) (a .node)
-    (yes (Most 18446744073709551615 (numberOf (a .node .sequence))) (c .before .before .number-fits .result) (not-false _ (c .before .if4 .left)) (c .before .before .number-fits .ensures))
+    (yes (Most 18446744073709551615 (numberOf (a .node .sequence))) (at-number-fits .number-fits .result) (not-false _ (branch4 .if4 .left)) (at-number-fits .number-fits .ensures))
     (yes (PathLies (a .d .now) (a .node .path)) (at-path-lies .path-lies .result) (not-false _ (branch1 .if1 .left)) (at-path-lies .path-lies .ensures))
     (yes (ValueFits (a .node .value)) (at-value-fits .value-fits .result) (not-false _ (branch2 .if2 .left)) (at-value-fits .value-fits .ensures))
     (yes (BytesLie (a .d .now) (a .node .trie) 1024) (at-bytes-lie .bytes-lie .result) (not-false _ (branch3 .if3 .left)) (at-bytes-lie .bytes-lie .ensures))

@@ -9,15 +9,17 @@ use Rattle.record_node.proofs.judging.path_lies.Tie as tie
 
 returns : tie.Need-returns
 returns c w =
-    let start = c .before .before .before in
-    let a = start .args in no (Inside (a .d .now) (a .part)) (c .before .lies .result) (not-true _ (c .if1 .taken)) (c .before .lies .ensures) (w .inside)
+    let at-lies = c .before in
+    let start = at-lies .before .before in
+    let a = start .args in no (Inside (a .d .now) (a .part)) (at-lies .lies .result) (not-true _ (c .if1 .taken)) (at-lies .lies .ensures) (w .inside)
 
 returns-2 : tie.Need-returns-2
 returns-2 c =
-    let at-lies = c .before .before .before in
+    let branch1 = c .before .before in
+    let at-lies = branch1 .before in
     let start = at-lies .before .before in
     let a = start .args in
-    let h = yes (Inside (a .d .now) (a .part)) (at-lies .lies .result) (not-false _ (c .before .before .if1 .left)) (at-lies .lies .ensures) in
+    let h = yes (Inside (a .d .now) (a .part)) (at-lies .lies .result) (not-false _ (branch1 .if1 .left)) (at-lies .lies .ensures) in
     path-empty (a .d .now) (a .part) h (c .if2 .taken)
 
 returns-3 : tie.Need-returns-3
@@ -41,13 +43,14 @@ shared-slice-read-if4 c =
 
 returns-4 : tie.Need-returns-4
 returns-4 c =
-    let branch2 = c .before .before .before .before in
+    let branch3 = c .before .before in
+    let branch2 = branch3 .before .before in
     let branch1 = branch2 .before .before in
     let at-lies = branch1 .before in
     let start = at-lies .before .before in
     let a = start .args in
     let h = yes (Inside (a .d .now) (a .part)) (at-lies .lies .result) (not-false _ (branch1 .if1 .left)) (at-lies .lies .ensures) in
-    path-right (a .d .now) (a .part) h (branch2 .if2 .left) (c .before .before .if3 .left) (c .if4 .taken)
+    path-right (a .d .now) (a .part) h (branch2 .if2 .left) (branch3 .if3 .left) (c .if4 .taken)
 
 returns-5 : tie.Need-returns-5
 returns-5 c =

@@ -9,8 +9,9 @@ returns c = value-absent (c .before .before .args .value) (c .enum-told .given .
 
 returns-2 : tie.Need-returns-2
 returns-2 c =
-    let start = c .before .before .before .before in
-    value-given (start .args .value) _ (c .before .before .value .given .1) (c .stat-fits .result) (c .stat-fits .ensures)
+    let at-value = c .before .before in
+    let start = at-value .before .before in
+    value-given (start .args .value) _ (at-value .value .given .1) (c .stat-fits .result) (c .stat-fits .ensures)
 
 pub value-fits-spec : {M : Type 1} → statement M
 value-fits-spec =

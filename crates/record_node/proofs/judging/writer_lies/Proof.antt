@@ -14,17 +14,20 @@ returns c =
 
 returns-2 : tie.Need-returns-2
 returns-2 c =
-    let start = c .before .before .before .before .before .before in
+    let at-lies = c .before in
+    let start = at-lies .before .before .before .before .before in
     let a = start .args in
-    key-outside (a .d .now) (a .writer) (no (Lies (a .d .now) (a .writer .key)) (c .before .lies .result) (not-true _ (c .if2 .taken)) (c .before .lies .ensures))
+    key-outside (a .d .now) (a .writer) (no (Lies (a .d .now) (a .writer .key)) (at-lies .lies .result) (not-true _ (c .if2 .taken)) (at-lies .lies .ensures))
 
 returns-3 : tie.Need-returns-3
 returns-3 c =
-    let branch1 = c .before .before .before in
+    let branch2 = c .before in
+    let at-lies = branch2 .before in
+    let branch1 = at-lies .before in
     let start = branch1 .before .before .before .before in
     let a = start .args in
     writer-lies (a .d .now) (a .writer) (branch1 .if1 .left)
-    (yes (Lies (a .d .now) (a .writer .key)) (c .before .before .lies .result) (not-false _ (c .before .if2 .left)) (c .before .before .lies .ensures))
+    (yes (Lies (a .d .now) (a .writer .key)) (at-lies .lies .result) (not-false _ (branch2 .if2 .left)) (at-lies .lies .ensures))
     (c .bytes-lie .result) (c .bytes-lie .ensures)
 
 pub writer-lies-spec : {M : Type 1} → statement M

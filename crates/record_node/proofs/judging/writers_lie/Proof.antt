@@ -35,13 +35,14 @@ mul-writer-lies c = omega (arith, c .before .before .if1 .left)
 
 returns-2 : tie.Need-returns-2 Inv-loop μ-loop
 returns-2 c =
-    let tested = c .before .before .before in
+    let at-writer-lies = c .before in
+    let tested = at-writer-lies .before .before in
     let looped = tested .before in
     let start = looped .before .before .before .before in
     let a = start .args in
     let i = looped .loop .i in
     writers-one (a .d .now) (a .writers) i (tested .loop-test .taken)
-    (no (WriterLies (a .d .now) (getD (a .writers .list) i noWriter)) (c .before .writer-lies .result) (not-true _ (c .if2 .taken)) (c .before .writer-lies .ensures))
+    (no (WriterLies (a .d .now) (getD (a .writers .list) i noWriter)) (at-writer-lies .writer-lies .result) (not-true _ (c .if2 .taken)) (at-writer-lies .writer-lies .ensures))
 
 add-i : tie.Need-add-i Inv-loop μ-loop
 add-i c =
@@ -55,22 +56,25 @@ loop-less c =
 
 loop-again : tie.Need-loop-again Inv-loop μ-loop
 loop-again c =
-    let tested = c .before .before .before in
+    let at-writer-lies = c .before in
+    let tested = at-writer-lies .before .before in
     let looped = tested .before in
     let branch1 = looped .before in
     let start = branch1 .before .before .before in
     let a = start .args in
     let i = looped .loop .i in (
       judged-next (a .d .now) (a .writers .list) i (looped .loop .inv .0)
-          (yes (WriterLies (a .d .now) (getD (a .writers .list) i noWriter)) (c .before .writer-lies .result) (not-false _ (c .if2 .left)) (c .before .writer-lies .ensures)),
+          (yes (WriterLies (a .d .now) (getD (a .writers .list) i noWriter)) (at-writer-lies .writer-lies .result) (not-false _ (c .if2 .left)) (at-writer-lies .writer-lies .ensures)),
       omega (arith, tested .loop-test .taken, branch1 .if1 .left),
     )
 
 returns-3 : tie.Need-returns-3 Inv-loop μ-loop
 returns-3 c =
-    let start = c .before .before .before .before .before in
+    let looped = c .before in
+    let branch1 = looped .before in
+    let start = branch1 .before .before .before in
     let a = start .args in
-    writers-all (a .d .now) (a .writers) (c .before .before .if1 .left) (c .before .loop .i) (c .loop-test .left) (c .before .loop .inv .0)
+    writers-all (a .d .now) (a .writers) (branch1 .if1 .left) (looped .loop .i) (c .loop-test .left) (looped .loop .inv .0)
 
 pub writers-lie-spec : {M : Type 1} → statement M
 writers-lie-spec =

@@ -6,16 +6,18 @@ use Rattle.record_node.proofs.reading.five_fields.Tie as tie
 
 last-fields-requires : tie.Need-last-fields-requires
 last-fields-requires c κs =
-    let at-three-parts = c .before .before .before in
+    let at-path = c .before in
+    let at-three-parts = at-path .before .before in
     let start = at-three-parts .before .before in
     let a = start .args in
-    raw-fourth (a .d .now) (at-three-parts .three-parts .result) _ _ _ _ (c .before .path .given .1) (at-three-parts .three-parts .ensures)
+    raw-fourth (a .d .now) (at-three-parts .three-parts .result) _ _ _ _ (at-path .path .given .1) (at-three-parts .three-parts .ensures)
 
 returns : tie.Need-returns
 returns c =
-    let at-three-parts = c .before .before .before in
+    let at-enum-told = c .before in
+    let at-three-parts = at-enum-told .before .before in
     let start = at-three-parts .before .before in
-    let a = start .args in raw-first (a .d .now) (at-three-parts .three-parts .result) (c .no-writers .result) (c .before .enum-told .given .1) (at-three-parts .three-parts .ensures)
+    let a = start .args in raw-first (a .d .now) (at-three-parts .three-parts .result) (c .no-writers .result) (at-enum-told .enum-told .given .1) (at-three-parts .three-parts .ensures)
 
 returns-2 : tie.Need-returns-2
 returns-2 c =
@@ -30,14 +32,15 @@ returns-2 c =
 
 returns-3 : tie.Need-returns-3
 returns-3 c =
-    let at-last-fields = c .before .before .before .before in
+    let at-last = c .before in
+    let at-last-fields = at-last .before .before .before in
     let at-path = at-last-fields .before .before in
     let at-three-parts = at-path .before .before in
     let start = at-three-parts .before .before in
     let a = start .args in
     let tail = at-last-fields .last-fields in
     raw-read (a .d .now) (at-three-parts .three-parts .result) _ _ _ _ (at-path .path .given .1) (at-three-parts .three-parts .ensures) (tail .result .last) (tail .result .writers)
-    _ (c .before .last .given .1) (tail .ensures)
+    _ (at-last .last .given .1) (tail .ensures)
 
 pub five-fields-spec : {M : Type 1} → statement M
 five-fields-spec =

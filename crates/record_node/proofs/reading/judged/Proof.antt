@@ -14,32 +14,36 @@ read-value-requires c κs =
 
 returns : tie.Need-returns
 returns c =
-    let at-with-path = c .before .before .before in
+    let at-enum-told = c .before in
+    let at-with-path = at-enum-told .before .before in
     let start = at-with-path .before .before in
     let a = start .args in
     refused-node (a .d .now) (c .no-node .result .answer) (c .no-node .result .node) (c .no-node .ensures)
-    (no-path (a .d .now) (a .first) (a .second) (a .trie) (a .writers) (a .sequence) (start .pre) (at-with-path .with-path .result) (c .before .enum-told .given .1) (at-with-path .with-path .ensures))
+    (no-path (a .d .now) (a .first) (a .second) (a .trie) (a .writers) (a .sequence) (start .pre) (at-with-path .with-path .result) (at-enum-told .enum-told .given .1)
+    (at-with-path .with-path .ensures))
 
 returns-2 : tie.Need-returns-2
 returns-2 c =
-    let at-read-value = c .before .before .before in
+    let at-enum-told2 = c .before in
+    let at-read-value = at-enum-told2 .before .before in
     let at-path = at-read-value .before .before in
     let at-with-path = at-path .before .before in
     let start = at-with-path .before .before in
     let a = start .args in
     refused-node (a .d .now) (c .no-node2 .result .answer) (c .no-node2 .result .node) (c .no-node2 .ensures)
     (no-value (a .d .now) (a .first) (a .second) (a .trie) (a .writers) (a .sequence) (start .pre) (at-with-path .with-path .result) _ (at-path .path .given .1)
-    (at-with-path .with-path .ensures) (at-read-value .read-value .result) (c .before .enum-told2 .given .1) (at-read-value .read-value .ensures))
+    (at-with-path .with-path .ensures) (at-read-value .read-value .result) (at-enum-told2 .enum-told2 .given .1) (at-read-value .read-value .ensures))
 
 returns-3 : tie.Need-returns-3
 returns-3 c =
-    let at-read-value = c .before .before .before in
+    let at-value = c .before in
+    let at-read-value = at-value .before .before in
     let at-path = at-read-value .before .before in
     let at-with-path = at-path .before .before in
     let start = at-with-path .before .before in
     let a = start .args in
     given-node (a .d .now) _ (all-right (a .d .now) (a .first) (a .second) (a .trie) (a .writers) (a .sequence) (start .pre) (at-with-path .with-path .result) _
-    (at-path .path .given .1) (at-with-path .with-path .ensures) (at-read-value .read-value .result) _ (c .before .value .given .1) (at-read-value .read-value .ensures))
+    (at-path .path .given .1) (at-with-path .with-path .ensures) (at-read-value .read-value .result) _ (at-value .value .given .1) (at-read-value .read-value .ensures))
 
 pub judged-spec : {M : Type 1} → statement M
 judged-spec =

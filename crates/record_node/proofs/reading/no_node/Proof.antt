@@ -1,6 +1,6 @@
 -- The definition says it.
 use mathlib.Core.Path.{ap₂}
-use Rattle.refusals.specs.Verdict.{Verdict}
+use Rattle.answer_types.specs.Verdict.{Verdict}
 use Rattle.record_fields.specs.declared.rows.Number.the-variants.{Absent as NoNumber}
 use Rattle.record_fields.specs.declared.rows.Bytes.the-variants.{Absent as NoBytes}
 use Rattle.record_node.specs.declared.reading.Value.the-variants.{Absent as NoValue}

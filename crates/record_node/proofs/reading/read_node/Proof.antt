@@ -9,20 +9,22 @@ use Rattle.record_node.proofs.reading.read_node.Tie as tie
 
 judged-requires : tie.Need-judged-requires
 judged-requires c κs =
-    let at-five-fields = c .before .before .before .before in
+    let at-plain = c .before in
+    let at-five-fields = at-plain .before .before .before in
     let start = at-five-fields .before .before in
     let found = at-five-fields .five-fields in
     let a = start .args in
-    subst (λ (p : Plain). RawRead (a .bytes .now) p (found .result .writers)) (c .before .plain .given .1) (found .ensures)
+    subst (λ (p : Plain). RawRead (a .bytes .now) p (found .result .writers)) (at-plain .plain .given .1) (found .ensures)
 
 returns : tie.Need-returns
 returns c =
-    let at-five-fields = c .before .before .before .before in
+    let at-enum-told = c .before in
+    let at-five-fields = at-enum-told .before .before .before in
     let start = at-five-fields .before .before in
     let found = at-five-fields .five-fields in
     let a = start .args in
     refused-node (a .bytes .now) (c .no-node .result .answer) (c .no-node .result .node) (c .no-node .ensures)
-    (raw-rejected (a .bytes .now) (subst (λ (p : Plain). RawRead (a .bytes .now) p (found .result .writers)) (c .before .enum-told .given .1) (found .ensures)))
+    (raw-rejected (a .bytes .now) (subst (λ (p : Plain). RawRead (a .bytes .now) p (found .result .writers)) (at-enum-told .enum-told .given .1) (found .ensures)))
 
 pub read-node-spec : {M : Type 1} → statement M
 read-node-spec =

@@ -8,11 +8,12 @@ use Rattle.record_node.proofs.reading.with_path.Tie as tie
 
 returns : tie.Need-returns
 returns c =
-    let at-field = c .before .before .before in
+    let at-path-lies = c .before in
+    let at-field = at-path-lies .before .before in
     let start = at-field .before .before .before in
     let a = start .args in
     let p = at-field .field .given .0 .0 in
-    path-given (a .d .now) (a .field) p (at-field .field .given .1) (yes (PathLies (a .d .now) p) (c .before .path-lies .result) (c .if1 .taken) (c .before .path-lies .ensures))
+    path-given (a .d .now) (a .field) p (at-field .field .given .1) (yes (PathLies (a .d .now) p) (at-path-lies .path-lies .result) (c .if1 .taken) (at-path-lies .path-lies .ensures))
 
 returns-2 : tie.Need-returns-2
 returns-2 c =
@@ -21,11 +22,12 @@ returns-2 c =
 
 returns-3 : tie.Need-returns-3
 returns-3 c =
-    let at-field = c .before .before .before in
+    let at-path-lies = c .before in
+    let at-field = at-path-lies .before .before in
     let start = at-field .before .before .before in
     let a = start .args in
     let p = at-field .field .given .0 .0 in
-    path-wrong (a .d .now) (a .field) p (at-field .field .given .1) (start .pre) (no (PathLies (a .d .now) p) (c .before .path-lies .result) (c .if1 .left) (c .before .path-lies .ensures))
+    path-wrong (a .d .now) (a .field) p (at-field .field .given .1) (start .pre) (no (PathLies (a .d .now) p) (at-path-lies .path-lies .result) (c .if1 .left) (at-path-lies .path-lies .ensures))
 
 pub with-path-spec : {M : Type 1} → statement M
 with-path-spec =

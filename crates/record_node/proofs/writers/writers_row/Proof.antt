@@ -20,28 +20,31 @@ one-writer-requires c κs = c .loop .inv .ends
 
 returns : tie.Need-returns Inv-loop μ-loop
 returns c =
-    let looped = c .before .before .before in
-    let start = looped .before .before .before in
-    let l = looped .loop in
-    let a = start .args in
-    grown-bad (a .d .now) (a .at) (l .list) (l .count) (l .next) (l .inv) (c .before .before .one-writer .result) (c .enum-told .given .1) (c .before .before .one-writer .ensures)
-
-returns-2 : tie.Need-returns-2 Inv-loop μ-loop
-returns-2 c =
-    let looped = c .before .before .before in
-    let start = looped .before .before .before in
-    let l = looped .loop in
-    let a = start .args in
-    grown-end (a .d .now) (a .at) (l .list) (l .count) (l .next) (l .inv) (c .before .before .one-writer .result) (c .enum-told2 .given .1) (c .before .before .one-writer .ensures)
-
-returns-3 : tie.Need-returns-3 Inv-loop μ-loop
-returns-3 c =
-    let at-one-writer = c .before .before .before .before in
+    let at-one-writer = c .before .before in
     let looped = at-one-writer .before in
     let start = looped .before .before .before in
     let l = looped .loop in
     let a = start .args in
-    grown-ninth (a .d .now) (a .at) (l .list) (l .count) (l .next) (l .inv) (at-one-writer .one-writer .result) _ _ (c .before .before .writer .given .1)
+    grown-bad (a .d .now) (a .at) (l .list) (l .count) (l .next) (l .inv) (at-one-writer .one-writer .result) (c .enum-told .given .1) (at-one-writer .one-writer .ensures)
+
+returns-2 : tie.Need-returns-2 Inv-loop μ-loop
+returns-2 c =
+    let at-one-writer = c .before .before in
+    let looped = at-one-writer .before in
+    let start = looped .before .before .before in
+    let l = looped .loop in
+    let a = start .args in
+    grown-end (a .d .now) (a .at) (l .list) (l .count) (l .next) (l .inv) (at-one-writer .one-writer .result) (c .enum-told2 .given .1) (at-one-writer .one-writer .ensures)
+
+returns-3 : tie.Need-returns-3 Inv-loop μ-loop
+returns-3 c =
+    let at-writer = c .before .before in
+    let at-one-writer = at-writer .before .before in
+    let looped = at-one-writer .before in
+    let start = looped .before .before .before in
+    let l = looped .loop in
+    let a = start .args in
+    grown-ninth (a .d .now) (a .at) (l .list) (l .count) (l .next) (l .inv) (at-one-writer .one-writer .result) _ _ (at-writer .writer .given .1)
     (at-one-writer .one-writer .ensures) (c .if1 .taken)
 
 array-set-from-list : tie.Need-array-set-from-list Inv-loop μ-loop
@@ -66,12 +69,13 @@ loop-less c =
 
 loop-again : tie.Need-loop-again Inv-loop μ-loop
 loop-again c =
-    let at-one-writer = c .before .before .before .before in
+    let at-writer = c .before .before in
+    let at-one-writer = at-writer .before .before in
     let looped = at-one-writer .before in
     let start = looped .before .before .before in
     let l = looped .loop in
     let a = start .args in
-    grown-more (a .d .now) (a .at) (l .list) (l .count) (l .next) (l .inv) (at-one-writer .one-writer .result) _ _ (c .before .before .writer .given .1)
+    grown-more (a .d .now) (a .at) (l .list) (l .count) (l .next) (l .inv) (at-one-writer .one-writer .result) _ _ (at-writer .writer .given .1)
     (at-one-writer .one-writer .ensures) (c .if1 .left)
 
 pub writers-row-spec : {M : Type 1} → statement M

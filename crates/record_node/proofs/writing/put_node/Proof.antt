@@ -62,7 +62,8 @@ put-number-requires c κs =
 
 returns : tie.Need-returns
 returns c =
-    let at-put-writers = c .before .before .before .before .before .before in
+    let at-put-number = c .before .before in
+    let at-put-writers = at-put-number .before .before .before .before in
     let at-put-bytes = at-put-writers .before .before .before .before in
     let at-put-value = at-put-bytes .before .before .before .before in
     let at-put-part = at-put-value .before .before .before .before in
@@ -70,7 +71,7 @@ returns c =
     let a = start .args in
     node-put (a .d .now) (a .node) (start .pre .fits) (a .out .now) (start .pre .room) _ _ (at-put-part .put-part .ensures) _ _ (at-put-value .put-value .ensures) _ _
     (at-put-bytes .put-bytes .ensures)
-    _ _ (at-put-writers .put-writers .ensures) _ _ (c .before .before .put-number .ensures)
+    _ _ (at-put-writers .put-writers .ensures) _ _ (at-put-number .put-number .ensures)
 
 pub put-node-spec : {M : Type 1} → statement M
 put-node-spec =

@@ -28,11 +28,12 @@ returns c =
 
 returns-2 : tie.Need-returns-2
 returns-2 c =
-    let at-put-stat = c .before .before .before .before .before .before .before in
+    let at-put-part = c .before .before in
+    let at-put-stat = at-put-part .before .before .before .before .before in
     let at-value = at-put-stat .before .before .before in
     let start = at-value .before .before .before in
     let a = start .args in
-    value-put (a .value) (a .out .now) (a .at) _ (at-value .value .given .1) _ _ _ (at-put-stat .put-stat .ensures) _ _ (c .before .before .put-part .ensures)
+    value-put (a .value) (a .out .now) (a .at) _ (at-value .value .given .1) _ _ _ (at-put-stat .put-stat .ensures) _ _ (at-put-part .put-part .ensures)
 
 pub put-value-spec : {M : Type 1} → statement M
 put-value-spec =

@@ -29,10 +29,11 @@ put-bytes-requires c κs =
 
 returns : tie.Need-returns
 returns c =
-    let at-put-part = c .before .before .before .before .before .before in
+    let at-put-bytes = c .before .before in
+    let at-put-part = at-put-bytes .before .before .before .before in
     let start = at-put-part .before .before .before .before .before .before .before in
     let a = start .args in
-    writer-put (a .d .now) (a .writer) (a .out .now) (start .pre) _ _ (at-put-part .put-part .ensures) _ _ (c .before .before .put-bytes .ensures)
+    writer-put (a .d .now) (a .writer) (a .out .now) (start .pre) _ _ (at-put-part .put-part .ensures) _ _ (at-put-bytes .put-bytes .ensures)
 
 pub put-writer-spec : {M : Type 1} → statement M
 put-writer-spec =

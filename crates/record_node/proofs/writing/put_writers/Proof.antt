@@ -19,21 +19,24 @@ loop-holds c =
 
 mul-put-writer : tie.Need-mul-put-writer Inv-loop μ-loop
 mul-put-writer c =
-    let start = c .before .before .before .before .before .before in
-    omega (arith, c .before .loop-test .taken, start .pre .fits .inside .count)
+    let tested = c .before in
+    let start = tested .before .before .before .before .before in
+    omega (arith, tested .loop-test .taken, start .pre .fits .inside .count)
 
 array-copy-out-put-writer : tie.Need-array-copy-out-put-writer Inv-loop μ-loop
 array-copy-out-put-writer c =
-    let start = c .before .before .before .before .before .before in
-    omega (arith, c .before .loop-test .taken, start .pre .fits .inside .count)
+    let tested = c .before in
+    let start = tested .before .before .before .before .before in
+    omega (arith, tested .loop-test .taken, start .pre .fits .inside .count)
 
 put-writer-requires : tie.Need-put-writer-requires Inv-loop μ-loop
 put-writer-requires c κs =
-    let looped = c .before .before .before in
+    let tested = c .before .before in
+    let looped = tested .before in
     let start = looped .before .before .before .before in
     let a = start .args in
     let l = looped .loop in
-    one-roomy (a .d .now) (a .writers) (a .out .now) (a .at) (start .pre) (l .out) (l .next) (l .i) (l .inv .0) (c .before .before .loop-test .taken) _ (omega arith)
+    one-roomy (a .d .now) (a .writers) (a .out .now) (a .at) (start .pre) (l .out) (l .next) (l .i) (l .inv .0) (tested .loop-test .taken) _ (omega arith)
 
 part-put-part-end : tie.Need-part-put-part-end Inv-loop μ-loop
 part-put-part-end c =
@@ -67,14 +70,15 @@ loop-less c =
 
 loop-again : tie.Need-loop-again Inv-loop μ-loop
 loop-again c =
-    let at-put-writer = c .before .before .before .before .before .before .before in
+    let at-put-part = c .before .before in
+    let at-put-writer = at-put-part .before .before .before .before .before in
     let tested = at-put-writer .before .before .before in
     let looped = tested .before in
     let start = looped .before .before .before .before in
     let a = start .args in
     let l = looped .loop in (
       one-placed (a .d .now) (a .writers) (a .out .now) (a .at) (start .pre) (l .out) (l .next) (l .i) (l .inv .0) (tested .loop-test .taken) _ _ _
-          (at-put-writer .put-writer .ensures) _ _ (c .before .before .put-part .ensures),
+          (at-put-writer .put-writer .ensures) _ _ (at-put-part .put-part .ensures),
       omega (arith, tested .loop-test .taken),
     )
 
@@ -83,9 +87,10 @@ same-length c = c .before .loop .inv .0 .same
 
 returns : tie.Need-returns Inv-loop μ-loop
 returns c =
-    let start = c .before .before .before .before .before in
+    let looped = c .before in
+    let start = looped .before .before .before .before in
     let a = start .args in
-    let l = c .before .loop in
+    let l = looped .loop in
     placed-all (a .d .now) (a .writers) (a .out .now) (a .at) (l .out) (l .next) (l .i) (l .inv .0) (omega (arith, l .inv .1, c .loop-test .left))
 
 pub put-writers-spec : {M : Type 1} → statement M

@@ -20,32 +20,39 @@ loop-holds : tie.Need-loop-holds Inv-loop μ-loop
 loop-holds c = (omega arith, refl)
 
 add-smaller-of : tie.Need-add-smaller-of Inv-loop μ-loop
-add-smaller-of c = let h = c .before .before .before .pre .few in search needs
+add-smaller-of c =
+    let entered = c .before .before .before in
+    let h = entered .pre .few in search needs
 
 mul-smaller-of : tie.Need-mul-smaller-of Inv-loop μ-loop
-mul-smaller-of c = let h = c .before .before .before .pre .few in search needs
+mul-smaller-of c =
+    let entered = c .before .before .before in
+    let h = entered .pre .few in search needs
 
 in-group-requires : tie.Need-in-group-requires Inv-loop μ-loop
 in-group-requires c κs =
-    let tested = c .before .before .before in
+    let at-chunk-behind = c .before in
+    let at-smaller-of = at-chunk-behind .before in
+    let tested = at-smaller-of .before in
     let looped = tested .before in
     let start = looped .before .before in
     let a = start .args in
-    let s = c .before .before .smaller-of .ensures in
-    group-in (a .xs .now) (a .tuples) (a .from) (a .end) (start .pre) (looped .loop .k) (c .before .before .smaller-of .result) (c .group-tuple .result) (looped .loop .inv .0)
-    (tested .loop-test .taken) (s .left) (s .right) (c .group-tuple .ensures ∙ ap (λ (j : ℕ). tupleIn (a .tuples) (j / 16)) (c .before .chunk-behind .ensures))
+    let s = at-smaller-of .smaller-of .ensures in
+    group-in (a .xs .now) (a .tuples) (a .from) (a .end) (start .pre) (looped .loop .k) (at-smaller-of .smaller-of .result) (c .group-tuple .result) (looped .loop .inv .0)
+    (tested .loop-test .taken) (s .left) (s .right) (c .group-tuple .ensures ∙ ap (λ (j : ℕ). tupleIn (a .tuples) (j / 16)) (at-chunk-behind .chunk-behind .ensures))
 
 returns : tie.Need-returns Inv-loop μ-loop
 returns c =
-    let at-smaller-of = c .before .before .before .before .before in
+    let at-in-group = c .before .before in
+    let at-smaller-of = at-in-group .before .before .before in
     let tested = at-smaller-of .before in
     let looped = tested .before in
     let start = looped .before .before in
     let a = start .args in
     let s = at-smaller-of .smaller-of .ensures in
     let k = looped .loop .k in
-    found-here (notMissing (a .xs .now)) (c .before .before .in-group .result) (a .from) k (at-smaller-of .smaller-of .result) (a .end) (s .above k (omega arith) (tested .loop-test .taken)) (s .right)
-    (c .before .before .in-group .ensures) (looped .loop .inv .1) (c .enum-told2 .given .0 .0) (c .enum-told2 .given .1)
+    found-here (notMissing (a .xs .now)) (at-in-group .in-group .result) (a .from) k (at-smaller-of .smaller-of .result) (a .end) (s .above k (omega arith) (tested .loop-test .taken)) (s .right)
+    (at-in-group .in-group .ensures) (looped .loop .inv .1) (c .enum-told2 .given .0 .0) (c .enum-told2 .given .1)
 
 loop-less : tie.Need-loop-less Inv-loop μ-loop
 loop-less c =
@@ -58,7 +65,8 @@ loop-less c =
 
 loop-again : tie.Need-loop-again Inv-loop μ-loop
 loop-again c =
-    let at-smaller-of = c .before .before .before .before .before in
+    let at-in-group = c .before .before in
+    let at-smaller-of = at-in-group .before .before .before in
     let tested = at-smaller-of .before in
     let looped = tested .before in
     let start = looped .before .before in
@@ -66,16 +74,17 @@ loop-again c =
     let s = at-smaller-of .smaller-of .ensures in
     let k = looped .loop .k in (
       omega (arith, s .above k (omega arith) (tested .loop-test .taken), looped .loop .inv .0),
-      none-here (notMissing (a .xs .now)) (c .before .before .in-group .result) (a .from) k (at-smaller-of .smaller-of .result) (a .end)
+      none-here (notMissing (a .xs .now)) (at-in-group .in-group .result) (a .from) k (at-smaller-of .smaller-of .result) (a .end)
           (s .above k (omega arith) (tested .loop-test .taken)) (s .right)
-          (c .before .before .in-group .ensures) (looped .loop .inv .1) (c .enum-told .given .1),
+          (at-in-group .in-group .ensures) (looped .loop .inv .1) (c .enum-told .given .1),
     )
 
 returns-2 : tie.Need-returns-2 Inv-loop μ-loop
 returns-2 c =
-    let start = c .before .before .before in
+    let looped = c .before in
+    let start = looped .before .before in
     let a = start .args in
-    sym (c .before .loop .inv .1 ∙ lowest-end (notMissing (a .xs .now)) (c .before .loop .k) (a .end) (c .loop-test .left))
+    sym (looped .loop .inv .1 ∙ lowest-end (notMissing (a .xs .now)) (looped .loop .k) (a .end) (c .loop-test .left))
 
 pub by-groups-spec : {M : Type 1} → statement M
 by-groups-spec =

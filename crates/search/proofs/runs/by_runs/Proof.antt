@@ -20,30 +20,37 @@ loop-holds : tie.Need-loop-holds Inv-loop μ-loop
 loop-holds c = refl
 
 add-smaller-of : tie.Need-add-smaller-of Inv-loop μ-loop
-add-smaller-of c = let h = c .before .before .before .pre .0 in search needs
+add-smaller-of c =
+    let entered = c .before .before .before in
+    let h = entered .pre .0 in search needs
 
 mul-smaller-of : tie.Need-mul-smaller-of Inv-loop μ-loop
-mul-smaller-of c = let h = c .before .before .before .pre .0 in search needs
+mul-smaller-of c =
+    let entered = c .before .before .before in
+    let h = entered .pre .0 in search needs
 
 in-run-requires : tie.Need-in-run-requires Inv-loop μ-loop
 in-run-requires c κs =
-    let start = c .before .before .before .before in
+    let tested = c .before in
+    let looped = tested .before in
+    let start = looped .before .before in
     let a = start .args in
     let s = c .smaller-of .ensures in
-    let k = c .before .before .loop .k in
-    (s .above k (omega arith) (c .before .loop-test .taken), run-in (a .xs .now) (a .n) k (c .smaller-of .result) (start .pre .0) (start .pre .1) (s .left) (s .right))
+    let k = looped .loop .k in
+    (s .above k (omega arith) (tested .loop-test .taken), run-in (a .xs .now) (a .n) k (c .smaller-of .result) (start .pre .0) (start .pre .1) (s .left) (s .right))
 
 returns : tie.Need-returns Inv-loop μ-loop
 returns c =
-    let at-smaller-of = c .before .before .before in
+    let at-in-run = c .before .before in
+    let at-smaller-of = at-in-run .before in
     let tested = at-smaller-of .before in
     let looped = tested .before in
     let start = looped .before .before in
     let a = start .args in
     let s = at-smaller-of .smaller-of .ensures in
     let k = looped .loop .k in
-    found-here (notMissing (a .xs .now)) (c .before .before .in-run .result) (a .from) k (at-smaller-of .smaller-of .result) (a .n) (s .above k (omega arith) (tested .loop-test .taken)) (s .right)
-    (c .before .before .in-run .ensures) (looped .loop .inv) (c .enum-told2 .given .0 .0) (c .enum-told2 .given .1)
+    found-here (notMissing (a .xs .now)) (at-in-run .in-run .result) (a .from) k (at-smaller-of .smaller-of .result) (a .n) (s .above k (omega arith) (tested .loop-test .taken)) (s .right)
+    (at-in-run .in-run .ensures) (looped .loop .inv) (c .enum-told2 .given .0 .0) (c .enum-told2 .given .1)
 
 loop-less : tie.Need-loop-less Inv-loop μ-loop
 loop-less c =
@@ -56,21 +63,23 @@ loop-less c =
 
 loop-again : tie.Need-loop-again Inv-loop μ-loop
 loop-again c =
-    let at-smaller-of = c .before .before .before in
+    let at-in-run = c .before .before in
+    let at-smaller-of = at-in-run .before in
     let tested = at-smaller-of .before in
     let looped = tested .before in
     let start = looped .before .before in
     let a = start .args in
     let s = at-smaller-of .smaller-of .ensures in
     let k = looped .loop .k in
-    none-here (notMissing (a .xs .now)) (c .before .before .in-run .result) (a .from) k (at-smaller-of .smaller-of .result) (a .n) (s .above k (omega arith) (tested .loop-test .taken)) (s .right)
-    (c .before .before .in-run .ensures) (looped .loop .inv) (c .enum-told .given .1)
+    none-here (notMissing (a .xs .now)) (at-in-run .in-run .result) (a .from) k (at-smaller-of .smaller-of .result) (a .n) (s .above k (omega arith) (tested .loop-test .taken)) (s .right)
+    (at-in-run .in-run .ensures) (looped .loop .inv) (c .enum-told .given .1)
 
 returns-2 : tie.Need-returns-2 Inv-loop μ-loop
 returns-2 c =
-    let start = c .before .before .before in
+    let looped = c .before in
+    let start = looped .before .before in
     let a = start .args in
-    sym (c .before .loop .inv ∙ lowest-end (notMissing (a .xs .now)) (c .before .loop .k) (a .n) (c .loop-test .left))
+    sym (looped .loop .inv ∙ lowest-end (notMissing (a .xs .now)) (looped .loop .k) (a .n) (c .loop-test .left))
 
 pub by-runs-spec : {M : Type 1} → statement M
 by-runs-spec =

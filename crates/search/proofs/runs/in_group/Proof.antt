@@ -9,7 +9,9 @@ use Rattle.search.proofs.runs.in_group.Statement.{statement}
 use Rattle.search.proofs.runs.in_group.Tie as tie
 
 returns : tie.Need-returns
-returns c = let a = c .before .before .args in group-over (a .xs .now) (a .tuple) (a .from) (a .end) (c .before .before .pre) (c .if1 .taken)
+returns c =
+    let start = c .before .before in
+    let a = start .args in group-over (a .xs .now) (a .tuple) (a .from) (a .end) (start .pre) (c .if1 .taken)
 
 first-missing-requires : tie.Need-first-missing-requires
 first-missing-requires c κs =
@@ -18,10 +20,12 @@ first-missing-requires c κs =
 
 returns-2 : tie.Need-returns-2
 returns-2 c =
-    let start = c .before .before .before .before in
+    let at-chunk-behind = c .before in
+    let branch1 = at-chunk-behind .before in
+    let start = branch1 .before .before in
     let a = start .args in
-    c .first-missing .ensures ∙ ap (λ (k : ℕ). lowest (storedHeld (a .xs .now)) k (a .end - k)) (c .before .chunk-behind .ensures)
-    ∙ group-read (a .xs .now) (a .tuple) (a .from) (a .end) (start .pre) (c .before .before .if1 .left)
+    c .first-missing .ensures ∙ ap (λ (k : ℕ). lowest (storedHeld (a .xs .now)) k (a .end - k)) (at-chunk-behind .chunk-behind .ensures)
+    ∙ group-read (a .xs .now) (a .tuple) (a .from) (a .end) (start .pre) (branch1 .if1 .left)
 
 pub in-group-spec : {M : Type 1} → statement M
 in-group-spec = tie.close (tie.spec returns (λ c κs. search needs) first-missing-requires returns-2)

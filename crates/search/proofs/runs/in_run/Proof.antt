@@ -11,27 +11,32 @@ use Rattle.search.proofs.runs.in_run.Tie as tie
 
 run-tuples-requires : tie.Need-run-tuples-requires
 run-tuples-requires c κs =
-    let a = c .before .before .args in
+    let start = c .before .before in
+    let a = start .args in
     subst (λ (j : ℕ). bitsPlace (j / 8192 + 1) ≤ length (a .xs .now)) (sym (c .chunk-behind .ensures))
-    (data-at (a .xs .now) (a .end) (a .from) (c .before .before .pre .1 .room) (c .before .before .pre .0))
+    (data-at (a .xs .now) (a .end) (a .from) (start .pre .1 .room) (start .pre .0))
 
 returns : tie.Need-returns
 returns c =
-    let start = c .before .before .before .before in
+    let at-run-tuples = c .before in
+    let at-chunk-behind = at-run-tuples .before in
+    let start = at-chunk-behind .before .before in
     let a = start .args in
     run-over (a .xs .now) (storedTuples (a .xs .now) (a .from / 64)) (a .from) (a .end) (start .pre .1)
-    (sym (c .before .run-tuples .ensures ∙ ap (λ (j : ℕ). storedTuples (a .xs .now) (j / 64)) (c .before .before .chunk-behind .ensures)) ∙ c .if1 .taken)
+    (sym (at-run-tuples .run-tuples .ensures ∙ ap (λ (j : ℕ). storedTuples (a .xs .now) (j / 64)) (at-chunk-behind .chunk-behind .ensures)) ∙ c .if1 .taken)
 
 by-groups-requires : tie.Need-by-groups-requires
 by-groups-requires c κs =
-    let start = c .before .before .before .before in
+    let at-run-tuples = c .before in
+    let at-chunk-behind = at-run-tuples .before in
+    let start = at-chunk-behind .before .before in
     let a = start .args in
     let p = start .pre .1 in
     record {
       room = p .room;
       few = p .few;
       same = p .same;
-      is = c .before .run-tuples .ensures ∙ ap (λ (j : ℕ). storedTuples (a .xs .now) (j / 64)) (c .before .before .chunk-behind .ensures);
+      is = at-run-tuples .run-tuples .ensures ∙ ap (λ (j : ℕ). storedTuples (a .xs .now) (j / 64)) (at-chunk-behind .chunk-behind .ensures);
     }
 
 returns-2 : tie.Need-returns-2

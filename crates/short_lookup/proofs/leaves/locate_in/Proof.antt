@@ -29,8 +29,9 @@ returns c =
 
 returns-2 : tie.Need-returns-2 Inv-loop μ-loop
 returns-2 c =
-    let s = c .before .before .before .before .before .before .before in
-    ap (λ k. found k 0) (c .chunk-behind .ensures) ∙ byte-end (known s) (s .args .tree .now) (s .args .n) (s .args .size) (s .args .offset .0) (c .before .if2 .taken)
+    let branch2 = c .before in
+    let s = branch2 .before .before .before .before .before .before in
+    ap (λ k. found k 0) (c .chunk-behind .ensures) ∙ byte-end (known s) (s .args .tree .now) (s .args .n) (s .args .size) (s .args .offset .0) (branch2 .if2 .taken)
 
 loop-holds : tie.Need-loop-holds Inv-loop μ-loop
 loop-holds c =
@@ -44,26 +45,30 @@ leaf-index-requires c κs =
 
 is-known-requires : tie.Need-is-known-requires Inv-loop μ-loop
 is-known-requires c κs =
-    let looped = c .before .before .before in
+    let branch3 = c .before in
+    let looped = branch3 .before .before in
     let s = looped .before .before .before .before .before .before .before in
-    subst (BitIn (s .args .partly) (s .args .bitfield .now)) (sym (c .leaf-index .ensures)) (leaf-bit (s .pre) (looped .loop .k .0) (c .before .if3 .taken))
+    subst (BitIn (s .args .partly) (s .args .bitfield .now)) (sym (c .leaf-index .ensures)) (leaf-bit (s .pre) (looped .loop .k .0) (branch3 .if3 .taken))
 
 returns-3 : tie.Need-returns-3 Inv-loop μ-loop
 returns-3 c =
-    let branch3 = c .before .before .before in
+    let at-is-known = c .before in
+    let at-leaf-index = at-is-known .before in
+    let branch3 = at-leaf-index .before in
     let looped = branch3 .before .before in
     let branch2 = looped .before in
     let branch1 = branch2 .before .before in
     let s = branch1 .before .before .before .before in
-    byte-unknown (s .args .size) (branch1 .if1 .left) (branch2 .if2 .left) (looped .loop .inv) (branch3 .if3 .taken) (c .before .before .leaf-index .ensures)
-    (sym (c .before .is-known .ensures) ∙ not-true _ (c .if4 .taken))
+    byte-unknown (s .args .size) (branch1 .if1 .left) (branch2 .if2 .left) (looped .loop .inv) (branch3 .if3 .taken) (at-leaf-index .leaf-index .ensures)
+    (sym (at-is-known .is-known .ensures) ∙ not-true _ (c .if4 .taken))
 
 stored-size-requires : tie.Need-stored-size-requires Inv-loop μ-loop
 stored-size-requires c κs =
-    let branch3 = c .before .before .before in
+    let at-leaf-index = c .before .before in
+    let branch3 = at-leaf-index .before in
     let looped = branch3 .before .before in
     let s = looped .before .before .before .before .before .before .before in
-    subst (EntryIn (s .args .tree .now)) (sym (c .before .before .leaf-index .ensures)) (leaf-in (s .pre) (looped .loop .k .0) (branch3 .if3 .taken))
+    subst (EntryIn (s .args .tree .now)) (sym (at-leaf-index .leaf-index .ensures)) (leaf-in (s .pre) (looped .loop .k .0) (branch3 .if3 .taken))
 
 -- what was read, behind a stored size
 abbrev loops : tie.After-stored-size Inv-loop μ-loop → tie.At-loop Inv-loop μ-loop
@@ -77,27 +82,30 @@ read : (c : tie.After-stored-size Inv-loop μ-loop)
 read c =
     let branch4 = c .before in
     let at-is-known = branch4 .before in
+    let at-leaf-index = at-is-known .before in
     record {
-      at = at-is-known .before .leaf-index .ensures;
+      at = at-leaf-index .leaf-index .ensures;
       knows = sym (at-is-known .is-known .ensures) ∙ not-false _ (branch4 .if4 .left);
       says = c .stored-size .ensures;
     }
 
 returns-4 : tie.Need-returns-4 Inv-loop μ-loop
 returns-4 c =
-    let branch3 = c .before .before .before .before .before in
+    let earlier = c .before in
+    let branch3 = earlier .before .before .before .before in
     let looped = branch3 .before .before in
     let branch2 = looped .before in
     let branch1 = branch2 .before .before in
     let s = branch1 .before .before .before .before in
-    byte-long (s .args .size) (branch1 .if1 .left) (branch2 .if2 .left) (looped .loop .inv) (branch3 .if3 .taken) (read (c .before)) (c .if5 .taken)
+    byte-long (s .args .size) (branch1 .if1 .left) (branch2 .if2 .left) (looped .loop .inv) (branch3 .if3 .taken) (read earlier) (c .if5 .taken)
 
 add-if6 : tie.Need-add-if6 Inv-loop μ-loop
 add-if6 c =
-    let branch3 = c .before .before .before .before .before .before in
+    let branch5 = c .before in
+    let branch3 = branch5 .before .before .before .before .before in
     let looped = branch3 .before .before in
     let s = looped .before .before .before .before .before .before .before in
-    omega (arith, looped .loop .inv .walked .small, branch3 .if3 .taken, c .before .if5 .left, s .pre .roots .count)
+    omega (arith, looped .loop .inv .walked .small, branch3 .if3 .taken, branch5 .if5 .left, s .pre .roots .count)
 
 sub-t22 : tie.Need-sub-t22 Inv-loop μ-loop
 sub-t22 c =
@@ -106,14 +114,16 @@ sub-t22 c =
 
 returns-5 : tie.Need-returns-5 Inv-loop μ-loop
 returns-5 c =
-    let branch5 = c .before .before .before .before .before in
-    let branch3 = branch5 .before .before .before .before .before in
+    let branch6 = c .before .before in
+    let branch5 = branch6 .before .before .before in
+    let earlier = branch5 .before in
+    let branch3 = earlier .before .before .before .before in
     let looped = branch3 .before .before in
     let branch2 = looped .before in
     let branch1 = branch2 .before .before in
     let s = branch1 .before .before .before .before in
-    byte-here (s .args .size) (branch1 .if1 .left) (branch2 .if2 .left) (looped .loop .inv) (branch3 .if3 .taken) (read (branch5 .before)) (branch5 .if5 .left)
-    (c .before .before .if6 .taken)
+    byte-here (s .args .size) (branch1 .if1 .left) (branch2 .if2 .left) (looped .loop .inv) (branch3 .if3 .taken) (read earlier) (branch5 .if5 .left)
+    (branch6 .if6 .taken)
 
 add-t21 : tie.Need-add-t21 Inv-loop μ-loop
 add-t21 c =
@@ -136,21 +146,24 @@ loop-less c =
 
 loop-again : tie.Need-loop-again Inv-loop μ-loop
 loop-again c =
-    let branch5 = c .before .before .before .before .before in
-    let branch3 = branch5 .before .before .before .before .before in
+    let branch6 = c .before .before in
+    let branch5 = branch6 .before .before .before in
+    let earlier = branch5 .before in
+    let branch3 = earlier .before .before .before .before in
     let looped = branch3 .before .before in
     let branch2 = looped .before in
     let branch1 = branch2 .before .before in
     let s = branch1 .before .before .before .before in
-    byte-on (s .args .size) (branch1 .if1 .left) (branch2 .if2 .left) (looped .loop .inv) (branch3 .if3 .taken) (read (branch5 .before)) (branch5 .if5 .left)
-    (c .before .before .if6 .left)
+    byte-on (s .args .size) (branch1 .if1 .left) (branch2 .if2 .left) (looped .loop .inv) (branch3 .if3 .taken) (read earlier) (branch5 .if5 .left)
+    (branch6 .if6 .left)
 
 returns-6 : tie.Need-returns-6 Inv-loop μ-loop
 returns-6 c =
-    let branch2 = c .before .before .before in
+    let looped = c .before .before in
+    let branch2 = looped .before in
     let branch1 = branch2 .before .before in
     let s = branch1 .before .before .before .before in
-    byte-none (s .args .size) (branch1 .if1 .left) (branch2 .if2 .left) (c .before .before .loop .inv) (c .if3 .left)
+    byte-none (s .args .size) (branch1 .if1 .left) (branch2 .if2 .left) (looped .loop .inv) (c .if3 .left)
 
 pub locate-in-spec : {M : Type 1} → statement M
 locate-in-spec =

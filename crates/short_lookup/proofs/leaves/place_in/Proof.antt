@@ -38,22 +38,27 @@ leaf-index-requires c κs =
 
 is-known-requires : tie.Need-is-known-requires Inv-loop μ-loop
 is-known-requires c κs =
-    let s = c .before .before .before .before .before .before in
+    let looped = c .before in
+    let s = looped .before .before .before .before .before in
     subst (BitIn (s .args .partly) (s .args .bitfield .now)) (sym (c .leaf-index .ensures))
-    (leaf-bit (s .pre) (c .before .loop .k .0) (omega (arith, c .before .loop .inv .upto)))
+    (leaf-bit (s .pre) (looped .loop .k .0) (omega (arith, looped .loop .inv .upto)))
 
 returns-2 : tie.Need-returns-2 Inv-loop μ-loop
 returns-2 c =
-    let looped = c .before .before .before in
-    let s = looped .before .before .before .before .before in
-    place-unknown (s .args .n) (looped .before .if1 .left) (looped .loop .inv) (c .before .before .leaf-index .ensures)
-    (sym (c .before .is-known .ensures) ∙ not-true _ (c .if2 .taken))
+    let at-is-known = c .before in
+    let at-leaf-index = at-is-known .before in
+    let looped = at-leaf-index .before in
+    let branch1 = looped .before in
+    let s = branch1 .before .before .before .before in
+    place-unknown (s .args .n) (branch1 .if1 .left) (looped .loop .inv) (at-leaf-index .leaf-index .ensures)
+    (sym (at-is-known .is-known .ensures) ∙ not-true _ (c .if2 .taken))
 
 stored-size-requires : tie.Need-stored-size-requires Inv-loop μ-loop
 stored-size-requires c κs =
-    let looped = c .before .before .before in
+    let at-leaf-index = c .before .before in
+    let looped = at-leaf-index .before in
     let s = looped .before .before .before .before .before in
-    subst (EntryIn (s .args .tree .now)) (sym (c .before .before .leaf-index .ensures))
+    subst (EntryIn (s .args .tree .now)) (sym (at-leaf-index .leaf-index .ensures))
     (leaf-in (s .pre) (looped .loop .k .0) (omega (arith, looped .loop .inv .upto)))
 
 -- what was read, behind a stored size
@@ -63,24 +68,29 @@ read : (c : tie.After-stored-size Inv-loop μ-loop)
 read c =
     let branch2 = c .before in
     let at-is-known = branch2 .before in
+    let at-leaf-index = at-is-known .before in
     record {
-      at = at-is-known .before .leaf-index .ensures;
+      at = at-leaf-index .leaf-index .ensures;
       knows = sym (at-is-known .is-known .ensures) ∙ not-false _ (branch2 .if2 .left);
       says = c .stored-size .ensures;
     }
 
 returns-3 : tie.Need-returns-3 Inv-loop μ-loop
 returns-3 c =
-    let looped = c .before .before .before .before .before in
-    let s = looped .before .before .before .before .before in
-    place-long (s .args .n) (looped .before .if1 .left) (looped .loop .inv) (read (c .before)) (c .if3 .taken)
+    let earlier = c .before in
+    let looped = earlier .before .before .before .before in
+    let branch1 = looped .before in
+    let s = branch1 .before .before .before .before in
+    place-long (s .args .n) (branch1 .if1 .left) (looped .loop .inv) (read earlier) (c .if3 .taken)
 
 returns-4 : tie.Need-returns-4 Inv-loop μ-loop
 returns-4 c =
     let branch3 = c .before .before .before in
-    let looped = branch3 .before .before .before .before .before in
-    let s = looped .before .before .before .before .before in
-    place-here (s .args .n) (looped .before .if1 .left) (looped .loop .inv) (read (branch3 .before)) (branch3 .if3 .left) (c .if4 .taken)
+    let earlier = branch3 .before in
+    let looped = earlier .before .before .before .before in
+    let branch1 = looped .before in
+    let s = branch1 .before .before .before .before in
+    place-here (s .args .n) (branch1 .if1 .left) (looped .loop .inv) (read earlier) (branch3 .if3 .left) (c .if4 .taken)
 
 add-t19 : tie.Need-add-t19 Inv-loop μ-loop
 add-t19 c =
@@ -101,10 +111,13 @@ loop-less c =
 
 loop-again : tie.Need-loop-again Inv-loop μ-loop
 loop-again c =
-    let branch3 = c .before .before .before .before .before in
-    let looped = branch3 .before .before .before .before .before in
-    let s = looped .before .before .before .before .before in
-    place-on (s .args .n) (looped .before .if1 .left) (looped .loop .inv) (read (branch3 .before)) (branch3 .if3 .left) (c .before .before .if4 .left)
+    let branch4 = c .before .before in
+    let branch3 = branch4 .before .before .before in
+    let earlier = branch3 .before in
+    let looped = earlier .before .before .before .before in
+    let branch1 = looped .before in
+    let s = branch1 .before .before .before .before in
+    place-on (s .args .n) (branch1 .if1 .left) (looped .loop .inv) (read earlier) (branch3 .if3 .left) (branch4 .if4 .left)
 
 pub place-in-spec : {M : Type 1} → statement M
 place-in-spec =

@@ -26,16 +26,18 @@ stored-hash-requires c κs = let s = c .before .before in sibling-in (s .args .t
 
 stored-size-requires : tie.Need-stored-size-requires
 stored-size-requires c κs =
-    let start = c .before .before .before .before in
-    let s = start in sibling-in (s .args .tree .now) (s .args .n) (s .args .d) _ (s .pre .few) (s .pre .depth) (s .pre .room) (c .before .before .node-index .ensures)
+    let at-node-index = c .before .before in
+    let start = at-node-index .before .before in
+    let s = start in sibling-in (s .args .tree .now) (s .args .n) (s .args .d) _ (s .pre .few) (s .pre .depth) (s .pre .room) (at-node-index .node-index .ensures)
 
 add-size : tie.Need-add-size
 add-size c =
-    let at-node-index = c .before .before .before .before in
+    let at-stored-size = c .before in
+    let at-node-index = at-stored-size .before .before .before in
     let start = at-node-index .before .before in
     let s = start in record {
       fits = sum-fits (s .args .tree .now) (s .args .n) (s .args .d) _ _ (s .args .node .size) (at-node-index .node-index .ensures)
-          (c .before .stored-size .ensures) (s .pre .sum);
+          (at-stored-size .stored-size .ensures) (s .pre .sum);
     }
 
 returns : tie.Need-returns

@@ -13,10 +13,11 @@ write-filled-requires c κs =
 
 returns : tie.Need-returns
 returns c =
-    let at-clear-hole = c .before .before .before .before .before .before in
+    let at-write-filled = c .before .before in
+    let at-clear-hole = at-write-filled .before .before .before .before in
     let start = at-clear-hole .before .before .before in
     let s = start in leaf-put (s .args .tree .now) (s .args .n) (s .pre .room) _ _ (entryOf (s .args .leaf)) (s .pre .few) (at-clear-hole .clear-hole .ensures)
-    (c .before .before .write-filled .ensures)
+    (at-write-filled .write-filled .ensures)
 
 pub add-leaf-spec : {M : Type 1} → statement M
 add-leaf-spec = tie.close (tie.spec (λ c κs. search needs) write-filled-requires (λ c. search needs) returns)

@@ -20,9 +20,10 @@ store-requires c κs =
 
 returns : tie.Need-returns
 returns c =
-    let at-judge = c .before .before .before in
+    let at-found = c .before in
+    let at-judge = at-found .before .before in
     let start = at-judge .before .before .before .before .before .before .before .before .before in
-    append-not (given start) (start .args .chunk .now) (at-judge .judge .result) (c .before .found .given .0 .0) (c .before .found .given .1) (at-judge .judge .ensures)
+    append-not (given start) (start .args .chunk .now) (at-judge .judge .result) (at-found .found .given .0 .0) (at-found .found .given .1) (at-judge .judge .ensures)
 
 returns-2 : tie.Need-returns-2
 returns-2 c =

@@ -13,8 +13,9 @@ ending d n = index d ((n + 1) / 2 ^ d - 1)
 
 node-ending-requires : tie.Need-node-ending-requires
 node-ending-requires c κs =
-    let a = c .before .before .args in
-    subst (λ (m : ℕ). (m < 1048576) × (a .d ≤ completed m)) (sym (c .chunk-behind .ensures)) (c .before .before .pre .few, c .before .before .pre .depth)
+    let start = c .before .before in
+    let a = start .args in
+    subst (λ (m : ℕ). (m < 1048576) × (a .d ≤ completed m)) (sym (c .chunk-behind .ensures)) (start .pre .few, start .pre .depth)
 
 write-entry-requires : tie.Need-write-entry-requires
 write-entry-requires c κs =
@@ -27,12 +28,13 @@ write-entry-requires c κs =
 
 returns : tie.Need-returns
 returns c =
-    let at-node-ending = c .before .before .before .before .before .before in
+    let at-write-entry = c .before .before in
+    let at-node-ending = at-write-entry .before .before .before .before in
     let at-chunk-behind = at-node-ending .before in
     let start = at-chunk-behind .before .before in
     let a = start .args in
     node-put (a .tree .now) _ (a .node .hash) (a .n) (a .d) (a .node .size) _ (at-node-ending .node-ending .ensures ∙ ap (ending (a .d)) (at-chunk-behind .chunk-behind .ensures))
-    (c .before .before .write-entry .ensures)
+    (at-write-entry .write-entry .ensures)
 
 pub put-node-spec : {M : Type 1} → statement M
 put-node-spec = tie.close (tie.spec (λ c κs. search needs) node-ending-requires write-entry-requires (λ c. search needs) returns)

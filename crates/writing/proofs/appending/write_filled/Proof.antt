@@ -37,12 +37,15 @@ below c = omega (arith, c .loop-test .taken, parents (c .before .before))
 
 loop-holds : tie.Need-loop-holds Inv-loop μ-loop
 loop-holds c =
-    let s = c .before .before .before in (search needs, made-first (s .args .tree .now) (s .args .n) (entryOf (s .args .leaf)), going-none (s .args .tree .now) (s .args .n) (entryOf (s .args .leaf)))
+    let start = c .before .before .before in
+    let s = start in (search needs, made-first (s .args .tree .now) (s .args .n) (entryOf (s .args .leaf)), going-none (s .args .tree .now) (s .args .n) (entryOf (s .args .leaf)))
 
 put-node-requires : tie.Need-put-node-requires Inv-loop μ-loop
 put-node-requires c κs =
-    let start = c .before .before .before .before .before .before in
-    let s = start in record { few = s .pre .few; depth = omega (arith, below (c .before)); room = omega (arith, s .pre .room, c .before .before .loop .inv .2 .long) }
+    let earlier = c .before in
+    let looped = earlier .before in
+    let start = looped .before .before .before .before in
+    let s = start in record { few = s .pre .few; depth = omega (arith, below earlier); room = omega (arith, s .pre .room, looped .loop .inv .2 .long) }
 
 above-requires : tie.Need-above-requires Inv-loop μ-loop
 above-requires c κs =
@@ -74,9 +77,10 @@ loop-again c =
 
 put-node-requires-2 : tie.Need-put-node-requires-2 Inv-loop μ-loop
 put-node-requires-2 c κs =
-    let earlier = c .before .before .before in
+    let looped = c .before .before in
+    let earlier = looped .before in
     let start = earlier .before .before .before in
-    let s = start in record { few = s .pre .few; depth = omega (arith, c .before .before .loop .inv .0, parents earlier); room = omega (arith, s .pre .room, c .before .before .loop .inv .2 .long) }
+    let s = start in record { few = s .pre .few; depth = omega (arith, looped .loop .inv .0, parents earlier); room = omega (arith, s .pre .room, looped .loop .inv .2 .long) }
 
 returns : tie.Need-returns Inv-loop μ-loop
 returns c =

@@ -13,20 +13,23 @@ given c =
 
 stored-root-hash-requires : tie.Need-stored-root-hash-requires
 stored-root-hash-requires c κs =
-    let start = c .before .before .before .before .before .before .before in
-    root-fits (given start) (c .before .before .judge .result) (c .enum-told .given .1) (c .before .before .judge .ensures)
+    let at-judge = c .before .before in
+    let start = at-judge .before .before .before .before .before in
+    root-fits (given start) (at-judge .judge .result) (c .enum-told .given .1) (at-judge .judge .ensures)
 
 returns : tie.Need-returns
 returns c =
-    let at-judge = c .before .before .before in
+    let at-found = c .before in
+    let at-judge = at-found .before .before in
     let start = at-judge .before .before .before .before .before in
-    root-not (given start) (at-judge .judge .result) (c .before .found .given .0 .0) (c .before .found .given .1) (at-judge .judge .ensures)
+    root-not (given start) (at-judge .judge .result) (at-found .found .given .0 .0) (at-found .found .given .1) (at-judge .judge .ensures)
 
 returns-2 : tie.Need-returns-2
 returns-2 c =
-    let at-judge = c .before .before .before in
+    let at-enum-told = c .before in
+    let at-judge = at-enum-told .before .before in
     let start = at-judge .before .before .before .before .before in
-    root-done (given start) _ (at-judge .judge .result) (c .before .enum-told .given .1) (at-judge .judge .ensures) (c .stored-root-hash .ensures)
+    root-done (given start) _ (at-judge .judge .result) (at-enum-told .enum-told .given .1) (at-judge .judge .ensures) (c .stored-root-hash .ensures)
 
 pub root-hash-spec : {M : Type 1} → statement M
 root-hash-spec =

@@ -1,7 +1,7 @@
 -- `writing::signing::judge` meets its contract. Assumes nothing.
 use borrow.Author.Needs.{needs}
-use Rattle.refusals.specs.Verdict.{done}
-use Rattle.refusals.specs.Meaning.{said}
+use Rattle.answer_types.specs.Verdict.{done}
+use Rattle.answer_types.specs.Meaning.{said}
 use Rattle.file_format.specs.Belongs.{Register}
 use Rattle.checks.specs.Checks.{judged, registerChecks}
 use Rattle.checks.specs.Lent.{registerOf}
@@ -18,24 +18,27 @@ given c =
 
 judge-own-requires : tie.Need-judge-own-requires
 judge-own-requires c κs =
-    let start = c .before .before .before .before .before .before .before in
-    counts-right (given start) (c .before .before .judge .result) (c .enum-told .given .1) (c .before .before .judge .ensures)
+    let at-judge = c .before .before in
+    let start = at-judge .before .before .before .before .before in
+    counts-right (given start) (at-judge .judge .result) (c .enum-told .given .1) (at-judge .judge .ensures)
 
 returns : tie.Need-returns
 returns c =
-    let at-judge = c .before .before .before in
+    let at-found = c .before in
+    let at-judge = at-found .before .before in
     let start = at-judge .before .before .before .before .before in
     let a = start .args in sign-by (given start) _
-    (refused-before (registerChecks (given start)) (judged (ownSignChecks (a .signatures .now) (a .n) (a .s)) done) (at-judge .judge .result) (c .before .found .given .0 .0)
-    (c .before .found .given .1) (at-judge .judge .ensures))
+    (refused-before (registerChecks (given start)) (judged (ownSignChecks (a .signatures .now) (a .n) (a .s)) done) (at-judge .judge .result) (at-found .found .given .0 .0)
+    (at-found .found .given .1) (at-judge .judge .ensures))
 
 returns-2 : tie.Need-returns-2
 returns-2 c =
-    let at-judge = c .before .before .before in
+    let at-enum-told = c .before in
+    let at-judge = at-enum-told .before .before in
     let start = at-judge .before .before .before .before .before in
     let a = start .args in sign-by (given start) _
     (passed-before (registerChecks (given start)) (said (c .judge-own .result)) (judged (ownSignChecks (a .signatures .now) (a .n) (a .s)) done) (at-judge .judge .result)
-    (c .before .enum-told .given .1) (at-judge .judge .ensures) (c .judge-own .ensures))
+    (at-enum-told .enum-told .given .1) (at-judge .judge .ensures) (c .judge-own .ensures))
 
 pub judge-spec : {M : Type 1} → statement M
 judge-spec =

@@ -3,8 +3,8 @@ use mathlib.Core.Bool.{true, false}
 use mathlib.Core.Path.{refl}
 use borrow.Author.Needs.{needs}
 use borrow.Author.Tests.{eq-eqb, ne-eqb}
-use Rattle.refusals.specs.Verdict.{done}
-use Rattle.refusals.specs.Meaning.{said}
+use Rattle.answer_types.specs.Verdict.{done}
+use Rattle.answer_types.specs.Meaning.{said}
 use Rattle.checks.proofs.Steps.{short-of, long-of}
 use Rattle.writing.proofs.Orders.{own-sign-answered}
 use Rattle.writing.proofs.signing.judge_own.Statement.{statement}
@@ -12,21 +12,26 @@ use Rattle.writing.proofs.signing.judge_own.Tie as tie
 
 returns : tie.Need-returns
 returns c =
-    let start = c .before .before .before in
-    let a = start .args in own-sign-answered (a .signatures .now) (a .n) (a .s) (said (c .refuse .result)) true _ (eq-eqb _ _ (c .before .if1 .taken)) refl (c .refuse .ensures)
+    let branch1 = c .before in
+    let start = branch1 .before .before in
+    let a = start .args in own-sign-answered (a .signatures .now) (a .n) (a .s) (said (c .refuse .result)) true _ (eq-eqb _ _ (branch1 .if1 .taken)) refl (c .refuse .ensures)
 
 returns-2 : tie.Need-returns-2
 returns-2 c =
-    let branch1 = c .before .before .before in
+    let branch2 = c .before in
+    let at-used-signatures = branch2 .before in
+    let branch1 = at-used-signatures .before in
     let start = branch1 .before .before in
     let a = start .args in own-sign-answered (a .signatures .now) (a .n) (a .s) (said (c .refuse2 .result)) false false (ne-eqb _ _ (branch1 .if1 .left))
-    (short-of (a .signatures .now) (c .before .before .used-signatures .ensures) (c .before .if2 .taken)) (c .refuse2 .ensures)
+    (short-of (a .signatures .now) (at-used-signatures .used-signatures .ensures) (branch2 .if2 .taken)) (c .refuse2 .ensures)
 
 returns-3 : tie.Need-returns-3
 returns-3 c =
-    let start = c .before .before .before .before in
-    let a = start .args in own-sign-answered (a .signatures .now) (a .n) (a .s) done false true (ne-eqb _ _ (c .before .before .if1 .left))
-    (long-of (a .signatures .now) (c .before .used-signatures .ensures) (c .if2 .left)) refl
+    let at-used-signatures = c .before in
+    let branch1 = at-used-signatures .before in
+    let start = branch1 .before .before in
+    let a = start .args in own-sign-answered (a .signatures .now) (a .n) (a .s) done false true (ne-eqb _ _ (branch1 .if1 .left))
+    (long-of (a .signatures .now) (at-used-signatures .used-signatures .ensures) (c .if2 .left)) refl
 
 pub judge-own-spec : {M : Type 1} → statement M
 judge-own-spec =

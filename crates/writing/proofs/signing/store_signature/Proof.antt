@@ -14,30 +14,34 @@ given c =
 
 used-signatures-requires : tie.Need-used-signatures-requires
 used-signatures-requires c κs =
-    let start = c .before .before .before .before .before .before .before .before in
-    sign-fits (given start) (c .before .before .judge .result) (c .enum-told .given .1) (c .before .before .judge .ensures) .0
+    let at-judge = c .before .before in
+    let start = at-judge .before .before .before .before .before .before in
+    sign-fits (given start) (at-judge .judge .result) (c .enum-told .given .1) (at-judge .judge .ensures) .0
 
 copy-to-requires : tie.Need-copy-to-requires
 copy-to-requires c κs =
-    let at-enum-told = c .before .before .before in
+    let at-used-signatures = c .before .before in
+    let at-enum-told = at-used-signatures .before in
     let at-judge = at-enum-told .before .before in
     let start = at-judge .before .before .before .before .before .before in
-    omega (arith, c .before .before .used-signatures .ensures, sign-fits (given start) (at-judge .judge .result) (at-enum-told .enum-told .given .1) (at-judge .judge .ensures) .1)
+    omega (arith, at-used-signatures .used-signatures .ensures, sign-fits (given start) (at-judge .judge .result) (at-enum-told .enum-told .given .1) (at-judge .judge .ensures) .1)
 
 returns : tie.Need-returns
 returns c =
-    let at-judge = c .before .before .before in
+    let at-found = c .before in
+    let at-judge = at-found .before .before in
     let start = at-judge .before .before .before .before .before .before in
-    sign-not (given start) (start .args .signature .now) (at-judge .judge .result) (c .before .found .given .0 .0) (c .before .found .given .1) (at-judge .judge .ensures)
+    sign-not (given start) (start .args .signature .now) (at-judge .judge .result) (at-found .found .given .0 .0) (at-found .found .given .1) (at-judge .judge .ensures)
 
 returns-2 : tie.Need-returns-2
 returns-2 c =
-    let at-used-signatures = c .before .before .before .before .before in
+    let at-copy-to = c .before .before in
+    let at-used-signatures = at-copy-to .before .before .before in
     let at-enum-told = at-used-signatures .before in
     let at-judge = at-enum-told .before .before in
     let start = at-judge .before .before .before .before .before .before in
     sign-done (given start) (start .args .signature .now) _ _ (at-judge .judge .result) (at-enum-told .enum-told .given .1) (at-judge .judge .ensures)
-    (at-used-signatures .used-signatures .ensures) (c .before .before .copy-to .ensures)
+    (at-used-signatures .used-signatures .ensures) (at-copy-to .copy-to .ensures)
 
 pub store-signature-spec : {M : Type 1} → statement M
 store-signature-spec =

@@ -2,7 +2,7 @@
 use native.Mathlib.Omega.{arith}
 use borrow.Author.Needs.{needs}
 use Rattle.file_format.specs.Belongs.{Buffers}
-use Rattle.refusals.specs.Meaning.{said}
+use Rattle.answer_types.specs.Meaning.{said}
 use Rattle.writing.specs.Post.{lent}
 use Rattle.writing.proofs.Answers.{start-not, start-done}
 use Rattle.writing.proofs.starting.start.Statement.{statement}
@@ -13,18 +13,21 @@ given c = lent (c .args .tree .now) (c .args .signatures .now) (c .args .bitfiel
 
 returns : tie.Need-returns
 returns c =
-    let start = c .before .before .before .before .before .before in
-    start-not (given start) (said (c .refuse .result)) (λ f. omega (arith, f .tree, c .before .if1 .taken)) (c .refuse .ensures)
+    let branch1 = c .before in
+    let start = branch1 .before .before .before .before .before in
+    start-not (given start) (said (c .refuse .result)) (λ f. omega (arith, f .tree, branch1 .if1 .taken)) (c .refuse .ensures)
 
 returns-2 : tie.Need-returns-2
 returns-2 c =
-    let start = c .before .before .before .before .before .before .before in
-    start-not (given start) (said (c .refuse2 .result)) (λ f. omega (arith, f .signatures, c .before .if2 .taken)) (c .refuse2 .ensures)
+    let branch2 = c .before in
+    let start = branch2 .before .before .before .before .before .before in
+    start-not (given start) (said (c .refuse2 .result)) (λ f. omega (arith, f .signatures, branch2 .if2 .taken)) (c .refuse2 .ensures)
 
 returns-3 : tie.Need-returns-3
 returns-3 c =
-    let start = c .before .before .before .before .before .before .before .before in
-    start-not (given start) (said (c .refuse3 .result)) (λ f. omega (arith, f .bitfield, c .before .if3 .taken)) (c .refuse3 .ensures)
+    let branch3 = c .before in
+    let start = branch3 .before .before .before .before .before .before .before in
+    start-not (given start) (said (c .refuse3 .result)) (λ f. omega (arith, f .bitfield, branch3 .if3 .taken)) (c .refuse3 .ensures)
 
 returns-4 : tie.Need-returns-4
 returns-4 c =

@@ -1,0 +1,2 @@
+-- The customer's demand 2, as a statement.
+pub mod Demand2

@@ -1,22 +1,18 @@
-"""Prints, from the reference model alone, what FORMAT.md shows in its worked examples, as the program `gate_dumps` is to print it."""
+"""The lines of the program gate_script's script about the registers of FORMAT.md, and the page's worked examples, made of what the program answers.
 
-import hashlib
+`python3 dumps.py STDOUT` prints the worked examples as the page shows them: each is made of the answers in the text that the program prints, and not
+of the model's."""
 
-from samples import said, told
-from sleep_model import (ENTRY, Register, append, audit, byte_lookup, check_packet, images_of, make_packet, packet_indexes,
-                         place_lookup, read, root_hash, start, store_signature, used_sizes)
+import sys
+
+from samples import FIRST, ROOT_AT, SIGNATURE_AT, TEXT, said
+from sleep_model import ENTRY, Register, append, packet_indexes, start, store_signature, used_sizes
 
 # The hash of the parent of two leaves `hello world`, as the tests of the Hypercore project have it.
 OUTSIDE = '43563406adba8b34b133fdca32d0a458c5be769615e01df30e6535ccd3c075f0'
 FILES = 'tree', 'signatures', 'bitfield', 'data'
-
-
-# ---- Hashes ----
-def hashes():
-    for output in (32, 64, 20):
-        print('hash abc', output, hashlib.blake2b(b'abc', digest_size=output).hexdigest())
-    for count in (0, 128, 129, 256):
-        print('hash', count, 32, hashlib.blake2b(bytes(range(count)), digest_size=32).hexdigest())
+ROOM = 2048, 1024, 4096, 1024
+REMARK = '# the worked examples of the format\'s page'
 
 
 # ---- Registers ----
@@ -33,66 +29,18 @@ def chunks_of(n):
     return named.get(n) or [bytes([97 + k]) * k for k in range(n)]
 
 
+def signed(n, k):
+    """Each chunk but for the last of seven; the signature of chunk k is 64 bytes of value k + 1."""
+    return (n, k) != (7, 6)
+
+
 def register(n):
-    """Each chunk appended and signed, but for the last of seven; the signature of chunk k is 64 bytes of value k + 1."""
-    r = Register(bytearray(2048), bytearray(1024), bytearray(4096), bytearray(1024))
+    r = Register(*map(bytearray, ROOM))
     start(r)
     for k, chunk in enumerate(chunks_of(n)):
         append(r, chunk)
-        if (n, k) != (7, 6):
+        if signed(n, k):
             store_signature(r, bytes([k + 1]) * 64)
-    return r
-
-
-def dump(n):
-    """The header, if there is one, and then lines of `width` bytes; lines of zeros alone are left out."""
-    r = register(n)
-    print('register', r.n, r.s, r.size)
-    print('root', root_hash(r)[1].hex())
-    for name, image, used, header, width in zip(FILES, images_of(r), used_sizes(r.n, r.s, r.size), (32, 32, 32, 0), (40, 64, 32, 64)):
-        for at, end in [(0, header)] + [(at, min(at + width, used)) for at in range(header, used, width)]:
-            if any(image[at:end]):
-                print(name, at, bytes(image[at:end]).hex())
-
-
-# ---- Packets ----
-def packet(n, chunk):
-    """A line for each part; the packet and its root hash."""
-    r, out = register(n), bytearray(1024)
-    whole, root = bytes(out[:make_packet(r, chunk, out)[1]]), root_hash(r)[1]
-    siblings, others = packet_indexes(n, chunk)
-    length = len(chunks_of(n)[chunk])
-    names = ['length', 'chunk', 'siblings', *entries(siblings), 'roots', *entries(others)]
-    sizes = [4, length, 1, *[ENTRY] * len(siblings), 1, *[ENTRY] * len(others)]
-    print('packet', n, chunk)
-    print('root', root.hex())
-    for name, part in zip(names, cut(whole, sizes)):
-        print(name, part.hex())
-    return whole, root
-
-
-def entries(indexes):
-    return ['entry %d' % index for index in indexes]
-
-
-def packets():
-    packet(3, 0)
-    whole, root = packet(13, 9)
-    for n, chunk in ((13, 9), (13, 8), (14, 9), (13, 12), (12, 9), (13, 13), (1048577, 9)):
-        print('check', n, chunk, said(check_packet(whole, n, chunk, root)))
-
-
-# ---- Answers ----
-def asked(n, *change):
-    """The register of n chunks, in which a file's byte gets a value, and what the audit answers."""
-    r = register(n)
-    if change:
-        name, at, byte = change
-        images_of(r)[FILES.index(name)][at] = byte
-        print('asked', n, name, at, '%02x' % byte)
-    else:
-        print('asked', n)
-    print('audit', said(audit(r)))
     return r
 
 
@@ -100,46 +48,139 @@ def given(answer):
     return ' '.join(map(str, answer)) if answer[0] == 'done' else said(answer)
 
 
-def places(r, *chunks):
-    for chunk in chunks:
-        print('place', chunk, given(place_lookup(r, chunk)))
+def built(script, n):
+    """The same by lines of the script, as both registers: its data lies in the text."""
+    chunks, at = chunks_of(n), 0
+    script.run('swap')
+    script.begun(FIRST, ROOM, bytes(4))
+    for period in range(0, 973, 251) if n == 7 else ():
+        script.run('fill %d %d 251 0 1' % (TEXT, period))
+    script.written(TEXT, 0, b''.join(chunks))
+    for k, chunk in enumerate(chunks):
+        script.run('append %d %d' % (at, at + len(chunk)))
+        at += len(chunk)
+        if signed(n, k):
+            script.run('fill %d %d 64 %d 0' % (TEXT, SIGNATURE_AT, k + 1))
+            script.run('sign %d' % SIGNATURE_AT)
+    numbers = script.numbers[0]
+    script.run('swap')
+    script.lend_from(FIRST, ROOM)
+    script.told(*numbers)
 
 
-def some_bytes(r, *offsets):
-    for offset in offsets:
-        print('byte', offset, given(byte_lookup(r, offset)))
+# ---- The page ----
+def hashes(script):
+    script.written(TEXT, 0, b'abc')
+    for output in (32, 64, 20):
+        yield 'hash abc', output, script.run('hash %d 0 3' % output)
+    script.run('fill %d 0 256 0 1' % TEXT)
+    for count in (0, 128, 129, 256):
+        yield 'hash', count, 32, script.run('hash 32 0 %d' % count)
 
 
-def reads(r, *chunks):
-    for chunk in chunks:
-        answer = read(r, r, 'content', chunk)
-        print('read', chunk, 'done ' + answer[1].hex() if answer[0] == 'done' else said(answer))
+def root(script):
+    return script.run('root').removeprefix('done:')
 
 
-def answers():
-    r = asked(3)
-    for numbers in ((3, 2, 5), (1048577, 1, 5), (3, 1, 2000), (3, 3, 2000), (3, 3, 4)):
-        print('told', *numbers, said(audit(told(r, *numbers))))
-    places(r, 0, 1, 2, 3)
-    some_bytes(r, 1, 2, 5, 6)
-    reads(r, 2, 3)
-    reads(asked(3, 'tree', 112, 0x50), 0, 1)
-    asked(3, 'tree', 231, 4)
-    asked(3, 'signatures', 31, 1)
-    asked(7, 'signatures', 415, 0)
-    r = asked(10, 'tree', 191, 7)
-    places(r, 0, 8)
-    some_bytes(r, 0, 30)
-    some_bytes(asked(10, 'tree', 791, 10), 44, 45)
-    asked(10, 'tree', 632, 1)
-    asked(10, 'bitfield', 33, 0xe0)
+def shown(script, file, end):
+    return bytes.fromhex(script.run('show %d 0 %d' % (file, end)))
+
+
+def dump(script, n):
+    """The header, if there is one, and then lines of `width` bytes; lines of zeros alone are left out."""
+    built(script, n)
+    yield 'register', *script.numbers[0]
+    yield 'root', root(script)
+    for file, (used, header, width) in enumerate(zip(used_sizes(*script.numbers[0]), (32, 32, 32, 0), (40, 64, 32, 64))):
+        image = shown(script, file, used)
+        for at, end in [(0, header)] + [(at, min(at + width, used)) for at in range(header, used, width)]:
+            if any(image[at:end]):
+                yield FILES[file], at, image[at:end].hex()
+
+
+def packet(script, n, chunk):
+    """A line for each part. The packet stays in the text, and its root hash."""
+    built(script, n)
+    siblings, others = packet_indexes(n, chunk)
+    names = ['length', 'chunk', 'siblings', *entries(siblings), 'roots', *entries(others)]
+    sizes = [4, len(chunks_of(n)[chunk]), 1, *[ENTRY] * len(siblings), 1, *[ENTRY] * len(others)]
+    yield 'packet', n, chunk
+    yield 'root', root(script)
+    script.run('bring %d 0 %d' % (chunk, sum(sizes)))
+    yield from zip(names, (part.hex() for part in cut(shown(script, TEXT, sum(sizes)), sizes)))
+
+
+def entries(indexes):
+    return ['entry %d' % index for index in indexes]
+
+
+def checks(script):
+    script.written(TEXT, ROOT_AT, bytes.fromhex(root(script)))
+    for n, chunk in ((13, 9), (13, 8), (14, 9), (13, 12), (12, 9), (13, 13), (1048577, 9)):
+        yield 'check', n, chunk, script.run('check %d %d %d 0 175' % (n, chunk, ROOT_AT)).partition(':')[0]
+
+
+def asked(script, n, change, *lines):
+    """The register of n chunks, in which a file's byte gets a value, and what the audit and other calls answer."""
+    turned = ()
+    if change:
+        name, at, byte = change
+        turned = (FILES.index(name), at, script.buffers[FILES.index(name)][at] ^ byte),
+        change = name, at, '%02x' % byte
+    yield 'asked', n, *change
+    with script.turned(*turned):
+        yield 'audit', script.run('audit')
+        for line in lines:
+            yield line, answered(script, line)
+
+
+def answered(script, line):
+    """What the audit answers under other numbers; else a refusal as it is, and `done` before what was answered."""
+    if line.startswith('told'):
+        before = script.numbers[0]
+        script.run(line)
+        answer = script.run('audit')
+        script.told(*before)
+        return answer
+    answer = script.run(line.replace('read', 'get 1')).replace(':', ' ').strip()
+    return answer if answer.startswith(('done', 'refused')) else 'done ' + answer
+
+
+def answers(script):
+    built(script, 3)
+    yield from asked(script, 3, (), 'told 3 2 5', 'told 1048577 1 5', 'told 3 1 2000', 'told 3 3 2000', 'told 3 3 4', 'place 0', 'place 1', 'place 2',
+                     'place 3', 'byte 1', 'byte 2', 'byte 5', 'byte 6', 'read 2', 'read 3')
+    yield from asked(script, 3, ('tree', 112, 0x50), 'read 0', 'read 1')
+    yield from asked(script, 3, ('tree', 231, 4))
+    yield from asked(script, 3, ('signatures', 31, 1))
+    built(script, 7)
+    yield from asked(script, 7, ('signatures', 415, 0))
+    built(script, 10)
+    yield from asked(script, 10, ('tree', 191, 7), 'place 0', 'place 8', 'byte 0', 'byte 30')
+    yield from asked(script, 10, ('tree', 791, 10), 'byte 44', 'byte 45')
+    yield from asked(script, 10, ('tree', 632, 1))
+    yield from asked(script, 10, ('bitfield', 33, 0xe0))
+
+
+def page(script):
+    """The parts of the text that chunks and a root hash lie in hold zeros first, whatever was there."""
+    script.run(REMARK)
+    script.run('fill %d 0 1024 0 0' % TEXT)
+    script.run('fill %d %d 32 0 0' % (TEXT, ROOT_AT))
+    yield from hashes(script)
+    for n in (0, 1, 2, 3, 7, 10):
+        yield from dump(script, n)
+    yield from packet(script, 3, 0)
+    yield from packet(script, 13, 9)
+    yield from checks(script)
+    yield from answers(script)
+
+
+def cases(script):
+    assert ('tree', 72, OUTSIDE + '%016x' % 22) in list(page(script))
 
 
 if __name__ == '__main__':
-    if register(2).entry(1)[:32].hex() != OUTSIDE:
-        raise SystemExit('the parent of two leaves `hello world` has another hash than outside')
-    hashes()
-    for count in (0, 1, 2, 3, 7, 10):
-        dump(count)
-    packets()
-    answers()
+    from script import Printed
+    for words in page(Printed(open(sys.argv[1]).read(), REMARK)):
+        print(*words)

@@ -6,12 +6,14 @@ where in each buffer, `told` what is told of it, and `swap` makes the second reg
 part of the first register or of the text. The other words are a call each, on the first register, on both, or on parts of the text alone.
 `cut`, `Cut` and `xwalk` ask for parts (cuts.py). `splace`, `sbyte` and `ssearch` ask both ways, the quick one and the short one, for a number and
 those that follow it. A word that begins with a capital letter is a call on a copy: tree, bitfield and data of the first register, with n and the
-size that are told. `bring` makes a packet of the second register, in a part of the text.
+size that are told. `bring` makes a packet of the second register, in a part of the text. `hash` has an output length and the part of the text that
+is hashed, and `show` a part of a file or of the text, whose bytes are printed.
 
 A sum is the first 8 bytes of the hash of a lent part, whole. A call that may write has them behind its answer: tree, signatures, bitfield, data.
 """
 
 import functools
+import hashlib
 import sys
 from contextlib import contextmanager
 
@@ -20,6 +22,7 @@ import audits
 import copies
 import leaves
 import cuts
+import dumps
 import lists
 import old_roots
 import page
@@ -187,6 +190,19 @@ class Script:
             self.run('flip %d %d %d' % change)
 
 
+class Printed(Script):
+    """A script whose answers are those that the program printed, from a remark on."""
+    def __init__(self, printed, remark):
+        super().__init__()
+        self.printed = iter(printed[printed.index(remark):].splitlines())
+
+    def run(self, line):
+        printed = next(self.printed)
+        super().run(line)
+        assert printed == line or printed.startswith(line + ': ')
+        return printed[len(line) + 2:]
+
+
 SETTINGS = {'lend': Script.lend, 'told': Script.tell, 'swap': Script.swap, 'flip': Script.flip, 'put': Script.put, 'fill': Script.fill,
             'bring': Script.bring}
 
@@ -303,7 +319,8 @@ def walked(text, n, chunk, root, *ends):
 WRITING = {'start': lambda r, text: said(start(r)), 'grow': grown, 'append': lambda r, text, a, b: rooted(append(r, bytes(text[a:b]))),
            'list': listed, 'sign': lambda r, text, at: said(store_signature(r, bytes(text[at:at + SIGNATURE]))),
            'release': lambda r, text, chunk: said(release(r, chunk))}
-ASKING = {'audit': lambda r, text: said(audit(r)), 'cut': cut(parts.audit_tree_part, parts.audit_bitfield_part),
+ASKING = {'hash': lambda r, text, output, a, b: hashlib.blake2b(bytes(text[a:b]), digest_size=output).hexdigest(),
+          'show': lambda r, text, file, a, b: bytes([*images_of(r), text][file][a:b]).hex(), 'audit': lambda r, text: said(audit(r)), 'cut': cut(parts.audit_tree_part, parts.audit_bitfield_part),
           'root': lambda r, text: rooted(root_hash(r)), 'old': lambda r, text, m: rooted(old_root(r, m)),
           'preview': lambda r, text, a, b: rooted(preview(r, bytes(text[a:b]))), 'entry': lambda r, text, chunk: stored(stored_leaf(r, chunk)),
           'search': lambda r, text, number: sought(first_not_held(r, number)),
@@ -322,7 +339,7 @@ ON_TEXT = {'check': checked, 'walk': walked}
 
 if __name__ == '__main__':
     script = Script()
-    for module in (registers, lists, reads, audits, previews, old_roots, released, short_way, copies, page, leaves, cuts):
+    for module in (registers, lists, reads, audits, previews, old_roots, released, short_way, copies, page, leaves, cuts, dumps):
         module.cases(script)
     letters = {line.split(' ')[0]: line[:2] for line in script.lines}
     assert len(set(letters.values())) == len(letters)

@@ -36,7 +36,7 @@ chunk-added t c v h n at end o l q w =
 
 -- ---- the first of several
 
-module _ (t c : List ℕ) (n at l : ℕ) (ls : List ℕ) (w : LeavesFit t c n at (l ∷ ls)) (small : length c < 2 ^ 64) where
+module _ {t c : List ℕ} {n at l : ℕ} {ls : List ℕ} (w : LeavesFit t c n at (l ∷ ls)) (small : length c < 2 ^ 64) where
   first-leaf : LeafFits t c n at (at + l)
   unfolding usedTree entries total
   first-leaf =
@@ -46,7 +46,7 @@ module _ (t c : List ℕ) (n at l : ℕ) (ls : List ℕ) (w : LeavesFit t c n at
         content = omega (arith, w .content);
       }
 
-  module _ (u : List ℕ) (e : u ≡ appendedTree nodeHash t n (part c at (at + l - at))) where
+  module _ {u : List ℕ} (e : u ≡ appendedTree nodeHash t n (part c at (at + l - at))) where
     abbrev chunk : List ℕ
     chunk = part c at (at + l - at)
 
@@ -81,14 +81,14 @@ pub record Going (t c : List ℕ) (n start : ℕ) (ls u : List ℕ) (at j : ℕ)
   pub left : LeavesFit u c (n + j) at (drop j ls)
   pub same : treeWith nodeHash u (n + j) (chunksOf (drop j ls) (drop at c)) ≡ treeWith nodeHash t n (chunksOf ls (drop start c))
 
-pub going-none : (t c : List ℕ) (n start : ℕ) (ls : List ℕ) → LeavesFit t c n start ls → Going t c n start ls t start 0
-going-none t c n start ls w =
+pub going-none : {t c : List ℕ} {n start : ℕ} {ls : List ℕ} → LeavesFit t c n start ls → Going t c n start ls t start 0
+going-none {t} {c} {n} {start} {ls} w =
     record {
       left = subst (λ (m : ℕ). LeavesFit t c m start ls) (sym (add-zero n)) w;
       same = ap (λ (m : ℕ). treeWith nodeHash t m (chunksOf ls (drop start c))) (add-zero n);
     }
 
-module _ (t c : List ℕ) (n start : ℕ) (ls u : List ℕ) (at j : ℕ) (g : Going t c n start ls u at j) (h : j < length ls) (small : length c < 2 ^ 64) where
+module _ {t c : List ℕ} {n start : ℕ} {ls u : List ℕ} {at j : ℕ} (g : Going t c n start ls u at j) (h : j < length ls) (small : length c < 2 ^ 64) where
   abbrev l : ℕ
   l = getD ls j 0
 
@@ -99,35 +99,31 @@ module _ (t c : List ℕ) (n start : ℕ) (ls u : List ℕ) (at j : ℕ) (g : Go
   here = subst (LeavesFit u c (n + j) at) split (g .left)
 
   pub going-fits : LeafFits u c (n + j) at (at + l)
-  going-fits = first-leaf u c (n + j) at l (drop (j + 1) ls) here small
+  going-fits = first-leaf here small
 
-  -- a chunk more ends within the data
-  pub going-end : at + l ≤ length c
-  going-end = going-fits .content
-
-  pub going-next : (v : List ℕ) → v ≡ appendedTree nodeHash u (n + j) (part c at (at + l - at)) → Going t c n start ls v (at + l) (j + 1)
-  going-next v e =
+  pub going-next : {v : List ℕ} → v ≡ appendedTree nodeHash u (n + j) (part c at (at + l - at)) → Going t c n start ls v (at + l) (j + 1)
+  going-next {v} e =
       let m : n + j + 1 ≡ n + (j + 1) = omega arith in
       record {
-        left = subst (λ (x : ℕ). LeavesFit v c x (at + l) (drop (j + 1) ls)) m (next-leaves u c (n + j) at l (drop (j + 1) ls) here small v e);
+        left = subst (λ (x : ℕ). LeavesFit v c x (at + l) (drop (j + 1) ls)) m (next-leaves here small e);
         same =
             ap (λ (x : ℕ). treeWith nodeHash v x (chunksOf (drop (j + 1) ls) (drop (at + l) c))) (sym m)
-            ∙ next-same u c (n + j) at l (drop (j + 1) ls) here small v e
+            ∙ next-same here small e
             ∙ ap (λ (xs : List ℕ). treeWith nodeHash u (n + j) (chunksOf xs (drop at c))) (sym split)
             ∙ g .same;
       }
 
-pub going-all : (t c : List ℕ) (n start : ℕ) (ls u : List ℕ) (at j : ℕ) → Going t c n start ls u at j → length ls ≤ j
+pub going-all : {t c : List ℕ} {n start : ℕ} {ls u : List ℕ} {at j : ℕ} → Going t c n start ls u at j → length ls ≤ j
     → u ≡ treeWith nodeHash t n (chunksOf ls (drop start c))
 unfolding treeWith chunksOf
-going-all t c n start ls u at j g h =
+going-all {t} {c} {n} {start} {ls} {u} {at} {j} g h =
     sym (ap (λ (xs : List ℕ). treeWith nodeHash u (n + j) (chunksOf xs (drop at c))) (drop-of-length-le ls h)) ∙ g .same
 
 -- ---- all of it
 
 -- the bytes stand in the data where the chunks are read
-pub store-leaves : (t g b c c' : List ℕ) (n size : ℕ) (ls bs : List ℕ) → StoreFits t g b c n size ls bs → c' ≡ put c size bs → LeavesFit t c' n size ls
-store-leaves t g b c c' n size ls bs w e =
+pub store-leaves : {t g b c c' : List ℕ} {n size : ℕ} {ls bs : List ℕ} → StoreFits t g b c n size ls bs → c' ≡ put c size bs → LeavesFit t c' n size ls
+store-leaves {c = c} {c'} {n} {size} {ls} {bs} w e =
     let l : length c' ≡ length c = ap length e ∙ length-put c size bs (w .content) in
     record { few = w .few; tree = w .tree; content = omega (arith, w .content, w .adds); sum = w .sum }
 
@@ -135,10 +131,10 @@ there : (c : List ℕ) (size : ℕ) (bs : List ℕ) → size + length bs ≤ len
 unfolding put
 there c size bs h = drop-at (take size c) (bs ++ drop (size + length bs) c) size (length-take-le size c (omega arith))
 
-pub store-post : (t g b c t' g' b' c' : List ℕ) (n size : ℕ) (ls bs h : List ℕ) → StoreFits t g b c n size ls bs → c' ≡ put c size bs
+pub store-post : {t g b c t' g' b' c' : List ℕ} {n size : ℕ} {ls bs h : List ℕ} → StoreFits t g b c n size ls bs → c' ≡ put c size bs
     → t' ≡ treeWith nodeHash t n (chunksOf ls (drop size c')) → g' ≡ put g (usedSignatures n) (zeros (64 * (length ls - 1)))
     → b' ≡ bitsWith b n (length ls) → h ≡ nodeHash (storedRootMessage t' (n + length ls)) → StorePost t g b c n size ls bs h t' g' b' c'
-store-post t g b c t' g' b' c' n size ls bs h w p q x y z =
+store-post {t} {c = c} {n = n} {size} {ls} {bs} w p q x y z =
     record {
       tree =
           q

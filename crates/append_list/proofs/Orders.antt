@@ -33,14 +33,14 @@ list-order r ls bs =
     (judged-append (laterChecks r) (listChecks ls bs ++ roomChecks r (length ls) (length bs)) done
     ∙ ap (judged (laterChecks r)) (judged-append (listChecks ls bs) (roomChecks r (length ls) (length bs)) done))
 
-pub list-over : (r : Register) (ls bs : List ℕ) (v : Verdict) → mostChunks ≤ r .n → v ≡ refused 2 none → v ≡ listVerdict r ls bs
-list-over r ls bs v h e =
+pub list-over : (r : Register) (ls bs : List ℕ) {v : Verdict} → mostChunks ≤ r .n → v ≡ refused 2 none → v ≡ listVerdict r ls bs
+list-over r ls bs h e =
     e
     ∙ sym
     (list-order r ls bs
     ∙ ap (λ (a : Bool). ladder a (leb (r .n + length ls) mostChunks) (judged (laterChecks r) (ownVerdict r ls bs))) (le-ltb (r .n) mostChunks h))
 
-module _ (r : Register) (ls bs : List ℕ) (v : Verdict) (fewer : r .n < mostChunks) where
+module _ (r : Register) (ls bs : List ℕ) {v : Verdict} (fewer : r .n < mostChunks) where
   pub list-past : mostChunks < r .n + length ls → v ≡ refused 2 none → v ≡ listVerdict r ls bs
   list-past h e =
       e
@@ -61,34 +61,34 @@ module _ (r : Register) (ls bs : List ℕ) (v : Verdict) (fewer : r .n < mostChu
 abbrev pub listLadder : Bool → Bool → Bool → Bool → Verdict
 listLadder a b c d = cond a (cond b (cond c (cond d done (refused 7 none)) (refused 16 none)) (refused 16 none)) (refused 16 none)
 
-pub list-answered : (ls bs : List ℕ) (v : Verdict) (a b c d : Bool) → ltb 0 (length ls) ≡ a → leb (length ls) mostListed ≡ b
+pub list-answered : (ls bs : List ℕ) {v : Verdict} {a b c d : Bool} → ltb 0 (length ls) ≡ a → leb (length ls) mostListed ≡ b
     → eqb (total ls) (length bs) ≡ c → allShort ls ≡ d → v ≡ listLadder a b c d → v ≡ judged (listChecks ls bs) done
 unfolding listChecks judged
-list-answered ls bs v a b c d p q s t w = rw (p, q, s, t) w
+list-answered ls bs p q s t w = rw (p, q, s, t) w
 
 -- 8 and 14 as tests
 abbrev pub roomLadder : Bool → Bool → Bool → Bool → Bool → Verdict
 roomLadder a b c d e =
     cond a (cond b (cond c (cond d (cond e done (refused 14 none)) (refused 14 none)) (refused 14 none)) (refused 14 none)) (refused 8 none)
 
-pub room-answered : (r : Register) (k m : ℕ) (v : Verdict) (a b c d e : Bool) → eqb (r .s) (r .n) ≡ a → holds (r .tree) (usedTree (r .n + k)) ≡ b
+pub room-answered : (r : Register) (k m : ℕ) {v : Verdict} {a b c d e : Bool} → eqb (r .s) (r .n) ≡ a → holds (r .tree) (usedTree (r .n + k)) ≡ b
     → holds (r .signatures) (usedSignatures (r .n + k - 1)) ≡ c → holds (r .bitfield) (usedBitfield (r .n + k)) ≡ d
     → holds (r .content) (r .size + m) ≡ e → v ≡ roomLadder a b c d e → v ≡ judged (roomChecks r k m) done
 unfolding roomChecks judged
-room-answered r k m v a b c d e p q s t u w = rw (p, q, s, t, u) w
+room-answered r k m p q s t u w = rw (p, q, s, t, u) w
 
 -- ---- the list's own, by the answers of its two halves
 
-pub some-listed : (ls bs : List ℕ) (a : Answer) → a ≡ Done → said a ≡ judged (listChecks ls bs) done → 0 < length ls
+pub some-listed : (ls bs : List ℕ) {a : Answer} → a ≡ Done → said a ≡ judged (listChecks ls bs) done → 0 < length ls
 unfolding listChecks
-some-listed ls bs a p e = ltb-true 0 (length ls) (judged-done (listChecks ls bs) done (sym e ∙ ap said p) .0 .0)
+some-listed ls bs p e = ltb-true 0 (length ls) (judged-done (listChecks ls bs) done (sym e ∙ ap said p) .0 .0)
 
-pub own-refused : (r : Register) (ls bs : List ℕ) (a : Answer) (x : Refusal) → a ≡ Refused x → said a ≡ judged (listChecks ls bs) done
+pub own-refused : (r : Register) (ls bs : List ℕ) {a : Answer} {x : Refusal} → a ≡ Refused x → said a ≡ judged (listChecks ls bs) done
     → said (Refused x) ≡ ownVerdict r ls bs
 unfolding ownVerdict
-own-refused r ls bs a x p e = refused-before (listChecks ls bs) (judged (roomChecks r (length ls) (length bs)) done) a x p e
+own-refused r ls bs = refused-before (listChecks ls bs) (judged (roomChecks r (length ls) (length bs)) done)
 
-pub own-passed : (r : Register) (ls bs : List ℕ) (v : Verdict) (a : Answer) → a ≡ Done → said a ≡ judged (listChecks ls bs) done
+pub own-passed : (r : Register) (ls bs : List ℕ) {v : Verdict} {a : Answer} → a ≡ Done → said a ≡ judged (listChecks ls bs) done
     → v ≡ judged (roomChecks r (length ls) (length bs)) done → v ≡ ownVerdict r ls bs
 unfolding ownVerdict
-own-passed r ls bs v a p e q = passed-before (listChecks ls bs) v (judged (roomChecks r (length ls) (length bs)) done) a p e q
+own-passed r ls bs = passed-before (listChecks ls bs)

@@ -32,10 +32,10 @@ pub both-above : (a b m : ℕ) → a ≤ b → m < a → leb a m ≡ leb b m
 both-above a b m h l = lt-leb a m l ∙ sym (lt-leb b m (omega arith))
 
 module _ (n size : ℕ) (ls : List ℕ) where
-  pub by-tests : (v : Verdict) (a b c d : Bool) → leb (n + length ls) mostChunks ≡ a → leb (length ls) mostListed ≡ b → allShort ls ≡ c
+  pub by-tests : {v : Verdict} {a b c d : Bool} → leb (n + length ls) mostChunks ≡ a → leb (length ls) mostListed ≡ b → allShort ls ≡ c
       → leb size (longestChunk * n) ≡ d → v ≡ ladder a b c d → v ≡ needVerdict n size ls
   unfolding needVerdict needChecks judged
-  by-tests v a b c d p q s t w = rw (p, q, s, t) w
+  by-tests p q s t w = rw (p, q, s, t) w
 
   pub asked : needVerdict n size ls ≡ done → Asked n size ls
   unfolding needVerdict needChecks

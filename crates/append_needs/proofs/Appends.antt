@@ -98,10 +98,10 @@ module _ (F : List ℕ → List ℕ) where
 
   module _ (hf : HashFunction F) where
     -- one append
-    module _ (r : Register) (ss : List Slot) (x : Added) (xs : List Added) (w : Ready F r ss (x ∷ xs)) where
+    module _ {r : Register} {ss : List Slot} {x : Added} {xs : List Added} (w : Ready F r ss (x ∷ xs)) where
       made-long : (d : ℕ) → d < completed (r .n) → length (made F (r .tree) (r .n) (leaf F (x .chunk)) d .hash) ≡ 32
       made-long d h =
-          let a = fits F hf r ss x xs w in
+          let a = fits F hf w in
           let v = longer-within F hf ss (w .within) r (w .belongs) (x .chunk) (w .each .0 .bytes) a in
           let same : run (made F (r .tree) (r .n) (leaf F (x .chunk))) 0 (suc (completed (r .n))) ≡ map (entryAt F (leaves F (ss ++ (held (x .chunk) ∷ [])))) (filledBy (r .n)) =
           sym (new-run (r .tree) (r .n) (x .chunk)) ∙ new-entries F hf ss (w .within) r (w .belongs) (x .chunk) (omega (arith, a .fewer))
@@ -119,7 +119,7 @@ module _ (F : List ℕ → List ℕ) where
           as-many (λ d. messageOver (storedEntry (r .tree) (sibling (r .n) d)) (made F (r .tree) (r .n) (leaf F (x .chunk)) d)) 0 (completed (r .n))
           (λ d i h.
           let l : d < completed (r .n) = omega arith in
-          parent-runs _ _ _ (stored-long (r .tree) (r .n) (sibling (r .n) d) (ready-passed F hf r ss (x ∷ xs) w .tree) (sibling-filled (r .n) d (fits F hf r ss x xs w .fewer) l)) (made-long d l)
+          parent-runs _ _ _ (stored-long (r .tree) (r .n) (sibling (r .n) d) (ready-passed F hf w .tree) (sibling-filled (r .n) d (fits F hf w .fewer) l)) (made-long d l)
           ∙ sym parentRuns-one)
 
     parents-counted : (r : Register) (ss : List Slot) (xs : List Added) → Ready F r ss xs
@@ -127,15 +127,15 @@ module _ (F : List ℕ → List ℕ) where
     unfolding run total parentsHashed
     parents-counted r ss [] w = refl
     parents-counted r ss (x ∷ xs) w =
-        ap₂ _+_ (sym (append-runs r ss x xs w))
+        ap₂ _+_ (sym (append-runs w))
         (ap (λ (m : ℕ). total (run (λ i. completed i * parentRuns) m (length (lengthsOf xs)))) (sym (after-one r x))
-        ∙ parents-counted (withOne F r x) (ss ++ (held (x .chunk) ∷ [])) xs (next F hf r ss x xs w))
+        ∙ parents-counted (withOne F r x) (ss ++ (held (x .chunk) ∷ [])) xs (next F hf w))
         ∙ sym (ap total (map-append (runs []) (parentMessages F (r .tree) (r .n) (x .chunk)) (parentsHashed F (withOne F r x) xs))
         ∙ total-append (map (runs []) (parentMessages F (r .tree) (r .n) (x .chunk))) (map (runs []) (parentsHashed F (withOne F r x) xs)))
 
     -- ---- the job
 
-    module _ (r : Register) (ss : List Slot) (xs : List Added) (j : Job F r ss xs) where
+    module _ {r : Register} {ss : List Slot} {xs : List Added} (j : Job F r ss xs) where
       ready : Ready F r ss xs
       unfolding needOf
       ready =
@@ -169,14 +169,14 @@ module _ (F : List ℕ → List ℕ) where
             content = sym (end-size F r xs);
             leaves = leaves-counted xs;
             parents = parents-counted r ss xs ready;
-            root = ap rootRuns e ∙ rootRuns-of (withAll F r xs .tree) (withAll F r xs .n) (ready-passed F hf (withAll F r xs) (ss ++ allHeld (chunksOf xs)) [] end .tree);
+            root = ap rootRuns e ∙ rootRuns-of (withAll F r xs .tree) (withAll F r xs .n) (ready-passed F hf end .tree);
           }
 
       rooted : rootAnswer F (withAll F r xs) ≡ F (storedRootMessage (withAll F r xs .tree) (withAll F r xs .n))
       unfolding rootAnswer rootVerdict
       rooted =
           ap (λ (v : Verdict). rootUnlessRefused F v (withAll F r xs))
-          (passes (withAll F r xs) _ (ready-passed F hf (withAll F r xs) (ss ++ allHeld (chunksOf xs)) [] end))
+          (passes (withAll F r xs) _ (ready-passed F hf end))
 
 -- 9 is for numbers that no register of chunks has
 size-fits : (F : List ℕ → List ℕ) (r : Register) (ss : List Slot) → Within ss → Belongs F r ss → r .size ≤ longestChunk * r .n
@@ -186,11 +186,11 @@ pub needs-of-appends : NeedsOfAppendsForAll
 needs-of-appends F hf =
     record {
       sizeFits = size-fits F;
-      allDone = λ r ss xs j. all-done F hf r ss xs (ready F hf r ss xs j);
-      accepted = λ r ss xs j. ready-accepted F hf (withAll F r xs) (ss ++ allHeld (chunksOf xs)) [] (end F hf r ss xs j);
-      paid = λ r ss xs j. end F hf r ss xs j .paid;
-      belongs = λ r ss xs j. end F hf r ss xs j .belongs;
-      counted = counted F hf;
+      allDone = λ r ss xs j. all-done F hf r ss xs (ready F hf j);
+      accepted = λ r ss xs j. ready-accepted F hf (end F hf j);
+      paid = λ r ss xs j. end F hf j .paid;
+      belongs = λ r ss xs j. end F hf j .belongs;
+      counted = λ r ss xs j. counted F hf j;
       hashed = hashed F;
-      rooted = rooted F hf;
+      rooted = λ r ss xs j. rooted F hf j;
     }

@@ -50,15 +50,15 @@ module _ (F : List ℕ → List ℕ) (hf : HashFunction F) where
   belongs-passed : (r : Register) (ss : List Slot) → Within ss → Belongs F r ss → Signed r → Passed r
   belongs-passed r ss w b s = accepted-audited F r (belongs-accepted F hf ss w r b s) .checked
 
-  pub ready-passed : (r : Register) (ss : List Slot) (xs : List Added) → Ready F r ss xs → Passed r
-  ready-passed r ss xs w = belongs-passed r ss (w .within) (w .belongs) (w .signed)
+  pub ready-passed : {r : Register} {ss : List Slot} {xs : List Added} → Ready F r ss xs → Passed r
+  ready-passed {r} {ss} w = belongs-passed r ss (w .within) (w .belongs) (w .signed)
 
-  pub ready-accepted : (r : Register) (ss : List Slot) (xs : List Added) → Ready F r ss xs → Accepted F r
-  ready-accepted r ss xs w = belongs-accepted F hf ss (w .within) r (w .belongs) (w .signed)
+  pub ready-accepted : {r : Register} {ss : List Slot} {xs : List Added} → Ready F r ss xs → Accepted F r
+  ready-accepted {r} {ss} w = belongs-accepted F hf ss (w .within) r (w .belongs) (w .signed)
 
   -- ---- one chunk
 
-  module _ (r : Register) (ss : List Slot) (x : Added) (xs : List Added) (w : Ready F r ss (x ∷ xs)) where
+  module _ {r : Register} {ss : List Slot} {x : Added} {xs : List Added} (w : Ready F r ss (x ∷ xs)) where
     abbrev chunk : List ℕ
     chunk = x .chunk
 
@@ -84,7 +84,7 @@ module _ (F : List ℕ → List ℕ) (hf : HashFunction F) where
     appended-belongs = append-belongs F hf ss (w .within) r (w .belongs) chunk (w .each .0 .bytes) fits
 
     append-done : appendVerdict r chunk ≡ done
-    append-done = passed-append r chunk (ready-passed r ss (x ∷ xs) w) fits
+    append-done = passed-append r chunk (ready-passed w) fits
 
     -- a signature is owed then
     owing : Signed (appendedRegister F r chunk)
@@ -162,12 +162,12 @@ module _ (F : List ℕ → List ℕ) (hf : HashFunction F) where
   unfolding AllDone
   all-done r ss [] w = tt
   all-done r ss (x ∷ xs) w =
-      let b = both-done r ss x xs w in
-      (b .0, b .1, all-done (withOne F r x) (ss ++ (held (x .chunk) ∷ [])) xs (next r ss x xs w))
+      let b = both-done w in
+      (b .0, b .1, all-done (withOne F r x) (ss ++ (held (x .chunk) ∷ [])) xs (next w))
 
   pub at-end : (r : Register) (ss : List Slot) (xs : List Added) → Ready F r ss xs → Ready F (withAll F r xs) (ss ++ allHeld (chunksOf xs)) []
   unfolding withAll allHeld chunksOf
   at-end r ss [] w = subst (λ (l : List Slot). Ready F r l []) (sym (append-nil ss)) w
   at-end r ss (x ∷ xs) w =
       subst (λ (l : List Slot). Ready F (withAll F (withOne F r x) xs) l []) (append-assoc ss (held (x .chunk) ∷ []) (allHeld (chunksOf xs)))
-      (at-end (withOne F r x) (ss ++ (held (x .chunk) ∷ [])) xs (next r ss x xs w))
+      (at-end (withOne F r x) (ss ++ (held (x .chunk) ∷ [])) xs (next w))

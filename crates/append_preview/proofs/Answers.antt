@@ -21,13 +21,13 @@ use Rattle.append_preview.specs.Preview.{PreviewPost}
 module _ (r : Register) (chunk : List ℕ) (a : Answer) (e : said a ≡ appendVerdict r chunk) where
   -- "by 6 their sum fits"
   pub root-fits : a ≡ Done → length (r .content) < 2 ^ 64 → FilledFits (r .tree) (r .n) (length chunk)
-  root-fits p l = let w = store-fits r chunk a p e in record { few = w .few; room = w .tree; sum = omega (arith, w .sum, w .content) }
+  root-fits p l = let w = store-fits r chunk p e in record { few = w .few; room = w .tree; sum = omega (arith, w .sum, w .content) }
 
   pub preview-not : (x : Refusal) → a ≡ Refused x → PreviewPost r chunk (said (Refused x)) (zeros 32)
-  preview-not x p = let w = append-not r chunk a x p e in record { answer = w .answer; root = w .root }
+  preview-not x p = let w = append-not {r = r} {chunk = chunk} p e in record { answer = w .answer; root = w .root }
 
   pub preview-done : (h : List ℕ) → a ≡ Done → h ≡ nodeHash (storedRootMessage (appendedTree nodeHash (r .tree) (r .n) chunk) (r .n + 1))
       → PreviewPost r chunk done h
   preview-done h p q =
-      let w = append-done r chunk h _ _ _ a p e (record { tree = refl; bitfield = refl; content = refl; root = q }) in
+      let w = append-done {r = r} {chunk = chunk} p e (record { tree = refl; bitfield = refl; content = refl; root = q }) in
       record { answer = w .answer; root = w .root }

@@ -69,11 +69,11 @@ module _ (t : List ℕ) (n : ℕ) (chunk : List ℕ) (few : n < mostChunks) (roo
   leaf-long = node-length _
 
   reached : (d : ℕ) → d ≤ completed n → (u : List ℕ) × Going t n e d u
-  reached zero h = (t, going-none t n e)
+  reached zero h = (t, going-none)
   reached (suc d) h =
       let r = reached d (omega arith) in
       let u : List ℕ = put (r .0) (entryPlace (place n d)) (entryBytes (made nodeHash t n e d)) in
-      (u, subst (λ (x : ℕ). Going t n e x u) (add-one d) (going-next t n e d (r .0) u few (omega arith) room leaf-long (r .1) refl))
+      (u, subst (λ (x : ℕ). Going t n e x u) (add-one d) (going-next (r .1) few (omega arith) room leaf-long refl))
 
   with-top : Topped t n (made nodeHash t n e (completed n)) (withEntries t (filledBy n) (climb nodeHash t n 0 (completed n) e))
   with-top =
@@ -81,11 +81,11 @@ module _ (t : List ℕ) (n : ℕ) (chunk : List ℕ) (few : n < mostChunks) (roo
       let r = reached z (le-refl z) in
       let x : Entry = made nodeHash t n e z in
       let v : List ℕ = put (r .0) (entryPlace (place n z)) (entryBytes x) in
-      let g : Going t n e (z + 1) v = going-next t n e z (r .0) v few (le-refl z) room leaf-long (r .1) refl in
+      let g : Going t n e (z + 1) v = going-next (r .1) few (le-refl z) room leaf-long refl in
       let inside : entryPlace (place n z) + 40 ≤ length (r .0) =
       filled-in (r .0) n (place n z) few (omega (arith, r .1 .long)) (place-new n z few (le-refl z)) .inside
       in
-      subst (Topped t n x) (going-all t n e z v refl g)
+      subst (Topped t n x) (going-all z refl g)
       (record { hash = g .hash; size = g .size; top = same-entry (r .0) (place n z) (entryBytes x) (entryBytes-length x (node-hashed t n chunk z .0)) inside })
 
   -- the new hole is none of the siblings that the nodes are made of

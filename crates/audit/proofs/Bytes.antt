@@ -115,18 +115,18 @@ tree-bit bits n i b f = omega (arith, b .inside, filled-below n i f)
 -- ---- an entry judged by the Index of its stored data bytes
 
 -- an entry of the file is one of few, and lies within it
-pub entry-room : (xs : List ℕ) (n e : ℕ) → AtBits xs n e → (e < 128) × (32 + 3328 * e + 3328 ≤ length xs)
+pub entry-room : {xs : List ℕ} {n e : ℕ} → AtBits xs n e → (e < 128) × (32 + 3328 * e + 3328 ≤ length xs)
 unfolding usedBitfield entryCount
-entry-room xs n e w = (omega (arith, w .entry, w .file .count), omega (arith, w .entry, w .file .inside))
+entry-room w = (omega (arith, w .entry, w .file .count), omega (arith, w .entry, w .file .inside))
 
 pub part-long : (xs : List ℕ) (at m : ℕ) → at + 1024 ≤ length xs → m ≡ 1024 → length (take m (drop at xs)) ≡ 1024
 unfolding part
 part-long xs at m h e = ap (λ (k : ℕ). length (take k (drop at xs))) e ∙ length-part xs at 1024 h
 
-pub index-by : (xs : List ℕ) (e at m : ℕ) (r : List ℕ) → at ≡ 32 + 3328 * e → m ≡ 1024 → r ≡ indexBytes (take m (drop at xs))
+pub index-by : (xs : List ℕ) (e m : ℕ) {at : ℕ} {r : List ℕ} → at ≡ 32 + 3328 * e → r ≡ indexBytes (take m (drop at xs)) → m ≡ 1024
     → r ≡ indexBytes (part xs (32 + 3328 * e) 1024)
 unfolding part
-index-by xs e at m r p h q = q ∙ ap₂ (λ (k b : ℕ). indexBytes (take k (drop b xs))) h p
+index-by xs e m p q h = q ∙ ap₂ (λ (k b : ℕ). indexBytes (take k (drop b xs))) h p
 
 -- the test that the code makes of the byte at place b of the file
 abbrev pub byStored : (ℕ → Bool) → List ℕ → ℕ → ℕ → ℕ → Bool
@@ -140,7 +140,7 @@ module _ (known : ℕ → Bool) (xs : List ℕ) (n e : ℕ) (w : AtBits xs n e) 
   data-right : ((m : ℕ) → at ≤ m → m < at + 1024 → byteRightBy known xs n m ≡ true) → part xs at 1024 ≡ dataBytes (heldBits xs n) e
   unfolding byteRightBy entryWith
   data-right h =
-      let long : length (part xs at 1024) ≡ 1024 = length-part xs at 1024 (omega (arith, entry-room xs n e w .1)) in
+      let long : length (part xs at 1024) ≡ 1024 = length-part xs at 1024 (omega (arith, entry-room w .1)) in
       ext-getD 0 (part xs at 1024) (dataBytes (heldBits xs n) e) (long ∙ sym (length-data (heldBits xs n) e))
       (λ j l. getD-part xs at 1024 j 0 (omega (arith, long))
       ∙ eqb-true (getD xs (at + j) 0) (getD (bitfieldOf (heldBits xs n) known n) (at + j) 0) (h (at + j) (omega arith) (omega (arith, long)))
@@ -174,7 +174,7 @@ pub record Passing (known : ℕ → Bool) (xs : List ℕ) (n e at j : ℕ) (inde
   pub by : index ≡ indexBytes (part xs (32 + 3328 * e) 1024)
   pub rest : lowest (byStored known xs n e) at 3328 ≡ lowest (byStored known xs n e) (at + j) (at + 3328 - (at + j))
 
-module _ (known : ℕ → Bool) (xs : List ℕ) (n e at : ℕ) (index : List ℕ) where
+module _ {known : ℕ → Bool} {xs : List ℕ} {n e at : ℕ} {index : List ℕ} where
   pub passing-start : at ≡ 32 + 3328 * e → index ≡ indexBytes (part xs (32 + 3328 * e) 1024) → Passing known xs n e at 0 index
   passing-start p i =
       record {
@@ -184,7 +184,7 @@ module _ (known : ℕ → Bool) (xs : List ℕ) (n e at : ℕ) (index : List ℕ
         rest = ap₂ (lowest (byStored known xs n e)) (sym (add-zero at)) (omega arith);
       }
 
-  module _ (j : ℕ) (w : Passing known xs n e at j index) where
+  module _ {j : ℕ} (w : Passing known xs n e at j index) where
     -- what the code compares
     tested : (b : Bool) → eqb (getD xs (at + j) 0) (getD (entryWith (heldBits xs n) known e index) j 0) ≡ b → byStored known xs n e (at + j) ≡ b
     tested b h =
@@ -208,10 +208,10 @@ module _ (known : ℕ → Bool) (xs : List ℕ) (n e at : ℕ) (index : List ℕ
       agreed : lowest (byteRightBy known xs n) (32 + 3328 * e) 3328 ≡ lowest (byStored known xs n e) (at + j) (at + 3328 - (at + j))
       agreed = sym (entry-agrees known xs n e b) ∙ ap (λ (x : ℕ). lowest (byStored known xs n e) x 3328) (sym (w .place)) ∙ w .rest
 
-      pub passing-found : (v : Verdict) → j < 3328 → (getD xs (at + j) 0 ≡ getD (entryWith (heldBits xs n) known e index) j 0 → ⊥) → v ≡ refused 11 (bitfield (at + j))
+      pub passing-found : {v : Verdict} → j < 3328 → (getD xs (at + j) 0 ≡ getD (entryWith (heldBits xs n) known e index) j 0 → ⊥) → v ≡ refused 11 (bitfield (at + j))
           → v ≡ refusedAt 11 bitfield (lowest (byteRightBy known xs n) (32 + 3328 * e) 3328) done
       unfolding refusedAt
-      passing-found v h r q =
+      passing-found h r q =
           q ∙ ap (λ (l : Lowest). refusedAt 11 bitfield l done)
           (sym (agreed ∙ lowest-off (byStored known xs n e) (at + j) (at + 3328) (omega arith) (tested false (ne-eqb _ _ r))))
 
@@ -235,46 +235,45 @@ module _ (known : ℕ → Bool) (xs : List ℕ) (n : ℕ) where
   pub record Entering (from end e : ℕ) : Type 0 where
     pub rest : fromEntry from (end - from) ≡ fromEntry e (end - e)
 
-  pub entering-start : (from end : ℕ) → Entering from end from
-  entering-start from end = record { rest = refl }
-
   -- all entries
-  pub entering-all : (v : Verdict) (end : ℕ) → end ≡ entryCount n → v ≡ fromEntry 0 (end - 0) → v ≡ whole
+  pub entering-all : {v : Verdict} {end : ℕ} → end ≡ entryCount n → v ≡ fromEntry 0 (end - 0) → v ≡ whole
   unfolding usedBitfield
-  entering-all v end q e =
+  entering-all q e =
       e ∙ ap (λ (k : ℕ). refusedAt 11 bitfield (lowest (byteRightBy known xs n) 32 k) done) (omega arith)
 
-  module _ (from count e : ℕ) (w : Entering from count e) where
+module _ {known : ℕ → Bool} {xs : List ℕ} {n : ℕ} where
+  pub entering-start : {from end : ℕ} → Entering known xs n from end from
+  entering-start = record { rest = refl }
+
+  module _ {from count e : ℕ} (w : Entering known xs n from count e) where
+    -- what is found from entry e on, and in one entry
+    abbrev found : ℕ → ℕ → Verdict
+    found = fromEntry known xs n
+
+    abbrev here : Verdict
+    here = refusedAt 11 bitfield (lowest (byteRightBy known xs n) (32 + 3328 * e) 3328) done
+
     pub entering-entry : BitsIn xs n → count ≤ entryCount n → e < count → AtBits xs n e
     entering-entry p k h = record { file = p; entry = omega arith }
 
-    one-entry : e < count → fromEntry from (count - from) ≡ andThen (refusedAt 11 bitfield (lowest (byteRightBy known xs n) (32 + 3328 * e) 3328) done) (fromEntry (e + 1) (count - (e + 1)))
+    one-entry : e < count → found from (count - from) ≡ andThen here (found (e + 1) (count - (e + 1)))
     one-entry h =
         let k : 3328 * (count - e) ≡ 3328 + 3328 * (count - (e + 1)) = omega arith in
         let p : 32 + 3328 * e + 3328 ≡ 32 + 3328 * (e + 1) = omega arith in
         w .rest
         ∙ ap (λ (x : ℕ). refusedAt 11 bitfield (lowest (byteRightBy known xs n) (32 + 3328 * e) x) done) k
         ∙ search-parts (byteRightBy known xs n) 11 bitfield (32 + 3328 * e) 3328 (3328 * (count - (e + 1)))
-        ∙ ap
-        (λ (x : ℕ).
-        andThen (refusedAt 11 bitfield (lowest (byteRightBy known xs n) (32 + 3328 * e) 3328) done)
-        (refusedAt 11 bitfield (lowest (byteRightBy known xs n) x (3328 * (count - (e + 1)))) done))
-        p
+        ∙ ap (λ (x : ℕ). andThen here (refusedAt 11 bitfield (lowest (byteRightBy known xs n) x (3328 * (count - (e + 1)))) done)) p
 
     -- the verdict on one entry, and what it makes of the whole
-    pub entering-next : (v : Verdict) → e < count → v ≡ refusedAt 11 bitfield (lowest (byteRightBy known xs n) (32 + 3328 * e) 3328) done → v ≡ done
-        → Entering from count (e + 1)
-    entering-next v h q d =
-        record {
-          rest = one-entry h ∙ ap (λ (x : Verdict). andThen x (fromEntry (e + 1) (count - (e + 1)))) (sym q ∙ d);
-        }
+    pub entering-next : {v : Verdict} → e < count → v ≡ here → v ≡ done → Entering known xs n from count (e + 1)
+    entering-next h q d = record { rest = one-entry h ∙ ap (λ (x : Verdict). andThen x (found (e + 1) (count - (e + 1)))) (sym q ∙ d) }
 
-    pub entering-found : (v : Verdict) → e < count → v ≡ refusedAt 11 bitfield (lowest (byteRightBy known xs n) (32 + 3328 * e) 3328) done
-        → ((next : Verdict) → andThen v next ≡ v) → v ≡ fromEntry from (count - from)
-    entering-found v h q stop =
-        sym (one-entry h ∙ ap (λ (x : Verdict). andThen x (fromEntry (e + 1) (count - (e + 1)))) (sym q) ∙ stop (fromEntry (e + 1) (count - (e + 1))))
+    pub entering-found : {v : Verdict} → e < count → v ≡ here → ((next : Verdict) → andThen v next ≡ v) → v ≡ found from (count - from)
+    entering-found h q stop =
+        sym (one-entry h ∙ ap (λ (x : Verdict). andThen x (found (e + 1) (count - (e + 1)))) (sym q) ∙ stop (found (e + 1) (count - (e + 1))))
 
-    pub entering-done : count ≤ e → done ≡ fromEntry from (count - from)
+    pub entering-done : count ≤ e → done ≡ found from (count - from)
     unfolding lowest refusedAt
     entering-done h =
         let k : 3328 * (count - e) ≡ 0 = omega arith in

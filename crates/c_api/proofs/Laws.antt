@@ -8,9 +8,10 @@ use Rattle.answer_types.specs.declared.Answer.the-variants.{Done, Refused}
 use Rattle.answer_types.specs.declared.Refusal.{Refusal}
 use Rattle.blake2b.specs.Hash.{nodeHash}
 use Rattle.file_format.specs.Belongs.{Register}
-use Rattle.lookup.specs.Lookup.{found, foundUnless}
+use Rattle.lookup.specs.Lookup.{found, foundBehind}
 use Rattle.lookup.specs.Meaning.{refusedAs}
 use Rattle.packet.specs.Check.{chunkLength, packetVerdict}
+use Rattle.packet.specs.Packet.{madeLength, afterMake}
 use Rattle.packet.specs.Post.{MadeAs, madeVerdict, madeBytes}
 use Rattle.packet.specs.declared.making.Made.{Made}
 use Rattle.append_needs.specs.Needs.{needOf, needVerdict, nothing, needGiven}
@@ -27,16 +28,17 @@ use Rattle.c_api.specs.Encoding.{packetPart, Makes, needNumbers, Needs, 
 module _ (p : List ℕ) (n c : ℕ) (root : List ℕ) where
   pub packet-refused : (x : Refusal) → refusalOf x ≡ packetVerdict nodeHash p n c root → refusedAs x ≡ packetPart p n c root
   unfolding packetPart
-  packet-refused x e = ap (λ (v : Verdict). foundUnless v 4 (chunkLength p)) e
+  packet-refused x e = ap (λ (v : Verdict). foundBehind v (found 4 (chunkLength p))) e
 
   pub packet-found : (l : ℕ) → l ≡ chunkLength p → done ≡ packetVerdict nodeHash p n c root → found 4 l ≡ packetPart p n c root
   unfolding packetPart
-  packet-found l a e = ap (found 4) a ∙ ap (λ (v : Verdict). foundUnless v 4 (chunkLength p)) e
+  packet-found l a e = ap (found 4) a ∙ ap (λ (v : Verdict). foundBehind v (found 4 (chunkLength p))) e
 
 -- a packet made, from what its maker answers
 pub makes : (r : Register) (c : ℕ) (out : List ℕ) (long : ℕ) (answer : List ℕ) (m : Made) (after : List ℕ) (longAfter : ℕ)
     → MadeAs nodeHash r c out m after → answer ≡ encoded (madeVerdict m) → longAfter ≡ unlessRefused (madeVerdict m) (madeBytes m) long
     → Makes r c out long answer after longAfter
+unfolding madeLength afterMake
 makes r c out long answer m after longAfter h a l =
     record {
       answers = a ∙ ap encoded (h .verdict);

@@ -7,8 +7,8 @@ use Rattle.answer_types.specs.Meaning.{said}
 use Rattle.answer_types.specs.declared.Answer.{Answer}
 use Rattle.blake2b.specs.Hash.{nodeHash}
 use Rattle.file_format.specs.Belongs.{Register}
-use Rattle.lookup.specs.Read.{Name, named}
-use Rattle.lookup.specs.Meaning.{nameOf, readFound}
+use Rattle.lookup.specs.Read.{Name, named, readFound}
+use Rattle.lookup.specs.Meaning.{nameOf}
 use Rattle.lookup.specs.declared.reading.Name.{Name as CodeName}
 use Rattle.station_queue.specs.Table.{Read, Turn, nobody, turn, next}
 use Rattle.station_queue.specs.Words.{tableOf}

@@ -6,7 +6,7 @@ use Rattle.answer_types.specs.Verdict.{done, refused, unlessRefused}
 use Rattle.blake2b.specs.Hash.{nodeHash}
 use Rattle.file_format.specs.Belongs.{Register}
 use Rattle.append_needs.specs.Needs.{Need, needOf, needVerdict}
-use Rattle.lookup.specs.Lookup.{Found, foundUnless}
+use Rattle.lookup.specs.Lookup.{Found, found, foundBehind}
 use Rattle.packet.specs.Packet.{makeVerdict, madeLength, afterMake}
 use Rattle.packet.specs.Check.{chunkLength, packetVerdict}
 use Rattle.compare.specs.Walk.{Comparison, rootsDiffer, equal}
@@ -16,7 +16,7 @@ use Rattle.c_encoding.specs.Encoding.{encoded}
 
 -- the chunk's part of a packet that passes the check: `packetChunk` (packet, Check) is this part
 unfoldable pub packetPart : List ℕ → ℕ → ℕ → List ℕ → Found
-packetPart p n c root = foundUnless (packetVerdict nodeHash p n c root) 4 (chunkLength p)
+packetPart p n c root = foundBehind (packetVerdict nodeHash p n c root) (found 4 (chunkLength p))
 
 -- making the packet of chunk c: the answer, the buffer lent for it and the number lent for its length
 pub record Makes (r : Register) (c : ℕ) (out : List ℕ) (long : ℕ) (answer outAfter : List ℕ) (longAfter : ℕ) : Type 0

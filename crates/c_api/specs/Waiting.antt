@@ -6,8 +6,7 @@ use Rattle.answer_types.specs.Verdict.{done, unlessRefused}
 use Rattle.blake2b.specs.Hash.{nodeHash}
 use Rattle.file_format.specs.Belongs.{Register}
 use Rattle.lookup.specs.Lookup.{Found}
-use Rattle.lookup.specs.Read.{named}
-use Rattle.lookup.specs.Meaning.{readFound}
+use Rattle.lookup.specs.Read.{named, readFound}
 use Rattle.station_queue.specs.Table.{Read, Turn, nobody, turn, enterVerdict, entered, next, served}
 use Rattle.station_queue.specs.Words.{storedAt, leftAt, tableOf}
 use Rattle.station_reads.specs.Serving.{numberOf, namedBy}

@@ -4,7 +4,7 @@ use number_types::ChunkNumber;
 ghost use Rattle.blake2b.specs.Hash.{nodeHash};
 ghost use Rattle.checks.specs.Lent.{registerOf};
 ghost use Rattle.lookup.specs.Lookup.{placeOf, byteAt};
-ghost use Rattle.lookup.specs.Meaning.{readFound};
+ghost use Rattle.lookup.specs.Read.{readFound};
 ghost use Rattle.search.specs.Search.{searchFor};
 ghost use Rattle.c_encoding.specs.Encoding.{Gives, asPart, asFound};
 

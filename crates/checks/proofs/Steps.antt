@@ -77,12 +77,12 @@ rooms r e =
 -- ---- the answers
 
 -- the verdict v, where the four tests came out as a, b, c and d
-pub answered : (r : Register) (v : Verdict) (a b c d : Bool) → signedRight (r .n) (r .s) ≡ a → longRight r ≡ b
+pub answered : (r : Register) {v : Verdict} {a b c d : Bool} → signedRight (r .n) (r .s) ≡ a → longRight r ≡ b
     → headsRight (r .tree) (r .signatures) (r .bitfield) ≡ c → eqb (total (storedRootSizes (r .tree) (r .n))) (r .size) ≡ d
     → v ≡ ladder a b c d done
     → v ≡ judged (laterChecks r) done
 unfolding addsUp
-answered r v a b c d e f g h w =
+answered r {a = a} {b} e f g h w =
     w
     ∙ sym
     (by-number r done

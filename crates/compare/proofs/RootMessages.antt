@@ -64,7 +64,7 @@ module _ (f g : ℕ → List ℕ) (P Q : ℕ → Type 0) (w : ℕ) (some : 0 < w
 
 stored-long : (t : List ℕ) (n i : ℕ) → RootsIn t n → filled n i ≡ true → length (storedHash t i) ≡ 32
 unfolding storedHash
-stored-long t n i p f = length-part t _ 32 (omega (arith, entry-in t n i p (filled-below n i f) .inside))
+stored-long t n i p f = length-part t _ 32 (omega (arith, entry-in p (filled-below n i f) .inside))
 
 -- equal root messages have one number of chunks
 pub same-count : (t u : List ℕ) (n m : ℕ) → RootsIn t n → RootsIn u m → storedRootMessage t n ≡ storedRootMessage u m → n ≡ m

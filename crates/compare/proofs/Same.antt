@@ -141,15 +141,15 @@ part-capped d x k h =
     capped-either (λ y. take k (drop y d) ≡ take k (drop x d)) x (λ l. refl)
     (λ l. ap (take k) (drop-of-length-le d {i = most} (omega arith) ∙ sym (drop-of-length-le d {i = x} (omega arith))))
 
-module _ (t : List ℕ) (n i start : ℕ) (p : ReadAt t n i start) where
+module _ {t : List ℕ} {n i start : ℕ} (p : ReadAt t n i start) where
   pub read-entry : EntryIn t i
-  read-entry = entry-in t n i (p .room) (p .entry)
+  read-entry = entry-in (p .room) (p .entry)
 
   pub read-started : Started t i start
   read-started = record { entry = read-entry; here = p .here }
 
   pub read-parent : (i % 2 ≡ 0 → ⊥) → filled n i ≡ true → AtParent t i
-  read-parent = parent-in t n i (p .room)
+  read-parent = parent-in (p .room)
 
   chunk-is : (d : List ℕ) → length d < 2 ^ 63 → i % 2 ≡ 0 → part d start (storedSize t i) ≡ storedChunk t d (i / 2)
   unfolding storedChunk
@@ -161,20 +161,20 @@ module _ (t : List ℕ) (n i start : ℕ) (p : ReadAt t n i start) where
 
 -- ---- two registers at an entry
 
-module _ (t d u e : List ℕ) (n i start begin : ℕ) (p : ReadAt t n i start) (q : ReadAt u n i begin) where
-  pub leaf-messages : (r : Bool) → length d < 2 ^ 63 → length e < 2 ^ 63 → i % 2 ≡ 0
+module _ {t u : List ℕ} (d e : List ℕ) {n i start begin : ℕ} (p : ReadAt t n i start) (q : ReadAt u n i begin) {r : Bool} where
+  pub leaf-messages : length d < 2 ^ 63 → length e < 2 ^ 63 → i % 2 ≡ 0
       → r ≡ sameList (part d start (storedSize t i)) (part e begin (storedSize u i)) → r ≡ sameList (storedMessage t d i) (storedMessage u e i)
-  leaf-messages r l m h s =
+  leaf-messages l m h s =
       let k : ℕ = i / 2 in
       let w : 2 * k ≡ i = omega arith in
-      s ∙ ap₂ sameList (chunk-is t n i start p d l h) (chunk-is u n i begin q e m h) ∙ same-leaves (storedChunk t d k) (storedChunk u e k)
+      s ∙ ap₂ sameList (chunk-is p d l h) (chunk-is q e m h) ∙ same-leaves (storedChunk t d k) (storedChunk u e k)
       ∙ ap₂ sameList (sym (even-message t d i k w)) (sym (even-message u e i k w))
 
-  pub parent-messages : (r : Bool) → Bytes t → Bytes u → (i % 2 ≡ 0 → ⊥) → filled n i ≡ true → r ≡ sameParent t u i
+  pub parent-messages : Bytes t → Bytes u → (i % 2 ≡ 0 → ⊥) → filled n i ≡ true → r ≡ sameParent t u i
       → r ≡ sameList (storedMessage t d i) (storedMessage u e i)
-  parent-messages r b b′ h f s =
+  parent-messages b b′ h f s =
       let z = odd-depth i h in
-      s ∙ same-parents t u i b b′ (read-parent t n i start p h f) (read-parent u n i begin q h f)
+      s ∙ same-parents t u i b b′ (read-parent p h f) (read-parent q h f)
       ∙ ap₂ sameList (sym (odd-message t d i z)) (sym (odd-message u e i z))
 
 -- ---- a collision, test by test
@@ -211,25 +211,25 @@ module _ (t d u e : List ℕ) (n i : ℕ) where
   pub collide-hash : sameHash ≡ false → false ≡ collidesAt t d u e n i
   collide-hash h = sym (as-three ∙ ap (three (filled n i) sameMessage) h ∙ last-false (filled n i) sameMessage)
 
-  pub collide-both : (m : Bool) → filled n i ≡ true → sameHash ≡ true → m ≡ sameMessage → not m ≡ collidesAt t d u e n i
-  collide-both m f h s = sym (as-three ∙ (λ j. three (f j) (sym s j) (h j)) ∙ first-last m)
+  pub collide-both : {m : Bool} → filled n i ≡ true → sameHash ≡ true → m ≡ sameMessage → not m ≡ collidesAt t d u e n i
+  collide-both {m} f h s = sym (as-three ∙ (λ j. three (f j) (sym s j) (h j)) ∙ first-last m)
 
 -- the tests of two parents in their order
-module _ (t u : List ℕ) (i x y : ℕ) (a : x ≡ sumBelow t i) (b : y ≡ sumBelow u i) where
+module _ (t u : List ℕ) (i : ℕ) {x y : ℕ} (a : x ≡ sumBelow t i) (b : y ≡ sumBelow u i) where
   pub parent-sums : (x ≡ y → ⊥) → false ≡ sameParent t u i
   unfolding sameParent
   parent-sums h = and-stop _ _ (ne-eqb (sumBelow t i) (sumBelow u i) (λ z. h (a ∙ z ∙ sym b)))
 
-  module _ (h : x ≡ y) (l : ℕ) (c : l ≡ leftChild i) (r : Bool) (s : r ≡ sameList (storedHash t l) (storedHash u l)) where
+  module _ (h : x ≡ y) {l : ℕ} (c : l ≡ leftChild i) {r : Bool} (s : r ≡ sameList (storedHash t l) (storedHash u l)) where
     pub parent-left : r ≡ false → false ≡ sameParent t u i
     unfolding sameParent
     parent-left f =
         and-pass _ _ false (eq-eqb (sumBelow t i) (sumBelow u i) (sym a ∙ h ∙ b))
         (and-stop _ _ (ap (λ (k : ℕ). sameList (storedHash t k) (storedHash u k)) (sym c) ∙ sym s ∙ f))
 
-    pub parent-right : r ≡ true → (k : ℕ) (w : Bool) → k ≡ rightChild i → w ≡ sameList (storedHash t k) (storedHash u k) → w ≡ sameParent t u i
+    pub parent-right : r ≡ true → {k : ℕ} {w : Bool} → k ≡ rightChild i → w ≡ sameList (storedHash t k) (storedHash u k) → w ≡ sameParent t u i
     unfolding sameParent
-    parent-right f k w g v =
+    parent-right f {w = w} g v =
         and-pass _ _ w (eq-eqb (sumBelow t i) (sumBelow u i) (sym a ∙ h ∙ b))
         (and-pass _ _ w (ap (λ (j : ℕ). sameList (storedHash t j) (storedHash u j)) (sym c) ∙ sym s ∙ f)
         (v ∙ ap (λ (j : ℕ). sameList (storedHash t j) (storedHash u j)) g))

@@ -44,31 +44,34 @@ module _ (t d u e : List ℕ) (n : ℕ) where
     pub there : begin ≡ capped (storedStart u (leavesBefore i))
     pub rest : lowest free from (end - from) ≡ lowest free i (end - i)
 
-  module _ (from end : ℕ) where
-    pub meeting-none : end ≤ from → equal ≡ found (lowest free from (end - from))
-    meeting-none h = ap found (sym (lowest-end free from end h))
+  pub meeting-none : (from end : ℕ) → end ≤ from → equal ≡ found (lowest free from (end - from))
+  meeting-none from end h = ap found (sym (lowest-end free from end h))
 
-    pub meeting-start : (start begin : ℕ) → start ≡ capped (storedStart t (leavesBefore from)) → begin ≡ capped (storedStart u (leavesBefore from))
-        → Meeting from end from start begin
-    meeting-start start begin a b = record { here = a; there = b; rest = refl }
+module _ {t d u e : List ℕ} {n from end : ℕ} where
+  pub meeting-start : {start begin : ℕ} → start ≡ capped (storedStart t (leavesBefore from)) → begin ≡ capped (storedStart u (leavesBefore from))
+      → Meeting t d u e n from end from start begin
+  meeting-start a b = record { here = a; there = b; rest = refl }
 
-    module _ (i start begin : ℕ) (w : Meeting from end i start begin) where
-      module _ (h : i < end) where
-        pub meeting-first : RootsIn t n → end ≤ entries n → ReadAt t n i start
-        meeting-first p k = record { room = p; entry = omega arith; here = w .here }
+  module _ {i start begin : ℕ} (w : Meeting t d u e n from end i start begin) where
+    abbrev passes : ℕ → Bool
+    passes = free t d u e n
 
-        pub meeting-second : RootsIn u n → end ≤ entries n → ReadAt u n i begin
-        meeting-second p k = record { room = p; entry = omega arith; here = w .there }
+    module _ (h : i < end) where
+      pub meeting-first : RootsIn t n → end ≤ entries n → ReadAt t n i start
+      meeting-first p k = record { room = p; entry = omega arith; here = w .here }
 
-        pub meeting-next : (next after : ℕ) (r : Bool) → r ≡ collidesAt t d u e n i → r ≡ false → next ≡ capped (storedStart t (leavesBefore (i + 1)))
-            → after ≡ capped (storedStart u (leavesBefore (i + 1))) → Meeting from end (i + 1) next after
-        meeting-next next after r c f a b = record { here = a; there = b; rest = w .rest ∙ lowest-on free i end h (ap not (sym c ∙ f)) }
+      pub meeting-second : RootsIn u n → end ≤ entries n → ReadAt u n i begin
+      meeting-second p k = record { room = p; entry = omega arith; here = w .there }
 
-        pub meeting-found : (r : Bool) → r ≡ collidesAt t d u e n i → r ≡ true → atIndex i ≡ found (lowest free from (end - from))
-        meeting-found r c f = ap found (sym (w .rest ∙ lowest-off free i end h (ap not (sym c ∙ f))))
+      pub meeting-next : {next after : ℕ} {r : Bool} → r ≡ collidesAt t d u e n i → r ≡ false → next ≡ capped (storedStart t (leavesBefore (i + 1)))
+          → after ≡ capped (storedStart u (leavesBefore (i + 1))) → Meeting t d u e n from end (i + 1) next after
+      meeting-next c f a b = record { here = a; there = b; rest = w .rest ∙ lowest-on passes i end h (ap not (sym c ∙ f)) }
 
-      pub meeting-done : end ≤ i → equal ≡ found (lowest free from (end - from))
-      meeting-done h = ap found (sym (w .rest ∙ lowest-end free i end h))
+      pub meeting-found : {r : Bool} → r ≡ collidesAt t d u e n i → r ≡ true → atIndex i ≡ found (lowest passes from (end - from))
+      meeting-found c f = ap found (sym (w .rest ∙ lowest-off passes i end h (ap not (sym c ∙ f))))
+
+    pub meeting-done : end ≤ i → equal ≡ found (lowest passes from (end - from))
+    meeting-done h = ap found (sym (w .rest ∙ lowest-end passes i end h))
 
 -- ---- the walk
 
@@ -88,14 +91,14 @@ module _ (F : List ℕ → List ℕ) (t u : List ℕ) (n m : ℕ) where
   abbrev pub top : Comparison → Comparison
   top = atTop F (storedRootMessage t n) (storedRootMessage u m)
 
-  module _ (x y : List ℕ) (h : Bool) (p : x ≡ F (storedRootMessage t n)) (q : y ≡ F (storedRootMessage u m)) (s : h ≡ sameList x y) where
+  module _ {x y : List ℕ} {h : Bool} (p : x ≡ F (storedRootMessage t n)) (q : y ≡ F (storedRootMessage u m)) (s : h ≡ sameList x y) where
     hashes : sameList (F (storedRootMessage t n)) (F (storedRootMessage u m)) ≡ h
     hashes = (λ j. sameList (sym p j) (sym q j)) ∙ sym s
 
     pub top-differ : h ≡ false → rootsDiffer ≡ top equal
     top-differ f = sym (ap (λ (b : Bool). cond b (cond (sameList (storedRootMessage t n) (storedRootMessage u m)) equal atRoots) rootsDiffer) (hashes ∙ f))
 
-    module _ (r : Bool) (v : r ≡ sameList (storedRootMessage t n) (storedRootMessage u m)) (f : h ≡ true) where
+    module _ {r : Bool} (v : r ≡ sameList (storedRootMessage t n) (storedRootMessage u m)) (f : h ≡ true) where
       told-by : (b : Bool) → r ≡ b → cond b equal atRoots ≡ top equal
       told-by b g = sym (λ j. cond ((hashes ∙ f) j) (cond ((sym v ∙ g) j) equal atRoots) rootsDiffer)
 
@@ -123,11 +126,11 @@ module _ (F : List ℕ → List ℕ) (t d u e : List ℕ) (n m : ℕ) where
       (found (lowest (free t d u e n) 0 (entries n)))
 
   -- what the roots tell, where it is not "equal"
-  pub walk-told : (x : Comparison) → x ≡ top F t u n m equal → ((next : Comparison) → unlessTold x next ≡ x) → x ≡ walked
-  walk-told x q stop = sym (walk-parts ∙ ap (λ (c : Comparison). unlessTold c (found (lowest (free t d u e n) 0 (entries n)))) (sym q) ∙ stop _)
+  pub walk-told : {x : Comparison} → x ≡ top F t u n m equal → ((next : Comparison) → unlessTold x next ≡ x) → x ≡ walked
+  walk-told q stop = sym (walk-parts ∙ ap (λ (c : Comparison). unlessTold c (found (lowest (free t d u e n) 0 (entries n)))) (sym q) ∙ stop _)
 
-  pub walk-found : equal ≡ top F t u n m equal → (c : Comparison) (end : ℕ) → end ≡ entries n → c ≡ found (lowest (free t d u e n) 0 (end - 0)) → c ≡ walked
-  walk-found q c end f z =
+  pub walk-found : equal ≡ top F t u n m equal → {c : Comparison} {end : ℕ} → end ≡ entries n → c ≡ found (lowest (free t d u e n) 0 (end - 0)) → c ≡ walked
+  walk-found q {end = end} f z =
       let k : end - 0 ≡ entries n = omega arith in
       z ∙ ap (λ (a : ℕ). found (lowest (free t d u e n) 0 a)) k
       ∙ sym (walk-parts ∙ ap (λ (c : Comparison). unlessTold c (found (lowest (free t d u e n) 0 (entries n)))) (sym q))
@@ -156,5 +159,5 @@ module _ (F : List ℕ → List ℕ) (a b : Register) (x : Answer) (p : said x �
       pub both-rooted : RootsIn (a .tree) (a .n) × RootsIn (b .tree) (b .n)
       both-rooted = (rooted F a (whole-accepted F a (sym p ∙ ap said e)), rooted F b (whole-accepted F b (sym q ∙ ap said g)))
 
-      pub walk-says : (c : Comparison) → c ≡ last → c ≡ compare F a b
-      walk-says c z = z ∙ sym (parts ∙ (λ j. unlessRefused (said (e j)) (sym q j) last) ∙ ap (λ (w : Answer). unlessRefused done (said w) last) g)
+      pub walk-says : {c : Comparison} → c ≡ last → c ≡ compare F a b
+      walk-says z = z ∙ sym (parts ∙ (λ j. unlessRefused (said (e j)) (sym q j) last) ∙ ap (λ (w : Answer). unlessRefused done (said w) last) g)

@@ -69,18 +69,18 @@ module _ (r : Register) where
       unfolding bitsPlace usedBitfield
       held-bits = files-in r done x checked ok .field .inside
 
-      module _ (l : Lowest) (searched : l ≡ lowest (storedHeld (r .bitfield)) 0 (r .n - 0)) where
+      module _ {l : Lowest} (searched : l ≡ lowest (storedHeld (r .bitfield)) 0 (r .n - 0)) where
         found : l ≡ missing r
         unfolding missing
         found = searched ∙ ap (lowest (storedHeld (r .bitfield)) 0) (omega arith)
 
-        pub missing-below : (c : ℕ) → l ≡ first c → c < 2097152
+        pub missing-below : {c : ℕ} → l ≡ first c → c < 2097152
         unfolding missing
-        missing-below c e = omega (arith, first-below (storedHeld (r .bitfield)) 0 (r .n) c (sym e ∙ found), files-in r done x checked ok .nodes .count)
+        missing-below {c} e = omega (arith, first-below (storedHeld (r .bitfield)) 0 (r .n) c (sym e ∙ found), files-in r done x checked ok .nodes .count)
 
-        pub missing-refuses : (c i : ℕ) (v : Verdict) → l ≡ first c → i ≡ index 0 c → v ≡ refused 18 (tree i) → v ≡ heldThen r done
+        pub missing-refuses : {c i : ℕ} {v : Verdict} → l ≡ first c → i ≡ index 0 c → v ≡ refused 18 (tree i) → v ≡ heldThen r done
         unfolding refusedAt
-        missing-refuses c i v e q u =
+        missing-refuses {v = v} e q u =
             checks-pass r (refusedAt 18 atLeaf (missing r) done) x checked ok v
             (u ∙ ap (λ (j : ℕ). refused 18 (tree j)) q ∙ ap (λ (m : Lowest). refusedAt 18 atLeaf m done) (sym e ∙ found))
 
@@ -110,8 +110,8 @@ module _ (F : List ℕ → List ℕ) (r : Register) where
           let p = passed r (refusedAt 18 atLeaf (missing r) done) (sym held ∙ ok) .0 in
           record { nodes = record { count = p .count; inside = p .tree }; field = record { count = p .count; inside = p .bitfield }; bytes = p .content }
 
-      pub images-say : (v : Verdict) → v ≡ imagesVerdict F (registerOf (r .tree) [] (r .bitfield) (r .content) (r .n) 0 (r .size)) → v ≡ wholeVerdict F r
-      images-say v u = u ∙ images-of F r ∙ sym (whole-parts ∙ ap (λ (w : Verdict). andThen w (imagesVerdict F r)) ok)
+      pub images-say : {v : Verdict} → v ≡ imagesVerdict F (registerOf (r .tree) [] (r .bitfield) (r .content) (r .n) 0 (r .size)) → v ≡ wholeVerdict F r
+      images-say u = u ∙ images-of F r ∙ sym (whole-parts ∙ ap (λ (w : Verdict). andThen w (imagesVerdict F r)) ok)
 
   -- ---- what the verdict says
 

@@ -46,36 +46,36 @@ right-unless b i e = ap (λ (x : Bool). wrongUnless x i) e
 
 -- ---- where things lie
 
-pub chunk-bit : (bits : List ℕ) (n k : ℕ) → BitsIn bits n → k < n → bitsPlace (k / 8192 + 1) ≤ length bits
+pub chunk-bit : {bits : List ℕ} {n : ℕ} (k : ℕ) → BitsIn bits n → k < n → bitsPlace (k / 8192 + 1) ≤ length bits
 unfolding bitsPlace usedBitfield entryCount
-chunk-bit bits n k b h = omega (arith, b .inside)
+chunk-bit k b h = omega (arith, b .inside)
 
 -- an even entry is the leaf of one of n chunks
-pub leaf-chunk : (n i k : ℕ) → i < entries n → i % 2 ≡ 0 → k ≡ block i → k < n
+pub leaf-chunk : (n i : ℕ) {k : ℕ} → i < entries n → i % 2 ≡ 0 → k ≡ block i → k < n
 unfolding entries
-leaf-chunk n i k h e q = let b : k ≡ i / 2 = q ∙ sym (leaf-block i e) in omega arith
+leaf-chunk n i {k} h e q = let b : k ≡ i / 2 = q ∙ sym (leaf-block i e) in omega arith
 
-module _ (tree bits content : List ℕ) (n size : ℕ) (p : FilesIn tree bits content n size) where
-  pub node-at : (i : ℕ) → i < entries n → AtNode bits n i
-  node-at i h = record { field = p .field; entry = h }
+module _ {tree bits content : List ℕ} {n size : ℕ} (p : FilesIn tree bits content n size) where
+  pub node-at : {i : ℕ} → i < entries n → AtNode bits n i
+  node-at h = record { field = p .field; entry = h }
 
-  pub family-at : (i : ℕ) → (i % 2 ≡ 0 → ⊥) → filled n i ≡ true → AtFamily tree bits i
-  family-at i o f =
+  pub family-at : {i : ℕ} → (i % 2 ≡ 0 → ⊥) → filled n i ≡ true → AtFamily tree bits i
+  family-at {i} o f =
       record {
-        entries = parent-in tree n i (p .nodes) o f;
+        entries = parent-in (p .nodes) o f;
         left = tree-bit bits n (leftChild i) (p .field) (filled-leftChild n i (odd-depth i o) f);
         right = tree-bit bits n (rightChild i) (p .field) (filled-rightChild n i (odd-depth i o) f);
       }
 
-  pub leaf-at : (k : ℕ) → k < n → AtLeaf tree content size k
+  pub leaf-at : {k : ℕ} → k < n → AtLeaf tree content size k
   unfolding entries
-  leaf-at k h = record { entry = entry-in tree n (2 * k) (p .nodes) (omega arith); bytes = p .bytes }
+  leaf-at h = record { entry = entry-in (p .nodes) (omega arith); bytes = p .bytes }
 
 -- ---- the tests
 
-pub held-even : (bits : List ℕ) (i k : ℕ) (r : Bool) → i % 2 ≡ 0 → k ≡ block i → r ≡ storedHeld bits k → r ≡ heldLeaf bits i
+pub held-even : (bits : List ℕ) (i : ℕ) {k : ℕ} {r : Bool} → i % 2 ≡ 0 → k ≡ block i → r ≡ storedHeld bits k → r ≡ heldLeaf bits i
 unfolding heldLeaf
-held-even bits i k r h e q =
+held-even bits i h e q =
     q ∙ ap (storedHeld bits) e ∙ sym (ap (λ (d : ℕ). byDepth d (storedHeld bits (block i)) false) (even-depth i h))
 
 pub held-odd : (bits : List ℕ) (i : ℕ) → (i % 2 ≡ 0 → ⊥) → false ≡ heldLeaf bits i
@@ -123,32 +123,32 @@ module _ (F : List ℕ → List ℕ) (c : Copy) (k : ℕ) where
   unfolding wrongByLeaf
   by-ending h e q = ap (wrongFrom F c k) q ∙ told h (copyToChunk c k)
 
-  pub leaf-unknown : c .size < most → (j i : ℕ) → unknown j ≡ cappedEnding (copyToChunk c k) → i ≡ index 0 k → first i ≡ wrongByLeaf F c k
+  pub leaf-unknown : c .size < most → {j i : ℕ} → unknown j ≡ cappedEnding (copyToChunk c k) → i ≡ index 0 k → first i ≡ wrongByLeaf F c k
   unfolding wrongFrom
-  leaf-unknown h j i e q = ap first q ∙ by-ending h (unknown j) e
+  leaf-unknown h {j} e q = ap first q ∙ by-ending h (unknown j) e
 
-  pub leaf-stopped : c .size < most → (i : ℕ) → stopped i ≡ cappedEnding (copyToChunk c k) → first i ≡ wrongByLeaf F c k
+  pub leaf-stopped : c .size < most → {i : ℕ} → stopped i ≡ cappedEnding (copyToChunk c k) → first i ≡ wrongByLeaf F c k
   unfolding wrongFrom
-  leaf-stopped h i = by-ending h (stopped i)
+  leaf-stopped h {i} = by-ending h (stopped i)
 
-  pub leaf-reached : c .size < most → (j s i : ℕ) (r : Bool) → reached j s ≡ cappedEnding (copyToChunk c k) → i ≡ index 0 k
+  pub leaf-reached : c .size < most → {j s i : ℕ} {r : Bool} → reached j s ≡ cappedEnding (copyToChunk c k) → i ≡ index 0 k
       → r ≡ leafFrom F (c .tree) (c .content) (c .size) (storedHeld (c .bitfield) k) (2 * k) s → wrongUnless r i ≡ wrongByLeaf F c k
   unfolding wrongFrom
-  leaf-reached h j s i r q qi qr = ap₂ wrongUnless (qr ∙ sym (own-test s)) qi ∙ by-ending h (reached j s) q
+  leaf-reached h {j} {s} q qi qr = ap₂ wrongUnless (qr ∙ sym (own-test s)) qi ∙ by-ending h (reached j s) q
 
 -- ---- an entry, whichever it is
 
 module _ (F : List ℕ → List ℕ) (c : Copy) (i : ℕ) where
-  pub by-hole : (r : Bool) (l : Lowest) → filled (c .n) i ≡ false → r ≡ holeRight F (c .tree) i → l ≡ wrongUnless r i → l ≡ wrongBy F c i
+  pub by-hole : {r : Bool} {l : Lowest} → filled (c .n) i ≡ false → r ≡ holeRight F (c .tree) i → l ≡ wrongUnless r i → l ≡ wrongBy F c i
   unfolding wrongBy
-  by-hole r l f e q =
+  by-hole f e q =
       q ∙ ap (λ (b : Bool). wrongUnless b i) e
       ∙ sym (ap (λ (b : Bool). cond b (cond (storedKnown (c .bitfield) i) (wrongByKnown F c i) (wrongByUnknown F c i)) (wrongUnless (holeRight F (c .tree) i) i)) f)
 
-  pub by-unknown : (r : Bool) (l : Lowest) → filled (c .n) i ≡ true → storedKnown (c .bitfield) i ≡ false
+  pub by-unknown : {r : Bool} {l : Lowest} → filled (c .n) i ≡ true → storedKnown (c .bitfield) i ≡ false
       → r ≡ (holeRight F (c .tree) i && not (heldLeaf (c .bitfield) i)) → l ≡ wrongUnless r i → l ≡ wrongBy F c i
   unfolding wrongBy wrongByUnknown heldLeaf
-  by-unknown r l f k e q =
+  by-unknown f k e q =
       q ∙ ap (λ (b : Bool). wrongUnless b i) e
       ∙ sym (ap₂ (λ (b d : Bool). cond b (cond d (wrongByKnown F c i) (wrongByUnknown F c i)) (wrongUnless (holeRight F (c .tree) i) i)) f k)
 
@@ -157,16 +157,16 @@ module _ (F : List ℕ → List ℕ) (c : Copy) (i : ℕ) where
     unfolding wrongBy
     known-is = sym (ap₂ (λ (b d : Bool). cond b (cond d (wrongByKnown F c i) (wrongByUnknown F c i)) (wrongUnless (holeRight F (c .tree) i) i)) f k)
 
-    pub by-leaf : (j : ℕ) (l : Lowest) → i % 2 ≡ 0 → j ≡ block i → l ≡ wrongByLeaf F c j → l ≡ wrongBy F c i
+    pub by-leaf : {j : ℕ} {l : Lowest} → i % 2 ≡ 0 → j ≡ block i → l ≡ wrongByLeaf F c j → l ≡ wrongBy F c i
     unfolding wrongByKnown
-    by-leaf j l h e q =
+    by-leaf h e q =
         q ∙ ap (wrongByLeaf F c) e ∙ sym (ap (λ (d : ℕ). byDepth d (wrongByLeaf F c (block i)) (wrongByParent F c i)) (even-depth i h)) ∙ known-is
 
-    pub by-parent : (r : Bool) (l : Lowest) → (i % 2 ≡ 0 → ⊥)
+    pub by-parent : {r : Bool} {l : Lowest} → (i % 2 ≡ 0 → ⊥)
         → r ≡ (not (storedKnown (c .bitfield) (leftChild i) && storedKnown (c .bitfield) (rightChild i)) || parentRight F (c .tree) i)
         → l ≡ wrongUnless r i → l ≡ wrongBy F c i
     unfolding wrongByKnown wrongByParent bothKnown
-    by-parent r l h e q =
+    by-parent h e q =
         let d : depth i ≡ suc (depth i - 1) = omega (arith, odd-depth i h) in
         q ∙ ap (λ (b : Bool). wrongUnless b i) e
         ∙ sym (ap (λ (x : ℕ). byDepth x (wrongByLeaf F c (block i)) (wrongByParent F c i)) d) ∙ known-is
@@ -178,18 +178,19 @@ pub record Seeking (F : List ℕ → List ℕ) (c : Copy) (from end i : ℕ) (x 
   pub behind : from ≤ i
   pub lowering : Lowering (run (wrongBy F c) from (end - from)) nowhere (i - from) x
 
-module _ (F : List ℕ → List ℕ) (c : Copy) (from end : ℕ) where
-  abbrev found : List Lowest
-  found = run (wrongBy F c) from (end - from)
-
+module _ {F : List ℕ → List ℕ} {c : Copy} {from end : ℕ} where
   pub seeking-none : Seeking F c from end from nowhere
   seeking-none =
       let z : 0 ≡ from - from = omega arith in
+      let found = run (wrongBy F c) from (end - from) in
       record { behind = omega arith; lowering = subst (λ (j : ℕ). Lowering found nowhere j nowhere) z (lowering-none found nowhere) }
 
-  module _ (i : ℕ) (x : Lowest) (w : Seeking F c from end i x) where
-    pub seeking-next : (y z : Lowest) → i < end → y ≡ wrongBy F c i → z ≡ lowerOf x y → Seeking F c from end (i + 1) z
-    seeking-next y z h e q =
+  module _ {i : ℕ} {x : Lowest} (w : Seeking F c from end i x) where
+    abbrev found : List Lowest
+    found = run (wrongBy F c) from (end - from)
+
+    pub seeking-next : {y z : Lowest} → i < end → y ≡ wrongBy F c i → z ≡ lowerOf x y → Seeking F c from end (i + 1) z
+    seeking-next {y} h e q =
         let f = wrongBy F c in
         let b = w .behind in
         let j : i - from + 1 ≡ i + 1 - from = omega arith in
@@ -208,7 +209,7 @@ module _ (F : List ℕ → List ℕ) (c : Copy) (from end : ℕ) where
         lowering-all found nowhere (i - from) x (w .lowering) (omega (arith, length-run (wrongBy F c) from (end - from)))
 
 -- the walk over all entries
-pub seeking-whole : (F : List ℕ → List ℕ) (c : Copy) (end : ℕ) (x : Lowest) → end ≡ entries (c .n) → x ≡ leastOf (run (wrongBy F c) 0 (end - 0))
+pub seeking-whole : (F : List ℕ → List ℕ) (c : Copy) {end : ℕ} {x : Lowest} → end ≡ entries (c .n) → x ≡ leastOf (run (wrongBy F c) 0 (end - 0))
     → x ≡ wrongEntryOfCopy F c
 unfolding wrongEntryOfCopy
-seeking-whole F c end x e q = let k : end - 0 ≡ entries (c .n) = omega arith in q ∙ ap (λ (m : ℕ). leastOf (run (wrongBy F c) 0 m)) k
+seeking-whole F c {end} e q = let k : end - 0 ≡ entries (c .n) = omega arith in q ∙ ap (λ (m : ℕ). leastOf (run (wrongBy F c) 0 m)) k

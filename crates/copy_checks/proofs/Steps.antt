@@ -44,9 +44,9 @@ by-number c next =
     (headed (c .tree) treeHeader) (headed (c .bitfield) bitfieldHeader) next)
 
 -- the verdict v, where the three tests came out as a, b and d
-pub answered : (c : Copy) (v : Verdict) (a b d : Bool) → countRight (c .n) ≡ a → longRight c ≡ b → headsRight (c .tree) (c .bitfield) ≡ d
+pub answered : (c : Copy) {v : Verdict} {a b d : Bool} → countRight (c .n) ≡ a → longRight c ≡ b → headsRight (c .tree) (c .bitfield) ≡ d
     → v ≡ ladder a b d done → v ≡ judged (lentChecks c) done
-answered c v a b d e f g w =
+answered c {a = a} e f g w =
     w
     ∙ sym
     (by-number c done ∙ ap (λ (x : Bool). ladder x (longRight c) (headsRight (c .tree) (c .bitfield)) done) e

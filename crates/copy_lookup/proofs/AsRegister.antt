@@ -1,115 +1,102 @@
 -- Where a lookup or a read on a copy is done, it is done on the copy as a register, with the same answer: what is proved of a register's place, bytes and
 -- packet holds of the copy's. Assumes nothing.
-use Prim.Native.Nat.{ℕ, _+_}
-use mathlib.Core.Path.{_≡_, refl, sym, ap, _∙_}
-use mathlib.Core.Bool.{Bool, true, false, cond}
-use mathlib.Core.List.{List, [], _∷_}
-use native.Mathlib.Omega.{arith}
-use lib.Dec.{ltb}
-use Rattle.answer_types.specs.Verdict.{Spot, Verdict, tree, done, refused, andThen}
-use Rattle.byte_strings.specs.Lists.{sameList}
+use Prim.Native.Nat.{ℕ, _<_}
+use mathlib.Core.Path.{_≡_, sym, ap, _∙_}
+use mathlib.Core.Bool.{true}
+use mathlib.Core.List.{List}
+use Rattle.answer_types.specs.Verdict.{done}
 use Rattle.tree_index.specs.Tree.{index}
 use Rattle.bitfield.specs.Release.{storedHeld}
-use Rattle.file_format.specs.Messages.{leafMessage}
-use Rattle.file_format.specs.Stored.{storedHash, storedSize}
-use Rattle.checks.specs.Checks.{Check, judged, registerChecks}
-use Rattle.checks.proofs.Judged.{judged-right, judged-done, judged-append}
+use Rattle.file_format.specs.Stored.{storedSize}
 use Rattle.checks.proofs.Passed.{passes}
-use Rattle.lookup.specs.Descent.{Ending}
-use Rattle.lookup.specs.Lookup.{Found, found, foundUnless, startOf, stopRefused, toChunk, heldVerdict, heldPlaceOf}
-use Rattle.lookup.specs.Read.{chunkBytes, readVerdict}
-use Rattle.lookup.specs.Meaning.{readFound}
-use Rattle.copy_checks.specs.Copy.{Copy, unsigned}
+use Rattle.lookup.specs.Descent.{reached, always}
+use Rattle.lookup.specs.Lookup.{found, toChunk, placeIn, placeOf, heldPlaceOf}
+use Rattle.lookup.specs.Read.{verdictFound, hashJudged, readFound, readVerdict}
+use Rattle.lookup.proofs.Lookups.{found-done, behind-done, behind-found, place-at, place-reaches, held-here, held-found, hashed}
+use Rattle.lookup.proofs.Calls.{held-placing}
+use Rattle.copy_checks.specs.Copy.{Copy, known}
 use Rattle.copy_checks.specs.Descents.{copyToChunk}
-use Rattle.copy_checks.proofs.Steps.{copy-passed}
+use Rattle.copy_checks.specs.Checks.{copyJudged}
+use Rattle.copy_checks.proofs.Steps.{Knowing, copy-passed, copy-passes}
 use Rattle.copy_checks.proofs.Signed.{signed, signed-passes}
 use Rattle.copy_checks.proofs.Descents.{chunk-read, chunk-same}
-use Rattle.copy_lookup.specs.Lookups.{copyHeldVerdict, copyHeldPlaceOf}
+use Rattle.copy_lookup.specs.Lookups.{copyPlaceOf, copyHeldPlaceOf}
 use Rattle.copy_lookup.specs.Reading.{copyReadVerdict, copyReadFound}
 
-held-must : (b : Bool) (v : Verdict) (m : ℕ) (at : Spot) → cond b v (refused m at) ≡ done → (b ≡ true) × (v ≡ done)
-held-must true v m at e = (refl, e)
-held-must false v m at e = let z : _≡_ {A = ℕ} 0 1 = cc in absurd (omega arith)
-
-found-done : (v : Verdict) (a b x y : ℕ) → found x y ≡ foundUnless v a b → v ≡ done
-found-done done a b x y e = refl
-found-done (refused m at) a b x y e = let z : _≡_ {A = ℕ} 0 1 = cc in absurd (omega arith)
-
-then-done : (v x : Verdict) → andThen v x ≡ done → (v ≡ done) × (x ≡ done)
-then-done done x e = (refl, e)
-then-done (refused m at) x e = let z : _≡_ {A = ℕ} 0 1 = cc in absurd (omega arith)
-
 module _ (c : Copy) (i : ℕ) where
-  abbrev nine : List Check
-  nine = record { number = 9; right = ltb i (c .n) } ∷ []
+  -- the place of a chunk that is held and was found
+  pub record HeldAt (start size : ℕ) : Type 0 where
+    pub knows : Knowing c
+    pub below : i < c .n
+    pub held : storedHeld (c .bitfield) i ≡ true
+    pub comes : copyToChunk c i ≡ reached i start
+    pub long : size ≡ storedSize (c .tree) (index 0 i)
+    pub register : heldPlaceOf (signed c) i ≡ found start size
 
-  -- 18, and what comes behind it
-  abbrev gone : Verdict → Verdict
-  gone next = cond (storedHeld (c .bitfield) i) next (refused 18 (tree (index 0 i)))
+  -- the descent that comes to a leaf is the register's
+  place-as : {start size : ℕ} → placeIn (known c) (c .tree) (c .n) i ≡ found start size → placeIn always (c .tree) (c .n) i ≡ found start size
+  unfolding copyToChunk toChunk
+  place-as {start} e =
+      let q = place-reaches (known c) (c .tree) (c .n) i e in
+      place-at always (c .tree) (c .n) i (q .below) (sym (chunk-same c i (chunk-read c i (q .comes))) ∙ q .comes) ∙ ap (found start) (sym (q .long))
 
-  abbrev stopped : Verdict
-  stopped = stopRefused (copyToChunk c i)
+  pub place-found-as : {start size : ℕ} → copyPlaceOf c i ≡ found start size → placeOf (signed c) i ≡ found start size
+  unfolding copyPlaceOf placeOf
+  place-found-as e =
+      let a = behind-found (copyJudged c done) e in
+      behind-done _ (passes (signed c) done (signed-passes c (copy-passed c done (a .0) .0))) ∙ place-as (a .1)
 
-  -- of a chunk that has a place the descent is the register's
-  pub held-same : copyHeldVerdict c i ≡ done → copyToChunk c i ≡ toChunk (unsigned c) i
-  unfolding copyHeldVerdict
-  held-same e =
-      let b = judged-done nine (gone stopped) (copy-passed c (judged nine (gone stopped)) e .1) in
-      let d = held-must (storedHeld (c .bitfield) i) stopped 18 (tree (index 0 i)) (b .1) in
-      chunk-same c i (chunk-read c i (d .1))
+  pub held-at : {start size : ℕ} → copyHeldPlaceOf c i ≡ found start size → HeldAt start size
+  unfolding copyHeldPlaceOf heldPlaceOf copyToChunk toChunk
+  held-at {start} e =
+      let a = behind-found (copyJudged c done) e in
+      let b = held-found (known c) (c .tree) (c .n) i (c .bitfield) (a .1) in
+      let k = copy-passed c done (a .0) .0 in
+      let q = place-reaches (known c) (c .tree) (c .n) i (b .1) in
+      let r =
+      behind-done _ (passes (signed c) done (signed-passes c k)) ∙ held-here always (c .tree) (c .n) i (c .bitfield) (q .below) (b .0) ∙ place-as (b .1)
+      in
+      let p = held-placing (signed c) i r in
+      record {
+        knows = k;
+        below = q .below;
+        held = b .0;
+        comes = chunk-same c i (chunk-read c i (q .comes)) ∙ p .comes;
+        long = p .long;
+        register = r;
+      }
 
-  pub held-as : copyHeldVerdict c i ≡ done → heldVerdict (signed c) i ≡ done
-  unfolding copyHeldVerdict heldVerdict toChunk
-  held-as e =
-      let stop : Verdict = stopRefused (toChunk (signed c) i) in
-      let a = copy-passed c (judged nine (gone stopped)) e in
-      let b = judged-done nine (gone stopped) (a .1) in
-      let d = held-must (storedHeld (c .bitfield) i) stopped 18 (tree (index 0 i)) (b .1) in
-      judged-append (registerChecks (signed c)) nine (gone stop)
-      ∙ passes (signed c) (judged nine (gone stop)) (signed-passes c (a .0))
-      ∙ judged-right nine (gone stop) (b .0)
-      ∙ ap (λ (x : Bool). cond x stop (refused 18 (tree (index 0 i)))) (d .0)
-      ∙ ap stopRefused (sym (held-same e)) ∙ d .1
-
-  -- its place is the register's
-  pub held-place-by : copyHeldPlaceOf c i ≡ foundUnless (copyHeldVerdict c i) (startOf (toChunk (unsigned c) i)) (storedSize (c .tree) (index 0 i))
-  unfolding copyHeldPlaceOf
-  held-place-by = go (copyHeldVerdict c i) refl
-    where
-      go : (v : Verdict) → copyHeldVerdict c i ≡ v
-          → foundUnless v (startOf (copyToChunk c i)) (storedSize (c .tree) (index 0 i)) ≡ foundUnless v (startOf (toChunk (unsigned c) i)) (storedSize (c .tree) (index 0 i))
-      go done e = ap (λ (x : Ending). found (startOf x) (storedSize (c .tree) (index 0 i))) (held-same e)
-      go (refused m at) e = refl
-
-  pub held-place-done : (start size : ℕ) → found start size ≡ copyHeldPlaceOf c i → copyHeldVerdict c i ≡ done
-  held-place-done start size e =
-      found-done (copyHeldVerdict c i) (startOf (toChunk (unsigned c) i)) (storedSize (c .tree) (index 0 i)) start size (e ∙ held-place-by)
+  -- one that the descent comes to is found
+  pub held-found-at : Knowing c → i < c .n → storedHeld (c .bitfield) i ≡ true → {k s : ℕ} → copyToChunk c i ≡ reached k s
+      → copyHeldPlaceOf c i ≡ found s (storedSize (c .tree) (index 0 i))
+  unfolding copyHeldPlaceOf copyToChunk
+  held-found-at k h b e =
+      behind-done _ (copy-passes c done k) ∙ held-here (known c) (c .tree) (c .n) i (c .bitfield) h b ∙ place-at (known c) (c .tree) (c .n) i h e
 
   pub held-place-as : (start size : ℕ) → found start size ≡ copyHeldPlaceOf c i → found start size ≡ heldPlaceOf (signed c) i
-  unfolding heldPlaceOf toChunk
-  held-place-as start size e =
-      let v = held-place-done start size e in
-      let at : Verdict → Found = λ x. foundUnless x (startOf (toChunk (signed c) i)) (storedSize (c .tree) (index 0 i)) in
-      e ∙ held-place-by ∙ ap at v ∙ sym (ap at (held-as v))
+  held-place-as start size e = sym (held-at (sym e) .register)
+
+  pub held-done : verdictFound (copyHeldPlaceOf c i) ≡ done → (start : ℕ) × HeldAt start (storedSize (c .tree) (index 0 i))
+  held-done e =
+      let a = found-done (copyHeldPlaceOf c i) e in
+      (a .0, held-at (a .2 ∙ ap (found (a .0)) (held-at (a .2) .long)))
 
 module _ (F : List ℕ → List ℕ) (c : Copy) (i : ℕ) where
-  pub read-as : copyReadVerdict F c i ≡ done → readVerdict F (signed c) i ≡ done
-  unfolding copyReadVerdict readVerdict chunkBytes toChunk
-  read-as e =
-      let next : Verdict = cond (sameList (storedHash (c .tree) (index 0 i)) (F (leafMessage (chunkBytes (signed c) i)))) done (refused 10 (tree (index 0 i))) in
-      let a = then-done (copyHeldVerdict c i) next e in
-      ap (λ (v : Verdict). andThen v next) (held-as c i (a .0)) ∙ a .1
-
   pub read-found-done : (from end : ℕ) → found from end ≡ copyReadFound F c i → copyReadVerdict F c i ≡ done
-  unfolding copyReadFound
-  read-found-done from end e =
-      let start : ℕ = startOf (toChunk (unsigned c) i) in
-      found-done (copyReadVerdict F c i) start (start + storedSize (c .tree) (index 0 i)) from end e
+  unfolding copyReadVerdict
+  read-found-done from end e = sym (ap verdictFound e)
+
+  -- a chunk that is read is held
+  pub read-held : copyReadVerdict F c i ≡ done → verdictFound (copyHeldPlaceOf c i) ≡ done
+  unfolding copyReadVerdict copyReadFound
+  read-held e = ap verdictFound (hashed F (c .tree) (c .content) i (copyHeldPlaceOf c i) (found-done (copyReadFound F c i) e .2) .place)
 
   pub read-found-as : (from end : ℕ) → found from end ≡ copyReadFound F c i → found from end ≡ readFound F (signed c) i
-  unfolding copyReadFound readFound toChunk
+  unfolding copyReadFound readFound
   read-found-as from end e =
-      let start : ℕ = startOf (toChunk (signed c) i) in
-      let at : Verdict → Found = λ x. foundUnless x start (start + storedSize (c .tree) (index 0 i)) in
-      let v = read-found-done from end e in
-      e ∙ ap at v ∙ sym (ap at (read-as v))
+      let h = hashed F (c .tree) (c .content) i (copyHeldPlaceOf c i) (sym e) in
+      e ∙ ap (hashJudged F (c .tree) (c .content) i) (h .place ∙ held-place-as c i from (h .size) (sym (h .place)))
+
+  pub read-as : copyReadVerdict F c i ≡ done → readVerdict F (signed c) i ≡ done
+  unfolding copyReadVerdict readVerdict
+  read-as e = let a = found-done (copyReadFound F c i) e in sym (ap verdictFound (read-found-as (a .0) (a .1) (sym (a .2))))

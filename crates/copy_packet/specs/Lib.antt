@@ -1,3 +1,2 @@
 -- The making of a packet from a copy.
 pub mod Making
-pub mod Post

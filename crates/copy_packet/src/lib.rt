@@ -1,10 +1,9 @@
 // Making a packet of a chunk of a partial copy. Everything is judged before the buffer is written.
-use lookup::Verified;
 use number_types::ChunkNumber;
 use packet::Made;
 ghost use Rattle.blake2b.specs.Hash.{nodeHash};
 ghost use Rattle.copy_checks.specs.Copy.{copyOf};
-ghost use Rattle.copy_packet.specs.Post.{CopyMadeAs};
+ghost use Rattle.copy_packet.specs.Making.{CopyMadeAs};
 
 // The packet of a chunk of a copy at the front of a buffer, the rest as it was. "Making one does the read of chunk i first, with its refusals."
 pub fn make(
@@ -22,12 +21,6 @@ pub fn make(
         (now (out .entry)) r (now (out .exit))
         ⌝ }
 {
-    match copy_lookup::verify(tree, bitfield, content, n, size, chunk) {
-        Verified::Refused(refusal) => Made::Refused(refusal),
-        Verified::Part(start, end) => {
-            let from = start.0 as usize;
-            let to = end.0 as usize;
-            packet::make_read(tree, n, chunk, &content[from..to], out)
-        }
-    }
+    let read = copy_lookup::verify(tree, bitfield, content, n, size, chunk);
+    packet::make_behind(read, tree, content, n, chunk, out)
 }

@@ -3,19 +3,16 @@ use Prim.Native.Nat.{ℕ}
 use mathlib.Core.Path.{_≡_, sym, ap, ap₂, _∙_}
 use mathlib.Core.List.{List}
 use Rattle.answer_types.specs.Verdict.{Verdict, unlessRefused}
-use Rattle.byte_strings.specs.Lists.{put, zeros}
-use Rattle.tree_index.specs.Tree.{index}
-use Rattle.file_format.specs.Stored.{storedSize}
-use Rattle.lookup.specs.Lookup.{Found, refusal, found, startOf, toChunk}
-use Rattle.lookup.proofs.Calls.{placing, found-refused}
-use Rattle.release.specs.Release.{releasedRegister}
+use Rattle.lookup.specs.Lookup.{Found, refusal, found}
+use Rattle.lookup.specs.Read.{verdictFound}
+use Rattle.lookup.proofs.Calls.{held-placing}
+use Rattle.release.specs.Release.{bytesCleared, releasedRegister}
 use Rattle.release.specs.Post.{ClearsAt, ReleasedPost}
 use Rattle.release.proofs.Calls.{release-fits as register-fits}
 use Rattle.copy_checks.specs.Copy.{Copy, filesOf, filesLent}
-use Rattle.copy_checks.specs.Descents.{copyToChunk}
 use Rattle.copy_checks.proofs.Signed.{signed}
-use Rattle.copy_lookup.specs.Lookups.{copyHeldVerdict, copyHeldPlaceOf}
-use Rattle.copy_lookup.proofs.AsRegister.{held-place-done, held-place-as}
+use Rattle.copy_lookup.specs.Lookups.{copyHeldPlaceOf}
+use Rattle.copy_lookup.proofs.AsRegister.{held-at, held-place-as}
 use Rattle.copy_release.specs.Release.{copyReleaseVerdict, releasedCopy, copyAfterRelease}
 use Rattle.copy_release.specs.Post.{ReleasePost}
 
@@ -27,21 +24,13 @@ module _ (c : Copy) (i : ℕ) where
   module _ (v : Verdict) (bits content : List ℕ) where
     pub release-post : (p : Found) → p ≡ copyHeldPlaceOf c i → ReleasedPost (c .bitfield) (c .content) i p v bits content
         → ReleasePost c i v (filesLent (c .tree) bits content)
-    unfolding copyReleaseVerdict copyAfterRelease copyHeldPlaceOf releasedCopy releasedRegister toChunk
-    release-post (refusal m at) e w =
-        let x = found-refused (copyHeldVerdict c i) (startOf (copyToChunk c i)) (storedSize (c .tree) (index 0 i)) m at e in
-        record {
-          answer = w .answer ∙ sym x;
-          files =
-              ap₂ (filesLent (c .tree)) (w .bitfield) (w .content)
-              ∙ sym (ap (λ (y : Verdict). unlessRefused y (filesOf (releasedCopy c i)) (filesOf c)) x);
-        }
-    release-post (found start size) e w =
-        let x = held-place-done c i start size e in
-        let p = placing (signed c) i start size (held-place-as c i start size e) in
-        record {
-          answer = w .answer ∙ sym x;
-          files =
-              ap₂ (filesLent (c .tree)) (w .bitfield) (w .content ∙ ap₂ (λ (y z : ℕ). put (c .content) y (zeros z)) (p .starts) (p .long))
-              ∙ sym (ap (λ (y : Verdict). unlessRefused y (filesOf (releasedCopy c i)) (filesOf c)) x);
-        }
+    unfolding copyReleaseVerdict copyAfterRelease releasedCopy releasedRegister
+    release-post p e w =
+        record { answer = w .answer ∙ ap verdictFound e; files = left p e w ∙ ap (λ (f : Found). unlessRefused (verdictFound f) (filesOf (releasedCopy c i)) (filesOf c)) e }
+      where
+        left : (p : Found) → p ≡ copyHeldPlaceOf c i → ReleasedPost (c .bitfield) (c .content) i p v bits content
+            → filesLent (c .tree) bits content ≡ unlessRefused (verdictFound p) (filesOf (releasedCopy c i)) (filesOf c)
+        left (refusal m at) e w = ap₂ (filesLent (c .tree)) (w .bitfield) (w .content)
+        left (found start size) e w =
+            ap₂ (filesLent (c .tree)) (w .bitfield)
+            (w .content ∙ sym (ap (bytesCleared (c .content)) (held-placing (signed c) i (held-at c i (sym e) .register) .place)))

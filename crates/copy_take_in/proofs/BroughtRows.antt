@@ -41,7 +41,7 @@ unfolding part
 whole-part row bytes e =
     ap (take 40) (e ∙ sym (append-nil (entryBytes (leaf nodeHash bytes)))) ∙ take-at (entryBytes (leaf nodeHash bytes)) [] 40 (leaf-long bytes)
 
-module _ (t bits content p : List ℕ) (n c : ℕ) (w : Way) (start : ℕ) (row path : List ℕ) (r : Ready t bits content p n c w start row path) where
+module _ {t bits content p : List ℕ} {n c : ℕ} {w : Way} {start : ℕ} {row path : List ℕ} (r : Ready t bits content p n c w start row path) where
   abbrev shaped : Shaped p n c
   shaped = r .room .packet .shaped
 
@@ -79,7 +79,7 @@ module _ (t bits content p : List ℕ) (n c : ℕ) (w : Way) (start : ℕ) (row 
             );
       }
 
-  module _ (first : ℕ) (e : first ≡ siblingsPlace p + 1) where
+  module _ {first : ℕ} (e : first ≡ siblingsPlace p + 1) where
     abbrev rows : List Given
     rows =
         lies row 0 (index 0 c)
@@ -95,7 +95,7 @@ module _ (t bits content p : List ℕ) (n c : ℕ) (w : Way) (start : ℕ) (row 
     roots-given : givenAt (otherRoots n c) (otherEntries p n c) ≡ rowGiven p (first + 40 * w .up + 1) (numbers (w .roots)) (w .others)
     unfolding otherEntries
     roots-given =
-        ap (λ (at : ℕ). givenAt (otherRoots n c) (entriesIn p at (length (otherRoots n c)))) (sym (second-is p n c shaped first e (w .up) (r .way .up)))
+        ap (λ (at : ℕ). givenAt (otherRoots n c) (entriesIn p at (length (otherRoots n c)))) (sym (second-is shaped e (r .way .up)))
         ∙ row-given p (first + 40 * w .up + 1) (otherRoots n c) (numbers (w .roots)) (w .others) (r .way .others) (r .way .roots)
 
     above-given : map ledTo (stepsAbove nodeHash 0 c (leaf nodeHash (packetChunk p)) (siblingEntries p n c)) ≡ rowGiven path 0 (numbers (w .above)) (w .up)
@@ -111,8 +111,8 @@ module _ (t bits content p : List ℕ) (n c : ℕ) (w : Way) (start : ℕ) (row 
 
   -- ---- each row, while it is compared and while the files are written
 
-  pub leaf-row : (i : ℕ) → i ≡ index 0 c → KnowableIn t bits i × 0 + 40 ≤ length row
-  leaf-row i e = (
+  pub leaf-row : {i : ℕ} → i ≡ index 0 c → KnowableIn t bits i × 0 + 40 ≤ length row
+  leaf-row e = (
     subst (KnowableIn t bits) (sym e) (knowable t bits n (chunk .count) (r .room .nodes) (r .room .field) (index 0 c) (leaf-filled n c chunk)),
     omega (arith, ap length (r .led .own), leaf-long (packetChunk p)),
   )
@@ -129,16 +129,16 @@ module _ (t bits content p : List ℕ) (n c : ℕ) (w : Way) (start : ℕ) (row 
         row-for t' bits' n (chunk .count) nodes' field' path 0 (aboveRow c (length (siblings n c))) (numbers (w .above)) (w .up) path-in (aboves-filled n c chunk)
         (r .way .above ∙ ap (λ (k : ℕ). padded 0 k (aboveRow c (length (siblings n c)))) (sym above-many)) (r .way .up ∙ sym above-many)
 
-    module _ (first : ℕ) (g : first ≡ siblingsPlace p + 1) where
+    module _ {first : ℕ} (g : first ≡ siblingsPlace p + 1) where
       pub beside-row : RowFor t' bits' p first (numbers (w .beside)) (w .up)
       beside-row =
-          row-for t' bits' n (chunk .count) nodes' field' p first (siblings n c) (numbers (w .beside)) (w .up) (beside-in p n c shaped first g (w .up) (r .way .up))
+          row-for t' bits' n (chunk .count) nodes' field' p first (siblings n c) (numbers (w .beside)) (w .up) (beside-in shaped g (r .way .up))
           (siblings-filled n c chunk) (r .way .beside) (r .way .up)
 
       pub roots-row : RowFor t' bits' p (first + 40 * w .up + 1) (numbers (w .roots)) (w .others)
       roots-row =
           row-for t' bits' n (chunk .count) nodes' field' p (first + 40 * w .up + 1) (otherRoots n c) (numbers (w .roots)) (w .others)
-          (roots-in p n c shaped first g (w .up) (w .others) (r .way .up) (r .way .others)) (others-filled n c chunk) (r .way .roots) (r .way .others)
+          (roots-in shaped g (r .way .up) (r .way .others)) (others-filled n c chunk) (r .way .roots) (r .way .others)
 
 -- the leaf as a row, and the parents as the check left them
 pub led-rows : (p : List ℕ) (n c : ℕ) {l : Entry} {row path : List ℕ} → record { own = l; row = path } ≡ handedOn nodeHash p n c → row ≡ entryBytes l

@@ -9,19 +9,17 @@ use native.Mathlib.Omega.{arith}
 use borrow.Author.Tests.{lt-ltb, le-ltb}
 use lib.Dec.{ltb}
 use lib.ListN.{length, getD}
-use Rattle.byte_strings.specs.Lists.{part, put, run, total, sameList, Bytes}
+use Rattle.byte_strings.specs.Lists.{part, put, run, total, Bytes}
 use Rattle.byte_strings.specs.Numbers.{be, number}
-use Rattle.byte_strings.specs.Lowest.{nowhere, first}
 use Rattle.byte_strings.proofs.Lists.{length-part, part-add, bytes-part, length-run, getD-run, run-add, run-suc, total-append}
 use Rattle.byte_strings.proofs.Numbers.{be-number}
 use Rattle.bitfield.specs.Append.{bitsPlace, setTreeBit, setTreeBits}
-use Rattle.bitfield.specs.Known.{storedKnown}
 use Rattle.file_format.specs.Sizes.{entryPlace}
 use Rattle.file_format.specs.Entries.{entryBytes}
 use Rattle.packet.specs.Check.{entryIn}
 use Rattle.packet.specs.Inner.{sizesIn}
 use Rattle.packet.proofs.Right.{map-run}
-use Rattle.copy_take_in.specs.TakeIn.{Given, leftSize, contradicts, withGiven, withKnown}
+use Rattle.copy_take_in.specs.TakeIn.{Given, leftSize, withGiven, withKnown}
 use Rattle.copy_take_in.specs.Inner.{lies, rowGiven, KnowableIn, WithGiven}
 
 -- ---- one entry
@@ -33,20 +31,6 @@ given-bytes row at b h =
     ap (λ (xs : List ℕ). part row at 32 ++ xs)
     (be-number 8 (part row (at + 32) 8) (bytes-part row (at + 32) 8 b) (length-part row (at + 32) 8 (omega arith)))
     ∙ sym (part-add row at 32 8)
-
-module _ (t bits row : List ℕ) (at i : ℕ) where
-  pub not-known : storedKnown bits i ≡ false → nowhere ≡ contradicts t bits (lies row at i)
-  unfolding contradicts
-  not-known e =
-      sym (ap (λ (b : Bool). cond b (cond (sameList (part t (entryPlace i) 40) (entryBytes (entryIn row at))) nowhere (first i)) nowhere) e)
-
-  module _ (k : storedKnown bits i ≡ true) (b : Bytes row) (h : at + 40 ≤ length row) (same : Bool) (x y : List ℕ) (p : x ≡ part t (entryPlace i) 40) (q : y ≡ part row at 40)
-      (e : same ≡ sameList x y) where
-    pub compared : cond same nowhere (first i) ≡ contradicts t bits (lies row at i)
-    unfolding contradicts
-    compared =
-        ap (λ (s : Bool). cond s nowhere (first i)) (e ∙ ap₂ sameList p (q ∙ sym (given-bytes row at b h)))
-        ∙ sym (ap (λ (s : Bool). cond s (cond (sameList (part t (entryPlace i) 40) (entryBytes (entryIn row at))) nowhere (first i)) nowhere) k)
 
 -- one that is written
 pub one-written : (t bits row : List ℕ) (at i place : ℕ) (y t' bits' : List ℕ) → Bytes row → at + 40 ≤ length row → place ≡ entryPlace i → y ≡ part row at 40
@@ -108,9 +92,9 @@ pub with-none : (t bits : List ℕ) → WithGiven t bits [] t bits
 unfolding withGiven withKnown setTreeBits
 with-none t bits = record { tree = refl; bitfield = refl }
 
-pub with-more : (t bits : List ℕ) (gs hs : List Given) (t₁ bits₁ t₂ bits₂ : List ℕ) → WithGiven t bits gs t₁ bits₁ → WithGiven t₁ bits₁ hs t₂ bits₂
+pub with-more : {t bits : List ℕ} {gs hs : List Given} {t₁ bits₁ t₂ bits₂ : List ℕ} → WithGiven t bits gs t₁ bits₁ → WithGiven t₁ bits₁ hs t₂ bits₂
     → WithGiven t bits (gs ++ hs) t₂ bits₂
-with-more t bits gs hs t₁ bits₁ t₂ bits₂ a b =
+with-more {t} {bits} {gs} {hs} a b =
     record {
       tree = b .tree ∙ ap (λ (x : List ℕ). withGiven x hs) (a .tree) ∙ sym (with-append t gs hs);
       bitfield = b .bitfield ∙ ap (λ (x : List ℕ). withKnown x hs) (a .bitfield) ∙ sym (known-append bits gs hs);
@@ -150,7 +134,7 @@ module _ (t bits row : List ℕ) (at : ℕ) (is : List ℕ) (k : ℕ) where
         holds =
             subst (λ (gs : List Given). WithGiven t bits gs t₂ bits₂)
             (ap (λ (x : ℕ). rowGiven row at is j ++ (lies row (at + 40 * j) x ∷ [])) p ∙ sym (row-next row at is j))
-            (with-more t bits (rowGiven row at is j) (lies row (at + 40 * j) i ∷ []) t₁ bits₁ t₂ bits₂ (w .holds) g);
+            (with-more (w .holds) g);
         treeLong = e ∙ w .treeLong;
         bitsLong = f ∙ w .bitsLong;
       }

@@ -8,6 +8,6 @@ pub mod Knowable
 pub mod BroughtRows
 pub mod LowestFound
 pub mod Start
-pub mod HeldBytes
+pub mod Contradicted
 pub mod Stages
 pub mod Written

@@ -21,16 +21,16 @@ use Rattle.copy_take_in.proofs.Places.{chunk-long, second-is, beside-in
 use Rattle.copy_take_in.proofs.Totals.{total-is}
 use Rattle.copy_take_in.proofs.Knowable.{data-bit}
 
-pub start-is : (p : List ℕ) (n c : ℕ) (w : Way) (place sum start leaf : ℕ) → Shaped p n c → WayOf n c w → place ≡ siblingsPlace p + 1 → leaf ≡ index 0 c
+pub start-is : {p : List ℕ} {n c : ℕ} {w : Way} {place sum start leaf : ℕ} → Shaped p n c → WayOf n c w → place ≡ siblingsPlace p + 1 → leaf ≡ index 0 c
     → sum ≡ 0 + total (map (leftSize leaf) (rowGiven p place (numbers (w .beside)) (w .up)))
     → start ≡ sum + total (map (leftSize leaf) (rowGiven p (place + 40 * w .up + 1) (numbers (w .roots)) (w .others))) → start ≡ packetStart p n c
 unfolding packetStart lying siblingEntries otherEntries
-start-is p n c w place sum start leaf s way e l f g =
+start-is {p} {n} {c} {w} {place} {leaf = leaf} s way e l f g =
     let x : givenAt (siblings n c) (entriesIn p (siblingsPlace p + 1) (length (siblings n c))) ≡ rowGiven p place (numbers (w .beside)) (w .up) =
     ap (λ (at : ℕ). givenAt (siblings n c) (entriesIn p at (length (siblings n c)))) (sym e)
     ∙ row-given p place (siblings n c) (numbers (w .beside)) (w .up) (way .up) (way .beside) in
     let y : givenAt (otherRoots n c) (entriesIn p (othersPlace p n c + 1) (length (otherRoots n c))) ≡ rowGiven p (place + 40 * w .up + 1) (numbers (w .roots)) (w .others) =
-    ap (λ (at : ℕ). givenAt (otherRoots n c) (entriesIn p at (length (otherRoots n c)))) (sym (second-is p n c s place e (w .up) (way .up)))
+    ap (λ (at : ℕ). givenAt (otherRoots n c) (entriesIn p at (length (otherRoots n c)))) (sym (second-is s e (way .up)))
     ∙ row-given p (place + 40 * w .up + 1) (otherRoots n c) (numbers (w .roots)) (w .others) (way .others) (way .roots) in
     let a : List Given = givenAt (siblings n c) (entriesIn p (siblingsPlace p + 1) (length (siblings n c))) in
     let b : List Given = givenAt (otherRoots n c) (entriesIn p (othersPlace p n c + 1) (length (otherRoots n c))) in
@@ -43,22 +43,22 @@ start-is p n c w place sum start leaf s way e l f g =
     omega arith
 
 -- the lengths to the left may be added
-module _ (p : List ℕ) (n c : ℕ) (f : Fits p n c) (w : Way) (way : WayOf n c w) (first : ℕ) (e : first ≡ siblingsPlace p + 1) where
+module _ {p : List ℕ} {n c : ℕ} (f : Fits p n c) {w : Way} (way : WayOf n c w) {first : ℕ} (e : first ≡ siblingsPlace p + 1) where
   sums : chunkLength p + (total (sizesIn p first (w .up)) + total (sizesIn p (first + 40 * w .up + 1) (w .others))) ≡ packetTotal p n c
   sums =
       ap₂ (λ (i k : ℕ). chunkLength p + (total (sizesIn p i k) + total (sizesIn p (first + 40 * w .up + 1) (w .others)))) e (way .up)
       ∙ ap₂ (λ (i k : ℕ). chunkLength p + (total (sizesIn p (siblingsPlace p + 1) (length (siblings n c))) + total (sizesIn p i k)))
-      (second-is p n c (f .shaped) first e (w .up) (way .up)) (way .others)
+      (second-is (f .shaped) e (way .up)) (way .others)
       ∙ sym (total-is p n c)
 
   pub beside-adds : Addable p first (w .up) 0
-  beside-adds = record { inside = beside-in p n c (f .shaped) first e (w .up) (way .up); sum = omega (arith, sums, f .small) }
+  beside-adds = record { inside = beside-in (f .shaped) e (way .up); sum = omega (arith, sums, f .small) }
 
-  module _ (leaf sum : ℕ) (g : sum ≡ 0 + total (map (leftSize leaf) (rowGiven p first (numbers (w .beside)) (w .up)))) where
+  module _ (leaf : ℕ) {sum : ℕ} (g : sum ≡ 0 + total (map (leftSize leaf) (rowGiven p first (numbers (w .beside)) (w .up)))) where
     pub roots-add : Addable p (first + 40 * w .up + 1) (w .others) sum
     roots-add =
         record {
-          inside = roots-in p n c (f .shaped) first e (w .up) (w .others) (way .up) (way .others);
+          inside = roots-in (f .shaped) e (way .up) (way .others);
           sum = omega (arith, sums, f .small, left-whole leaf p first (numbers (w .beside)) (w .up) (w .up) (omega arith));
         }
 
@@ -81,9 +81,9 @@ start-inside p n c =
       left-small (index 0 c) (otherRoots n c) (otherEntries p n c),
     )
 
-pub held-in : (t bits content p : List ℕ) (n c start : ℕ) (bytes : List ℕ) → Room t bits content p n c → start ≡ packetStart p n c → bytes ≡ packetChunk p
+pub held-in : {t bits content p : List ℕ} {n c start : ℕ} {bytes : List ℕ} → Room t bits content p n c → start ≡ packetStart p n c → bytes ≡ packetChunk p
     → Held bits content c start bytes
-held-in t bits content p n c start bytes r e f =
+held-in {t} {bits} {p = p} {n} {c} {bytes = bytes} r e f =
     let h = r .packet .shaped .chunk in
     let l : length bytes ≡ chunkLength p = ap length f ∙ chunk-long p n c (r .packet .shaped) in
     record {

@@ -33,11 +33,11 @@ unfolding ownVerdict contradiction takenIn
 sizeless F t bits content p n size i v left w = record { answer = w .answer; files = w .files }
 
 -- all that is written
-pub all-written : (F : List ℕ → List ℕ) (t bits content p : List ℕ) (n i start : ℕ) (t' mid bits' content' chunk : List ℕ) → WithGiven t bits (brought F p n i) t' mid
+pub all-written : (F : List ℕ → List ℕ) (content p : List ℕ) (n i : ℕ) {t bits t' mid bits' content' chunk : List ℕ} {start : ℕ} → WithGiven t bits (brought F p n i) t' mid
     → bits' ≡ heldAgain mid i → start ≡ packetStart p n i → chunk ≡ packetChunk p → content' ≡ put content start chunk
     → filesLent t' bits' content' ≡ filesOf (takenIn F (copyOf t bits content n 0) p i)
 unfolding takenIn
-all-written F t bits content p n i start t' mid bits' content' chunk w e f g h =
+all-written F content p n i {t} {bits} {t'} {bits' = bits'} {content'} w e f g h =
     let a : t' ≡ withGiven t (brought F p n i) = w .tree in
     let b : bits' ≡ heldAgain (withKnown bits (brought F p n i)) i = e ∙ ap (λ (x : List ℕ). heldAgain x i) (w .bitfield) in
     let d : content' ≡ put content (packetStart p n i) (packetChunk p) = h ∙ ap₂ (put content) f g in

@@ -1,7 +1,7 @@
 -- "Taking in a packet checks it against the root hash. It then writes leaf, siblings, parents on the way and roots with their tree bits, which make an
 -- entry known, and the chunk at the start found from left siblings and left roots, sets its data bit and regenerates that entry's Index."
 use Prim.Native.Nat.{ℕ}
-use mathlib.Core.Bool.{cond}
+use mathlib.Core.Bool.{Bool, cond, _&&_, not}
 use mathlib.Core.List.{List, [], _∷_, _++_, map}
 use lib.Dec.{ltb, eqb}
 use lib.ListN.{length}
@@ -48,15 +48,20 @@ leftSize leaf g = cond (ltb (g .at) leaf) (g .entry .size) 0
 unfoldable pub packetStart : List ℕ → ℕ → ℕ → ℕ
 packetStart p n c = total (map (leftSize (index 0 c)) (lying p n c))
 
--- "a packet that contradicts a known entry": an entry that is given is known as another, 40 bytes each
-unfoldable pub contradicts : List ℕ → List ℕ → Given → Lowest
-contradicts t bits g =
-    cond (storedKnown bits (g .at)) (cond (sameList (part t (entryPlace (g .at)) 40) (entryBytes (g .entry))) nowhere (first (g .at))) nowhere
+-- "a packet that contradicts a known entry": what is given is known, and stored with other bytes
+unfoldable pub contradicted : List ℕ → List ℕ → Given → Bool
+contradicted t bits g = storedKnown bits (g .at) && not (sameList (part t (entryPlace (g .at)) 40) (entryBytes (g .entry)))
 
--- "or, where chunk i is held, the bytes at its start": they count at its leaf
-unfoldable pub contradictsBytes : List ℕ → List ℕ → ℕ → ℕ → List ℕ → Lowest
-contradictsBytes bits content i start chunk =
-    cond (storedHeld bits i) (cond (sameList (part content start (length chunk)) chunk) nowhere (first (index 0 i))) nowhere
+-- "or, where chunk i is held, the bytes at its start"
+unfoldable pub bytesContradicted : List ℕ → List ℕ → ℕ → ℕ → List ℕ → Bool
+bytesContradicted bits content i start chunk = storedHeld bits i && not (sameList (part content start (length chunk)) chunk)
+
+-- the tree index of what is contradicted, where it is
+abbrev pub indexIf : Bool → ℕ → Lowest
+indexIf test i = cond test (first i) nowhere
+
+abbrev pub contradicts : List ℕ → List ℕ → Given → Lowest
+contradicts t bits g = indexIf (contradicted t bits g) (g .at)
 
 -- given entries written into a tree file
 unfoldable pub withGiven : List ℕ → List Given → List ℕ
@@ -72,10 +77,10 @@ module _ (F : List ℕ → List ℕ) where
   unfoldable pub brought : List ℕ → ℕ → ℕ → List Given
   brought p n i = map ledTo (steps F p n i) ++ lying p n i
 
-  -- "the place being the lowest such tree index"
+  -- "the place being the lowest such tree index": the bytes count at the chunk's leaf
   unfoldable pub contradiction : Copy → List ℕ → ℕ → Lowest
   contradiction c p i =
-      lowerOf (contradictsBytes (c .bitfield) (c .content) i (packetStart p (c .n) i) (packetChunk p))
+      lowerOf (indexIf (bytesContradicted (c .bitfield) (c .content) i (packetStart p (c .n) i) (packetChunk p)) (index 0 i))
       (leastOf (map (contradicts (c .tree) (c .bitfield)) (brought p (c .n) i)))
 
   -- 2, 4, 5 and 6, which is passed over while a root is unknown; the packet's 9, 12 and 13; "A packet total other than the data size gives 6, judged after

@@ -15,12 +15,13 @@ ghost use lib.Dec.{eqb};
 ghost use lib.ListN.{length};
 ghost use Rattle.answer_types.specs.Verdict.{unlessRefused};
 ghost use Rattle.answer_types.specs.Meaning.{said};
+ghost use Rattle.tree_index.specs.Tree.{index};
 ghost use Rattle.blake2b.specs.Hash.{nodeHash};
 ghost use Rattle.packet.specs.Check.{packetTotal, siblingsPlace};
 ghost use Rattle.packet.specs.Inner.{handed, unhanded, handedOn};
 ghost use Rattle.copy_checks.specs.Copy.{copyOf, filesOf, filesLent};
 ghost use Rattle.lookup.specs.Unknown.{firstEntry};
-ghost use Rattle.copy_take_in.specs.TakeIn.{brought, packetStart, contradictsBytes, contradiction, takenIn};
+ghost use Rattle.copy_take_in.specs.TakeIn.{brought, packetStart, bytesContradicted, indexIf, contradiction, takenIn};
 ghost use Rattle.copy_take_in.specs.Inner.{WayOf, WithGiven, Fits, Room, Held, Ready};
 ghost use Rattle.copy_take_in.specs.Post.{TakePost, OwnPost, totalVerdict, sizeVerdict};
 
@@ -131,7 +132,8 @@ fn bytes_contradiction(
     requires { ⌜ Held (now bitfield) (now content) (chunk .0) start (now bytes) ⌝ }
     ensures { λ r.
         ⌜
-        firstEntry r ≡ contradictsBytes (now (bitfield .entry)) (now (content .entry)) (chunk .0) start (now (bytes .entry))
+        firstEntry r ≡
+        indexIf (bytesContradicted (now (bitfield .entry)) (now (content .entry)) (chunk .0) start (now (bytes .entry))) (index 0 (chunk .0))
         ⌝ }
 {
     if !bitfield::is_held(bitfield, chunk) {

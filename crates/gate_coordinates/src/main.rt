@@ -1,5 +1,7 @@
 // Prints what grouping and ungrouping answer and leave in the buffer, by its first bytes and its hash, for comparison with the text in
 // stdout; and whether each undoes the other.
+use answer_types::Answer;
+use gate_printing::text;
 
 fn main() {
     let mut bytes = [0u8; 65537];
@@ -59,78 +61,58 @@ fn row(bytes: &[u8], count: usize, room: usize) {
     if count <= bytes.len() {
         let lent = &bytes[0..count];
         let mut out = [238u8; 65540];
-        group_line(lent, &mut out, room);
+        call_line(b"group ", true, lent, &mut out, room);
         let mut other = [238u8; 65540];
-        ungroup_line(lent, &mut other, room);
+        call_line(b"ungroup ", false, lent, &mut other, room);
         if count <= room {
             returned(lent);
         }
     }
 }
 
-fn group_line(bytes: &[u8], out: &mut [u8], room: usize) {
-    if room <= out.len() {
-        told(b"group ", bytes.len(), room);
-        gate_printing::answer(coordinates::group(bytes, &mut out[0..room]));
-        left(out);
+fn called(grouping: bool, bytes: &[u8], out: &mut [u8]) -> Answer {
+    if grouping {
+        coordinates::group(bytes, out)
+    } else {
+        coordinates::ungroup(bytes, out)
     }
 }
 
-fn ungroup_line(bytes: &[u8], out: &mut [u8], room: usize) {
+fn call_line(name: &[u8], grouping: bool, bytes: &[u8], out: &mut [u8], room: usize) {
     if room <= out.len() {
-        told(b"ungroup ", bytes.len(), room);
-        gate_printing::answer(coordinates::ungroup(bytes, &mut out[0..room]));
+        gate_printing::named(name, bytes.len() as u64);
+        gate_printing::named(b" ", room as u64);
+        text(b" ");
+        gate_printing::answer(called(grouping, bytes, &mut out[0..room]));
         left(out);
     }
-}
-
-fn told(call: &[u8], count: usize, room: usize) {
-    gate_printing::text(call);
-    gate_printing::number(count as u64);
-    gate_printing::text(b" ");
-    gate_printing::number(room as u64);
-    gate_printing::text(b" ");
 }
 
 // The first bytes of a buffer and the hash of it all.
 fn left(out: &[u8]) {
-    if 20 <= out.len() {
-        gate_printing::text(b" ");
-        gate_printing::hex(&out[0..20]);
-        let hash = blake2b::hash_parts(b"", b"", out);
-        gate_printing::text(b" ");
-        gate_printing::hex(&hash);
-        gate_printing::text(b"\n");
-    }
+    text(b" ");
+    gate_printing::front(out, 20);
+    text(b" ");
+    gate_printing::hex(&blake2b::hash_parts(b"", b"", out));
+    text(b"\n");
 }
 
 // Whether the bytes come back, both ways round.
 fn returned(bytes: &[u8]) {
     let mut out = [238u8; 65540];
     let mut back = [238u8; 65540];
-    group_ungroup(bytes, &mut out, &mut back);
-    ungroup_group(bytes, &mut out, &mut back);
+    there_and_back(b"group, ungroup ", true, bytes, &mut out, &mut back);
+    there_and_back(b"ungroup, group ", false, bytes, &mut out, &mut back);
 }
 
-fn group_ungroup(bytes: &[u8], out: &mut [u8], back: &mut [u8]) {
-    gate_printing::text(b"group, ungroup ");
-    gate_printing::answer(coordinates::group(bytes, out));
+fn there_and_back(name: &[u8], grouping: bool, bytes: &[u8], out: &mut [u8], back: &mut [u8]) {
+    text(name);
+    gate_printing::answer(called(grouping, bytes, out));
     if out.len() < bytes.len() {
         return;
     }
-    gate_printing::text(b" ");
-    gate_printing::answer(coordinates::ungroup(&out[0..bytes.len()], back));
-    same_line(bytes, back);
-}
-
-fn ungroup_group(bytes: &[u8], out: &mut [u8], back: &mut [u8]) {
-    gate_printing::text(b"ungroup, group ");
-    gate_printing::answer(coordinates::ungroup(bytes, out));
-    if out.len() < bytes.len() {
-        return;
-    }
-    gate_printing::text(b" ");
-    gate_printing::answer(coordinates::group(&out[0..bytes.len()], back));
+    text(b" ");
+    gate_printing::answer(called(!grouping, &out[0..bytes.len()], back));
     same_line(bytes, back);
 }
 
@@ -139,9 +121,9 @@ fn same_line(bytes: &[u8], back: &[u8]) {
     let count = bytes.len();
     if count <= back.len() {
         if byte_strings::same(bytes, &back[0..count]) {
-            gate_printing::text(b" the same\n");
+            text(b" the same\n");
             return;
         }
     }
-    gate_printing::text(b" others\n");
+    text(b" others\n");
 }

@@ -2,6 +2,7 @@
 // fullest register with an empty list, each refusal, and each two of them at once.
 use answer_types::Answer;
 use append_needs::Needed;
+use gate_printing::named;
 
 fn main() {
     lists(0);
@@ -16,11 +17,6 @@ fn main() {
 
 // So many lengths at each of the counts.
 fn lists(k: usize) {
-    low(k);
-    high(k);
-}
-
-fn low(k: usize) {
     at(0, k);
     at(1, k);
     at(2, k);
@@ -31,9 +27,6 @@ fn low(k: usize) {
     at(1023, k);
     at(1024, k);
     at(1025, k);
-}
-
-fn high(k: usize) {
     at(8191, k);
     at(8192, k);
     at(8193, k);
@@ -114,17 +107,12 @@ fn pairs() {
 
 fn row(n: u64, size: u64, lengths: &[u64]) {
     gate_printing::text(b"needs");
-    told(b" n=", n);
-    told(b" size=", size);
-    told(b" k=", lengths.len() as u64);
+    named(b" n=", n);
+    named(b" size=", size);
+    named(b" k=", lengths.len() as u64);
     gate_printing::text(b":");
     answer(append_needs::needs(n, size, lengths));
     gate_printing::text(b"\n");
-}
-
-fn told(name: &[u8], value: u64) {
-    gate_printing::text(name);
-    gate_printing::number(value);
 }
 
 fn answer(r: Needed) {
@@ -135,22 +123,14 @@ fn answer(r: Needed) {
             gate_printing::refusal(refusal);
         }
         Answer::Done => {
-            sizes(r);
-            runs(r);
+            named(b" tree ", r.tree);
+            named(b" signatures ", r.signatures);
+            named(b" bitfield ", r.bitfield);
+            named(b" data ", r.content);
+            named(b" leaves ", r.leaves);
+            named(b" parents ", r.parents);
+            named(b" root ", r.root);
+            named(b" runs ", r.runs);
         }
     }
-}
-
-fn sizes(r: Needed) {
-    told(b" tree ", r.tree);
-    told(b" signatures ", r.signatures);
-    told(b" bitfield ", r.bitfield);
-    told(b" data ", r.content);
-}
-
-fn runs(r: Needed) {
-    told(b" leaves ", r.leaves);
-    told(b" parents ", r.parents);
-    told(b" root ", r.root);
-    told(b" runs ", r.runs);
 }

@@ -9,6 +9,19 @@ pub fn number(n: u64) {
     io::print_decimal(1, n);
 }
 
+// A number behind its name.
+pub fn named(name: &[u8], n: u64) {
+    text(name);
+    number(n);
+}
+
+// The first bytes in hexadecimal, where there are so many.
+pub fn front(bytes: &[u8], count: usize) {
+    if count <= bytes.len() {
+        hex(&bytes[0..count]);
+    }
+}
+
 // The bytes in hexadecimal.
 pub fn hex(bytes: &[u8]) {
     let mut i = 0;

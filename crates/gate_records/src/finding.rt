@@ -9,14 +9,15 @@ use record_find::Found;
 use record_format::HeaderRead;
 use record_parts::Field;
 
-// A path sought: it stands behind the numbers.
-pub fn found(
+// A path sought, which stands behind the numbers; or the record of a chunk, whose number comes last.
+pub fn asked(
     tree: &[u8],
     signatures: &[u8],
     bitfield: &[u8],
     data: &[u8],
     told: Told,
     step: &[u8],
+    path: bool,
 ) -> Told {
     let t = first(tree, number(step, 0));
     let g = first(signatures, number(step, 1));
@@ -25,38 +26,24 @@ pub fn found(
     let n = number(step, 4);
     let s = number(step, 5);
     let size = number(step, 6);
-    match record_find::find(t, g, b, d, n, s, size, behind(step, 7)) {
-        Found::Refused(refusal) => gate_printing::refusal(refusal),
-        Found::At(chunk) => gate_printing::number(chunk.0),
-        Found::Nowhere => gate_printing::text(b"none"),
+    let chunk = ChunkNumber(number(step, 7));
+    if path {
+        found(record_find::find(t, g, b, d, n, s, size, behind(step, 7)));
+    } else if chunk.0 == 0 {
+        header(t, g, b, d, n, s, size, chunk);
+    } else {
+        node(t, g, b, d, n, s, size, chunk);
+        parts(t, g, b, d, n, s, size, chunk);
     }
     told
 }
 
-// The record of a chunk, whose number comes last.
-pub fn record(
-    tree: &[u8],
-    signatures: &[u8],
-    bitfield: &[u8],
-    data: &[u8],
-    told: Told,
-    step: &[u8],
-) -> Told {
-    let t = first(tree, number(step, 0));
-    let g = first(signatures, number(step, 1));
-    let b = first(bitfield, number(step, 2));
-    let d = first(data, number(step, 3));
-    let n = number(step, 4);
-    let s = number(step, 5);
-    let size = number(step, 6);
-    let chunk = number(step, 7);
-    if chunk == 0 {
-        header(t, g, b, d, n, s, size, ChunkNumber(chunk));
-    } else {
-        node(t, g, b, d, n, s, size, ChunkNumber(chunk));
-        parts(t, g, b, d, n, s, size, ChunkNumber(chunk));
+fn found(answer: Found) {
+    match answer {
+        Found::Refused(refusal) => gate_printing::refusal(refusal),
+        Found::At(chunk) => gate_printing::number(chunk.0),
+        Found::Nowhere => gate_printing::text(b"none"),
     }
-    told
 }
 
 fn header(t: &[u8], g: &[u8], b: &[u8], d: &[u8], n: u64, s: u64, size: u64, chunk: ChunkNumber) {

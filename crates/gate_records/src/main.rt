@@ -103,8 +103,8 @@ fn taken(
         b'S' => making::started(tree, signatures, bitfield, data),
         b'A' => making::appended(tree, signatures, bitfield, data, told, step),
         b'X' => making::turned(tree, signatures, bitfield, data, told, step),
-        b'F' => finding::found(tree, signatures, bitfield, data, told, step),
-        b'R' => finding::record(tree, signatures, bitfield, data, told, step),
+        b'F' => finding::asked(tree, signatures, bitfield, data, told, step, true),
+        b'R' => finding::asked(tree, signatures, bitfield, data, told, step, false),
         _ => judging::taken(step, told, kind),
     }
 }

@@ -17,13 +17,8 @@ pub fn part(bytes: &[u8]) {
     } else {
         number(bytes.len() as u64);
         text(b":");
-        start_of(&blake2b::hash_parts(b"", b"", bytes));
+        gate_printing::front(&blake2b::hash_parts(b"", b"", bytes), 8);
     }
-}
-
-fn start_of(hash: &[u8; 32]) {
-    let whole: &[u8] = hash;
-    gate_printing::hex(&whole[0..8]);
 }
 
 // A part of the Node that bytes are, where the field is there.

@@ -1,10 +1,9 @@
 // Runs the script on standard input, a call of the library on each line, and prints each line with its answer, for comparison with the text in stdout.
 // The registers of the script are parts of four arrays that held other bytes before; chunks, signatures and packets are parts of a fifth.
+mod answers;
 mod asked;
-mod copy_ways;
 mod cuts;
 mod edited;
-mod leaves;
 mod packets;
 mod pairs;
 mod partial;
@@ -76,22 +75,18 @@ fn run(
     let line = turn.line;
     let both = turn.both;
     let word = line.word;
+    let lent = both.first.lent;
     match word {
         words::LEND | words::TOLD | words::SWAP | words::REMARK => {}
-        words::FLIP | words::PUT | words::FILL => edited::by(
-            tree,
-            signatures,
-            bitfield,
-            data,
-            text,
-            line,
-            both.first.lent,
-        ),
+        words::FLIP | words::PUT | words::FILL => {
+            edited::by(tree, signatures, bitfield, data, text, line, lent)
+        }
         words::BRING => packets::bring(tree, signatures, bitfield, data, text, line, both.second),
         words::CHECK => packets::checked(text, line),
         words::WALK => packets::walked(text, line),
         words::COMPARE | words::PAIR_CUT | words::GET => {
-            pairs::by(tree, signatures, bitfield, data, line, both)
+            let pair = pairs::ordered(line, both);
+            pairs::by(tree, signatures, bitfield, data, line, pair)
         }
         words::START
         | words::GROW

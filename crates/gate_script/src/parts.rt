@@ -38,32 +38,18 @@ pub fn between(from: u64, to: u64) -> Part {
     Part { from, to }
 }
 
-fn nothing_lent() -> Both {
-    let none = between(0, 0);
-    let lent = Lent {
-        tree: none,
-        signatures: none,
-        bitfield: none,
-        data: none,
+// Before any line, where nothing is lent or told.
+pub fn before_all() -> Turn {
+    let line = super::reading::no_line();
+    let register = Register {
+        lent: lent_in(line),
+        told: told_in(line),
     };
-    let told = Told {
-        n: 0,
-        s: 0,
-        size: 0,
-    };
-    let register = Register { lent, told };
-    Both {
+    let both = Both {
         first: register,
         second: register,
-    }
-}
-
-// Before any line.
-pub fn before_all() -> Turn {
-    Turn {
-        line: super::reading::no_line(),
-        both: nothing_lent(),
-    }
+    };
+    Turn { line, both }
 }
 
 // The next line, behind another.
@@ -84,14 +70,17 @@ fn set(line: Line, both: Both) -> Both {
     let first = both.first;
     let second = both.second;
     match word {
-        words::SWAP => Both {
-            first: second,
-            second: first,
-        },
+        words::SWAP => swapped(both),
         words::LEND => with(lent_in(line), first.told, second),
         words::TOLD => with(first.lent, told_in(line), second),
         _ => both,
     }
+}
+
+pub fn swapped(both: Both) -> Both {
+    let first = both.second;
+    let second = both.first;
+    Both { first, second }
 }
 
 // What is lent and told of the first register, and the second.
@@ -128,6 +117,10 @@ pub fn of<'a>(xs: &'a [u8], part: Part) -> &'a [u8] {
     &xs[start..end]
 }
 
+pub fn bytes<'a>(xs: &'a [u8], from: u64, to: u64) -> &'a [u8] {
+    of(xs, between(from, to))
+}
+
 pub fn of_mut<'a>(xs: &'a mut [u8], part: Part) -> &'a mut [u8] {
     let end = end_in(part, xs.len());
     let start = start_in(part, end);
@@ -153,5 +146,12 @@ fn start_in(part: Part, end: usize) -> usize
         part.from as usize
     } else {
         end
+    }
+}
+
+// All bytes of an array, where there are as many.
+pub fn copied(to: &mut [u8], bytes: &[u8]) {
+    if bytes.len() == to.len() {
+        byte_strings::copy_to(to, 0, bytes);
     }
 }

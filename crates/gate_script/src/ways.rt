@@ -1,95 +1,80 @@
-// The quick way, a stroke, and the short way, of each of some numbers.
-use super::asked;
-use super::copy_ways;
+// The quick way, a stroke, and the short way, of each of some numbers, on a register and on a copy.
+use super::answers;
 use super::reading::Line;
 use super::words;
+use gate_printing::text;
 use gate_samples::Told;
+use lookup::Located;
+use lookup::Placed;
 use number_types::ByteOffset;
 use number_types::ChunkNumber;
+use search::Searched;
 
 // A number, and how many from there on.
-pub fn all(tree: &[u8], signatures: &[u8], bitfield: &[u8], data: &[u8], line: Line, told: Told) {
+pub fn all(t: &[u8], g: &[u8], b: &[u8], d: &[u8], line: Line, told: Told) {
     let x = line.numbers;
     let first = x[1];
     let count = super::written::most(x[2], 64);
     let mut j = 0;
     while j < count {
         let number = std::num::wrapping_add_u64(first, j);
-        one(tree, signatures, bitfield, data, line.word, told, number);
+        one(t, g, b, d, line.word, told, number);
         j += 1;
     }
 }
 
-fn one(
-    tree: &[u8],
-    signatures: &[u8],
-    bitfield: &[u8],
-    data: &[u8],
-    word: u64,
-    told: Told,
-    number: u64,
-) {
+fn one(t: &[u8], g: &[u8], b: &[u8], d: &[u8], word: u64, told: Told, number: u64) {
+    let n = told.n;
+    let s = told.s;
+    let size = told.size;
+    let k = ChunkNumber(number);
+    let at = ByteOffset(number);
     match word {
-        words::BOTH_PLACES => place(tree, signatures, bitfield, data, told, number),
-        words::BOTH_BYTES => byte(tree, signatures, bitfield, data, told, number),
-        words::BOTH_SEARCHES => searched(tree, signatures, bitfield, data, told, number),
-        words::COPY_PLACES => copy_ways::place(tree, bitfield, data, told, ChunkNumber(number)),
-        words::COPY_BYTES => copy_ways::byte(tree, bitfield, data, told, ByteOffset(number)),
-        words::COPY_SEARCHES => copy_ways::searched(
-            tree,
-            bitfield,
-            data,
-            told,
-            ChunkNumber(number),
+        words::BOTH_PLACES => places(
+            lookup::place(t, g, b, d, n, s, size, k),
+            short_lookup::place(t, g, b, d, n, s, size, k),
+        ),
+        words::BOTH_BYTES => bytes(
+            lookup::locate(t, g, b, d, n, s, size, at),
+            short_lookup::locate(t, g, b, d, n, s, size, at),
+        ),
+        words::BOTH_SEARCHES => searches(
+            search::search(t, g, b, d, n, s, size, k),
+            short_lookup::search(t, g, b, d, n, s, size, k),
+        ),
+        words::COPY_PLACES => places(
+            copy_lookup::place(t, b, d, n, size, k),
+            copy_short_lookup::place(t, b, d, n, size, k),
+        ),
+        words::COPY_BYTES => bytes(
+            copy_lookup::locate(t, b, d, n, size, at),
+            copy_short_lookup::locate(t, b, d, n, size, at),
+        ),
+        words::COPY_SEARCHES => searches(
+            copy_roots::search(t, b, d, n, size, k),
+            copy_short_lookup::search(t, b, d, n, size, k),
         ),
         _ => {}
     }
 }
 
-fn place(tree: &[u8], signatures: &[u8], bitfield: &[u8], data: &[u8], told: Told, chunk: u64) {
-    asked::place(tree, signatures, bitfield, data, told, chunk);
-    gate_printing::text(b"|");
-    asked::say_place(short_lookup::place(
-        tree,
-        signatures,
-        bitfield,
-        data,
-        told.n,
-        told.s,
-        told.size,
-        ChunkNumber(chunk),
-    ));
-    gate_printing::text(b";");
+fn places(quick: Placed, short: Placed) {
+    answers::place(quick);
+    text(b"|");
+    answers::place(short);
+    text(b";");
 }
 
-fn byte(tree: &[u8], signatures: &[u8], bitfield: &[u8], data: &[u8], told: Told, offset: u64) {
-    asked::byte(tree, signatures, bitfield, data, told, offset);
-    gate_printing::text(b"|");
-    asked::say_byte(short_lookup::locate(
-        tree,
-        signatures,
-        bitfield,
-        data,
-        told.n,
-        told.s,
-        told.size,
-        ByteOffset(offset),
-    ));
-    gate_printing::text(b";");
+fn bytes(quick: Located, short: Located) {
+    answers::byte(quick);
+    text(b"|");
+    answers::byte(short);
+    text(b";");
 }
 
-fn searched(tree: &[u8], signatures: &[u8], bitfield: &[u8], data: &[u8], told: Told, number: u64) {
-    asked::searched(tree, signatures, bitfield, data, told, number);
-    gate_printing::text(b"|");
-    asked::say_search(short_lookup::search(
-        tree,
-        signatures,
-        bitfield,
-        data,
-        told.n,
-        told.s,
-        told.size,
-        ChunkNumber(number),
-    ));
-    gate_printing::text(b";");
+fn searches(quick: Searched, short: Searched) {
+    answers::search(quick);
+    text(b"|");
+    answers::search(short);
+    text(b";");
 }

@@ -25,6 +25,11 @@ pub const SIGN: u64 = 0x7369;
 
 pub const RELEASE: u64 = 0x7265;
 
+// The hash of a part of the text, and bytes that are there.
+pub const HASH: u64 = 0x6861;
+
+pub const SHOW: u64 = 0x7368;
+
 pub const AUDIT: u64 = 0x6175;
 
 pub const ROOT: u64 = 0x726f;

@@ -1,13 +1,13 @@
-// The calls that may write, on the first register or copy. Behind the answer stands a sum of each lent part.
-use super::partial;
+// The calls that may write, on the first register or copy: t, g, b and d are its tree, signatures, bitfield and data as they are lent. Behind the
+// answer stands a sum of each of them.
+use super::answers;
 use super::parts;
 use super::parts::Register;
 use super::reading::Line;
 use super::words;
-use answer_types::Answer;
+use gate_printing::answer;
 use gate_samples::Told;
 use number_types::ChunkNumber;
-use writing::Appended;
 ghost use Prim.Native.Nat.{_≤_};
 
 pub fn by(
@@ -30,53 +30,55 @@ pub fn by(
         line,
         first.told,
     );
-    sum(parts::of(tree, lent.tree));
-    sum(parts::of(signatures, lent.signatures));
-    sum(parts::of(bitfield, lent.bitfield));
-    sum(parts::of(data, lent.data));
+    answers::sum(parts::of(tree, lent.tree));
+    answers::sum(parts::of(signatures, lent.signatures));
+    answers::sum(parts::of(bitfield, lent.bitfield));
+    answers::sum(parts::of(data, lent.data));
 }
 
+// The bytes of a chunk, a list or a packet stand from and to where the first two numbers say.
 fn called(
-    tree: &mut [u8],
-    signatures: &mut [u8],
-    bitfield: &mut [u8],
-    data: &mut [u8],
+    t: &mut [u8],
+    g: &mut [u8],
+    b: &mut [u8],
+    d: &mut [u8],
     text: &[u8],
     line: Line,
     told: Told,
 ) {
     let x = line.numbers;
     let word = line.word;
+    let n = told.n;
+    let s = told.s;
+    let size = told.size;
+    let lent = parts::bytes(text, x[1], x[2]);
+    let chunk = ChunkNumber(x[1]);
     match word {
-        words::START => started(tree, signatures, bitfield, data),
-        words::GROW => grown(tree, signatures, bitfield, data, told, x[1], x[2]),
-        words::APPEND => appended(tree, signatures, bitfield, data, text, line, told),
-        words::LIST => listed(tree, signatures, bitfield, data, text, line, told),
-        words::SIGN => signed(tree, signatures, bitfield, data, text, told, x[1]),
-        words::RELEASE => released(tree, signatures, bitfield, data, told, x[1]),
-        words::MAKE => partial::make(tree, bitfield, data, told),
-        words::TAKE => partial::take(tree, bitfield, data, text, line, told),
-        _ => partial::release(tree, bitfield, data, told, x[1]),
+        words::START => answer(writing::start(t, g, b, d)),
+        words::GROW => grown(t, g, b, d, told, x[1], x[2]),
+        words::APPEND => answers::appended(writing::append(t, g, b, d, n, s, size, lent)),
+        words::LIST => listed(t, g, b, d, lent, told, x),
+        words::SIGN => signed(t, g, b, d, text, told, x[1]),
+        words::RELEASE => answer(release::release(t, g, b, d, n, s, size, chunk)),
+        words::MAKE => answer(copy_make::make_copy(t, b, d, n, size)),
+        words::TAKE => taken(t, b, d, text, lent, told, x),
+        _ => answer(copy_release::release(t, b, d, n, size, chunk)),
     }
-}
-
-fn started(tree: &mut [u8], signatures: &mut [u8], bitfield: &mut [u8], data: &mut [u8]) {
-    gate_printing::answer(writing::start(tree, signatures, bitfield, data));
 }
 
 // Chunks and signatures of the samples, up to a count.
 fn grown(
-    tree: &mut [u8],
-    signatures: &mut [u8],
-    bitfield: &mut [u8],
-    data: &mut [u8],
+    t: &mut [u8],
+    g: &mut [u8],
+    b: &mut [u8],
+    d: &mut [u8],
     told: Told,
     count: u64,
     step: u64,
 ) {
     let upto = most(count, 20000);
     let span = span_of(step);
-    gate_samples::grow(tree, signatures, bitfield, data, told, upto, span);
+    gate_samples::grow(t, g, b, d, told, upto, span);
     gate_printing::text(b"done");
 }
 
@@ -95,58 +97,21 @@ pub fn most(x: u64, bound: u64) -> u64
     if x < bound { x } else { bound }
 }
 
-// A chunk: from and to where it lies.
-fn appended(
-    tree: &mut [u8],
-    signatures: &[u8],
-    bitfield: &mut [u8],
-    data: &mut [u8],
-    text: &[u8],
-    line: Line,
-    told: Told,
-) {
-    let x = line.numbers;
-    say_appended(writing::append(
-        tree,
-        signatures,
-        bitfield,
-        data,
-        told.n,
-        told.s,
-        told.size,
-        parts::of(text, parts::between(x[1], x[2])),
-    ));
-}
-
-fn say_appended(a: Appended) {
-    let answer = a.answer;
-    let root = a.root;
-    rooted(answer, root);
-}
-
-// A list: from and to where its bytes lie, how many chunks, and their lengths.
+// A list: how many chunks, and their lengths.
 fn listed(
-    tree: &mut [u8],
-    signatures: &mut [u8],
-    bitfield: &mut [u8],
-    data: &mut [u8],
-    text: &[u8],
-    line: Line,
+    t: &mut [u8],
+    g: &mut [u8],
+    b: &mut [u8],
+    d: &mut [u8],
+    lent: &[u8],
     told: Told,
+    x: [u64; 16],
 ) {
-    let x = line.numbers;
-    let lengths = lengths_in(x);
-    say_appended(append_list::append_list(
-        tree,
-        signatures,
-        bitfield,
-        data,
-        told.n,
-        told.s,
-        told.size,
-        front(&lengths, x[3]),
-        parts::of(text, parts::between(x[1], x[2])),
-    ));
+    let all = lengths_in(x);
+    let lengths = front(&all, x[3]);
+    let n = told.n;
+    let a = append_list::append_list(t, g, b, d, n, told.s, told.size, lengths, lent);
+    answers::appended(a);
 }
 
 fn lengths_in(x: [u64; 16]) -> [u64; 257] {
@@ -178,77 +143,26 @@ fn front<'a>(lengths: &'a [u64; 257], k: u64) -> &'a [u64] {
     &all[0..count]
 }
 
-// An answer, and the root hash beside it.
-pub fn rooted(answer: Answer, root: [u8; 32]) {
-    gate_printing::answer(answer);
-    gate_printing::text(b":");
-    gate_printing::hex(&root);
-}
-
 // A signature: where it lies.
-fn signed(
-    tree: &[u8],
-    signatures: &mut [u8],
-    bitfield: &[u8],
-    data: &[u8],
-    text: &[u8],
-    told: Told,
-    at: u64,
-) {
-    let signature = signature_at(text, at);
-    gate_printing::answer(writing::store_signature(
-        tree,
-        signatures,
-        bitfield,
-        data,
-        told.n,
-        told.s,
-        told.size,
-        &signature,
-    ));
-}
-
-fn signature_at(text: &[u8], at: u64) -> [u8; 64] {
+fn signed(t: &[u8], g: &mut [u8], b: &[u8], d: &[u8], text: &[u8], told: Told, at: u64) {
     let mut signature = [0u8; 64];
     let end = std::num::wrapping_add_u64(at, 64);
-    copied(&mut signature, parts::of(text, parts::between(at, end)));
-    signature
+    parts::copied(&mut signature, parts::bytes(text, at, end));
+    let n = told.n;
+    answer(writing::store_signature(t, g, b, d, n, told.s, told.size, &signature));
 }
 
-fn copied(signature: &mut [u8; 64], bytes: &[u8]) {
-    if bytes.len() == 64 {
-        byte_strings::copy_to(signature, 0, bytes);
-    }
-}
-
-fn released(
-    tree: &[u8],
-    signatures: &[u8],
-    bitfield: &mut [u8],
-    data: &mut [u8],
+// A packet: the chunk number, and where the root hash lies.
+fn taken(
+    t: &mut [u8],
+    b: &mut [u8],
+    d: &mut [u8],
+    text: &[u8],
+    lent: &[u8],
     told: Told,
-    chunk: u64,
+    x: [u64; 16],
 ) {
-    gate_printing::answer(release::release(
-        tree,
-        signatures,
-        bitfield,
-        data,
-        told.n,
-        told.s,
-        told.size,
-        ChunkNumber(chunk),
-    ));
-}
-
-// A sum: the first 8 bytes of the hash.
-pub fn sum(part: &[u8]) {
-    let hash = blake2b::hash_parts(b"", b"", part);
-    gate_printing::text(b" ");
-    eight(&hash);
-}
-
-fn eight(hash: &[u8; 32]) {
-    let whole: &[u8] = hash;
-    gate_printing::hex(&whole[0..8]);
+    let root = super::packets::root_at(text, x[4]);
+    let chunk = ChunkNumber(x[3]);
+    answer(copy_take_in::take_in(t, b, d, told.n, told.size, lent, chunk, &root));
 }

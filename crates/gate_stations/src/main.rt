@@ -10,6 +10,7 @@ mod tally;
 
 use gate_samples::Told;
 use plan::State;
+ghost use Prim.Native.Nat.{_<_, _≤_};
 
 fn main() {
     let mut mt = [0xaau8; 552];
@@ -43,7 +44,7 @@ fn built(
     cb: &mut [u8],
     cd: &mut [u8],
 ) {
-    seven(mt, ms, mb, md);
+    begun(mt, ms, mb, md, 7, 4);
     beside(mt, ms, mb, md, ct, cs, cb, cd);
 }
 
@@ -112,56 +113,34 @@ fn later<'a>(
 ) {
     let then = calls::all(table, mt, ms, mb, md, ct, cs, cb, cd, c, plan::resumed(s));
     flip(cb, 31);
-    calls::all(
-        table,
-        mt,
-        ms,
-        mb,
-        md,
-        ct,
-        cs,
-        cb,
-        cd,
-        c,
-        plan::resumed(then),
-    );
+    let last = plan::resumed(then);
+    calls::all(table, mt, ms, mb, md, ct, cs, cb, cd, c, last);
 }
 
-fn none() -> Told {
-    Told {
+// So many chunks, on buffers that held other bytes before.
+fn begun(t: &mut [u8], s: &mut [u8], b: &mut [u8], d: &mut [u8], count: u64, span: u64) -> Told
+    requires { ⌜ (0 < span) × (span ≤ 64) × (count ≤ 1048576) ⌝ }
+{
+    writing::start(t, s, b, d);
+    let none = Told {
         n: 0,
         s: 0,
         size: 0,
-    }
-}
-
-fn seven(tree: &mut [u8], signatures: &mut [u8], bitfield: &mut [u8], data: &mut [u8]) -> Told {
-    writing::start(tree, signatures, bitfield, data);
-    gate_samples::grow(tree, signatures, bitfield, data, none(), 7, 4)
-}
-
-fn thirteen(tree: &mut [u8], signatures: &mut [u8], bitfield: &mut [u8], data: &mut [u8]) -> Told {
-    writing::start(tree, signatures, bitfield, data);
-    gate_samples::grow(tree, signatures, bitfield, data, none(), 13, 5)
+    };
+    gate_samples::grow(t, s, b, d, none, count, span)
 }
 
 // The leaf hash of chunk 3 and the first byte of chunk 8 changed.
-fn damaged(tree: &mut [u8], signatures: &mut [u8], bitfield: &mut [u8], data: &mut [u8]) -> Told {
-    let c = thirteen(tree, signatures, bitfield, data);
-    flip(tree, 272);
-    flip(data, 13);
+fn damaged(t: &mut [u8], s: &mut [u8], b: &mut [u8], d: &mut [u8]) -> Told {
+    let c = begun(t, s, b, d, 13, 5);
+    flip(t, 272);
+    flip(d, 13);
     c
 }
 
-fn grown(
-    tree: &mut [u8],
-    signatures: &mut [u8],
-    bitfield: &mut [u8],
-    data: &mut [u8],
-    c: Told,
-) -> Told {
-    let more = gate_samples::grow(tree, signatures, bitfield, data, c, 14, 5);
-    flip(data, 6);
+fn grown(t: &mut [u8], s: &mut [u8], b: &mut [u8], d: &mut [u8], c: Told) -> Told {
+    let more = gate_samples::grow(t, s, b, d, c, 14, 5);
+    flip(d, 6);
     more
 }
 

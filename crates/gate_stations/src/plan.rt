@@ -1,7 +1,6 @@
 // Which call comes next: the rows of the short stories, then the steps of the random runs, then a story about registers that change.
 use super::rows::Step;
 use super::runs::Rule;
-use super::tables::How;
 use super::tally::Tally;
 
 // At which row the plan is, at which step of it, the state of the random numbers, and what was counted.
@@ -10,14 +9,6 @@ pub struct State {
     pub step: u64,
     pub x: u64,
     pub tally: Tally,
-}
-
-// A serving is told the s of the metadata register.
-pub enum Due {
-    Stop,
-    Serve(u64),
-    Enter(u64, u64, u64),
-    Table(How),
 }
 
 pub fn start() -> State {
@@ -39,28 +30,15 @@ pub fn resumed(s: State) -> State {
     at(std::num::wrapping_add_u64(s.row, 1))
 }
 
-pub fn next(s: State) -> Due {
+pub fn next(s: State) -> Step {
     let rule = super::runs::rule_of(s.row);
     if rule.steps == 0 {
-        return of_row(super::rows::row(s.row));
+        return super::rows::row(s.row);
     }
     if s.step == 0 {
-        return Due::Table(How::Fresh);
+        return Step::Fresh;
     }
     super::runs::next(rule, s.x)
-}
-
-fn of_row(step: Step) -> Due {
-    match step {
-        Step::Fresh => Due::Table(How::Fresh),
-        Step::Fill => Due::Table(How::Full),
-        Step::Spoil(seed) => Due::Table(How::Spoilt(seed)),
-        Step::Enter(station, register, chunk) => Due::Enter(station, register, chunk),
-        Step::Serve => Due::Serve(7),
-        Step::Empty => Due::Serve(7),
-        Step::Wrong => Due::Serve(5),
-        Step::Stop => Due::Stop,
-    }
 }
 
 // The plan after a call, of which this was counted.

@@ -1,6 +1,7 @@
 // Long runs of entering and serving by random numbers.
-use super::plan::Due;
+use super::rows::Step;
 use super::tally::Tally;
+use gate_printing::named;
 
 // Of a row: whether its calls are printed; and of a random run the seed, how many steps it has, of 8 how many enter a read on average, and which
 // station floods the table: it enters every other read. 99 does not. A row of a story has no steps.
@@ -57,7 +58,7 @@ fn turned(x: u64) -> u64 {
     (1664525 * (x % 4294967296) + 1013904223) % 4294967296
 }
 
-pub fn next(rule: Rule, x: u64) -> Due {
+pub fn next(rule: Rule, x: u64) -> Step {
     let first = turned(x);
     if first / 65536 % 8 < rule.entering {
         let second = turned(first);
@@ -68,9 +69,9 @@ pub fn next(rule: Rule, x: u64) -> Due {
             second / 65536 % 18,
             turned(fourth) / 65536 % 2,
         );
-        Due::Enter(station, third / 65536 % 2, fourth / 65536 % 15)
+        Step::Enter(station, third / 65536 % 2, fourth / 65536 % 15)
     } else {
-        Due::Serve(7)
+        Step::Serve
     }
 }
 
@@ -98,9 +99,9 @@ pub fn drawn(rule: Rule, x: u64) -> u64 {
 }
 
 pub fn print(rule: Rule, t: Tally) {
-    counted(b"run seed=", rule.seed);
-    counted(b" steps=", rule.steps);
-    counted(b" entering=", rule.entering);
+    named(b"run seed=", rule.seed);
+    named(b" steps=", rule.steps);
+    named(b" entering=", rule.entering);
     gate_printing::text(b" flooding=");
     if rule.flooding == 99 {
         gate_printing::text(b"none");
@@ -111,16 +112,11 @@ pub fn print(rule: Rule, t: Tally) {
 }
 
 fn totals(t: Tally) {
-    counted(b": done ", t.done);
-    counted(b" 21 ", t.above);
-    counted(b" 22 ", t.full);
-    counted(b" served ", t.served);
-    counted(b" none ", t.none);
-    counted(b" fold ", t.folded);
+    named(b": done ", t.done);
+    named(b" 21 ", t.above);
+    named(b" 22 ", t.full);
+    named(b" served ", t.served);
+    named(b" none ", t.none);
+    named(b" fold ", t.folded);
     gate_printing::text(b"\n");
-}
-
-fn counted(what: &[u8], n: u64) {
-    gate_printing::text(what);
-    gate_printing::number(n);
 }

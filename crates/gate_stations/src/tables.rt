@@ -1,18 +1,14 @@
 // Tables made anew.
+use super::rows::Step;
 use super::tally::Tally;
 
-// A fresh one; one with four reads for each station; or one of numbers that no call wrote, by their seed.
-pub enum How {
-    Fresh,
-    Full,
-    Spoilt(u64),
-}
-
-pub fn made(table: &mut [u64; 161], how: How, t: Tally) -> Tally {
-    match how {
-        How::Fresh => *table = station_queue::fresh(),
-        How::Full => fill(table),
-        How::Spoilt(seed) => spoil(table, seed),
+// A fresh one; one with four reads for each station; or one of numbers that no call wrote, by their seed. Any other step makes none.
+pub fn made(table: &mut [u64; 161], step: Step, t: Tally) -> Tally {
+    match step {
+        Step::Fresh => *table = station_queue::fresh(),
+        Step::Fill => fill(table),
+        Step::Spoil(seed) => spoil(table, seed),
+        _ => {}
     }
     t
 }

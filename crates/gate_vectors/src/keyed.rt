@@ -1,43 +1,10 @@
 // Hashes under a key, and labels.
 use crate::filled;
 use crate::part;
-use crate::self_test_result;
-use crate::self_test_sum;
-ghost use Prim.Native.Nat.{_+_, _*_, _≤_};
-
-// Appendix E of RFC 7693 whole: each message without a key and then with one.
-pub fn published() {
-    io::write_all(1, b"selftest whole ");
-    let mut results = [0u8; 1968];
-    self_test(&mut results, 0, 20);
-    self_test(&mut results, 240, 32);
-    self_test(&mut results, 624, 48);
-    self_test(&mut results, 1200, 64);
-    self_test_sum(&results, 1968);
-}
-
-// The self-test's twelve results of `output` bytes each, one after the other from `at` on.
-fn self_test(results: &mut [u8; 1968], at: usize, output: usize)
-    requires { ⌜ at + 12 * output ≤ 1968 ⌝ }
-    requires { ⌜ output ≤ 64 ⌝ }
-{
-    pair(results, at, output, 0);
-    pair(results, at + 2 * output, output, 3);
-    pair(results, at + 4 * output, output, 128);
-    pair(results, at + 6 * output, output, 129);
-    pair(results, at + 8 * output, output, 255);
-    pair(results, at + 10 * output, output, 1024);
-}
-
-// The message of `count` bytes without a key, and with one of as many bytes as the output has.
-fn pair(results: &mut [u8; 1968], at: usize, output: usize, count: usize)
-    requires { ⌜ at + 2 * output ≤ 1968 ⌝ }
-    requires { ⌜ output ≤ 64 ⌝ }
-    requires { ⌜ count ≤ 1024 ⌝ }
-{
-    self_test_result(results, at, output, count, 0);
-    self_test_result(results, at + output, output, count, output);
-}
+use answer_types::Answer;
+use gate_printing::named;
+use gate_printing::text;
+ghost use Prim.Native.Nat.{_≤_};
 
 // Keys of several lengths.
 pub fn lines() {
@@ -65,49 +32,38 @@ fn line(kk: usize, count: usize)
     requires { ⌜ kk ≤ 64 ⌝ }
     requires { ⌜ count ≤ 256 ⌝ }
 {
-    io::write_all(1, b"key ");
-    io::print_decimal(1, kk as u64);
-    io::write_all(1, b" message ");
-    io::print_decimal(1, count as u64);
-    io::write_all(1, b":");
+    named(b"key ", kk as u64);
+    named(b" message ", count as u64);
+    text(b":");
     digest(kk, count, 1);
     digest(kk, count, 20);
     digest(kk, count, 32);
     digest(kk, count, 48);
     digest(kk, count, 64);
-    io::write_all(1, b"\n");
+    text(b"\n");
 }
 
 // A space and the hash with `output` bytes: byte j of the key is 7 j + 1, byte j of the message 13 j + 5, modulo 256.
 fn digest(kk: usize, count: usize, output: usize)
     requires { ⌜ kk ≤ 64 ⌝ }
     requires { ⌜ count ≤ 256 ⌝ }
-    requires { ⌜ output ≤ 64 ⌝ }
 {
     let key = filled(kk, 1, 7);
     let message = filled(count, 5, 13);
     let hashed = blake2b::hash(output, part(&key, 0, kk), part(&message, 0, count));
-    io::write_all(1, b" ");
-    hex(&hashed.digest, output);
-}
-
-// The first `count` bytes of the digest in hexadecimal.
-fn hex(digest: &[u8; 64], count: usize)
-    requires { ⌜ count ≤ 64 ⌝ }
-{
-    let whole: &[u8] = digest;
-    gate_printing::hex(&whole[0..count]);
+    text(b" ");
+    gate_printing::front(&hashed.digest, output);
 }
 
 // Keys that are too long, alone and beside output lengths that are none.
 pub fn refusals() {
-    io::write_all(1, b"key 65 message 0: ");
+    text(b"key 65 message 0: ");
     refusal(64, 65);
-    io::write_all(1, b"output 0 key 65: ");
+    text(b"output 0 key 65: ");
     refusal(0, 65);
-    io::write_all(1, b"output 65 key 65: ");
+    text(b"output 65 key 65: ");
     refusal(65, 65);
-    io::write_all(1, b"output 65 key 64: ");
+    text(b"output 65 key 64: ");
     refusal(65, 64);
 }
 
@@ -118,16 +74,8 @@ fn refusal(output: usize, kk: usize)
     let key = filled(kk, 1, 7);
     let hashed = blake2b::hash(output, part(&key, 0, kk), b"");
     let answer = hashed.answer;
-    refused(answer);
-}
-
-// The number of a refusal, and the line's end.
-fn refused(answer: answer_types::Answer) {
-    if let answer_types::Answer::Refused(refusal) = answer {
-        io::write_all(1, b"refused ");
-        io::print_decimal(1, refusal.number);
-        io::write_all(1, b"\n");
-    }
+    gate_printing::answer(answer);
+    text(b"\n");
 }
 
 // The labels of one root hash under keys of several lengths.
@@ -143,52 +91,25 @@ pub fn labels() {
 fn label(kk: usize)
     requires { ⌜ kk ≤ 65 ⌝ }
 {
-    io::write_all(1, b"label key ");
-    io::print_decimal(1, kk as u64);
-    io::write_all(1, b": ");
+    named(b"label key ", kk as u64);
+    text(b": ");
     let key = filled(kk, 1, 7);
-    let labelled = root_label::label(&ROOT, part(&key, 0, kk));
+    let labelled = root_label::label(&root(), part(&key, 0, kk));
     let answer = labelled.answer;
-    if let answer_types::Answer::Done = answer {
-        let bytes = labelled.bytes;
-        gate_printing::hex(&bytes);
-        io::write_all(1, b"\n");
+    match answer {
+        Answer::Done => gate_printing::hex(&labelled.bytes),
+        Answer::Refused(refusal) => gate_printing::refusal(refusal),
     }
-    refused(answer);
+    text(b"\n");
 }
 
 // A root hash: byte j is 3 j + 2.
-const ROOT: [u8; 32] = [
-    2,
-    5,
-    8,
-    11,
-    14,
-    17,
-    20,
-    23,
-    26,
-    29,
-    32,
-    35,
-    38,
-    41,
-    44,
-    47,
-    50,
-    53,
-    56,
-    59,
-    62,
-    65,
-    68,
-    71,
-    74,
-    77,
-    80,
-    83,
-    86,
-    89,
-    92,
-    95,
-];
+fn root() -> [u8; 32] {
+    let mut root = [0u8; 32];
+    let message = filled(32, 2, 3);
+    let bytes = part(&message, 0, 32);
+    if bytes.len() == 32 {
+        byte_strings::copy_to(&mut root, 0, bytes);
+    }
+    root
+}

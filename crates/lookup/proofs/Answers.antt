@@ -2,17 +2,16 @@
 -- Assumes nothing.
 use Prim.Native.Nat.{ℕ, zero, suc, _+_, _-_, _*_, _^_, _≤_, _<_}
 use mathlib.Core.Path.{_≡_, refl, sym, ap, ap₂, _∙_, subst}
-use mathlib.Core.Bool.{Bool, true, false, cond}
-use mathlib.Core.List.{List, [], _∷_, _++_}
+use mathlib.Core.Bool.{true, false}
+use mathlib.Core.List.{List, []}
 use native.Mathlib.Nat.{mul-one, le-antisymm, le-dest, lt-of-not-le, le-of-suc-le-suc, lt-irrefl, zero-add, div-eq-of-lt-le}
 use native.Mathlib.Omega.{arith}
-use borrow.Author.Tests.{lt-ltb, le-ltb, le-leb, lt-leb, eq-eqb, ne-eqb}
 use lib.ListN.{length, getD, take, length-take}
 use lib.Seq.{getD-take}
-use Rattle.answer_types.specs.Verdict.{Verdict, none, tree, done, refused, andThen}
-use Rattle.byte_strings.specs.Lists.{part, total, sameList}
+use Rattle.answer_types.specs.Verdict.{none, tree, done, refused}
+use Rattle.byte_strings.specs.Lists.{part, total}
 use Rattle.byte_strings.proofs.Lists.{length-part, run-ext}
-use Rattle.tree_index.specs.Tree.{index, filled}
+use Rattle.tree_index.specs.Tree.{index}
 use Rattle.tree_index.proofs.Index.{index-leaf}
 use Rattle.tree_index.proofs.Filled.{block-end, end-filled}
 use Rattle.bitfield.specs.Release.{storedHeld}
@@ -28,76 +27,47 @@ use Rattle.file_format.proofs.Slots.{contents-length, held-behind, leaf-held}
 use Rattle.file_format.proofs.Nodes.{nodeAt-index}
 use Rattle.file_format.proofs.Held.{stored-held}
 use Rattle.file_format.proofs.OfImage.{stored-span, stored-leaf-size, stored-start, stored-chunk, stored-node-hash}
-use Rattle.checks.specs.Checks.{judged, registerChecks}
-use Rattle.checks.proofs.Judged.{judged-append}
-use Rattle.checks.proofs.Passed.{Passed, passes, passed, same-of}
-use Rattle.lookup.specs.Descent.{Ending, stopped, reached, unknown, always, chunkWithin, byteWithin, descent}
-use Rattle.lookup.specs.Lookup.{refusal, found, stopRefused, foundUnless, chunkOf, startOf, toChunk, byteEnding, toByte, placeVerdict, heldVerdict, byteVerdict, placeOf, byteAt}
-use Rattle.lookup.specs.Read.{chunkBytes, partUnless, readVerdict, readPart}
+use Rattle.checks.proofs.Passed.{Passed, passes, passed}
+use Rattle.lookup.specs.Descent.{Ending, stopped, reached, unknown, always, chunkWithin, byteWithin}
+use Rattle.lookup.specs.Lookup.{Found, refusal, found, byteFrom, placeIn, heldPlaceIn, byteIn, toChunk, toByte, placeOf, heldPlaceOf, byteAt}
+use Rattle.lookup.specs.Read.{verdictFound, bytesFound, bytesAt, chunkBytes, hashJudged, readFound, readVerdict, readPart}
 use Rattle.lookup.specs.Theorems.{startIn, HasByte, Answers, AnswersForAll, Right, HoldsChunk, HoldsByte, Lies, Stops, LookupsStayInside, LookupsStayInsideForAll}
 use Rattle.lookup.proofs.Descents.{Steps, Landed, Halted, Ends, ends, chunk-order, byte-order, left-first, right-end, left-inside, twice}
+use Rattle.lookup.proofs.Lookups.{behind-done, place-above, place-at, held-above, held-gone, held-here, byte-above, byte-end, byte-below, hash-right, as-part}
 
--- ---- the verdicts
+-- ---- behind the checks
 
--- a check 9 behind those of a register
-nine : (r : Register) (b : Bool) (next : Verdict) → Passed r
-    → judged (registerChecks r ++ (record { number = 9; right = b } ∷ [])) next ≡ cond b next (refused 9 none)
-unfolding judged
-nine r b next p =
-    judged-append (registerChecks r) (record { number = 9; right = b } ∷ []) next ∙ passes r (judged (record { number = 9; right = b } ∷ []) next) p
+module _ (r : Register) (p : Passed r) where
+  place-of : (c : ℕ) → placeOf r c ≡ placeIn always (r .tree) (r .n) c
+  unfolding placeOf
+  place-of c = behind-done _ (passes r done p)
 
-nine-passed : (r : Register) {b : Bool} (next : Verdict) → Passed r → b ≡ true
-    → judged (registerChecks r ++ (record { number = 9; right = b } ∷ [])) next ≡ next
-nine-passed r {b} next p e = nine r b next p ∙ ap (λ (x : Bool). cond x next (refused 9 none)) e
+  held-of : (c : ℕ) → heldPlaceOf r c ≡ heldPlaceIn always (r .tree) (r .n) (r .bitfield) c
+  unfolding heldPlaceOf
+  held-of c = behind-done _ (passes r done p)
 
-nine-refused : (r : Register) {b : Bool} (next : Verdict) → Passed r → b ≡ false
-    → judged (registerChecks r ++ (record { number = 9; right = b } ∷ [])) next ≡ refused 9 none
-nine-refused r {b} next p e = nine r b next p ∙ ap (λ (x : Bool). cond x next (refused 9 none)) e
+  byte-of : (b : ℕ) → byteAt r b ≡ byteIn always (r .tree) (r .n) (r .size) b
+  unfolding byteAt
+  byte-of b = behind-done _ (passes r done p)
 
-place-verdict : (r : Register) (c : ℕ) → Passed r → c < r .n → placeVerdict r c ≡ stopRefused (toChunk r c)
-unfolding placeVerdict
-place-verdict r c p h = nine-passed r (stopRefused (toChunk r c)) p (lt-ltb c (r .n) h)
+  pub place-found : (c : ℕ) {k s : ℕ} → c < r .n → toChunk r c ≡ reached k s → placeOf r c ≡ found s (storedSize (r .tree) (index 0 c))
+  unfolding toChunk
+  place-found c h e = place-of c ∙ place-at always (r .tree) (r .n) c h e
 
-no-place : (r : Register) (c : ℕ) → Passed r → r .n ≤ c → placeVerdict r c ≡ refused 9 none
-unfolding placeVerdict
-no-place r c p h = nine-refused r (stopRefused (toChunk r c)) p (le-ltb c (r .n) h)
+  pub held-at : (c : ℕ) {k s : ℕ} → c < r .n → storedHeld (r .bitfield) c ≡ true → toChunk r c ≡ reached k s
+      → heldPlaceOf r c ≡ found s (storedSize (r .tree) (index 0 c))
+  unfolding toChunk
+  held-at c h b e = held-of c ∙ held-here always (r .tree) (r .n) c (r .bitfield) h b ∙ place-at always (r .tree) (r .n) c h e
 
-held-verdict : (r : Register) (c : ℕ) → Passed r → c < r .n
-    → heldVerdict r c ≡ cond (storedHeld (r .bitfield) c) (stopRefused (toChunk r c)) (refused 18 (tree (index 0 c)))
-unfolding heldVerdict
-held-verdict r c p h = nine-passed r (cond (storedHeld (r .bitfield) c) (stopRefused (toChunk r c)) (refused 18 (tree (index 0 c)))) p (lt-ltb c (r .n) h)
+  pub no-held : (c : ℕ) → r .n ≤ c → heldPlaceOf r c ≡ refusal 9 none
+  no-held c h = held-of c ∙ held-above always (r .tree) (r .n) c (r .bitfield) h
 
-pub no-held : (r : Register) (c : ℕ) → Passed r → r .n ≤ c → heldVerdict r c ≡ refused 9 none
-unfolding heldVerdict
-no-held r c p h = nine-refused r (cond (storedHeld (r .bitfield) c) (stopRefused (toChunk r c)) (refused 18 (tree (index 0 c)))) p (le-ltb c (r .n) h)
+  -- at the data size, and above it
+  byte-at-end : byteAt r (r .size) ≡ found (r .n) 0
+  byte-at-end = byte-of (r .size) ∙ byte-end always (r .tree) (r .n) (r .size) (r .size) refl
 
-byte-verdict : (r : Register) (b : ℕ) → Passed r → b ≤ r .size → byteVerdict r b ≡ stopRefused (toByte r b)
-unfolding byteVerdict
-byte-verdict r b p h = nine-passed r (stopRefused (toByte r b)) p (le-leb b (r .size) h)
-
--- where a byte lookup ends: at the data size, and below it
-pub at-end : (known : ℕ → Bool) (t : List ℕ) (n size b : ℕ) → b ≡ size → byteEnding known t n size b ≡ reached n size
-unfolding byteEnding
-at-end known t n size b e = ap (λ (x : Bool). elim x [ true ↦ reached n size | false ↦ descent known (byteWithin b) t n ]) (eq-eqb b size e)
-
-pub not-at-end : (known : ℕ → Bool) (t : List ℕ) (n size b : ℕ) → (b ≡ size → ⊥) → byteEnding known t n size b ≡ descent known (byteWithin b) t n
-unfolding byteEnding
-not-at-end known t n size b h = ap (λ (x : Bool). elim x [ true ↦ reached n size | false ↦ descent known (byteWithin b) t n ]) (ne-eqb b size h)
-
-byte-at-end : (r : Register) → Passed r → byteAt r (r .size) ≡ found (r .n) 0
-unfolding byteAt toByte stopRefused
-byte-at-end r p =
-    let e = at-end always (r .tree) (r .n) (r .size) (r .size) refl in
-    ap (λ (v : Verdict). foundUnless v (chunkOf (toByte r (r .size))) (r .size - startOf (toByte r (r .size))))
-    (byte-verdict r (r .size) p (omega arith) ∙ ap stopRefused e)
-    ∙ ap (λ (x : Ending). found (chunkOf x) (r .size - startOf x)) e
-    ∙ ap (found (r .n)) (let z : r .size - r .size ≡ 0 = omega arith in z)
-
-no-byte : (r : Register) (b : ℕ) → Passed r → r .size < b → byteAt r b ≡ refusal 9 none
-unfolding byteAt byteVerdict
-no-byte r b p h =
-    ap (λ (v : Verdict). foundUnless v (chunkOf (toByte r b)) (b - startOf (toByte r b)))
-    (nine-refused r (stopRefused (toByte r b)) p (lt-leb b (r .size) h))
+  no-byte : (b : ℕ) → r .size < b → byteAt r b ≡ refusal 9 none
+  no-byte b h = byte-of b ∙ byte-above always (r .tree) (r .n) (r .size) b h
 
 -- ---- every register that passes the checks
 
@@ -123,9 +93,8 @@ module _ (r : Register) (p : Passed r) where
       → Ends always (r .tree) (r .n) (λ p s. s ≤ b) (λ p s. b < s) At (toByte r b)
   unfolding toByte
   byte-lands At g a b h =
-      subst (Ends always (r .tree) (r .n) (λ p s. s ≤ b) (λ p s. b < s) At) (sym (not-at-end always (r .tree) (r .n) (r .size) b (λ e. omega arith)))
-      (ends always (byteWithin b) (r .tree) (r .n) (λ p s. s ≤ b) (λ p s. b < s) At (byte-order b) g (few (r .n) (p .count)) a (omega arith)
-      (subst (λ (e : ℕ). b < e) (sym (p .adds)) h))
+      ends always (byteWithin b) (r .tree) (r .n) (λ p s. s ≤ b) (λ p s. b < s) At (byte-order b) g (few (r .n) (p .count)) a (omega arith)
+      (subst (λ (e : ℕ). b < e) (sym (p .adds)) h)
 
   -- a leaf that is reached, whatever was sought
   lies : {Lo Hi At : ℕ → ℕ → Type 0} {k start : ℕ} → Landed (r .tree) (r .n) Lo Hi At k start → Lies r k start
@@ -148,8 +117,8 @@ module _ (r : Register) (p : Passed r) where
       }
 
   pub stays-inside : LookupsStayInside r
-  unfolding chunkBytes
-  stays-inside = record { chunk = at-chunk; byte = at-byte; chunkStops = chunk-stops; byteStops = byte-stops; end = byte-at-end r p; noByte = λ b. no-byte r b p; read = in-read }
+  unfolding chunkBytes toChunk
+  stays-inside = record { chunk = at-chunk; byte = at-byte; chunkStops = chunk-stops; byteStops = byte-stops; end = byte-at-end r p; noByte = no-byte r p; read = in-read }
     where
       to-chunk : (c : ℕ) → c < r .n → (x : Ending) → toChunk r c ≡ x → Ends always (r .tree) (r .n) (λ p s. p ≤ c) (λ p s. c < p) (λ p s. Unit {0}) x
       to-chunk c h x e =
@@ -178,11 +147,11 @@ module _ (r : Register) (p : Passed r) where
       in-read : (c : ℕ) → c < r .n → (k start : ℕ) → toChunk r c ≡ reached k start → length (chunkBytes r c) ≡ storedSize (r .tree) (index 0 c)
       in-read c h k start e =
           let l = at-chunk c h k start e in
-          let at : startOf (toChunk r c) ≡ start = ap startOf e in
           let inside : start + storedSize (r .tree) (index 0 c) ≤ r .size =
           subst (λ (x : ℕ). start + storedSize (r .tree) (index 0 x) ≤ r .size) (l .0) (l .1 .inside)
           in
-          length-part (r .content) (startOf (toChunk r c)) (storedSize (r .tree) (index 0 c)) (omega (arith, p .content))
+          ap (λ (f : Found). length (bytesAt (r .content) f)) (place-at always (r .tree) (r .n) c h e)
+          ∙ length-part (r .content) start (storedSize (r .tree) (index 0 c)) (omega (arith, p .content))
 
 pub lookups-stay-inside : LookupsStayInsideForAll
 lookups-stay-inside r e = stays-inside r (passed r done e .0)
@@ -273,19 +242,20 @@ module _ (F : List ℕ → List ℕ) (hf : HashFunction F) (ss : List Slot) (w :
           let e : startIn cs k ≡ s = start-span cs k (omega arith) ∙ sym (starts-at l) in
           (k, record { below = below; from = omega (arith, l .met .low); to = omega (arith, l .met .high, leaf-of k in-r) }, ap (reached k) (sym e))
 
-  chunk-bytes : (c : ℕ) → c < r .n → chunkBytes r c ≡ getD cs c []
-  unfolding chunkBytes storedChunk
-  chunk-bytes c h =
-      ap₂ (part (r .content)) (ap startOf (to-chunk c h) ∙ sym (stored-start F hf ss w r b c (omega arith))) (ap (storedSize (r .tree)) (index-leaf c))
+  part-at : (c : ℕ) → c < r .n → part (r .content) (span cs 0 c) (storedSize (r .tree) (index 0 c)) ≡ getD cs c []
+  unfolding storedChunk
+  part-at c h =
+      ap₂ (part (r .content)) (sym (stored-start F hf ss w r b c (omega arith))) (ap (storedSize (r .tree)) (index-leaf c))
       ∙ stored-chunk F hf ss w r b c h
 
   -- of a chunk that is held
-  leaf-hash : (c : ℕ) → c < r .n → heldIn ss c ≡ true → storedHash (r .tree) (index 0 c) ≡ F (leafMessage (chunkBytes r c))
+  leaf-hash : (c : ℕ) → c < r .n → heldIn ss c ≡ true
+      → storedHash (r .tree) (index 0 c) ≡ F (leafMessage (part (r .content) (span cs 0 c) (storedSize (r .tree) (index 0 c))))
   unfolding node leaf
   leaf-hash c h e =
       stored-node-hash F hf ss w r b (index 0 c) (end-filled (r .n) 0 c (omega (arith, mul-one (c + 1))))
       ∙ ap (λ (x : Entry). x .hash) (nodeAt-index F (leaves F ss) 0 c ∙ leaf-held F ss c (subst (λ (n : ℕ). c < n) (b .count) h) e)
-      ∙ ap (λ (l : List ℕ). F (leafMessage l)) (sym (chunk-bytes c h))
+      ∙ ap (λ (l : List ℕ). F (leafMessage l)) (sym (part-at c h))
 
   below-n : (c : ℕ) → c < length cs → c < r .n
   below-n c h = subst (λ (n : ℕ). c < n) (sym counted) h
@@ -302,33 +272,23 @@ module _ (F : List ℕ → List ℕ) (hf : HashFunction F) (ss : List Slot) (w :
       omega arith)
 
   -- the stored bit says whether it is held
-  pub held-as : (c : ℕ) → c < r .n → (t : Bool) → heldIn ss c ≡ t → heldVerdict r c ≡ cond t (stopRefused (toChunk r c)) (refused 18 (tree (index 0 c)))
-  held-as c h t e =
-      held-verdict r c p h ∙ ap (λ (x : Bool). cond x (stopRefused (toChunk r c)) (refused 18 (tree (index 0 c)))) (stored-held F ss r b c h ∙ e)
+  pub held-gone-at : (c : ℕ) → c < r .n → heldIn ss c ≡ false → heldPlaceOf r c ≡ refusal 18 (tree (index 0 c))
+  held-gone-at c h e = held-of r p c ∙ held-gone always (r .tree) (r .n) c (r .bitfield) h (stored-held F ss r b c h ∙ e)
 
-  place-done : (c : ℕ) → c < r .n → placeVerdict r c ≡ done
-  unfolding stopRefused
-  place-done c h = place-verdict r c p h ∙ ap stopRefused (to-chunk c h)
+  pub held-done-at : (c : ℕ) → heldIn ss c ≡ true → heldPlaceOf r c ≡ found (span cs 0 c) (storedSize (r .tree) (index 0 c))
+  held-done-at c e = let h = held-n c e in held-at r p c h (stored-held F ss r b c h ∙ e) (to-chunk c h)
 
-  pub held-done-at : (c : ℕ) → heldIn ss c ≡ true → heldVerdict r c ≡ done
-  unfolding stopRefused
-  held-done-at c e = held-as c (held-n c e) true e ∙ ap stopRefused (to-chunk c (held-n c e))
-
-  -- the leaf hash compared
-  abbrev compared : ℕ → Verdict
-  compared c = cond (sameList (storedHash (r .tree) (index 0 c)) (F (leafMessage (chunkBytes r c)))) done (refused 10 (tree (index 0 c)))
-
-  read-done : (c : ℕ) → heldIn ss c ≡ true → readVerdict F r c ≡ done
-  unfolding readVerdict
+  read-done : (c : ℕ) → heldIn ss c ≡ true → readFound F r c ≡ found (span cs 0 c) (span cs 0 c + storedSize (r .tree) (index 0 c))
+  unfolding readFound
   read-done c e =
-      ap (λ (v : Verdict). andThen v (compared c)) (held-done-at c e)
-      ∙ ap (λ (x : Bool). cond x done (refused 10 (tree (index 0 c)))) (same-of (storedHash (r .tree) (index 0 c)) (F (leafMessage (chunkBytes r c))) (leaf-hash c (held-n c e) e))
+      ap (hashJudged F (r .tree) (r .content) c) (held-done-at c e)
+      ∙ hash-right F (r .tree) (r .content) c (span cs 0 c) (storedSize (r .tree) (index 0 c)) (leaf-hash c (held-n c e) e)
 
   has-size : (x k : ℕ) → HasByte cs x k → x < r .size
   has-size x k q = subst (λ (s : ℕ). x < s) (sym (b .total)) (omega (arith, q .to, start-span cs k (omega (arith, q .below)), chunk-inside cs k (q .below)))
 
   pub answered : Answers F r ss cs
-  unfolding placeOf byteAt readVerdict readPart stopRefused
+  unfolding toByte readFound readVerdict readPart
   answered =
       record {
         place =
@@ -348,11 +308,10 @@ module _ (F : List ℕ → List ℕ) (hf : HashFunction F) (ss : List Slot) (w :
     where
       at-place : (i : ℕ) → i < length cs → placeOf r i ≡ found (startIn cs i) (length (getD cs i []))
       at-place i h =
-          ap (λ (v : Verdict). foundUnless v (startOf (toChunk r i)) (storedSize (r .tree) (index 0 i))) (place-done i (below-n i h))
-          ∙ ap₂ found (ap startOf (to-chunk i (below-n i h)) ∙ sym (start-span cs i (omega arith))) (leaf-of i (below-n i h))
+          place-found r p i (below-n i h) (to-chunk i (below-n i h)) ∙ ap₂ found (sym (start-span cs i (omega arith))) (leaf-of i (below-n i h))
 
       no-place-at : (i : ℕ) → length cs ≤ i → placeOf r i ≡ refusal 9 none
-      no-place-at i h = ap (λ (v : Verdict). foundUnless v (startOf (toChunk r i)) (storedSize (r .tree) (index 0 i))) (no-place r i p (above-n i h))
+      no-place-at i h = place-of r p i ∙ place-above always (r .tree) (r .n) i (above-n i h)
 
       no-other : (x k l : ℕ) → HasByte cs x k → HasByte cs x l → k ≡ l
       no-other x k l m q = le-antisymm (not-before cs x l k q m) (not-before cs x k l m q)
@@ -362,8 +321,7 @@ module _ (F : List ℕ → List ℕ) (hf : HashFunction F) (ss : List Slot) (w :
           let h : x < r .size = has-size x k q in
           let g = to-byte x h in
           let e : g .0 ≡ k = no-other x (g .0) k (g .1) q in
-          ap (λ (v : Verdict). foundUnless v (chunkOf (toByte r x)) (x - startOf (toByte r x))) (byte-verdict r x p (omega arith) ∙ ap stopRefused (g .2))
-          ∙ ap (λ (y : Ending). found (chunkOf y) (x - startOf y)) (g .2)
+          byte-of r p x ∙ byte-below always (r .tree) (r .n) (r .size) x h ∙ ap (byteFrom x) (g .2)
           ∙ ap (λ (j : ℕ). found j (x - startIn cs j)) e
 
       one-chunk : (x : ℕ) → x < dataSize cs → (k : ℕ) × HasByte cs x k
@@ -373,19 +331,20 @@ module _ (F : List ℕ → List ℕ) (hf : HashFunction F) (ss : List Slot) (w :
       end-at = subst (λ (s : ℕ). byteAt r s ≡ found (length cs) 0) (b .total) (byte-at-end r p ∙ ap (λ (n : ℕ). found n 0) counted)
 
       no-byte-at : (x : ℕ) → dataSize cs < x → byteAt r x ≡ refusal 9 none
-      no-byte-at x h = no-byte r x p (subst (λ (s : ℕ). s < x) (sym (b .total)) h)
+      no-byte-at x h = no-byte r p x (subst (λ (s : ℕ). s < x) (sym (b .total)) h)
 
       done-at : (i : ℕ) → heldIn ss i ≡ true → readVerdict F r i ≡ done
-      done-at i e = read-done i e
+      done-at i e = ap verdictFound (read-done i e)
 
       read-at : (i : ℕ) → heldIn ss i ≡ true → readPart F r i ≡ getD cs i []
-      read-at i e = ap (λ (v : Verdict). partUnless F v (chunkBytes r i)) (read-done i e) ∙ chunk-bytes i (held-n i e)
+      read-at i e =
+          ap (bytesFound (r .content)) (read-done i e) ∙ as-part (r .content) (span cs 0 i) (storedSize (r .tree) (index 0 i)) ∙ part-at i (held-n i e)
 
       not-held-at : (i : ℕ) → i < length cs → heldIn ss i ≡ false → readVerdict F r i ≡ refused 18 (tree (index 0 i))
-      not-held-at i h e = ap (λ (v : Verdict). andThen v (compared i)) (held-as i (below-n i h) false e)
+      not-held-at i h e = ap (λ (f : Found). verdictFound (hashJudged F (r .tree) (r .content) i f)) (held-gone-at i (below-n i h) e)
 
       no-read-at : (i : ℕ) → length cs ≤ i → readVerdict F r i ≡ refused 9 none
-      no-read-at i h = ap (λ (v : Verdict). andThen v (compared i)) (no-held r i p (above-n i h))
+      no-read-at i h = ap (λ (f : Found). verdictFound (hashJudged F (r .tree) (r .content) i f)) (no-held r p i (above-n i h))
 
 pub answers : AnswersForAll
 answers F hf ss w r b e = answered F hf ss w r b (passed r done e .0)

@@ -5,5 +5,6 @@ pub mod Unknown
 pub mod Steps
 pub mod ReadOrder
 pub mod Capped
+pub mod Lookups
 pub mod Answers
 pub mod Calls

@@ -1,22 +1,17 @@
 -- The steps of a descent as the code takes them, and what its inner functions require. `partly` says that the files are a copy's.
-use Prim.Native.Nat.{ℕ, _+_, _-_, _*_, _^_, _/_, _≤_, _<_}
+use Prim.Native.Nat.{ℕ, _+_, _*_, _^_, _/_, _≤_, _<_}
 use mathlib.Core.Path.{_≡_}
-use mathlib.Core.Bool.{Bool, true, false, cond}
-use mathlib.Core.List.{List, [], _∷_}
+use mathlib.Core.Bool.{Bool, true, false}
+use mathlib.Core.List.{List}
 use lib.ListN.{length}
-use lib.Dec.{leb, ltb}
-use Rattle.answer_types.specs.Verdict.{tree as atTree, refused}
 use Rattle.byte_strings.specs.Lists.{total}
-use Rattle.tree_index.specs.Tree.{index, depth, block, leftChild, rightChild, filled}
+use Rattle.tree_index.specs.Tree.{depth, block, leftChild, rightChild, filled}
 use Rattle.bitfield.specs.Append.{bitsPlace}
 use Rattle.bitfield.specs.Known.{storedKnown}
-use Rattle.bitfield.specs.Release.{storedHeld}
 use Rattle.file_format.specs.Sizes.{mostChunks, usedTree, usedBitfield}
 use Rattle.file_format.specs.Stored.{storedSize, storedRootSizes}
 use Rattle.file_format.specs.Inner.{RootsIn}
-use Rattle.checks.specs.Checks.{judged}
-use Rattle.lookup.specs.Descent.{Ending, stopped, reached, unknown, always, chunkWithin, byteWithin, descend, descent}
-use Rattle.lookup.specs.Lookup.{Found, stopRefused, foundUnless, chunkOf, startOf, byteEnding}
+use Rattle.lookup.specs.Descent.{Ending, stopped, reached, unknown, always, chunkWithin, byteWithin, descend}
 use Rattle.lookup.specs.declared.descent.Sought.{Sought}
 use Rattle.lookup.specs.declared.descent.Sought.the-variants.{Chunk, Byte}
 use Rattle.lookup.specs.declared.descent.Ending.{Ending as CodeEnding}
@@ -83,25 +78,6 @@ pub record SearchedFor (partly : Bool) (tree bits : List ℕ) (n size : ℕ) : T
 pub record SearchedHeld (partly : Bool) (tree bits : List ℕ) (n : ℕ) : Type 0 where
   pub searched : Searched partly tree bits n
   pub held : usedBitfield n ≤ length bits
-
--- what the lookups give behind the checks of a call
-module _ (known : ℕ → Bool) (tree : List ℕ) (n : ℕ) where
-  unfoldable pub placeIn : ℕ → Found
-  placeIn c =
-      foundUnless (judged (record { number = 9; right = ltb c n } ∷ []) (stopRefused (descent known (chunkWithin c) tree n)))
-      (startOf (descent known (chunkWithin c) tree n)) (storedSize tree (index 0 c))
-
-  unfoldable pub heldPlaceIn : List ℕ → ℕ → Found
-  heldPlaceIn bits c =
-      foundUnless
-      (judged (record { number = 9; right = ltb c n } ∷ [])
-      (cond (storedHeld bits c) (stopRefused (descent known (chunkWithin c) tree n)) (refused 18 (atTree (index 0 c)))))
-      (startOf (descent known (chunkWithin c) tree n)) (storedSize tree (index 0 c))
-
-  unfoldable pub byteIn : ℕ → ℕ → Found
-  byteIn size b =
-      foundUnless (judged (record { number = 9; right = leb b size } ∷ []) (stopRefused (byteEnding known tree n size b)))
-      (chunkOf (byteEnding known tree n size b)) (b - startOf (byteEnding known tree n size b))
 
 -- where the descent ends that goes on from a step, where every entry is known
 abbrev pub followed : (ℕ → ℕ → ℕ → ℕ → Bool) → List ℕ → Step → Ending

@@ -1,19 +1,13 @@
 -- The number and the values that each case of an answer stands for.
-use Prim.Native.Nat.{ℕ, _+_, _-_, _≤_, _<_}
-use mathlib.Core.Bool.{cond}
-use mathlib.Core.List.{List, []}
+use Prim.Native.Nat.{ℕ, _+_, _≤_, _<_}
+use mathlib.Core.List.{List}
 use lib.ListN.{length}
-use Rattle.answer_types.specs.Verdict.{Verdict, tree as atTree, done, refused}
 use Rattle.answer_types.specs.Meaning.{spotOf}
 use Rattle.answer_types.specs.declared.Refusal.{Refusal}
-use Rattle.byte_strings.specs.Lists.{part, sameList}
 use Rattle.tree_index.specs.Tree.{index}
-use Rattle.file_format.specs.Messages.{leafMessage}
-use Rattle.file_format.specs.Stored.{storedHash, storedSize}
 use Rattle.file_format.specs.Inner.{EntryIn}
-use Rattle.file_format.specs.Belongs.{Register}
-use Rattle.lookup.specs.Lookup.{Found, refusal, found, foundUnless, startOf, toChunk}
-use Rattle.lookup.specs.Read.{Name, metadata, contents, readVerdict}
+use Rattle.lookup.specs.Lookup.{Found, refusal, found}
+use Rattle.lookup.specs.Read.{Name, metadata, contents}
 use Rattle.lookup.specs.declared.places.Placed.{Placed}
 use Rattle.lookup.specs.declared.places.Placed.the-variants.{Refused as NoPlace, At}
 use Rattle.lookup.specs.declared.places.Located.{Located}
@@ -42,25 +36,10 @@ abbrev pub verifiedOf : Verified → Found
 verifiedOf (NoPart r) = refusedAs r
 verifiedOf (Part start end) = found (start .0) (end .0)
 
--- what is found as a verdict
-abbrev pub verdictFound : Found → Verdict
-verdictFound (refusal m at) = refused m at
-verdictFound (found a b) = done
-
 -- a part that is found, from a start to an end, lies within the data
 abbrev pub PartIn : List ℕ → Found → Type 0
 PartIn content (refusal m at) = Unit {0}
 PartIn content (found start end) = (start ≤ end) × (end ≤ length content)
-
--- its bytes; nothing after a refusal
-abbrev pub bytesFound : List ℕ → Found → List ℕ
-bytesFound content (refusal m at) = []
-bytesFound content (found start end) = part content start (end - start)
-
--- what the checks of a read find: its refusal, or where the chunk's bytes begin and end
-unfoldable pub readFound : (List ℕ → List ℕ) → Register → ℕ → Found
-readFound F r c =
-    foundUnless (readVerdict F r c) (startOf (toChunk r c)) (startOf (toChunk r c) + storedSize (r .tree) (index 0 c))
 
 -- a chunk that has a place has its bytes within the data, and its leaf's entry within the tree file
 pub record LiesAt (tree content : List ℕ) (c start size : ℕ) : Type 0 where
@@ -71,9 +50,3 @@ pub record LiesAt (tree content : List ℕ) (c start size : ℕ) : Type 0 where
 abbrev pub PlacedIn : List ℕ → List ℕ → ℕ → Found → Type 0
 PlacedIn tree content c (refusal m at) = Unit {0}
 PlacedIn tree content c (found start size) = LiesAt tree content c start size
-
--- a place, judged by the leaf hash of the bytes there: its refusal, or where they begin and end
-unfoldable pub hashJudged : (List ℕ → List ℕ) → List ℕ → List ℕ → ℕ → Found → Found
-hashJudged F tree content c (refusal m at) = refusal m at
-hashJudged F tree content c (found start size) =
-    cond (sameList (storedHash tree (index 0 c)) (F (leafMessage (part content start size)))) (found start (start + size)) (refusal 10 (atTree (index 0 c)))

@@ -10,8 +10,8 @@ ghost use mathlib.Core.Path.{_≡_};
 ghost use Rattle.answer_types.specs.Verdict.{done};
 ghost use Rattle.answer_types.specs.Meaning.{said};
 ghost use Rattle.checks.specs.Lent.{registerOf};
-ghost use Rattle.lookup.specs.Lookup.{foundBehind, placeOf, heldPlaceOf, byteAt};
-ghost use Rattle.lookup.specs.Inner.{knownIf, Searched, SearchedFor, SearchedHeld, placeIn, heldPlaceIn, byteIn};
+ghost use Rattle.lookup.specs.Lookup.{foundBehind, placeIn, heldPlaceIn, byteIn, placeOf, heldPlaceOf, byteAt};
+ghost use Rattle.lookup.specs.Inner.{knownIf, Searched, SearchedFor, SearchedHeld};
 ghost use Rattle.lookup.specs.Meaning.{placedOf, locatedOf};
 
 // What a place lookup answers: where the chunk's bytes begin, and how many they are.

@@ -9,8 +9,8 @@ ghost use mathlib.Core.Path.{_≡_};
 ghost use Rattle.answer_types.specs.Meaning.{said};
 ghost use Rattle.blake2b.specs.Hash.{nodeHash};
 ghost use Rattle.checks.specs.Lent.{registerOf};
-ghost use Rattle.lookup.specs.Read.{named, readVerdict, readPart};
-ghost use Rattle.lookup.specs.Meaning.{nameOf, placedOf, verifiedOf, verdictFound, PartIn, bytesFound, readFound, PlacedIn, hashJudged};
+ghost use Rattle.lookup.specs.Read.{named, verdictFound, bytesFound, hashJudged, readFound, readVerdict, readPart};
+ghost use Rattle.lookup.specs.Meaning.{nameOf, placedOf, verifiedOf, PartIn, PlacedIn};
 
 // Which of the two registers a read names.
 pub enum Name {

@@ -110,8 +110,7 @@ module _ (t : List ℕ) (n c : ℕ) (bytes : List ℕ) (r : Readable t n c bytes
   pub shape-right : shapeRight p n c ≡ true
   shape-right =
       let l = packet-long t n c bytes r (length (siblings n c)) (length (otherRoots n c)) refl refl in
-      sym (all-tests p n c (length bytes) (length (siblings n c)) (length (otherRoots n c)) (sym length-back) refl refl (omega arith) (r .short) (sym l)
-      (length (siblings n c)) (sym first-count) refl (length (otherRoots n c)) (sym second-count))
+      sym (all-tests (record { long = sym length-back; up = refl; others = refl }) (omega arith) (r .short) (sym l) (sym first-count) refl (sym second-count))
       ∙ eq-eqb (length (otherRoots n c)) (length (otherRoots n c)) refl
 
   pub sibling-at : (j : ℕ) → j < length (siblings n c) → part p (4 + length bytes + 1 + 40 * j) 40 ≡ part t (entryPlace (getD (siblings n c) j 0)) 40

@@ -21,7 +21,7 @@ use Rattle.packet.specs.Check.{packetTotal, stepsAbove, steps, lastEntry
 use Rattle.packet.specs.Check.{checkedChunk}
 use Rattle.packet.specs.Inner.{sizesIn, Summed, RowIn, OthersIn, Climbable, climbed, messageWith, pathRow, Handed, unhanded, handedOn, Shaped}
 use Rattle.packet.proofs.Above.{few-siblings, few-others}
-use Rattle.packet.proofs.Shape.{Sized, sized}
+use Rattle.packet.proofs.Shape.{Counted, Sized, sized}
 use Rattle.packet.proofs.Climb.{steps-climb}
 
 -- ---- the sum
@@ -60,8 +60,16 @@ pub record Laid (p : List ℕ) (l u o : ℕ) : Type 0 where
   pub others : o ≤ 19
   pub whole : length p ≡ 4 + l + 1 + 40 * u + 1 + 40 * o
 
-module _ (p : List ℕ) (n c : ℕ) (s : Shaped p n c) (l u o : ℕ) (a : l ≡ chunkLength p) (b : u ≡ length (siblings n c))
-    (d : o ≡ length (otherRoots n c)) where
+module _ {p : List ℕ} {n c : ℕ} (s : Shaped p n c) {l u o : ℕ} (k : Counted p n c l u o) where
+  abbrev a : l ≡ chunkLength p
+  a = k .long
+
+  abbrev b : u ≡ length (siblings n c)
+  b = k .up
+
+  abbrev d : o ≡ length (otherRoots n c)
+  d = k .others
+
   pub laid : Laid p l u o
   laid =
       let z = sized p n c (s .shape) in
@@ -94,7 +102,7 @@ module _ (p : List ℕ) (n c : ℕ) (s : Shaped p n c) (l u o : ℕ) (a : l ≡ 
       ∙ ap₂ (λ (x y : ℕ). x + (total (sizesIn p (4 + x + 1) y) + total (sizesIn p (4 + x + 1 + 40 * y + 1) (length (otherRoots n c))))) (sym a) (sym b)
       ∙ ap (λ (x : ℕ). l + (total (sizesIn p (4 + l + 1) u) + total (sizesIn p (4 + l + 1 + 40 * u + 1) x))) (sym d)
 
-  module _ (F : List ℕ → List ℕ) (root : List ℕ) (sum whole : ℕ) (f : Summed (l + total (sizesIn p (4 + l + 1) u)) sum)
+  module _ (F : List ℕ → List ℕ) (root : List ℕ) {sum whole : ℕ} (f : Summed (l + total (sizesIn p (4 + l + 1) u)) sum)
       (g : Summed (sum + total (sizesIn p (4 + l + 1 + 40 * u + 1) o)) whole) where
     pub sum-wrong : 68719476736 < whole → false ≡ rootRight F p n c root
     unfolding rootRight
@@ -111,7 +119,7 @@ module _ (p : List ℕ) (n c : ℕ) (s : Shaped p n c) (l u o : ℕ) (a : l ≡ 
       unfolding packetChunk
       chunk-is = ap (part p 4) (let e : 4 + l - 4 ≡ l = omega arith in e ∙ a)
 
-      module _ (e : Entry) (i : e ≡ leaf F (part p 4 (4 + l - 4))) where
+      module _ {e : Entry} (i : e ≡ leaf F (part p 4 (4 + l - 4))) where
         pub climbable : Climbable p (4 + l + 1) u (e .size)
         unfolding leaf
         climbable =
@@ -122,27 +130,27 @@ module _ (p : List ℕ) (n c : ℕ) (s : Shaped p n c) (l u o : ℕ) (a : l ≡ 
             let w = within in
             record { row = siblings-row; sum = omega arith }
 
-        pub root-is : (r : Entry) → r ≡ climbed F c e (entriesIn p (4 + l + 1) u) → r ≡ packetRoot F p n c
+        root-is : {r : Entry} → r ≡ climbed F c e (entriesIn p (4 + l + 1) u) → r ≡ packetRoot F p n c
         unfolding packetRoot steps lastEntry siblingEntries siblingsPlace
-        root-is r j =
+        root-is j =
             j ∙ ap₂ (λ (x : Entry) (y : ℕ). climbed F c x (entriesIn p (4 + y + 1) u)) (i ∙ ap (leaf F) chunk-is) a
             ∙ ap (λ (y : ℕ). climbed F c (leaf F (packetChunk p)) (entriesIn p (4 + chunkLength p + 1) y)) b
             ∙ sym (steps-climb F 0 c (leaf F (packetChunk p)) (entriesIn p (4 + chunkLength p + 1) (length (siblings n c))))
 
-        pub root-judged : (r : Entry) → r ≡ climbed F c e (entriesIn p (4 + l + 1) u) → (hash : List ℕ)
+        pub root-judged : {r : Entry} → r ≡ climbed F c e (entriesIn p (4 + l + 1) u) → {hash : List ℕ}
             → hash ≡ F (messageWith p (4 + l + 1 + 40 * u + 1) n c r) → sameList hash root ≡ rootRight F p n c root
         unfolding rootRight packetRootMessage messageWith otherEntries othersPlace siblingsPlace
-        root-judged r j hash k =
+        root-judged {r} j {hash} m =
             and-pass _ _ (sameList hash root)
             (le-leb (packetTotal p n c) 68719476736 (subst (λ (x : ℕ). x ≤ 68719476736) (sym total-is) within))
             (ap (λ (x : List ℕ). sameList x root)
-            (k ∙ ap₂ (λ (x y : ℕ). F (messageWith p (4 + x + 1 + 40 * y + 1) n c r)) a b
-            ∙ ap (λ (x : Entry). F (messageWith p (4 + chunkLength p + 1 + 40 * length (siblings n c) + 1) n c x)) (root-is r j)))
+            (m ∙ ap₂ (λ (x y : ℕ). F (messageWith p (4 + x + 1 + 40 * y + 1) n c r)) a b
+            ∙ ap (λ (x : Entry). F (messageWith p (4 + chunkLength p + 1 + 40 * length (siblings n c) + 1) n c x)) (root-is j)))
 
         -- what the climb from the leaf leads to
-        pub led-to : (row : List ℕ) → row ≡ pathRow (stepsAbove F 0 c e (entriesIn p (4 + l + 1) u)) → record { own = e; row = row } ≡ handedOn F p n c
+        pub led-to : {row : List ℕ} → row ≡ pathRow (stepsAbove F 0 c e (entriesIn p (4 + l + 1) u)) → record { own = e; row = row } ≡ handedOn F p n c
         unfolding handedOn siblingEntries siblingsPlace
-        led-to row q =
+        led-to q =
             let own : e ≡ leaf F (packetChunk p) = i ∙ ap (leaf F) chunk-is in
             ap₂ (λ (x : Entry) (y : List ℕ). record { own = x; row = y }) own
             (q ∙ ap₂ (λ (x : Entry) (y : ℕ). pathRow (stepsAbove F 0 c x (entriesIn p (4 + y + 1) u))) own a

@@ -5,11 +5,15 @@ use mathlib.Core.Bool.{true, cond}
 use mathlib.Core.List.{List, [], _∷_, map}
 use lib.ListN.{length, getD}
 use lib.Dec.{ltb, eqb}
+use Rattle.answer_types.specs.Verdict.{done}
 use Rattle.byte_strings.specs.Lists.{part, put, run, joined, total, zeros}
 use Rattle.tree_index.specs.Tree.{index, roots}
 use Rattle.file_format.specs.Sizes.{mostChunks, longestChunk, entryPlace, usedTree}
 use Rattle.file_format.specs.Messages.{rootMessage}
 use Rattle.file_format.specs.Entries.{Entry, hole, entryBytes, leaf, parentOf}
+use Rattle.lookup.specs.Lookup.{Found}
+use Rattle.lookup.specs.Read.{verdictFound, bytesFound}
+use Rattle.lookup.specs.Meaning.{PartIn}
 use Rattle.packet.specs.Packet.{beside, otherRoots, packetWith, placeAbove}
 use Rattle.packet.specs.Check.{shapeRight, packetChunk, entryIn, entriesIn, siblingEntries, ordered, inTurn, items, Step, stepsAbove}
 use Rattle.packet.specs.declared.checking.Node.{Node}
@@ -101,6 +105,11 @@ pub record Readable (t : List ℕ) (n c : ℕ) (bytes : List ℕ) : Type 0 where
   pub chunk : ChunkOf n c
   pub inside : usedTree n ≤ length t
   pub short : length bytes ≤ longestChunk
+
+-- what a read found may go into a packet: it lies within the data, and is such a chunk
+pub record ReadIn (t content : List ℕ) (n c : ℕ) (p : Found) : Type 0 where
+  pub part : PartIn content p
+  pub readable : verdictFound p ≡ done → Readable t n c (bytesFound content p)
 
 -- the buffer has room for the packet
 pub record Roomy (t : List ℕ) (n c : ℕ) (bytes out : List ℕ) : Type 0 where

@@ -61,10 +61,13 @@ abbrev pub roomOr14 : Bool → Verdict
 roomOr14 true = done
 roomOr14 false = refused 14 none
 
+-- "Making one does the read of chunk i first, with its refusals", and then 14
+abbrev pub makeBehind : Verdict → List ℕ → List ℕ → Verdict
+makeBehind read packet out = andThen read (roomOr14 (holds out (length packet)))
+
 module _ (F : List ℕ → List ℕ) where
-  -- "Making one does the read of chunk i first, with its refusals", and then 14
   unfoldable pub makeVerdict : Register → ℕ → List ℕ → Verdict
-  makeVerdict r c out = andThen (readVerdict F r c) (roomOr14 (holds out (length (packetOf r c))))
+  makeVerdict r c out = makeBehind (readVerdict F r c) (packetOf r c) out
 
   -- the packet stands at the front of the lent buffer, the rest as it was
   unfoldable pub afterMake : Register → ℕ → List ℕ → List ℕ

@@ -16,7 +16,7 @@ pub use checking::step_up;
 pub use checking::unhashed;
 pub use making::Made;
 pub use making::make;
-pub use making::make_read;
+pub use making::make_behind;
 pub use path::other_count;
 pub use path::other_indexes;
 pub use path::root_place;

@@ -9,14 +9,17 @@ ghost use mathlib.Core.Path.{_≡_};
 ghost use mathlib.Core.List.{_∷_};
 ghost use Prim.Native.Nat.{_+_, _*_, _≤_, _<_};
 ghost use lib.ListN.{length};
+ghost use Rattle.answer_types.specs.Verdict.{done};
 ghost use Rattle.byte_strings.specs.Lists.{put};
 ghost use Rattle.tree_index.specs.Numbers.{numbers};
 ghost use Rattle.blake2b.specs.Hash.{nodeHash};
 ghost use Rattle.file_format.specs.Inner.{EntriesIn};
 ghost use Rattle.checks.specs.Lent.{registerOf};
-ghost use Rattle.packet.specs.Inner.{entriesAt, Readable, Roomy};
+ghost use Rattle.lookup.specs.Read.{verdictFound, bytesFound};
+ghost use Rattle.lookup.specs.Meaning.{verifiedOf};
+ghost use Rattle.packet.specs.Inner.{entriesAt, Readable, ReadIn, Roomy};
 ghost use Rattle.packet.specs.Packet.{packetWith};
-ghost use Rattle.packet.specs.Post.{MadeAs, MadeOf};
+ghost use Rattle.packet.specs.Post.{MadeAs, MadeBehind};
 
 // What making a packet answers: a refusal, or the packet's length.
 pub enum Made {
@@ -77,9 +80,12 @@ fn write_packet(tree: &[u8], n: u64, chunk: ChunkNumber, bytes: &[u8], out: &mut
 }
 
 // Inner: the packet of a chunk that is read, where the buffer has room for it.
-pub fn make_read(tree: &[u8], n: u64, chunk: ChunkNumber, bytes: &[u8], out: &mut [u8]) -> Made
+fn make_read(tree: &[u8], n: u64, chunk: ChunkNumber, bytes: &[u8], out: &mut [u8]) -> Made
     requires { ⌜ Readable (now tree) n (chunk .0) (now bytes) ⌝ }
-    ensures { λ r. ⌜ MadeOf (now (tree .entry)) n (chunk .0) (now (bytes .entry)) (now (out .entry)) r (now (out .exit)) ⌝ }
+    ensures { λ r.
+        ⌜
+        MadeBehind done (packetWith (now (tree .entry)) n (chunk .0) (now (bytes .entry))) (now (out .entry)) r (now (out .exit))
+        ⌝ }
 {
     let needed = packet_length(tree, n, chunk, bytes);
     if out.len() < needed {
@@ -90,6 +96,32 @@ pub fn make_read(tree: &[u8], n: u64, chunk: ChunkNumber, bytes: &[u8], out: &mu
     }
     write_packet(tree, n, chunk, bytes, out);
     Made::Length(needed as u64)
+}
+
+// Inner: the packet of what a read found, its refusal first.
+pub fn make_behind(
+    read: Verified,
+    tree: &[u8],
+    content: &[u8],
+    n: u64,
+    chunk: ChunkNumber,
+    out: &mut [u8],
+) -> Made
+    requires { ⌜ ReadIn (now tree) (now content) n (chunk .0) (verifiedOf read) ⌝ }
+    ensures { λ r.
+        ⌜
+        MadeBehind (verdictFound (verifiedOf read))
+        (packetWith (now (tree .entry)) n (chunk .0) (bytesFound (now (content .entry)) (verifiedOf read))) (now (out .entry)) r (now (out .exit))
+        ⌝ }
+{
+    match read {
+        Verified::Refused(refusal) => Made::Refused(refusal),
+        Verified::Part(start, end) => {
+            let from = start.0 as usize;
+            let to = end.0 as usize;
+            make_read(tree, n, chunk, &content[from..to], out)
+        }
+    }
 }
 
 // The packet of a chunk at the front of a buffer, the rest as it was. "Making one does the read of chunk i first, with its refusals."
@@ -111,12 +143,6 @@ pub fn make(
         (chunk .0) (now (out .entry)) r (now (out .exit))
         ⌝ }
 {
-    match lookup::verify(tree, signatures, bitfield, content, n, s, size, chunk) {
-        Verified::Refused(refusal) => Made::Refused(refusal),
-        Verified::Part(start, end) => {
-            let from = start.0 as usize;
-            let to = end.0 as usize;
-            make_read(tree, n, chunk, &content[from..to], out)
-        }
-    }
+    let read = lookup::verify(tree, signatures, bitfield, content, n, s, size, chunk);
+    make_behind(read, tree, content, n, chunk, out)
 }

@@ -25,6 +25,7 @@ prefixVerdict r m = judged (registerChecks r ++ ownChecks (r .n) m) done
 abbrev pub rootUnless : (List ℕ → List ℕ) → Verdict → List ℕ → ℕ → List ℕ
 rootUnless F v t m = unlessRefused v (F (storedRootMessage t m)) (zeros 32)
 
+-- "For each m up to n, give the root hash of the first m chunks from the stored entries, without an audit"
 unfoldable pub prefixRoot : (List ℕ → List ℕ) → Register → ℕ → List ℕ
 prefixRoot F r m = rootUnless F (prefixVerdict r m) (r .tree) m
 

@@ -1,75 +1,65 @@
 -- The search from the latest chunk down. Assumes nothing.
-use Prim.Native.Nat.{ℕ, suc, _-_, _<_, _≤_}
-use mathlib.Core.Path.{_≡_, refl, sym, ap, _∙_, subst}
-use mathlib.Core.Bool.{Bool}
+use Prim.Native.Nat.{ℕ, suc, _-_, _^_, _<_, _≤_}
+use mathlib.Core.Path.{_≡_, sym, ap, _∙_}
+use mathlib.Core.Bool.{Bool, false}
+use mathlib.Core.List.{List}
 use native.Mathlib.Omega.{arith}
-use Rattle.answer_types.specs.Verdict.{Spot, Verdict, done, refused}
-use Rattle.answer_types.specs.Meaning.{spotOf}
-use Rattle.answer_types.specs.declared.Refusal.{Refusal}
-use Rattle.record_fields.specs.declared.rows.Part.{Part}
-use Rattle.record_format.specs.Post.{headerTold}
-use Rattle.record_format.specs.declared.headers.HeaderRead.{HeaderRead}
-use Rattle.record_format.specs.declared.headers.HeaderRead.the-variants.{Refused as NoHeader, Content}
-use Rattle.record_find.specs.ChunkRecords.{comparedTold}
-use Rattle.record_find.specs.Finding.{Outcome, failed, at, nowhere, unlessFailed, goes, findDown, findAmong, findBy}
+use Rattle.answer_types.specs.Verdict.{Verdict, done}
+use Rattle.file_format.specs.Belongs.{Register}
+use Rattle.checks.specs.Checks.{judged, registerChecks}
+use Rattle.lookup.specs.Lookup.{Found}
+use Rattle.lookup.specs.Read.{readFound}
+use Rattle.lookup.proofs.Calls.{held-by, searched-held, placed-in, verified, read-says, read-bytes}
+use Rattle.record_find.specs.ChunkRecords.{comparedTold, headerAfter, pathAfter}
+use Rattle.record_find.specs.Finding.{nowhere, unlessFailed, goes, findDown, findAmong, findBy, findIn}
+use Rattle.record_find.specs.Inner.{Readable, readBehind, findBehind}
 use Rattle.record_find.specs.declared.chunks.Compared.{Compared}
-use Rattle.record_find.specs.declared.chunks.Compared.the-variants.{Refused as NotCompared, Same, Other}
 
--- whatever is told of the chunks
-module _ (judge : ℕ → Verdict × Bool) where
-  -- the chunks from k up were looked at, and decide nothing
-  pub record Left (n k : ℕ) : Type 0 where
-    pub most : k ≤ n
-    pub rest : findDown judge (k - 1) ≡ findDown judge (n - 1)
+-- ---- whatever `judge` tells of the chunks
 
-  pub left-all : (n k : ℕ) → k ≡ n → Left n k
-  left-all n k e = record { most = omega arith; rest = ap (λ (m : ℕ). findDown judge (m - 1)) e }
+-- the chunks from k up were looked at, and decide nothing
+pub record Left (judge : ℕ → Verdict × Bool) (n k : ℕ) : Type 0 where
+  pub most : k ≤ n
+  pub rest : findDown judge (k - 1) ≡ findDown judge (n - 1)
 
-  pub left-none : (n k : ℕ) → Left n k → k ≤ 1 → nowhere ≡ findDown judge (n - 1)
-  unfolding findDown
-  left-none n k l h = let z : 0 ≡ k - 1 = omega arith in ap (findDown judge) z ∙ l .rest
+module _ {judge : ℕ → Verdict × Bool} {n k : ℕ} where
+  pub left-all : k ≡ n → Left judge n k
+  left-all e = record { most = omega arith; rest = ap (λ (m : ℕ). findDown judge (m - 1)) e }
 
-  module _ (n k : ℕ) (l : Left n k) (more : 1 < k) (x : Compared) (p : comparedTold x ≡ judge (k - 1)) where
-    step : goes (k - 1) (comparedTold x) (findDown judge (k - 1 - 1)) ≡ findDown judge (n - 1)
+  module _ (l : Left judge n k) where
+    pub left-none : k ≤ 1 → nowhere ≡ findDown judge (n - 1)
     unfolding findDown
-    step =
+    left-none h = let z : 0 ≡ k - 1 = omega arith in ap (findDown judge) z ∙ l .rest
+
+    -- what is told of chunk k - 1 decides, or leaves those below it
+    pub left-told : 1 < k → {x y : Compared} → comparedTold x ≡ judge (k - 1) → x ≡ y → goes (k - 1) (comparedTold y) (findDown judge (k - 1 - 1)) ≡ findDown judge (n - 1)
+    unfolding findDown
+    left-told more p e =
         let below : k - 1 ≡ suc (k - 1 - 1) = omega arith in
-        ap (λ (t : Verdict × Bool). goes (k - 1) t (findDown judge (k - 1 - 1))) p
+        ap (λ (t : Verdict × Bool). goes (k - 1) t (findDown judge (k - 1 - 1))) (sym (ap comparedTold e) ∙ p)
         ∙ ap (λ (j : ℕ). goes j (judge j) (findDown judge (k - 1 - 1))) below ∙ sym (ap (findDown judge) below) ∙ l .rest
 
-    by : (y : Compared) → x ≡ y → goes (k - 1) (comparedTold y) (findDown judge (k - 1 - 1)) ≡ findDown judge (n - 1)
-    by y e = subst (λ (z : Compared). goes (k - 1) (comparedTold z) (findDown judge (k - 1 - 1)) ≡ findDown judge (n - 1)) e step
+-- chunk 0 comes first
+pub with-head : (judge : ℕ → Verdict × Bool) {n : ℕ} {w head : Verdict} → (n ≡ 0 → ⊥) → w ≡ head → unlessFailed w (findDown judge (n - 1)) ≡ findAmong judge head n
+with-head judge {n} {w} {head} some e =
+    let begun : suc (n - 1) ≡ n = omega arith in
+    ap (λ (u : Verdict). unlessFailed u (findDown judge (n - 1))) e ∙ ap (findAmong judge head) begun
 
-    pub left-failed : (z : Refusal) → x ≡ NotCompared z → failed (z .number) (spotOf (z .place)) ≡ findDown judge (n - 1)
-    left-failed z e = by (NotCompared z) e
+-- what is found depends on no more than what the checks and the reads answer and give
+pub reads-same : {v w : ℕ → Verdict} {d e : ℕ → List ℕ} {x y : Verdict} → ((c : ℕ) → v c ≡ w c) → ((c : ℕ) → d c ≡ e c) → x ≡ y → (path : List ℕ) (n : ℕ)
+    → findBy (λ c. pathAfter (v c) (d c) c path) x (headerAfter (v 0) (d 0) 0 .0) n ≡ findBy (λ c. pathAfter (w c) (e c) c path) y (headerAfter (w 0) (e 0) 0 .0) n
+reads-same f g h path n = λ j. findBy (λ c. pathAfter (f c j) (g c j) c path) (h j) (headerAfter (f 0 j) (g 0 j) 0 .0) n
 
-    pub left-found : x ≡ Same → at (k - 1) ≡ findDown judge (n - 1)
-    left-found e = by Same e
+-- ---- a register, whose checks 2 to 6 say v
 
-    pub left-less : x ≡ Other → Left n (k - 1)
-    left-less e = record { most = omega (arith, l .most); rest = by Other e }
+module _ (r : Register) {v : Verdict} (e : v ≡ judged (registerChecks r) done) where
+  pub readable : r .size < 2 ^ 64 → v ≡ done → Readable false (r .tree) (r .bitfield) (r .content) (r .n)
+  readable h p =
+      let q = sym p ∙ e in
+      record { searched = searched-held r q h; placed = λ c. placed-in r c _ (held-by r done q c) }
 
-  -- ---- the checks, the empty register and chunk 0
-
-  module _ (n : ℕ) (v head : Verdict) where
-    pub find-refused : (m : ℕ) (spot : Spot) → refused m spot ≡ v → failed m spot ≡ findBy judge v head n
-    find-refused m spot e = ap (λ (w : Verdict). findBy judge w head n) e
-
-    passed : (o : Outcome) → done ≡ v → o ≡ findAmong judge head n → o ≡ findBy judge v head n
-    passed o e h = h ∙ ap (λ (w : Verdict). findBy judge w head n) e
-
-    pub find-empty : done ≡ v → n ≡ 0 → nowhere ≡ findBy judge v head n
-    find-empty e z = passed nowhere e (ap (findAmong judge head) (sym z))
-
-    module _ (e : done ≡ v) (some : n ≡ 0 → ⊥) (h : HeaderRead) (p : headerTold h .0 ≡ head) where
-      begun : suc (n - 1) ≡ n
-      begun = omega arith
-
-      with-header : (o : Outcome) (w : Verdict) → w ≡ head → o ≡ unlessFailed w (findDown judge (n - 1)) → o ≡ findBy judge v head n
-      with-header o w q g = passed o e (g ∙ ap (λ (u : Verdict). unlessFailed u (findDown judge (n - 1))) q ∙ ap (findAmong judge head) begun)
-
-      pub find-headless : (z : Refusal) → h ≡ NoHeader z → failed (z .number) (spotOf (z .place)) ≡ findBy judge v head n
-      find-headless z q = with-header (failed (z .number) (spotOf (z .place))) (headerTold (NoHeader z) .0) (sym (ap (λ (y : HeaderRead). headerTold y .0) q) ∙ p) refl
-
-      pub find-below : (c : Part) → h ≡ Content c → (o : Outcome) → o ≡ findDown judge (n - 1) → o ≡ findBy judge v head n
-      find-below c q o f = with-header o done (sym (ap (λ (y : HeaderRead). headerTold y .0) q) ∙ p) f
+  pub found-by : (F : List ℕ → List ℕ) (path : List ℕ) → findBehind false (r .tree) (r .bitfield) (r .content) (r .n) F v path ≡ findIn F r path
+  found-by F path =
+      let read : ℕ → Found = readBehind false (r .tree) (r .bitfield) (r .content) (r .n) F v in
+      let same : (c : ℕ) → read c ≡ readFound F r c = λ c. verified F r c _ (held-by r v e c) in
+      reads-same (λ c. read-says F r c (read c) (same c)) (λ c. read-bytes F r c (read c) (same c)) e path (r .n)

@@ -13,9 +13,11 @@ ghost use Rattle.answer_types.specs.Meaning.{refusalOf};
 ghost use Rattle.tree_index.specs.Tree.{index};
 ghost use Rattle.blake2b.specs.Hash.{nodeHash};
 ghost use Rattle.checks.specs.Lent.{registerOf};
-ghost use Rattle.record_format.specs.Post.{headerTold, readHeader};
-ghost use Rattle.record_node.specs.Post.{nodeTold, readNode};
-ghost use Rattle.record_find.specs.ChunkRecords.{comparedTold, readPath, headerIn, nodeIn, pathIn};
+ghost use Rattle.lookup.specs.Meaning.{verifiedOf};
+ghost use Rattle.record_format.specs.Post.{headerTold};
+ghost use Rattle.record_node.specs.Post.{nodeTold};
+ghost use Rattle.record_find.specs.ChunkRecords.{comparedTold, headerIn, nodeIn};
+ghost use Rattle.record_find.specs.Inner.{ReadIn, headerBehind, nodeBehind, pathBehind};
 
 // Whether the path of a chunk's Node is the one sought.
 pub enum Compared {
@@ -36,51 +38,70 @@ fn no_record(chunk: ChunkNumber) -> Refusal
     }
 }
 
-// Inner: the Header that a chunk's bytes are.
-pub fn header_at(bytes: &[u8], chunk: ChunkNumber) -> HeaderRead
-    requires { ⌜ chunk .0 < 2097152 ⌝ }
-    ensures { λ r. ⌜ headerTold r ≡ readHeader (tree (index 0 (chunk .0))) (now (bytes .entry)) ⌝ }
+// Inner: the Header that a chunk is, behind its read.
+pub fn header_behind(read: Verified, content: &[u8], chunk: ChunkNumber) -> HeaderRead
+    requires { ⌜ ReadIn (now content) (chunk .0) (verifiedOf read) ⌝ }
+    ensures { λ r. ⌜ headerTold r ≡ headerBehind (now (content .entry)) (chunk .0) (verifiedOf read) ⌝ }
 {
-    match record_format::read_header(bytes) {
-        HeaderRead::Refused(_) => HeaderRead::Refused(no_record(chunk)),
-        HeaderRead::Content(part) => HeaderRead::Content(part),
+    let bytes = lookup::bytes_of(content, read);
+    match lookup::answer_of(read) {
+        Answer::Refused(refusal) => HeaderRead::Refused(refusal),
+        Answer::Done => match record_format::read_header(bytes) {
+            HeaderRead::Refused(_) => HeaderRead::Refused(no_record(chunk)),
+            HeaderRead::Content(part) => HeaderRead::Content(part),
+        },
     }
 }
 
-// Inner: the Node that a chunk's bytes are.
-pub fn node_at(bytes: &[u8], chunk: ChunkNumber) -> NodeRead
-    requires { ⌜ chunk .0 < 2097152 ⌝ }
-    ensures { λ r. ⌜ nodeTold (r .answer) (r .node) ≡ readNode (tree (index 0 (chunk .0))) (now (bytes .entry)) ⌝ }
+// Inner: the Node that a chunk is, behind its read.
+pub fn node_behind(read: Verified, content: &[u8], chunk: ChunkNumber) -> NodeRead
+    requires { ⌜ ReadIn (now content) (chunk .0) (verifiedOf read) ⌝ }
+    ensures { λ r. ⌜ nodeTold (r .answer) (r .node) ≡ nodeBehind (now (content .entry)) (chunk .0) (verifiedOf read) ⌝ }
 {
-    let read = record_node::read_node(bytes);
-    let answer = read.answer;
-    let node = read.node;
-    match answer {
-        Answer::Done => NodeRead {
-            answer: Answer::Done,
-            node,
-        },
-        Answer::Refused(_) => {
-            let refusal = no_record(chunk);
+    let bytes = lookup::bytes_of(content, read);
+    match lookup::answer_of(read) {
+        Answer::Refused(refusal) => {
+            let none = record_node::no_node();
+            let node = none.node;
             NodeRead {
                 answer: Answer::Refused(refusal),
                 node,
             }
         }
+        Answer::Done => {
+            let told = record_node::read_node(bytes);
+            let answer = told.answer;
+            let node = told.node;
+            match answer {
+                Answer::Done => NodeRead {
+                    answer: Answer::Done,
+                    node,
+                },
+                Answer::Refused(_) => {
+                    let refusal = no_record(chunk);
+                    NodeRead {
+                        answer: Answer::Refused(refusal),
+                        node,
+                    }
+                }
+            }
+        }
     }
 }
 
-// Inner: whether the Node that a chunk's bytes are has a path.
-pub fn path_at(bytes: &[u8], chunk: ChunkNumber, path: &[u8]) -> Compared
-    requires { ⌜ chunk .0 < 2097152 ⌝ }
-    ensures { λ r. ⌜ comparedTold r ≡ readPath (now (path .entry)) (tree (index 0 (chunk .0))) (now (bytes .entry)) ⌝ }
+// Inner: whether the Node that a chunk is has a path, behind its read.
+pub fn path_behind(read: Verified, content: &[u8], chunk: ChunkNumber, path: &[u8]) -> Compared
+    requires { ⌜ ReadIn (now content) (chunk .0) (verifiedOf read) ⌝ }
+    ensures { λ r.
+        ⌜ comparedTold r ≡ pathBehind (now (content .entry)) (chunk .0) (verifiedOf read) (now (path .entry)) ⌝ }
 {
-    let read = record_node::read_node(bytes);
-    let answer = read.answer;
-    let node = read.node;
+    let told = node_behind(read, content, chunk);
+    let answer = told.answer;
+    let node = told.node;
     match answer {
-        Answer::Refused(_) => Compared::Refused(no_record(chunk)),
+        Answer::Refused(refusal) => Compared::Refused(refusal),
         Answer::Done => {
+            let bytes = lookup::bytes_of(content, read);
             let part = node.path;
             let from = part.at;
             let to = from + part.len;
@@ -111,14 +132,8 @@ pub fn header_of(
         (chunk .0)
         ⌝ }
 {
-    match lookup::verify(tree, signatures, bitfield, content, n, s, size, chunk) {
-        Verified::Refused(refusal) => HeaderRead::Refused(refusal),
-        Verified::Part(start, end) => {
-            let from = start.0 as usize;
-            let to = end.0 as usize;
-            header_at(&content[from..to], chunk)
-        }
-    }
+    let read = lookup::verify(tree, signatures, bitfield, content, n, s, size, chunk);
+    header_behind(read, content, chunk)
 }
 
 // The Node that a chunk is: its fields, with parts of the chunk; a Node that says nothing beside a refusal.
@@ -140,49 +155,6 @@ pub fn node_of(
         (chunk .0)
         ⌝ }
 {
-    match lookup::verify(tree, signatures, bitfield, content, n, s, size, chunk) {
-        Verified::Refused(refusal) => {
-            let none = record_node::no_node();
-            let node = none.node;
-            NodeRead {
-                answer: Answer::Refused(refusal),
-                node,
-            }
-        }
-        Verified::Part(start, end) => {
-            let from = start.0 as usize;
-            let to = end.0 as usize;
-            node_at(&content[from..to], chunk)
-        }
-    }
-}
-
-// Whether the Node that a chunk is has a path.
-pub fn path_of(
-    tree: &[u8],
-    signatures: &[u8],
-    bitfield: &[u8],
-    content: &[u8],
-    n: u64,
-    s: u64,
-    size: u64,
-    chunk: ChunkNumber,
-    path: &[u8],
-) -> Compared
-    ensures { λ r.
-        ⌜
-        comparedTold r
-        ≡ pathIn nodeHash
-        (registerOf (now (tree .entry)) (now (signatures .entry)) (now (bitfield .entry)) (now (content .entry)) n s size)
-        (chunk .0) (now (path .entry))
-        ⌝ }
-{
-    match lookup::verify(tree, signatures, bitfield, content, n, s, size, chunk) {
-        Verified::Refused(refusal) => Compared::Refused(refusal),
-        Verified::Part(start, end) => {
-            let from = start.0 as usize;
-            let to = end.0 as usize;
-            path_at(&content[from..to], chunk, path)
-        }
-    }
+    let read = lookup::verify(tree, signatures, bitfield, content, n, s, size, chunk);
+    node_behind(read, content, chunk)
 }

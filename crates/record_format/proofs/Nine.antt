@@ -36,8 +36,8 @@ three-later k m p t g h f =
     subst (Later k) (sym (append-assoc (numberField m (p .0)) (both (numberField (m + 1)) (numberField (m + 2)) (p .1)) t))
     (later-number k m (p .0) (both (numberField (m + 1)) (numberField (m + 2)) (p .1) ++ t) g (omega arith) (two-later m (m + 1) (m + 2) (p .1) t (omega arith) (omega arith) (omega arith) f))
 
-pub number-next : (d : List ℕ) (at k most : ℕ) (v : NumberRow) (a : Number) (next : ℕ) → v ≡ ReadNumber a next → NumberRead d at k most v → next ≤ length d
-number-next d at k most v a next e g = subst (NumberRead d at k most) e g .inside
+pub number-next : (d : List ℕ) (at k most : ℕ) {v : NumberRow} {a : Number} {next : ℕ} → v ≡ ReadNumber a next → NumberRead d at k most v → next ≤ length d
+number-next d at k most e g = subst (NumberRead d at k most) e g .inside
 
 module _ (d : List ℕ) (at k most : ℕ) (kind : k < 14) where
   second-leads : Leads (numberField (k + 1)) (Most most) (Later (k + 1)) (numberField (k + 2)) (Most most) (Later (k + 2))
@@ -46,27 +46,27 @@ module _ (d : List ℕ) (at k most : ℕ) (kind : k < 14) where
   first-leads : Leads (numberField k) (Most most) (Later k) (both (numberField (k + 1)) (numberField (k + 2))) (Both (Most most) (Most most)) (Later (k + 2))
   first-leads p t w f = two-later k (k + 1) (k + 2) p t (omega arith) (omega arith) (omega arith) f
 
-  pub three-first : (v : NumberRow) → v ≡ BadNumber → NumberRead d at k most v → ThreeRead d at k most BadThree
-  three-first v e g =
+  pub three-first : {v : NumberRow} → v ≡ BadNumber → NumberRead d at k most v → ThreeRead d at k most BadThree
+  three-first e g =
       first-not (numberField k) (Most most) (Later k) (both (numberField (k + 1)) (numberField (k + 2))) (Both (Most most) (Most most)) (Later (k + 2)) first-leads (subst (NumberRead d at k most) e g)
 
-  module _ (v : NumberRow) (a : Number) (second : ℕ) (e : v ≡ ReadNumber a second) (g : NumberRead d at k most v) where
-    pub three-second : (u : NumberRow) → u ≡ BadNumber → NumberRead d second (k + 1) most u → ThreeRead d at k most BadThree
-    three-second u f h =
+  module _ {v : NumberRow} {a : Number} {second : ℕ} (e : v ≡ ReadNumber a second) (g : NumberRead d at k most v) where
+    pub three-second : {u : NumberRow} → u ≡ BadNumber → NumberRead d second (k + 1) most u → ThreeRead d at k most BadThree
+    three-second f h =
         then-not (numberField k) (Most most) (Later k) (both (numberField (k + 1)) (numberField (k + 2))) (Both (Most most) (Most most)) (Later (k + 2)) first-leads d at
         (subst (NumberRead d at k most) e g)
         (first-not (numberField (k + 1)) (Most most) (Later (k + 1)) (numberField (k + 2)) (Most most) (Later (k + 2)) second-leads (subst (NumberRead d second (k + 1) most) f h))
 
-    module _ (u : NumberRow) (b : Number) (third : ℕ) (f : u ≡ ReadNumber b third) (h : NumberRead d second (k + 1) most u) where
-      pub three-third : (q : NumberRow) → q ≡ BadNumber → NumberRead d third (k + 2) most q → ThreeRead d at k most BadThree
-      three-third q i j =
+    module _ {u : NumberRow} {b : Number} {third : ℕ} (f : u ≡ ReadNumber b third) (h : NumberRead d second (k + 1) most u) where
+      pub three-third : {q : NumberRow} → q ≡ BadNumber → NumberRead d third (k + 2) most q → ThreeRead d at k most BadThree
+      three-third i j =
           then-not (numberField k) (Most most) (Later k) (both (numberField (k + 1)) (numberField (k + 2))) (Both (Most most) (Most most)) (Later (k + 2)) first-leads d at
           (subst (NumberRead d at k most) e g)
           (then-not (numberField (k + 1)) (Most most) (Later (k + 1)) (numberField (k + 2)) (Most most) (Later (k + 2)) second-leads d second
           (subst (NumberRead d second (k + 1) most) f h) (subst (NumberRead d third (k + 2) most) i j))
 
-      pub three-read : (q : NumberRow) (c : Number) (end : ℕ) → q ≡ ReadNumber c end → NumberRead d third (k + 2) most q → ThreeRead d at k most (ReadThree a b c end)
-      three-read q c end i j =
+      pub three-read : {q : NumberRow} {c : Number} {end : ℕ} → q ≡ ReadNumber c end → NumberRead d third (k + 2) most q → ThreeRead d at k most (ReadThree a b c end)
+      three-read i j =
           then-read (numberField k) (Most most) (Later k) (both (numberField (k + 1)) (numberField (k + 2))) (Both (Most most) (Most most)) (Later (k + 2)) first-leads d at
           (subst (NumberRead d at k most) e g)
           (then-read (numberField (k + 1)) (Most most) (Later (k + 1)) (numberField (k + 2)) (Most most) (Later (k + 2)) second-leads d second
@@ -123,31 +123,31 @@ nine-rejected : (d : List ℕ) → BeginsNot nine NineMost (Later 9) d → Rejec
 nine-rejected d n s w e =
     n (nineOf s) [] (nine-most s w) (later-nil 9 (omega arith)) (sym e ∙ nine-bytes s ∙ sym (append-nil (nine (nineOf s))))
 
-pub three-next : (d : List ℕ) (at k most : ℕ) (v : Three) (a b c : Number) (next : ℕ) → v ≡ ReadThree a b c next → ThreeRead d at k most v → next ≤ length d
-three-next d at k most v a b c next e g = subst (ThreeRead d at k most) e g .inside
+pub three-next : (d : List ℕ) (at k most : ℕ) {v : Three} {a b c : Number} {next : ℕ} → v ≡ ReadThree a b c next → ThreeRead d at k most v → next ≤ length d
+three-next d at k most e g = subst (ThreeRead d at k most) e g .inside
 
 module _ (d : List ℕ) where
-  pub stat-first : (v : Three) → v ≡ BadThree → ThreeRead d 0 1 4294967295 v → StatReadAs d BadStat
-  stat-first v e g =
+  pub stat-first : {v : Three} → v ≡ BadThree → ThreeRead d 0 1 4294967295 v → StatReadAs d BadStat
+  stat-first e g =
       nine-rejected d (first-not (threeFields 1) (ThreeMost 4294967295) (Later 3) later LaterMost (Later 9) fourth-leads (subst (ThreeRead d 0 1 4294967295) e g))
 
-  module _ (v : Three) (mode uid gid : Number) (fourth : ℕ) (e : v ≡ ReadThree mode uid gid fourth) (g : ThreeRead d 0 1 4294967295 v) where
-    pub stat-second : (u : Three) → u ≡ BadThree → ThreeRead d fourth 4 18446744073709551615 u → StatReadAs d BadStat
-    stat-second u f h =
+  module _ {v : Three} {mode uid gid : Number} {fourth : ℕ} (e : v ≡ ReadThree mode uid gid fourth) (g : ThreeRead d 0 1 4294967295 v) where
+    pub stat-second : {u : Three} → u ≡ BadThree → ThreeRead d fourth 4 18446744073709551615 u → StatReadAs d BadStat
+    stat-second f h =
         nine-rejected d
         (then-not (threeFields 1) (ThreeMost 4294967295) (Later 3) later LaterMost (Later 9) fourth-leads d 0 (subst (ThreeRead d 0 1 4294967295) e g)
         (first-not (threeFields 4) (ThreeMost 18446744073709551615) (Later 6) (threeFields 7) (ThreeMost 18446744073709551615) (Later 9) seventh-leads
         (subst (ThreeRead d fourth 4 18446744073709551615) f h)))
 
-    module _ (u : Three) (size blocks offset : Number) (seventh : ℕ) (f : u ≡ ReadThree size blocks offset seventh) (h : ThreeRead d fourth 4 18446744073709551615 u) where
-      pub stat-third : (q : Three) → q ≡ BadThree → ThreeRead d seventh 7 18446744073709551615 q → StatReadAs d BadStat
-      stat-third q i j =
+    module _ {u : Three} {size blocks offset : Number} {seventh : ℕ} (f : u ≡ ReadThree size blocks offset seventh) (h : ThreeRead d fourth 4 18446744073709551615 u) where
+      pub stat-third : {q : Three} → q ≡ BadThree → ThreeRead d seventh 7 18446744073709551615 q → StatReadAs d BadStat
+      stat-third i j =
           nine-rejected d
           (then-not (threeFields 1) (ThreeMost 4294967295) (Later 3) later LaterMost (Later 9) fourth-leads d 0 (subst (ThreeRead d 0 1 4294967295) e g)
           (then-not (threeFields 4) (ThreeMost 18446744073709551615) (Later 6) (threeFields 7) (ThreeMost 18446744073709551615) (Later 9) seventh-leads d fourth
           (subst (ThreeRead d fourth 4 18446744073709551615) f h) (subst (ThreeRead d seventh 7 18446744073709551615) i j)))
 
-      module _ (q : Three) (byteOffset mtime ctime : Number) (end : ℕ) (i : q ≡ ReadThree byteOffset mtime ctime end) (j : ThreeRead d seventh 7 18446744073709551615 q) where
+      module _ {q : Three} {byteOffset mtime ctime : Number} {end : ℕ} (i : q ≡ ReadThree byteOffset mtime ctime end) (j : ThreeRead d seventh 7 18446744073709551615 q) where
         abbrev read : Trio × (Trio × Trio)
         read =
             ((numberOf mode, (numberOf uid, numberOf gid)), ((numberOf size, (numberOf blocks, numberOf offset)), (numberOf byteOffset, (numberOf mtime, numberOf ctime))))

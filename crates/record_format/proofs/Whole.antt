@@ -154,17 +154,17 @@ content-placed d h e = (omega (arith, ap length made, length-append headerStart 
 -- ---- written back
 
 -- fields in bounds, with room for their bytes
+pub has-room : {W : Type 0} (fits : Bool) (long room : ℕ) → W → Decides W fits → long ≤ room → writeVerdict fits long room ≡ done
+unfolding writeVerdict
+has-room true long room w d h = rw (le-leb long room h)
+has-room false long room w d h = absurd (d w)
+
 pub written-whole : (W : Type 0) (bytes out : List ℕ) (answer : Written) (after : List ℕ) → W → WrittenAs W bytes out answer after → length bytes ≤ length out
     → (answer ≡ Length (length bytes)) × (after ≡ put out 0 bytes)
-unfolding writeVerdict
 written-whole W bytes out answer after w g h = go answer (g .verdict ∙ is-done) (g .long ∙ ap (λ (v : Verdict). lengthUnless v (length bytes)) is-done)
   where
-    fits : (b : Bool) → Decides W b → b ≡ true
-    fits true d = refl
-    fits false d = absurd (d w)
-
     is-done : writeVerdict (g .fits) (length bytes) (length out) ≡ done
-    is-done = ap (λ (b : Bool). writeVerdict b (length bytes) (length out)) (fits (g .fits) (g .decides)) ∙ rw (le-leb (length bytes) (length out) h)
+    is-done = has-room (g .fits) (length bytes) (length out) w (g .decides) h
 
     go : (x : Written) → writtenVerdict x ≡ done → writtenLength x ≡ length bytes → (x ≡ Length (length bytes)) × (after ≡ put out 0 bytes)
     go (Refused r) e l = let z : _≡_ {A = ℕ} 0 1 = cc in absurd (omega arith)

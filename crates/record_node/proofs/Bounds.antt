@@ -59,34 +59,34 @@ module _ (d : List ℕ) (p : Part) (h : Inside d p) where
 
 -- ---- parts
 
-module _ (d : List ℕ) (field : Bytes) (longest : ℕ) where
-  pub lie-absent : field ≡ NoBytes → BytesLie d field longest
-  lie-absent e = subst (λ (o : Bytes). BytesLie d o longest) (sym e) (record { inside = tt; within = tt })
+pub lie-absent : {d : List ℕ} {field : Bytes} {longest : ℕ} → field ≡ NoBytes → BytesLie d field longest
+lie-absent {d} {longest = longest} e = subst (λ (o : Bytes). BytesLie d o longest) (sym e) (record { inside = tt; within = tt })
 
-  module _ (p : Part) (e : field ≡ GivenBytes p) where
-    pub lie-long : longest < p .len → BytesLie d field longest → ⊥
-    lie-long l w =
-        let v : BytesLie d (GivenBytes p) longest = subst (λ (o : Bytes). BytesLie d o longest) e w in
-        omega (arith, length-part d (p .at) (p .len) (v .inside), v .within)
+module _ (d : List ℕ) {field : Bytes} (longest : ℕ) {p : Part} (e : field ≡ GivenBytes p) where
+  pub lie-long : longest < p .len → BytesLie d field longest → ⊥
+  lie-long l w =
+      let v : BytesLie d (GivenBytes p) longest = subst (λ (o : Bytes). BytesLie d o longest) e w in
+      omega (arith, length-part d (p .at) (p .len) (v .inside), v .within)
 
-    pub lie-given : p .len ≤ longest → (r : Bool) → Decides (Lies d p) r → Decides (BytesLie d field longest) r
-    lie-given l r h = carried (Lies d p) (BytesLie d field longest) r to from h
-      where
-        to : Lies d p → BytesLie d field longest
-        to i = subst (λ (o : Bytes). BytesLie d o longest) (sym e) (record { inside = i; within = omega (arith, length-part d (p .at) (p .len) i) })
+  pub lie-given : p .len ≤ longest → (r : Bool) → Decides (Lies d p) r → Decides (BytesLie d field longest) r
+  lie-given l r h = carried (Lies d p) (BytesLie d field longest) r to from h
+    where
+      to : Lies d p → BytesLie d field longest
+      to i = subst (λ (o : Bytes). BytesLie d o longest) (sym e) (record { inside = i; within = omega (arith, length-part d (p .at) (p .len) i) })
 
-        from : BytesLie d field longest → Lies d p
-        from w = subst (λ (o : Bytes). BytesLie d o longest) e w .inside
+      from : BytesLie d field longest → Lies d p
+      from w = subst (λ (o : Bytes). BytesLie d o longest) e w .inside
 
 -- ---- Writers
 
-module _ (d : List ℕ) (w : CodeWriter) where
+module _ {d : List ℕ} {w : CodeWriter} where
   pub key-short : (w .key .len ≡ 32 → ⊥) → WriterLies d w → ⊥
   key-short n h = n (sym (length-part d (w .key .at) (w .key .len) (h .inside .key)) ∙ h .within .key)
 
   pub key-outside : (Lies d (w .key) → ⊥) → WriterLies d w → ⊥
   key-outside n h = n (h .inside .key)
 
+module _ (d : List ℕ) (w : CodeWriter) where
   pub writer-lies : w .key .len ≡ 32 → Lies d (w .key) → (r : Bool) → Decides (BytesLie d (w .permission) 16) r → Decides (WriterLies d w) r
   writer-lies e i r h = carried (BytesLie d (w .permission) 16) (WriterLies d w) r to (λ v. record { inside = v .inside .permission; within = v .within .permission }) h
     where
@@ -107,7 +107,7 @@ pub judged-next : (d : List ℕ) (list : List CodeWriter) (i : ℕ) → Judged d
 judged-next d list i h w j l =
     ⊎-elim (λ (a : j < i). h j a) (λ (b : i ≤ j). let q : i ≡ j = omega arith in subst (λ (n : ℕ). WriterLies d (getD list n noWriter)) q w) (two j i)
 
-module _ (d : List ℕ) (ws : Writers) where
+module _ {d : List ℕ} {ws : Writers} where
   pub writers-many : 8 < ws .count → WritersLie d ws → ⊥
   writers-many l w = omega (arith, w .inside .count)
 
@@ -122,15 +122,15 @@ module _ (d : List ℕ) (ws : Writers) where
 
 -- ---- the Stat
 
-pub value-absent : (v : Value) → v ≡ NoValue → ValueFits v
-value-absent v e = subst ValueFits (sym e) tt
+pub value-absent : {v : Value} → v ≡ NoValue → ValueFits v
+value-absent e = subst ValueFits (sym e) tt
 
-pub value-given : (v : Value) (s : CodeStat) → v ≡ GivenValue s → (r : Bool) → Decides (StatWithin (statOf s)) r → Decides (ValueFits v) r
-value-given v s e r h = subst (λ (x : Value). Decides (ValueFits x) r) (sym e) h
+pub value-given : {v : Value} {s : CodeStat} → v ≡ GivenValue s → (r : Bool) → Decides (StatWithin (statOf s)) r → Decides (ValueFits v) r
+value-given e r h = subst (λ (x : Value). Decides (ValueFits x) r) (sym e) h
 
 -- ---- all fields
 
-module _ (d : List ℕ) (n : CodeNode) where
+module _ {d : List ℕ} {n : CodeNode} where
   pub no-path : (PathLies d (n .path) → ⊥) → NodeFits d n → ⊥
   no-path x w = x (record { inside = w .inside .path; within = w .within .path })
 
@@ -143,6 +143,7 @@ module _ (d : List ℕ) (n : CodeNode) where
   pub no-sequence : (Most 18446744073709551615 (numberOf (n .sequence)) → ⊥) → NodeFits d n → ⊥
   no-sequence x w = x (w .within .writersSequence)
 
+module _ (d : List ℕ) (n : CodeNode) where
   pub node-lies : Most 18446744073709551615 (numberOf (n .sequence)) → PathLies d (n .path) → ValueFits (n .value) → BytesLie d (n .trie) 1024
       → (r : Bool) → Decides (WritersLie d (n .writers)) r → Decides (NodeFits d n) r
   node-lies number p v t r h = carried (WritersLie d (n .writers)) (NodeFits d n) r to (λ w. record { inside = w .inside .writers; within = w .within .writers }) h

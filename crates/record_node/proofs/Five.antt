@@ -71,29 +71,29 @@ first-leads p t w f =
     (later-part 1 2 (p .0) (partField 3 (p .1) ++ t) (omega arith) (omega arith) (later-part 2 3 (p .1) t (omega arith) (omega arith) f))
 
 module _ (d : List ℕ) where
-  pub parts-first : (v : BytesRow) → v ≡ BadBytes → BytesRead d 0 1 255 v → PartsRead d BadParts
-  parts-first v e g = first-not (partField 1) (Longest 255) (Later 1) last-two LastLongest (Later 3) first-leads (subst (BytesRead d 0 1 255) e g .none)
+  pub parts-first : {v : BytesRow} → v ≡ BadBytes → BytesRead d 0 1 255 v → PartsRead d BadParts
+  parts-first e g = first-not (partField 1) (Longest 255) (Later 1) last-two LastLongest (Later 3) first-leads (subst (BytesRead d 0 1 255) e g .none)
 
-  module _ (v : BytesRow) (path : Bytes) (second : ℕ) (e : v ≡ ReadBytes path second) (g : BytesRead d 0 1 255 v) where
+  module _ {v : BytesRow} {path : Bytes} {second : ℕ} (e : v ≡ ReadBytes path second) (g : BytesRead d 0 1 255 v) where
     one : PartUpto d 0 1 255 path second
     one = subst (BytesRead d 0 1 255) e g
 
-    pub parts-second : (u : BytesRow) → u ≡ BadBytes → BytesRead d second 2 99 u → PartsRead d BadParts
-    parts-second u f h =
+    pub parts-second : {u : BytesRow} → u ≡ BadBytes → BytesRead d second 2 99 u → PartsRead d BadParts
+    parts-second f h =
         then-not (partField 1) (Longest 255) (Later 1) last-two LastLongest (Later 3) first-leads d 0 (one .read)
         (first-not (partField 2) (Longest 99) (Later 2) (partField 3) (Longest 1024) (Later 3) second-leads (subst (BytesRead d second 2 99) f h .none))
 
-    module _ (u : BytesRow) (value : Bytes) (third : ℕ) (f : u ≡ ReadBytes value third) (h : BytesRead d second 2 99 u) where
+    module _ {u : BytesRow} {value : Bytes} {third : ℕ} (f : u ≡ ReadBytes value third) (h : BytesRead d second 2 99 u) where
       two : PartUpto d second 2 99 value third
       two = subst (BytesRead d second 2 99) f h
 
-      pub parts-third : (q : BytesRow) → q ≡ BadBytes → BytesRead d third 3 1024 q → PartsRead d BadParts
-      parts-third q i j =
+      pub parts-third : {q : BytesRow} → q ≡ BadBytes → BytesRead d third 3 1024 q → PartsRead d BadParts
+      parts-third i j =
           then-not (partField 1) (Longest 255) (Later 1) last-two LastLongest (Later 3) first-leads d 0 (one .read)
           (then-not (partField 2) (Longest 99) (Later 2) (partField 3) (Longest 1024) (Later 3) second-leads d second (two .read) (subst (BytesRead d third 3 1024) i j .none))
 
-      pub parts-read : (q : BytesRow) (trie : Bytes) (fourth : ℕ) → q ≡ ReadBytes trie fourth → BytesRead d third 3 1024 q → PartsRead d (ReadParts path value trie fourth)
-      parts-read q trie fourth i j =
+      pub parts-read : {q : BytesRow} {trie : Bytes} {fourth : ℕ} → q ≡ ReadBytes trie fourth → BytesRead d third 3 1024 q → PartsRead d (ReadParts path value trie fourth)
+      parts-read {q} {trie} {fourth} i j =
           let three = subst (BytesRead d third 3 1024) i j in record {
             inside = (one .inside, (two .inside, three .inside));
             read =
@@ -117,25 +117,25 @@ fifth-leads o t w f = later-number 4 5 o t (omega arith) (omega arith) f
 ends : {A : Type 0} (write : A → List ℕ) (Within : A → Type 0) (k : ℕ) (s : List ℕ) → k < 16 → BeginsNot write Within (Later k) s → (a : A) → Within a → s ≡ write a → ⊥
 ends write Within k s h n a w e = n a [] w (later-nil k h) (e ∙ sym (append-nil (write a)))
 
-module _ (d : List ℕ) (at : ℕ) where
-  pub tail-writers : (v : Row) (ws : Writers) → v ≡ BadWriters → WritersRead d at v ws → TailRead d at BadTail ws
-  tail-writers v ws e g =
+module _ (d : List ℕ) (at : ℕ) (ws : Writers) where
+  pub tail-writers : {v : Row} → v ≡ BadWriters → WritersRead d at v ws → TailRead d at BadTail ws
+  tail-writers e g =
       ends tailBytes TailWithin 5 (drop at d) (omega arith)
       (first-not writersBytes WritersFew (Later 4) (numberField 5) (Most 18446744073709551615) (Later 5) fifth-leads (subst (λ (r : Row). WritersRead d at r ws) e g))
 
-  module _ (v : Row) (ws : Writers) (fifth : ℕ) (e : v ≡ ReadWriters fifth) (g : WritersRead d at v ws) where
+  module _ {v : Row} {fifth : ℕ} (e : v ≡ ReadWriters fifth) (g : WritersRead d at v ws) where
     read : WritersUpto d at ws fifth
     read = subst (λ (r : Row). WritersRead d at r ws) e g
 
     pub tail-fifth : fifth ≤ length d
     tail-fifth = read .read .inside
 
-    pub tail-number : (u : NumberRow) → u ≡ BadNumber → NumberRead d fifth 5 18446744073709551615 u → TailRead d at BadTail ws
-    tail-number u f h =
+    pub tail-number : {u : NumberRow} → u ≡ BadNumber → NumberRead d fifth 5 18446744073709551615 u → TailRead d at BadTail ws
+    tail-number f h =
         ends tailBytes TailWithin 5 (drop at d) (omega arith)
         (then-not writersBytes WritersFew (Later 4) (numberField 5) (Most 18446744073709551615) (Later 5) fifth-leads d at (read .read) (subst (NumberRead d fifth 5 18446744073709551615) f h))
 
-    module _ (u : NumberRow) (sequence : Number) (end : ℕ) (f : u ≡ ReadNumber sequence end) (h : NumberRead d fifth 5 18446744073709551615 u) where
+    module _ {u : NumberRow} {sequence : Number} {end : ℕ} (f : u ≡ ReadNumber sequence end) (h : NumberRead d fifth 5 18446744073709551615 u) where
       both-of : Upto tailBytes TailWithin (Later 5) d at (writersOf d ws, numberOf sequence) end
       both-of =
           then-read writersBytes WritersFew (Later 4) (numberField 5) (Most 18446744073709551615) (Later 5) fifth-leads d at (read .read) (subst (NumberRead d fifth 5 18446744073709551615) f h)
@@ -157,27 +157,27 @@ tail-leads p t w f =
     (writers-later 3 (p .0) (numberField 5 (p .1) ++ t) (omega arith) (later-number 4 5 (p .1) t (omega arith) (omega arith) f))
 
 module _ (d : List ℕ) where
-  pub raw-first : (v : Parts) (ws : Writers) → v ≡ BadParts → PartsRead d v → RawRead d BadRaw ws
-  raw-first v ws e g r w q =
+  pub raw-first : {v : Parts} (ws : Writers) → v ≡ BadParts → PartsRead d v → RawRead d BadRaw ws
+  raw-first ws e g r w q =
       ends rawBytes RawWithin 5 d (omega arith)
       (first-not threeParts PartsLongest (Later 3) tailBytes TailWithin (Later 5) tail-leads (subst (PartsRead d) e g)) r w (sym q)
 
-  module _ (v : Parts) (path value trie : Bytes) (fourth : ℕ) (e : v ≡ ReadParts path value trie fourth) (g : PartsRead d v) where
+  module _ {v : Parts} {path value trie : Bytes} {fourth : ℕ} (e : v ≡ ReadParts path value trie fourth) (g : PartsRead d v) where
     three : PartsUpto d path value trie fourth
     three = subst (PartsRead d) e g
 
     pub raw-fourth : fourth ≤ length d
     raw-fourth = three .read .inside
 
-    pub raw-tail : (u : Last) (ws : Writers) → u ≡ BadTail → TailRead d fourth u ws → RawRead d BadRaw ws
-    raw-tail u ws f h r w q =
+    pub raw-tail : {u : Last} (ws : Writers) → u ≡ BadTail → TailRead d fourth u ws → RawRead d BadRaw ws
+    raw-tail ws f h r w q =
         let n = subst (λ (x : Last). TailRead d fourth x ws) f h in
         let o = three .read .begins .only (r .0) (tailBytes (r .1)) (w .0)
         (subst (Later 3) (append-nil (tailBytes (r .1))) (tail-leads (r .1) [] (w .1) (later-nil 5 (omega arith)))) (sym q) in
         n (r .1) (w .1) (sym (o .1))
 
-    pub raw-read : (u : Last) (ws : Writers) (sequence : Number) → u ≡ ReadTail sequence → TailRead d fourth u ws → RawRead d (ReadRaw path value trie sequence) ws
-    raw-read u ws sequence f h =
+    pub raw-read : {u : Last} {sequence : Number} (ws : Writers) → u ≡ ReadTail sequence → TailRead d fourth u ws → RawRead d (ReadRaw path value trie sequence) ws
+    raw-read {u} {sequence} ws f h =
         record {
           parts =
               three .inside;
@@ -230,8 +230,8 @@ raw-within : (n : Node) → NodeWithin n → RawWithin (rawOf n)
 unfolding rawOf
 raw-within n w = ((w .path .short, (value-short (n .value), w .trie)), ((w .writers, w .few), w .writersSequence))
 
-pub raw-rejected : (d : List ℕ) → Rejected rawBytes RawWithin d → Rejected nodeBytes NodeWithin d
-raw-rejected d x n w e = x (rawOf n) (raw-within n w) (raw-bytes n ∙ e)
+pub raw-rejected : {d : List ℕ} → Rejected rawBytes RawWithin d → Rejected nodeBytes NodeWithin d
+raw-rejected x n w e = x (rawOf n) (raw-within n w) (raw-bytes n ∙ e)
 
 -- ---- the path and the Stat judged
 
@@ -239,7 +239,7 @@ module _ (d : List ℕ) (field : Bytes) where
   pub path-absent : field ≡ NoBytes → WithPathAs d field BadPath
   path-absent e p w q = let z : none ≡ some p = ap (bytesOf d) (sym e) ∙ q in let y : _≡_ {A = ℕ} 0 1 = cc in omega arith
 
-  module _ (p : Part) (e : field ≡ GivenBytes p) where
+  module _ {p : Part} (e : field ≡ GivenBytes p) where
     pub path-given : PathLies d p → WithPathAs d field (ReadPath p)
     path-given w = (w, e)
 
@@ -249,7 +249,7 @@ module _ (d : List ℕ) (field : Bytes) where
         let y : q ≡ partOf d p = cc in
         n (record { inside = subst (BytesInside d) e i; within = subst PathWithin y w })
 
-  module _ (p : Part) (e : field ≡ GivenBytes p) (i : BytesInside d field) where
+  module _ {p : Part} (e : field ≡ GivenBytes p) (i : BytesInside d field) where
     pub value-inside : p .at + p .len ≤ length d
     value-inside = subst (BytesInside d) e i
 
@@ -257,16 +257,16 @@ module _ (d : List ℕ) (field : Bytes) where
     unfolding part
     cut = let n : p .at + p .len - p .at ≡ p .len = omega arith in ap (λ (k : ℕ). take k (drop (p .at) d)) n
 
-    pub value-wrong : (b : List ℕ) → b ≡ take (p .at + p .len - p .at) (drop (p .at) d) → (r : StatRead) → r ≡ BadStat → StatReadAs b r → ValueReadAs d field BadValue
-    value-wrong b q r f g none w h = let z : none ≡ some (partOf d p) = h ∙ ap (bytesOf d) e in let y : _≡_ {A = ℕ} 0 1 = cc in omega arith
-    value-wrong b q r f g (some s) w h =
+    pub value-wrong : {b : List ℕ} {r : StatRead} → b ≡ take (p .at + p .len - p .at) (drop (p .at) d) → r ≡ BadStat → StatReadAs b r → ValueReadAs d field BadValue
+    value-wrong q f g none w h = let z : none ≡ some (partOf d p) = h ∙ ap (bytesOf d) e in let y : _≡_ {A = ℕ} 0 1 = cc in omega arith
+    value-wrong {b} q f g (some s) w h =
         let z : some (statBytes s) ≡ some (partOf d p) = h ∙ ap (bytesOf d) e in
         let y : statBytes s ≡ partOf d p = cc in
         subst (StatReadAs b) f g s w (y ∙ sym cut ∙ sym q)
 
-    pub value-right : (b : List ℕ) → b ≡ take (p .at + p .len - p .at) (drop (p .at) d) → (r : StatRead) (s : CodeStat) → r ≡ ReadStat s → StatReadAs b r → ValueReadAs d field
-        (ReadValue (GivenValue s))
-    value-right b q r s f g =
+    pub value-right : {b : List ℕ} {r : StatRead} {s : CodeStat} → b ≡ take (p .at + p .len - p .at) (drop (p .at) d) → r ≡ ReadStat s → StatReadAs b r
+        → ValueReadAs d field (ReadValue (GivenValue s))
+    value-right {b} q f g =
         let a = subst (StatReadAs b) f g in
         (a .within, ap {B = Option (List ℕ)} some (a .bytes ∙ q ∙ cut) ∙ sym (ap (bytesOf d) e))
 
@@ -302,25 +302,25 @@ value-back : (v : Value) → valueTold (valueOf v) ≡ v
 value-back NoValue = refl
 value-back (GivenValue s) = ap {B = Value} GivenValue (stat-back s)
 
-module _ (d : List ℕ) (path value trie : Bytes) (ws : Writers) (sequence : Number) (g : RawAt d path value trie ws (numberOf sequence)) where
+module _ {d : List ℕ} {path value trie : Bytes} {ws : Writers} (sequence : Number) (g : RawAt d path value trie ws (numberOf sequence)) where
   same : (n : Node) → NodeWithin n → nodeBytes n ≡ d → rawOf n ≡ ((bytesOf d path, (bytesOf d value, bytesOf d trie)), (writersOf d ws, numberOf sequence))
   same n w e = g .only (rawOf n) (raw-within n w) (raw-bytes n ∙ e)
 
-  pub no-path : (r : PathRead) → r ≡ BadPath → WithPathAs d path r → Rejected nodeBytes NodeWithin d
+  pub no-path : {r : PathRead} → r ≡ BadPath → WithPathAs d path r → Rejected nodeBytes NodeWithin d
   unfolding rawOf
-  no-path r f h n w e =
+  no-path f h n w e =
       subst (WithPathAs d path) f h (n .path) (w .path) (sym (ap (λ (x : RawFields). x .0 .0) (same n w e)))
 
-  module _ (r : PathRead) (q : Part) (f : r ≡ ReadPath q) (h : WithPathAs d path r) where
-    pub no-value : (u : ValueRead) → u ≡ BadValue → ValueReadAs d value u → Rejected nodeBytes NodeWithin d
+  module _ {r : PathRead} {q : Part} (f : r ≡ ReadPath q) (h : WithPathAs d path r) where
+    pub no-value : {u : ValueRead} → u ≡ BadValue → ValueReadAs d value u → Rejected nodeBytes NodeWithin d
     unfolding rawOf
-    no-value u i j n w e =
+    no-value i j n w e =
         subst (ValueReadAs d value) i j (n .value) (w .value) (ap (λ (x : RawFields). x .0 .1 .0) (same n w e))
 
-    pub all-right : (u : ValueRead) (v : Value) → u ≡ ReadValue v → ValueReadAs d value u
+    pub all-right : {u : ValueRead} {v : Value} → u ≡ ReadValue v → ValueReadAs d value u
         → NodeAt d (record { path = q; value = v; trie = trie; writers = ws; sequence = sequence })
     unfolding rawOf
-    all-right u v i j =
+    all-right {u} {v} i j =
         let p = subst (WithPathAs d path) f h in
         let s = subst (ValueReadAs d value) i j in
         let named : bytesOf d path ≡ some (partOf d q) = ap (bytesOf d) (p .1) in
@@ -353,10 +353,10 @@ module _ (d : List ℕ) (path value trie : Bytes) (ws : Writers) (sequence : Num
 
 -- ---- a refusal, and a Node
 
-pub refused-node : (d : List ℕ) (a : Answer) (n : CodeNode) → nodeTold a n ≡ (refused 15 verdicts.none, noNode) → Rejected nodeBytes NodeWithin d → nodeTold a n ≡ readNode verdicts.none d
-refused-node d a n h x = h ∙ ap (toldOf verdicts.none noNode nodePlaced) (sym (each-read .nodes .rejects d x))
+pub refused-node : (d : List ℕ) (a : Answer) {n : CodeNode} → nodeTold a n ≡ (refused 15 verdicts.none, noNode) → Rejected nodeBytes NodeWithin d → nodeTold a n ≡ readNode verdicts.none d
+refused-node d a h x = h ∙ ap (toldOf verdicts.none noNode nodePlaced) (sym (each-read .nodes .rejects d x))
 
-pub given-node : (d : List ℕ) (n : CodeNode) → NodeAt d n → nodeTold Done n ≡ readNode verdicts.none d
-given-node d n h =
+pub given-node : {d : List ℕ} {n : CodeNode} → NodeAt d n → nodeTold Done n ≡ readNode verdicts.none d
+given-node {d} {n} h =
     ap {B = Verdict × CodeNode} (λ (m : CodeNode). (verdicts.done, m)) (h .placed)
     ∙ ap (toldOf verdicts.none noNode nodePlaced) (sym (each-read .nodes .accepts d (nodeOf d n) (h .accepted)))

@@ -39,8 +39,8 @@ absent-given e = let z : _≡_ {A = ℕ} 0 1 = cc in omega arith
 pub given-part : {p q : Part} → GivenBytes p ≡ GivenBytes q → p ≡ q
 given-part e = cc
 
-pub row-next : (d : List ℕ) (at k longest : ℕ) (v : BytesRow) (o : Bytes) (next : ℕ) → v ≡ ReadBytes o next → BytesRead d at k longest v → next ≤ length d
-row-next d at k longest v o next e g = subst (BytesRead d at k longest) e g .read .inside
+pub row-next : (d : List ℕ) (at k longest : ℕ) {v : BytesRow} {o : Bytes} {next : ℕ} → v ≡ ReadBytes o next → BytesRead d at k longest v → next ≤ length d
+row-next d at k longest e g = subst (BytesRead d at k longest) e g .read .inside
 
 codeWriter : Part → Bytes → CodeWriter
 codeWriter k p = record { key = k; permission = p }
@@ -69,18 +69,18 @@ module _ (d : List ℕ) (at : ℕ) where
   rejected n w h e =
       n (some (w .key), w .permission) [] (in-bounds w h) (later-nil 2 (omega arith)) (sym e ∙ sym (append-nil (two (some (w .key), w .permission))))
 
-  pub writer-first : (v : BytesRow) → v ≡ BadBytes → BytesRead d at 1 32 v → WriterReadAs d at BadWriter
-  writer-first v e g = rejected (first-not (partField 1) (Longest 32) (Later 1) (partField 2) (Longest 16) (Later 2) leads (subst (BytesRead d at 1 32) e g .none))
+  pub writer-first : {v : BytesRow} → v ≡ BadBytes → BytesRead d at 1 32 v → WriterReadAs d at BadWriter
+  writer-first e g = rejected (first-not (partField 1) (Longest 32) (Later 1) (partField 2) (Longest 16) (Later 2) leads (subst (BytesRead d at 1 32) e g .none))
 
-  module _ (v : BytesRow) (key : Bytes) (second : ℕ) (e : v ≡ ReadBytes key second) (g : BytesRead d at 1 32 v) where
+  module _ {v : BytesRow} {key : Bytes} {second : ℕ} (e : v ≡ ReadBytes key second) (g : BytesRead d at 1 32 v) where
     one : PartUpto d at 1 32 key second
     one = subst (BytesRead d at 1 32) e g
 
-    pub writer-second : (u : BytesRow) → u ≡ BadBytes → BytesRead d second 2 16 u → WriterReadAs d at BadWriter
-    writer-second u f h =
+    pub writer-second : {u : BytesRow} → u ≡ BadBytes → BytesRead d second 2 16 u → WriterReadAs d at BadWriter
+    writer-second f h =
         rejected (then-not (partField 1) (Longest 32) (Later 1) (partField 2) (Longest 16) (Later 2) leads d at (one .read) (subst (BytesRead d second 2 16) f h .none))
 
-    module _ (u : BytesRow) (permission : Bytes) (end : ℕ) (f : u ≡ ReadBytes permission end) (h : BytesRead d second 2 16 u) where
+    module _ {u : BytesRow} {permission : Bytes} {end : ℕ} (f : u ≡ ReadBytes permission end) (h : BytesRead d second 2 16 u) where
       other : PartUpto d second 2 16 permission end
       other = subst (BytesRead d second 2 16) f h
 
@@ -183,21 +183,21 @@ module _ (d : List ℕ) (to : ℕ) (inside : to ≤ length d) where
 -- ---- one more Writer
 
 module _ (d : List ℕ) (at : ℕ) where
-  pub one-bad : (v : BytesRow) → v ≡ BadBytes → BytesRead d at 4 70 v → OneRead d at BadRow
+  pub one-bad : {v : BytesRow} → v ≡ BadBytes → BytesRead d at 4 70 v → OneRead d at BadRow
   unfolding writersBytes WritersWithin
-  one-bad v e g [] t w f p = later-untagged t f (ap (λ (s : List ℕ). getD s 0 256) (sym p) ∙ subst (BytesRead d at 4 70) e g .tagged)
-  one-bad v e g (w ∷ ws) t i f p =
+  one-bad e g [] t w f p = later-untagged t f (ap (λ (s : List ℕ). getD s 0 256) (sym p) ∙ subst (BytesRead d at 4 70) e g .tagged)
+  one-bad e g (w ∷ ws) t i f p =
       subst (BytesRead d at 4 70) e g .given (writerBytes w) (writersBytes ws ++ t) (writer-size w (i .0)) tt
       (p ∙ append-assoc (givenField 4 (writerBytes w)) (writersBytes ws) t)
 
-  module _ (v : BytesRow) (field : Bytes) (next : ℕ) (e : v ≡ ReadBytes field next) (g : BytesRead d at 4 70 v) where
+  module _ {v : BytesRow} {field : Bytes} {next : ℕ} (e : v ≡ ReadBytes field next) (g : BytesRead d at 4 70 v) where
     read : PartUpto d at 4 70 field next
     read = subst (BytesRead d at 4 70) e g
 
     pub one-end : field ≡ NoBytes → OneRead d at End
     one-end f = subst (λ (o : Bytes). PartUpto d at 4 70 o next) f read .tag
 
-    module _ (p : Part) (f : field ≡ GivenBytes p) where
+    module _ {p : Part} (f : field ≡ GivenBytes p) where
       given : PartUpto d at 4 70 (GivenBytes p) next
       given = subst (λ (o : Bytes). PartUpto d at 4 70 o next) f read
 
@@ -215,16 +215,16 @@ module _ (d : List ℕ) (at : ℕ) where
       size : length (partOf d p) < 2 ^ 64
       size = omega (arith, given .read .begins .within)
 
-      pub one-none : (e : List ℕ) → e ≡ take (p .at + p .len) d → (r : WriterRead) → r ≡ BadWriter → WriterReadAs e (p .at) r → OneRead d at BadRow
+      pub one-none : {e : List ℕ} {r : WriterRead} → e ≡ take (p .at + p .len) d → r ≡ BadWriter → WriterReadAs e (p .at) r → OneRead d at BadRow
       unfolding writersBytes WritersWithin
-      one-none x q r h i [] t w l k = later-untagged t l (ap (λ (s : List ℕ). getD s 0 256) (sym k) ∙ tag)
-      one-none x q r h i (w ∷ ws) t u l k =
+      one-none q h i [] t w l k = later-untagged t l (ap (λ (s : List ℕ). getD s 0 256) (sym k) ∙ tag)
+      one-none {e = x} q h i (w ∷ ws) t u l k =
           let b = given-unique 4 (partOf d p) (writerBytes w) (drop next d) (writersBytes ws ++ t) (omega arith) size (omega (arith, writer-size w (u .0)))
           (sym (given .read .begins .made) ∙ k ∙ append-assoc (givenField 4 (writerBytes w)) (writersBytes ws) t) in
           subst (WriterReadAs x (p .at)) h i w (u .0) (sym (b .0) ∙ sym front ∙ ap (drop (p .at)) (sym q))
 
-      pub one-read : at ≤ length d → (e : List ℕ) → e ≡ take (p .at + p .len) d → (r : WriterRead) (w : CodeWriter) → r ≡ ReadWriter w → WriterReadAs e (p .at) r → OneRead d at (ReadRow w next)
-      one-read start x q r w h i =
+      pub one-read : {e : List ℕ} {r : WriterRead} {w : CodeWriter} → at ≤ length d → e ≡ take (p .at + p .len) d → r ≡ ReadWriter w → WriterReadAs e (p .at) r → OneRead d at (ReadRow w next)
+      one-read {e = x} {w = w} start q h i =
           let a : WriterAt (take (p .at + p .len) d) (p .at) w = subst (λ (y : List ℕ). WriterAt y (p .at) w) q (subst (WriterReadAs x (p .at)) h i) in
           let s : writerOf (take (p .at + p .len) d) w ≡ writerOf d w = same-writer d (p .at + p .len) part-inside w (a .inside) in
           let whole : partOf d p ≡ writerBytes (writerOf d w) = sym front ∙ sym (a .accepted .bytes) ∙ ap writerBytes s in

@@ -109,9 +109,9 @@ pub record Grown (d : List ℕ) (at : ℕ) (list : List CodeWriter) (count next 
   pub reached : next ≡ at + length (writersBytes (run (listed d list) 0 count))
   pub placed : list ≡ writersPlaced at (run (listed d list) 0 count) ++ replicate (8 - count) noWriter
 
-pub grown-none : (d : List ℕ) (at : ℕ) (w : CodeWriter) → w ≡ noWriter → at ≤ length d → Grown d at (replicate 8 w) 0 at
+pub grown-none : {d : List ℕ} {at : ℕ} {w : CodeWriter} → w ≡ noWriter → at ≤ length d → Grown d at (replicate 8 w) 0 at
 unfolding run writersBytes writersPlaced
-grown-none d at w e h = record {
+grown-none e h = record {
   few = omega arith;
   size = refl;
   inside = λ j l. absurd (omega arith);
@@ -141,7 +141,7 @@ placed-snoc at (v ∷ ws) w =
 nobody-more : (n : ℕ) → n < 8 → replicate (8 - n) noWriter ≡ noWriter ∷ replicate (8 - (n + 1)) noWriter
 nobody-more n h = let e : 8 - n ≡ suc (8 - (n + 1)) = omega arith in ap (λ (m : ℕ). replicate m noWriter) e
 
-module _ (d : List ℕ) (at : ℕ) (list : List CodeWriter) (count next : ℕ) (g : Grown d at list count next) where
+module _ {d : List ℕ} {at : ℕ} {list : List CodeWriter} {count next : ℕ} (g : Grown d at list count next) where
   ws : List Writer
   ws = run (listed d list) 0 count
 
@@ -154,14 +154,14 @@ module _ (d : List ℕ) (at : ℕ) (list : List CodeWriter) (count next : ℕ) (
   ws-few = omega (arith, length-run (listed d list) 0 count, g .few)
 
   -- a field that is none
-  pub grown-bad : (r : WriterRow) → r ≡ BadRow → OneRead d next r → BeginsNot writersBytes WritersFew (Later 4) (drop at d)
+  pub grown-bad : {r : WriterRow} → r ≡ BadRow → OneRead d next r → BeginsNot writersBytes WritersFew (Later 4) (drop at d)
   unfolding ws
-  grown-bad r e o vs t w f p = writers-not ws (drop next d) ws-within (subst (OneRead d next) e o) vs t (w .0) f (sym (g .made) ∙ p)
+  grown-bad e o vs t w f p = writers-not ws (drop next d) ws-within (subst (OneRead d next) e o) vs t (w .0) f (sym (g .made) ∙ p)
 
   -- no more
-  pub grown-end : (r : WriterRow) → r ≡ End → OneRead d next r → WritersUpto d at (record { count = count; list = list }) next
+  pub grown-end : {r : WriterRow} → r ≡ End → OneRead d next r → WritersUpto d at (record { count = count; list = list }) next
   unfolding ws
-  grown-end r e o = record {
+  grown-end e o = record {
     inside = record { count = g .few; each = g .inside };
     read = record {
       begins = record {
@@ -178,7 +178,7 @@ module _ (d : List ℕ) (at : ℕ) (list : List CodeWriter) (count next : ℕ) (
       many : length (run (listed d list) 0 count) ≡ count
       many = length-run (listed d list) 0 count
 
-  module _ (r : WriterRow) (w : CodeWriter) (end : ℕ) (e : r ≡ ReadRow w end) (o : OneRead d next r) where
+  module _ {r : WriterRow} {w : CodeWriter} {end : ℕ} (e : r ≡ ReadRow w end) (o : OneRead d next r) where
     one : OneAt d next w end
     one = subst (OneRead d next) e o
 

@@ -152,7 +152,7 @@ nodes-placed d n e = let a = each-read .nodes .gives d n e in node-placed d n (a
 pub room-for-any : RoomForAny
 room-for-any n w =
     let p = node-placed (nodeBytes n) n w refl in
-    subst (λ (m : Node). length (nodeBytes m) ≤ 2070) (p .fields) (node-size (nodeBytes n) (nodePlaced n) (p .fits))
+    subst (λ (m : Node). length (nodeBytes m) ≤ 2070) (p .fields) (node-size (p .fits))
 
 pub nodes-written-back : NodesWrittenBack
 nodes-written-back d c e out answer after g room =

@@ -38,15 +38,15 @@ size-of d NoBytes n i w = omega arith
 size-of d (GivenBytes p) n i w = omega (arith, length-part d (p .at) (p .len) i)
 
 -- what was put at the front, read again
-pub front-of : (bytes out : List ℕ) (next : ℕ) (after : List ℕ) → PutAt bytes out 0 next after → take (next - 0) after ≡ bytes
+pub front-of : {bytes out : List ℕ} {next : ℕ} {after : List ℕ} → PutAt bytes out 0 next after → take (next - 0) after ≡ bytes
 unfolding part
-front-of bytes out next after p =
+front-of {bytes} {out} {next} {after} p =
     let n : next - 0 ≡ length bytes = omega (arith, p .ends) in
     ap (λ (k : ℕ). take k after) n ∙ ap (take (length bytes)) (p .holds) ∙ part-put out 0 (length bytes) bytes refl (omega arith)
 
 -- ---- a Writer
 
-module _ (d : List ℕ) (w : CodeWriter) (out : List ℕ) (r : WriterRoomy d w out) where
+module _ {d : List ℕ} {w : CodeWriter} {out : List ℕ} (r : WriterRoomy d w out) where
   key : List ℕ
   key = partOf d (w .key)
 
@@ -68,7 +68,7 @@ module _ (d : List ℕ) (w : CodeWriter) (out : List ℕ) (r : WriterRoomy d w o
   unfolding bytes
   key-room = omega (arith, ap length bytes-key, key-long, r .room)
 
-  module _ (second : ℕ) (mid : List ℕ) (p : PutAt (partField 1 (some (take (w .key .at + w .key .len - w .key .at) (drop (w .key .at) d)))) out 0 second mid) where
+  module _ {second : ℕ} {mid : List ℕ} (p : PutAt (partField 1 (some (take (w .key .at + w .key .len - w .key .at) (drop (w .key .at) d)))) out 0 second mid) where
     first : PutAt (partField 1 (some key)) out 0 second mid
     unfolding bytes
     first = subst (λ (b : List ℕ). PutAt (partField 1 (some b)) out 0 second mid) bytes-key p
@@ -82,9 +82,9 @@ module _ (d : List ℕ) (w : CodeWriter) (out : List ℕ) (r : WriterRoomy d w o
           room = omega (arith, n .0, n .1, r .room, size-of d (w .permission) 16 (r .fits .inside .permission) (r .fits .within .permission));
         }
 
-    pub writer-put : (end : ℕ) (after : List ℕ) → PutAt (partField 2 (bytesOf d (w .permission))) mid second end after → PutAt (writerBytes (writerOf d w)) out 0 end after
+    pub writer-put : {end : ℕ} {after : List ℕ} → PutAt (partField 2 (bytesOf d (w .permission))) mid second end after → PutAt (writerBytes (writerOf d w)) out 0 end after
     unfolding writerBytes key
-    writer-put end after q = put-then (partField 1 (some key)) (partField 2 (bytesOf d (w .permission))) out 0 second end mid after (omega arith) first q
+    writer-put {end} {after} q = put-then (partField 1 (some key)) (partField 2 (bytesOf d (w .permission))) out 0 second end mid after (omega arith) first q
 
 -- ---- Writers
 
@@ -97,23 +97,23 @@ pub record Placed (d : List ℕ) (list : List CodeWriter) (out₀ : List ℕ) (a
   pub ends : next ≤ at + 81 * i
   pub few : i ≤ 8
 
-pub placed-none : (d : List ℕ) (list : List CodeWriter) (out : List ℕ) (at : ℕ) → Placed d list out at out at 0
+pub placed-none : {d : List ℕ} {list : List CodeWriter} {out : List ℕ} {at : ℕ} → Placed d list out at out at 0
 unfolding run writersBytes
-placed-none d list out at = record { put = put-nothing out at; same = refl; ends = omega arith; few = omega arith }
+placed-none {out = out} {at = at} = record { put = put-nothing out at; same = refl; ends = omega arith; few = omega arith }
 
-module _ (d : List ℕ) (ws : Writers) (out₀ : List ℕ) (at : ℕ) (r : WritersRoomy d ws out₀ at) (out : List ℕ) (next i : ℕ) (g : Placed d (ws .list) out₀ at out next i) (l : i < ws .count) where
+module _ {d : List ℕ} {ws : Writers} {out₀ : List ℕ} {at : ℕ} (r : WritersRoomy d ws out₀ at) {out : List ℕ} {next i : ℕ} (g : Placed d (ws .list) out₀ at out next i) (l : i < ws .count) where
   pub few-left : i < 8
   few-left = omega (arith, r .fits .inside .count)
 
   lies : WriterLies d (writerAt ws i)
   lies = record { inside = r .fits .inside .each i l; within = all-within (listed d (ws .list)) (ws .count) (r .fits .within) i l }
 
-  pub one-roomy : (scratch : List ℕ) → 70 ≤ length scratch → WriterRoomy d (writerAt ws i) scratch
-  one-roomy scratch h = record { fits = lies; room = h }
+  pub one-roomy : {scratch : List ℕ} → 70 ≤ length scratch → WriterRoomy d (writerAt ws i) scratch
+  one-roomy h = record { fits = lies; room = h }
 
-  module _ (scratch : List ℕ) (len : ℕ) (filled : List ℕ) (p : PutAt (writerBytes (writerOf d (writerAt ws i))) scratch 0 len filled) where
+  module _ {scratch : List ℕ} {len : ℕ} {filled : List ℕ} (p : PutAt (writerBytes (writerOf d (writerAt ws i))) scratch 0 len filled) where
     taken : take (len - 0) filled ≡ writerBytes (listed d (ws .list) i)
-    taken = front-of (writerBytes (writerOf d (writerAt ws i))) scratch len filled p
+    taken = front-of p
 
     pub one-len : len ≤ 70
     one-len = omega (arith, p .ends, writer-size (writerOf d (writerAt ws i)) (lies .within))
@@ -122,8 +122,8 @@ module _ (d : List ℕ) (ws : Writers) (out₀ : List ℕ) (at : ℕ) (r : Write
     one-room =
         omega (arith, ap length taken, writer-size (listed d (ws .list) i) (lies .within), g .ends, g .same, r .room, few-left)
 
-    pub one-placed : (end : ℕ) (after : List ℕ) → PutAt (partField 4 (some (take (len - 0) filled))) out next end after → Placed d (ws .list) out₀ at after end (i + 1)
-    one-placed end after q =
+    pub one-placed : {end : ℕ} {after : List ℕ} → PutAt (partField 4 (some (take (len - 0) filled))) out next end after → Placed d (ws .list) out₀ at after end (i + 1)
+    one-placed {end} {after} q =
         let field = subst (λ (b : List ℕ). PutAt (partField 4 (some b)) out next end after) taken q in
         let n = put-next 81 (givenField 4 (writerBytes (listed d (ws .list) i))) out next end after (field-size (listed d (ws .list) i) (lies .within))
         (omega (arith, g .ends, g .same, r .room, few-left)) field in
@@ -136,31 +136,31 @@ module _ (d : List ℕ) (ws : Writers) (out₀ : List ℕ) (at : ℕ) (r : Write
           few = omega (arith, few-left);
         }
 
-pub placed-all : (d : List ℕ) (ws : Writers) (out₀ : List ℕ) (at : ℕ) (out : List ℕ) (next i : ℕ) → Placed d (ws .list) out₀ at out next i → i ≡ ws .count
+pub placed-all : {d : List ℕ} (ws : Writers) {out₀ : List ℕ} {at : ℕ} {out : List ℕ} {next i : ℕ} → Placed d (ws .list) out₀ at out next i → i ≡ ws .count
     → PutAt (writersBytes (writersOf d ws)) out₀ at next out
-placed-all d ws out₀ at out next i g e = subst (λ (n : ℕ). PutAt (writersBytes (run (listed d (ws .list)) 0 n)) out₀ at next out) e (g .put)
+placed-all {d} ws {out₀} {at} {out} {next} g e = subst (λ (n : ℕ). PutAt (writersBytes (run (listed d (ws .list)) 0 n)) out₀ at next out) e (g .put)
 
 -- ---- the Stat
 
-module _ (v : Value) (out : List ℕ) (at : ℕ) where
-  pub value-nothing : v ≡ NoValue → PutAt (partField 2 (statPart (valueOf v))) out at at out
-  unfolding partField
-  value-nothing e = subst (λ (x : Value). PutAt (partField 2 (statPart (valueOf x))) out at at out) (sym e) (put-nothing out at)
+pub value-nothing : {v : Value} {out : List ℕ} {at : ℕ} → v ≡ NoValue → PutAt (partField 2 (statPart (valueOf v))) out at at out
+unfolding partField
+value-nothing {v} {out} {at} e = subst (λ (x : Value). PutAt (partField 2 (statPart (valueOf x))) out at at out) (sym e) (put-nothing out at)
 
-  module _ (s : CodeStat) (e : v ≡ GivenValue s) (scratch : List ℕ) (len : ℕ) (filled : List ℕ) (p : PutAt (statBytes (statOf s)) scratch 0 len filled) where
-    taken-stat : take (len - 0) filled ≡ statBytes (statOf s)
-    taken-stat = front-of (statBytes (statOf s)) scratch len filled p
+module _ {v : Value} {s : CodeStat} (e : v ≡ GivenValue s) {scratch : List ℕ} {len : ℕ} {filled : List ℕ} (p : PutAt (statBytes (statOf s)) scratch 0 len filled) where
+  taken-stat : take (len - 0) filled ≡ statBytes (statOf s)
+  taken-stat = front-of p
 
-    pub stat-len : len ≤ 99
-    stat-len = omega (arith, p .ends, stat-size (statOf s))
+  pub stat-len : len ≤ 99
+  stat-len = omega (arith, p .ends, stat-size (statOf s))
 
-    pub stat-room : at + 110 ≤ length out → at + 11 + length (take (len - 0) filled) ≤ length out
-    stat-room h = omega (arith, ap length taken-stat, stat-size (statOf s))
+  pub stat-room : (out : List ℕ) (at : ℕ) → at + 110 ≤ length out → at + 11 + length (take (len - 0) filled) ≤ length out
+  stat-room out at h = omega (arith, ap length taken-stat, stat-size (statOf s))
 
-    pub value-put : (next : ℕ) (after : List ℕ) → PutAt (partField 2 (some (take (len - 0) filled))) out at next after → PutAt (partField 2 (statPart (valueOf v))) out at next after
-    value-put next after q =
-        subst (λ (x : Value). PutAt (partField 2 (statPart (valueOf x))) out at next after) (sym e)
-        (subst (λ (b : List ℕ). PutAt (partField 2 (some b)) out at next after) taken-stat q)
+  pub value-put : {out : List ℕ} {at next : ℕ} {after : List ℕ} → PutAt (partField 2 (some (take (len - 0) filled))) out at next after
+      → PutAt (partField 2 (statPart (valueOf v))) out at next after
+  value-put {out} {at} {next} {after} q =
+      subst (λ (x : Value). PutAt (partField 2 (statPart (valueOf x))) out at next after) (sym e)
+      (subst (λ (b : List ℕ). PutAt (partField 2 (some b)) out at next after) taken-stat q)
 
 -- ---- all fields
 
@@ -169,7 +169,7 @@ unfolding partField
 value-size none = omega arith
 value-size (some s) = omega (arith, part-size 2 (statBytes s) (omega arith), stat-size s)
 
-module _ (d : List ℕ) (n : CodeNode) (w : NodeFits d n) where
+module _ {d : List ℕ} {n : CodeNode} (w : NodeFits d n) where
   path-bytes : List ℕ
   path-bytes = partField 1 (some (partOf d (n .path)))
 
@@ -213,7 +213,7 @@ module _ (d : List ℕ) (n : CodeNode) (w : NodeFits d n) where
     pub path-room : 0 + 11 + length (take (n .path .at + n .path .len - n .path .at) (drop (n .path .at) d)) ≤ length out
     path-room = omega (arith, ap length (cut d (n .path)), w .within .path .short)
 
-    module _ (second : ℕ) (one : List ℕ) (p : PutAt (partField 1 (some (take (n .path .at + n .path .len - n .path .at) (drop (n .path .at) d)))) out 0 second one) where
+    module _ {second : ℕ} {one : List ℕ} (p : PutAt (partField 1 (some (take (n .path .at + n .path .len - n .path .at) (drop (n .path .at) d)))) out 0 second one) where
       first-put : PutAt path-bytes out 0 second one
       unfolding path-bytes
       first-put = subst (λ (b : List ℕ). PutAt (partField 1 (some b)) out 0 second one) (cut d (n .path)) p
@@ -224,7 +224,7 @@ module _ (d : List ℕ) (n : CodeNode) (w : NodeFits d n) where
       pub value-room : second + 110 ≤ length one
       value-room = omega (arith, at-second .0, at-second .1)
 
-      module _ (third : ℕ) (two : List ℕ) (q : PutAt (partField 2 (statPart (valueOf (n .value)))) one second third two) where
+      module _ {third : ℕ} {two : List ℕ} (q : PutAt (partField 2 (statPart (valueOf (n .value)))) one second third two) where
         at-third : (third ≤ second + 110) × (length two ≡ length one)
         at-third = put-next 110 (partField 2 (statPart (valueOf (n .value)))) one second third two (value-size (valueOf (n .value))) value-room q
 
@@ -235,7 +235,7 @@ module _ (d : List ℕ) (n : CodeNode) (w : NodeFits d n) where
           room = omega (arith, at-second .0, at-second .1, at-third .0, at-third .1, size-of d (n .trie) 1024 (w .inside .trie) (w .within .trie));
         }
 
-        module _ (fourth : ℕ) (three : List ℕ) (r : PutAt (partField 3 (bytesOf d (n .trie))) two third fourth three) where
+        module _ {fourth : ℕ} {three : List ℕ} (r : PutAt (partField 3 (bytesOf d (n .trie))) two third fourth three) where
           at-fourth : (fourth ≤ third + 1035) × (length three ≡ length two)
           at-fourth =
               put-next 1035 (partField 3 (bytesOf d (n .trie))) two third fourth three trie-size (omega (arith, at-second .0, at-second .1, at-third .0, at-third .1)) r
@@ -246,16 +246,16 @@ module _ (d : List ℕ) (n : CodeNode) (w : NodeFits d n) where
             room = omega (arith, at-second .0, at-second .1, at-third .0, at-third .1, at-fourth .0, at-fourth .1);
           }
 
-          module _ (fifth : ℕ) (four : List ℕ) (s : PutAt (writersBytes (writersOf d (n .writers))) three fourth fifth four) where
+          module _ {fifth : ℕ} {four : List ℕ} (s : PutAt (writersBytes (writersOf d (n .writers))) three fourth fifth four) where
             at-fifth : (fifth ≤ fourth + 648) × (length four ≡ length three)
             at-fifth = put-next 648 (writersBytes (writersOf d (n .writers))) three fourth fifth four all-size (writers-room .room) s
 
             pub number-room : fifth + 11 ≤ length four
             number-room = omega (arith, at-second .0, at-second .1, at-third .0, at-third .1, at-fourth .0, at-fourth .1, at-fifth .0, at-fifth .1)
 
-            pub node-put : (end : ℕ) (after : List ℕ) → PutAt (numberField 5 (numberOf (n .sequence))) four fifth end after → PutAt (nodeBytes (nodeOf d n)) out 0 end after
+            pub node-put : {end : ℕ} {after : List ℕ} → PutAt (numberField 5 (numberOf (n .sequence))) four fifth end after → PutAt (nodeBytes (nodeOf d n)) out 0 end after
             unfolding nodeBytes path-bytes
-            node-put end after t =
+            node-put {end} {after} t =
                 let e = numberField 5 (numberOf (n .sequence)) in
                 let c = writersBytes (writersOf d (n .writers)) in
                 let b = partField 3 (bytesOf d (n .trie)) in

@@ -2,14 +2,14 @@
 -- Assumes nothing.
 use Prim.Native.Nat.{ℕ, _+_, _*_, _≤_, _<_}
 use mathlib.Core.Path.{_≡_, sym, ap, ap₂, _∙_, subst}
-use mathlib.Core.Bool.{true, false}
+use mathlib.Core.Bool.{true}
 use mathlib.Core.List.{List, [], _++_}
 use native.Mathlib.Nat.{mul-one}
 use native.Mathlib.Omega.{arith}
 use lib.ListN.{length, getD, set, take, drop, length-replicate, take-append-drop}
 use lib.Seq.{length-take-le, take-at}
 use Rattle.answer_types.specs.Verdict.{tree, done}
-use Rattle.byte_strings.specs.Lists.{put, zeros}
+use Rattle.byte_strings.specs.Lists.{put, zeros, Bytes}
 use Rattle.byte_strings.proofs.Lists.{length-put, drop-put, bytes-put, bytes-zeros, take-put-end}
 use Rattle.tree_index.specs.Tree.{index}
 use Rattle.tree_index.proofs.Filled.{end-filled}
@@ -32,14 +32,13 @@ use Rattle.file_format.proofs.Nodes.{Proper, nodeAt-index, node-proper}
 use Rattle.file_format.proofs.OfImage.{stored-node-hash, stored-node-size}
 use Rattle.file_format.proofs.Held.{bits-room, bits-cut}
 use Rattle.checks.proofs.Passed.{Passed, passes, passed}
-use Rattle.lookup.specs.Lookup.{startOf, toChunk, heldVerdict}
-use Rattle.lookup.proofs.Calls.{held-done}
-use Rattle.lookup.proofs.Answers.{no-held, to-chunk, leaf-of, held-n, held-as, held-done-at}
+use Rattle.lookup.specs.Read.{verdictFound}
+use Rattle.lookup.proofs.Answers.{stays-inside, no-held, to-chunk, leaf-of, held-n, held-gone-at, held-done-at}
 use Rattle.release.specs.Release.{releaseVerdict, releasedRegister}
 use Rattle.release.specs.Theorems.{leafEntry, releasedIn, Releases, ReleaseAnswers, ReleaseAnswersForAll, ReleaseStays, ReleaseStaysForAll}
 use Rattle.release.proofs.Bits.{bit-room, bits-long, bits-header, bits-bytes, bits-rest}
 use Rattle.release.proofs.Replaced.{data-set, size-set, length-ts, contents-ts, held-ts, tree-ts, within-ts}
-use Rattle.release.proofs.Calls.{held-passed, release-inside}
+use Rattle.release.proofs.Calls.{Clearing, cleared-at, clearing}
 
 zeros-long : (k : ℕ) → length (zeros k) ≡ k
 zeros-long k = length-replicate {A = ℕ} k 0
@@ -58,31 +57,31 @@ module _ (r : Register) (c : ℕ) (e : releaseVerdict r c ≡ done) where
   abbrev zs : List ℕ
   zs = zeros (storedSize (r .tree) (index 0 c))
 
-  abbrev start : ℕ
-  start = startOf (toChunk r c)
-
-  is-held : heldVerdict r c ≡ done
+  clears : Clearing r c
   unfolding releaseVerdict
-  is-held = e
+  clears = clearing r c e
 
-  facts : Passed r × (c < r .n)
-  facts = held-passed r c is-held
+  abbrev start : ℕ
+  start = clears .start
 
   room : start + length zs ≤ r .size
-  room = omega (arith, release-inside r c is-held, zeros-long (storedSize (r .tree) (index 0 c)))
+  room = omega (arith, clears .placing .inside, zeros-long (storedSize (r .tree) (index 0 c)))
+
+  put-inside : start + length zs ≤ length (r .content)
+  put-inside = omega (arith, clears .placing .passed .content, room)
 
   still : Passed (releasedRegister r c)
   unfolding releasedRegister
   still =
-      let p = facts .0 in
-      let b = bit-room (r .bitfield) (r .n) c (p .bitfield) (facts .1) in
+      let p = clears .placing .passed in
+      let b = bit-room (r .bitfield) (r .n) c (p .bitfield) (clears .placing .below) in
       record {
         count = p .count;
         signed = p .signed;
         tree = p .tree;
         signatures = p .signatures;
         bitfield = omega (arith, p .bitfield, bits-long (r .bitfield) c b);
-        content = omega (arith, p .content, room, length-put (r .content) start zs (omega (arith, p .content, room)));
+        content = omega (arith, p .content, ap length (clears .content), length-put (r .content) start zs put-inside);
         treeFront = p .treeFront;
         signaturesFront = p .signaturesFront;
         bitfieldFront = bits-header (r .bitfield) c b ∙ p .bitfieldFront;
@@ -92,16 +91,17 @@ module _ (r : Register) (c : ℕ) (e : releaseVerdict r c ≡ done) where
   pub stays : ReleaseStays r c
   unfolding releasedRegister
   stays =
-      let p = facts .0 in
+      let p = clears .placing .passed in
+      let below = clears .placing .below in
       record {
         passes = passes (releasedRegister r c) done still;
-        bitfield = bits-rest (r .bitfield) (r .n) c (p .bitfield) (facts .1);
-        content = drop-put (r .size) (r .content) start zs room (omega (arith, p .content, room));
+        bitfield = bits-rest (r .bitfield) (r .n) c (p .bitfield) below;
+        content = ap (drop (r .size)) (clears .content) ∙ drop-put (r .size) (r .content) start zs room (omega (arith, put-inside));
         lent = λ l. record {
           tree = l .tree;
           signatures = l .signatures;
-          bitfield = bits-bytes (r .bitfield) c (bit-room (r .bitfield) (r .n) c (p .bitfield) (facts .1)) (l .bitfield);
-          content = bytes-put (r .content) start zs (l .content) (bytes-zeros (storedSize (r .tree) (index 0 c)));
+          bitfield = bits-bytes (r .bitfield) c (bit-room (r .bitfield) (r .n) c (p .bitfield) below) (l .bitfield);
+          content = subst Bytes (sym (clears .content)) (bytes-put (r .content) start zs (l .content) (bytes-zeros (storedSize (r .tree) (index 0 c))));
         };
       }
 
@@ -147,12 +147,9 @@ module _ (F : List ℕ → List ℕ) (hf : HashFunction F) (ss : List Slot) (w :
     gone-long : length gone ≡ length (getD (contents ss) c [])
     gone-long = zeros-long (leafEntry r c .size) ∙ long
 
-    starts : startOf (toChunk r c) ≡ span (contents ss) 0 c
-    starts = ap startOf (to-chunk F hf ss w r b p c below)
-
     says : releaseVerdict r c ≡ done
     unfolding releaseVerdict
-    says = held-done-at F hf ss w r b p c h
+    says = ap verdictFound (held-done-at F hf ss w r b p c h)
 
     bits : take (usedBitfield (r .n)) (releasedBits (r .bitfield) c) ≡ bitfieldImage (heldIn (releasedIn r ss c)) (r .n)
     unfolding usedBitfield bitfieldOf releasedIn
@@ -163,10 +160,10 @@ module _ (F : List ℕ → List ℕ) (hf : HashFunction F) (ss : List Slot) (w :
         ∙ take-put-end (r .bitfield) 32 (3328 * entryCount (r .n)) (entriesOf (without-one (heldIn ss) c) (r .n)) (length-entries (without-one (heldIn ss) c) (r .n)) (omega (arith, room))
         ∙ ap₂ _++_ (cut .0) (entries-ext (without-one (heldIn ss) c) (heldIn (set ss c (released (leafEntry r c)))) (r .n) (held-ts ss c (leafEntry r c) below-ss))
 
-    image : put (take (r .size) (r .content)) (startOf (toChunk r c)) gone ≡ dataImage (contents (releasedIn r ss c))
+    image : put (take (r .size) (r .content)) (span (contents ss) 0 c) gone ≡ dataImage (contents (releasedIn r ss c))
     unfolding releasedIn
     image =
-        ap₂ (λ (l : List ℕ) (a : ℕ). put l a gone) (b .content) starts
+        ap (λ (l : List ℕ). put l (span (contents ss) 0 c) gone) (b .content)
         ∙ sym (ap dataImage (contents-ts ss c (leafEntry r c)) ∙ data-set (contents ss) c gone below-cs gone-long)
 
     count-is : length (releasedIn r ss c) ≡ length ss
@@ -181,9 +178,13 @@ module _ (F : List ℕ → List ℕ) (hf : HashFunction F) (ss : List Slot) (w :
     unfolding releasedIn
     tree-is = tree-ts ss c (leafEntry r c) F (entry-is ∙ leaf-at F ss c below-ss)
 
-    content-is : take (r .size) (put (r .content) (startOf (toChunk r c)) gone) ≡ dataImage (contents (releasedIn r ss c))
+    content-is : take (r .size) (releasedRegister r c .content) ≡ dataImage (contents (releasedIn r ss c))
     unfolding leafEntry
-    content-is = front-put (r .content) (r .size) (startOf (toChunk r c)) gone (p .content) (room r c says) ∙ image
+    content-is =
+        let lands = to-chunk F hf ss w r b p c below in
+        let fits = stays-inside r p .chunk c below c (span (contents ss) 0 c) lands .1 .inside in
+        ap (take (r .size)) (cleared-at r c below lands)
+        ∙ front-put (r .content) (r .size) (span (contents ss) 0 c) gone (p .content) (omega (arith, fits, zeros-long (storedSize (r .tree) (index 0 c)))) ∙ image
 
     belongs : Belongs F (releasedRegister r c) (releasedIn r ss c)
     unfolding releasedRegister leafEntry
@@ -202,8 +203,8 @@ module _ (F : List ℕ → List ℕ) (hf : HashFunction F) (ss : List Slot) (w :
   answered =
       record {
         held = releases;
-        notHeld = λ c h e. held-as F hf ss w r b p c (subst (λ (n : ℕ). c < n) (sym (b .count)) h) false e;
-        noChunk = λ c h. no-held r c p (subst (λ (n : ℕ). n ≤ c) (sym (b .count)) h);
+        notHeld = λ c h e. ap verdictFound (held-gone-at F hf ss w r b p c (subst (λ (n : ℕ). c < n) (sym (b .count)) h) e);
+        noChunk = λ c h. ap verdictFound (no-held r p c (subst (λ (n : ℕ). n ≤ c) (sym (b .count)) h));
       }
 
 pub release-answers : ReleaseAnswersForAll

@@ -9,8 +9,8 @@ use Rattle.bitfield.specs.Append.{bitsPlace}
 use Rattle.bitfield.specs.Release.{releasedBits}
 use Rattle.file_format.specs.Belongs.{Buffers, Register}
 use Rattle.lookup.specs.Lookup.{Found, refusal, found}
-use Rattle.lookup.specs.Meaning.{verdictFound}
-use Rattle.release.specs.Release.{releaseVerdict, afterRelease}
+use Rattle.lookup.specs.Read.{verdictFound}
+use Rattle.release.specs.Release.{bytesCleared, releaseVerdict, afterRelease}
 
 -- four lent buffers
 abbrev pub lent : List ℕ → List ℕ → List ℕ → List ℕ → Buffers
@@ -39,10 +39,6 @@ ClearsAt bits bytes c (found start size) = Clears bits bytes c start size
 abbrev pub bitsCleared : List ℕ → ℕ → Found → List ℕ
 bitsCleared bits c (refusal m at) = bits
 bitsCleared bits c (found start size) = releasedBits bits c
-
-abbrev pub bytesCleared : List ℕ → Found → List ℕ
-bytesCleared bytes (refusal m at) = bytes
-bytesCleared bytes (found start size) = put bytes start (zeros size)
 
 pub record ReleasedPost (bits bytes : List ℕ) (c : ℕ) (p : Found) (v : Verdict) (bits' bytes' : List ℕ) : Type 0 where
   pub answer : v ≡ verdictFound p

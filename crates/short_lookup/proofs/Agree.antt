@@ -14,12 +14,12 @@ use Rattle.file_format.specs.Stored.{storedSize, storedStart, storedRootSizes}
 use Rattle.checks.specs.Checks.{judged, registerChecks}
 use Rattle.checks.proofs.Passed.{passed}
 use Rattle.lookup.specs.Descent.{Ending, stopped, reached, unknown, chunkWithin, byteWithin, descent, always}
-use Rattle.lookup.specs.Lookup.{placeOf, byteAt, foundBehind}
-use Rattle.lookup.specs.Inner.{placeIn, byteIn}
+use Rattle.lookup.specs.Lookup.{placeOf, byteAt, foundBehind, byteFrom, placeIn, byteIn}
 use Rattle.lookup.specs.Theorems.{Right}
 use Rattle.lookup.proofs.Descents.{Steps, Halted, Ends, ends, chunk-order, byte-order, left-first, right-end, left-inside}
 use Rattle.lookup.proofs.Answers.{never-unknown}
-use Rattle.lookup.proofs.Calls as quick
+use Rattle.lookup.proofs.Lookups as quick
+use Rattle.lookup.proofs.Calls.{place-by, byte-by}
 use Rattle.search.specs.Search.{soughtUnless, searchFor}
 use Rattle.search.proofs.Follows.{search-follows}
 use Rattle.short_lookup.specs.ShortLookup.{shortPlaceIn, shortByteIn, shortPlaceOf, shortByteAt, shortSearchFor}
@@ -70,8 +70,8 @@ module _ (t : List ℕ) (n : ℕ) (few : n ≤ mostChunks) (right : LengthsRight
   place-agrees : (c : ℕ) → shortPlaceIn always t n c ≡ placeIn always t n c
   place-agrees c = elim (decLt c n) [
     | yes h ↦ sym (place-at always t c (fits-right t (c + 1) (leaves-fit (c + 1) (omega arith))) ∙ place-there always t n c h)
-        ∙ quick.place-reached always t n c h c (storedStart t c) (storedSize t (index 0 c)) (sym (to-chunk c h)) refl
-    | no h ↦ sym (place-nine always t n c (omega arith)) ∙ quick.place-above always t n c (omega arith)
+        ∙ sym (quick.place-at always t n c h (to-chunk c h))
+    | no h ↦ sym (place-nine always t n c (omega arith)) ∙ sym (quick.place-above always t n c (omega arith))
   ]
 
   -- ---- the byte lookup
@@ -108,14 +108,14 @@ module _ (t : List ℕ) (n : ℕ) (few : n ≤ mostChunks) (right : LengthsRight
         sym
         (byte-at always t n b (g .k) (g .below) (g .from) (fits-right t (g .k + 1) (leaves-fit (g .k + 1) (omega (arith, g .below)))) (g .to)
         ∙ byte-there always t n size b (omega arith) (λ q. omega arith))
-        ∙ quick.byte-reached always t n size b (omega arith) (λ q. omega arith) (g .k) (storedStart t (g .k)) (sym (g .same))
+        ∙ sym (quick.byte-below always t n size b h ∙ ap (byteFrom b) (g .same))
 
     byte-agrees : (b : ℕ) → shortByteIn always t n size b ≡ byteIn always t n size b
     byte-agrees b = elim (decLt b size) [
       | yes h ↦ byte-inside b h
       | no h ↦ elim (decLt size b) [
-        | yes g ↦ sym (byte-nine always t n size b g) ∙ quick.byte-above always t n size b g
-        | no g ↦ let e : b ≡ size = omega arith in sym (byte-end always t n size b e) ∙ quick.byte-end always t n size b e
+        | yes g ↦ sym (byte-nine always t n size b g) ∙ sym (quick.byte-above always t n size b g)
+        | no g ↦ let e : b ≡ size = omega arith in sym (byte-end always t n size b e) ∙ sym (quick.byte-end always t n size b e)
       ]
     ]
 
@@ -133,12 +133,12 @@ lookups-agree r right =
     agreed e = let p = passed r done (sym e) .0 in agree-in (r .tree) (r .n) (r .size) (p .count) (p .adds) right
 
     place : (c : ℕ) (v : Verdict) → v ≡ judged (registerChecks r) done → foundBehind v (shortPlaceIn always (r .tree) (r .n) c) ≡ placeOf r c
-    place c done e = agreed e .place c ∙ quick.place-by r done e c
-    place c (refused m at) e = quick.place-by r (refused m at) e c
+    place c done e = agreed e .place c ∙ place-by r done e c
+    place c (refused m at) e = place-by r (refused m at) e c
 
     byte : (b : ℕ) (v : Verdict) → v ≡ judged (registerChecks r) done → foundBehind v (shortByteIn always (r .tree) (r .n) (r .size) b) ≡ byteAt r b
-    byte b done e = agreed e .byte b ∙ quick.byte-by r done e b
-    byte b (refused m at) e = quick.byte-by r (refused m at) e b
+    byte b done e = agreed e .byte b ∙ byte-by r done e b
+    byte b (refused m at) e = byte-by r (refused m at) e b
 
 pub search-agrees : SearchAgreesForAll
 unfolding shortSearchFor searchFor

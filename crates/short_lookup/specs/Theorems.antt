@@ -1,7 +1,7 @@
 -- What the short lookups answer on every register that passes the checks 2 to 6, and where the short way and the quick one agree.
 --
 -- The notions in it: `index` and `filled` (tree_index, Tree), `storedSize`, `storedStart` and `storedRootSizes` (file_format, Stored), `Register` (file_format, Belongs), `judged` and `registerChecks`
--- (checks, Checks), `Accepted` (audit, Audit), `placeOf` and `byteAt` (lookup, Lookup), `placeIn` and `byteIn` (lookup, Inner), `Right` (lookup, Theorems),
+-- (checks, Checks), `Accepted` (audit, Audit), `placeOf`, `byteAt`, `placeIn` and `byteIn` (lookup, Lookup), `Right` (lookup, Theorems),
 -- `searchFor` (search, Search), `IndexFollows` (search, Theorems), and the short versions (ShortLookup).
 use Prim.Native.Nat.{ℕ, _+_, _-_, _≤_, _<_}
 use mathlib.Core.Path.{_≡_}
@@ -15,9 +15,8 @@ use Rattle.file_format.specs.Stored.{storedSize, storedStart, storedRootSizes}
 use Rattle.file_format.specs.Belongs.{Register}
 use Rattle.checks.specs.Checks.{judged, registerChecks}
 use Rattle.audit.specs.Audit.{Accepted}
-use Rattle.lookup.specs.Lookup.{refusal, found, placeOf, byteAt}
+use Rattle.lookup.specs.Lookup.{refusal, found, placeIn, byteIn, placeOf, byteAt}
 use Rattle.lookup.specs.Descent.{always}
-use Rattle.lookup.specs.Inner.{placeIn, byteIn}
 use Rattle.lookup.specs.Theorems.{Right}
 use Rattle.search.specs.Search.{searchFor}
 use Rattle.search.specs.Theorems.{IndexFollows}

@@ -4,9 +4,11 @@ use mathlib.Core.Path.{_≡_, refl, ap, _∙_}
 use mathlib.Core.List.{List, []}
 use native.Mathlib.Omega.{arith}
 use borrow.Author.Tests.{eq-eqb, ne-eqb}
-use Rattle.answer_types.specs.Verdict.{Verdict, done, refused}
+use Rattle.answer_types.specs.Verdict.{Spot, Verdict, done, refused}
 use Rattle.file_format.specs.Belongs.{Register}
-use Rattle.lookup.specs.Read.{Name, metadata, contents, named, chunkBytes, partUnless, readVerdict, readPart}
+use Rattle.lookup.specs.Read.{Name, metadata, contents, named, chunkBytes, verdictFound, bytesFound, readFound, readVerdict, readPart}
+use Rattle.lookup.specs.Lookup.{Found, refusal, found}
+use Rattle.lookup.proofs.Calls.{reading}
 use Rattle.station_queue.specs.Table.{Read, Table, Turn, nobody, turn, without, next, served}
 use Rattle.station_queue.specs.Words.{tableOf}
 use Rattle.station_queue.specs.Post.{Left}
@@ -55,10 +57,14 @@ module _ (F : List ℕ → List ℕ) (m c : Register) (s : ℕ) (r : Read) where
   abbrev from : Register
   from = named (namedBy (r .register)) m c
 
-  -- the bytes of a read, from what it is answered
-  part-by : (v : Verdict) → readVerdict F from (r .chunk) ≡ v → readPart F from (r .chunk) ≡ partUnless F v (chunkBytes from (r .chunk))
-  unfolding readPart
-  part-by v e = ap (λ (x : Verdict). partUnless F x (chunkBytes from (r .chunk))) e
+  -- a read that is refused hands back nothing
+  none-by : (k : ℕ) (at : Spot) → readVerdict F from (r .chunk) ≡ refused k at → readPart F from (r .chunk) ≡ []
+  unfolding readVerdict readPart
+  none-by k at = go (readFound F from (r .chunk))
+    where
+      go : (f : Found) → verdictFound f ≡ refused k at → bytesFound (from .content) f ≡ []
+      go (refusal m s) e = refl
+      go (found a b) e = let z : _≡_ {A = ℕ} 0 1 = cc in absurd (omega arith)
 
 abbrev verdict-of : Serving → Verdict
 verdict-of none = done
@@ -80,9 +86,9 @@ agrees F m c nobody =
 agrees F m c (turn s r) =
     record {
       nothing = λ e. let z : _≡_ {A = ℕ} 0 1 = cc in absurd (omega arith);
-      refusal = λ x k at e. part-by F m c s r (refused k at) (ap verdict-of e);
+      refusal = λ x k at e. none-by F m c s r k at (ap verdict-of e);
       chunk = λ x e q p.
-          part-by F m c s r done (ap verdict-of e)
+          reading F (from F m c s r) (r .chunk) (ap verdict-of e) .bytes
           ∙ ap (λ (y : Read). chunkBytes (named (namedBy (y .register)) m c) (y .chunk)) (ap (λ (v : Turn). read-of v r) p);
       idle = λ e. let z : _≡_ {A = ℕ} 0 1 = cc in absurd (omega arith);
       turned = λ x q p. ap (λ (v : Turn). serving F v m c) p;

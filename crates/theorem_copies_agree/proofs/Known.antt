@@ -97,11 +97,7 @@ module _ (c : Copy) (all : AllKnown c) where
 
   pub byte-known : (b : ℕ) → unknownToByte c b ≡ nowhere
   unfolding unknownToByte
-  byte-known b = pick (eqb b (c .size))
-    where
-      pick : (x : Bool) → elim x [ true ↦ nowhere | false ↦ firstUnknown (known c) (reads (byteWithin b) (c .tree) (c .n)) ] ≡ nowhere
-      pick true = refl
-      pick false = descent-known (known c) (c .n) filled-known (byteWithin b) (c .tree)
+  byte-known b = descent-known (known c) (c .n) filled-known (byteWithin b) (c .tree)
 
   -- ---- the short lookups are a register's
 

@@ -78,9 +78,6 @@ module _ (F : List ℕ → List ℕ) (c : Copy) (w : Roomy c) where
   abbrev rest : List ℕ
   rest = drop (0 + length (treeHeader ++ zeros (40 * entries (c .n)))) (c .tree)
 
-  abbrev blankBits : List ℕ
-  blankBits = bitfieldHeader ++ zeros (3328 * entryCount (c .n))
-
   abbrev tail : List ℕ
   tail = drop (0 + length (bitfieldHeader ++ zeros (3328 * entryCount (c .n)))) (c .bitfield)
 

@@ -13,7 +13,6 @@ use Rattle.byte_strings.specs.Lists.{part, put, total}
 use Rattle.byte_strings.proofs.Lists.{part-put, part-put-before, part-put-behind}
 use Rattle.byte_strings.proofs.Bools.{or-right, or-left}
 use Rattle.tree_index.specs.Tree.{index, roots}
-use Rattle.bitfield.proofs.Bits.{with-one}
 use Rattle.file_format.specs.Messages.{leafMessage}
 use Rattle.file_format.specs.Entries.{Entry, leaf}
 use Rattle.file_format.specs.Stored.{storedHash, storedSize, storedRootSizes}
@@ -36,7 +35,7 @@ use Rattle.theorem_taking_laws.proofs.Starts.{start-is, packet-descent, roots-t
 use Rattle.theorem_released_back.proofs.Took.{chunk-short}
 use Rattle.theorem_copies_grown.proofs.Grows.{Outside, Grows, chunk-there, side-known, comes-to, reads-known}
 use Rattle.theorem_copies_grown.proofs.TakenEntries.{Taking, holds, hash-kept, size-kept}
-use Rattle.theorem_copies_grown.proofs.KnownNow.{held-split}
+use Rattle.theorem_copies_grown.proofs.KnownNow.{holdsNow, held-split}
 
 module _ {F : List ℕ → List ℕ} {c : Copy} {p : List ℕ} {i : ℕ} (tg : Taking F c p i) where
   abbrev g : Grows F c
@@ -56,9 +55,6 @@ module _ {F : List ℕ → List ℕ} {c : Copy} {p : List ℕ} {i : ℕ} (tg : T
 
   abbrev there : ChunkOf (c .n) i
   there = tg .took .packet .shaped .chunk
-
-  abbrev holdsNow : ℕ → Bool
-  holdsNow = with-one (g .heldOf) i
 
   start-kept : (k : ℕ) → g .knowsOf (index 0 k) ≡ true → chunkStart u (c .n) k ≡ chunkStart t (c .n) k
   unfolding chunkStart leftAt otherRoots
@@ -121,7 +117,7 @@ module _ {F : List ℕ → List ℕ} {c : Copy} {p : List ℕ} {i : ℕ} (tg : T
           other : i ≤ k → i < k
           other a = omega (arith, h)
 
-  pub bytes-now : (k : ℕ) → holdsNow k ≡ true → storedHash u (index 0 k)
+  pub bytes-now : (k : ℕ) → holdsNow tg k ≡ true → storedHash u (index 0 k)
       ≡ F (leafMessage (part (put (c .content) start piece) (chunkStart u (c .n) k) (storedSize u (index 0 k))))
   bytes-now k e = pick (held-split tg k e)
     where
@@ -148,7 +144,7 @@ module _ {F : List ℕ → List ℕ} {c : Copy} {p : List ℕ} {i : ℕ} (tg : T
           ∙ ap (λ (x : List ℕ). F (leafMessage x))
           (sym (ap₂ (part (put (c .content) start piece)) (start-kept k l) (size-kept tg (index 0 k) l) ∙ same-part k l (beside-own k l (q .0))))
 
-  pub blank-now : (b : ℕ) → b < c .size → ((k : ℕ) → holdsNow k ≡ true → Outside u (c .n) k b) → getD (put (c .content) start piece) b 0 ≡ 0
+  pub blank-now : (b : ℕ) → b < c .size → ((k : ℕ) → holdsNow tg k ≡ true → Outside u (c .n) k b) → getD (put (c .content) start piece) b 0 ≡ 0
   blank-now b l h =
       getD-beside (c .content) start piece b
       (subst (λ (x : ℕ). (b < x) ⊎ (x + length piece ≤ b)) own-start

@@ -15,7 +15,6 @@ use Rattle.bitfield.specs.Known.{heldAgain}
 use Rattle.bitfield.proofs.Bits.{with-one}
 use Rattle.bitfield.proofs.Append.{or-among}
 use Rattle.file_format.specs.Entries.{Entry}
-use Rattle.packet.specs.Inner.{ChunkOf}
 use Rattle.copy_checks.specs.Copy.{Copy}
 use Rattle.copy_take_in.specs.TakeIn.{Given, withKnown, brought, takenIn}
 use Rattle.byte_strings.proofs.Members.{In, in-map, map-in}
@@ -37,9 +36,6 @@ module _ {F : List ℕ → List ℕ} {c : Copy} {p : List ℕ} {i : ℕ} (tg : T
 
   abbrev ps : List ℕ
   ps = placesOf (brought F p (c .n) i)
-
-  abbrev there : ChunkOf (c .n) i
-  there = tg .took .packet .shaped .chunk
 
   abbrev pub now : ℕ → Bool
   now = or-among (g .knowsOf) (placesOf (brought F p (c .n) i))
@@ -72,8 +68,8 @@ module _ {F : List ℕ → List ℕ} {c : Copy} {p : List ℕ} {i : ℕ} (tg : T
       ap (λ (l : List ℕ). heldAgain (withKnown l gs) i) (g .bits)
       ∙ ap (λ (l : List ℕ). heldAgain l i)
       (more-known (g .heldOf) (c .n) (g .tail) (g .knowsOf) ps
-      (under-filled (c .n) ps (λ j m. let q = place j m in subst (λ (x : ℕ). filled (c .n) x ≡ true) (q .2) (brought-filled (c .n) i there F p (q .0) (q .1)))))
-      ∙ held-more (g .heldOf) now (c .n) (g .tail) i (there .below)
+      (under-filled (c .n) ps (λ j m. let q = place j m in subst (λ (x : ℕ). filled (c .n) x ≡ true) (q .2) (brought-filled (c .n) i (tg .took .packet .shaped .chunk) F p (q .0) (q .1)))))
+      ∙ held-more (g .heldOf) now (c .n) (g .tail) i (tg .took .packet .shaped .chunk .below)
 
   pub leaf-place : In (index 0 i) ps
   leaf-place =

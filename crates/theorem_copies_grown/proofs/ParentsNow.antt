@@ -1,14 +1,13 @@
 -- Parents follow from their children after a taking in. Assumes nothing.
 use Prim.Native.Nat.{ℕ, suc, _+_, _*_, _/_, _%_, _^_, _<_}
 use mathlib.Core.Path.{_≡_, sym, ap, ap₂, _∙_, subst}
-use mathlib.Core.Bool.{Bool, true}
+use mathlib.Core.Bool.{true}
 use mathlib.Core.Logic.{_⊎_, inl, inr}
 use mathlib.Core.List.{List}
 use native.Mathlib.Omega.{arith}
 use lib.ListN.{length}
 use Rattle.tree_index.specs.Tree.{index, depth, block, parent, filled}
 use Rattle.tree_index.proofs.Index.{depth-index, block-index}
-use Rattle.bitfield.proofs.Append.{or-among}
 use Rattle.file_format.specs.Messages.{parentMessage}
 use Rattle.file_format.specs.Entries.{Entry, parentOf}
 use Rattle.file_format.specs.Stored.{storedHash, storedSize}
@@ -26,26 +25,17 @@ use Rattle.theorem_taking_laws.proofs.Brought.{way-brought}
 use Rattle.theorem_taking_laws.proofs.Among.{Under, under-parent, brought-under}
 use Rattle.theorem_copies_grown.proofs.Grows.{Follows, Grows}
 use Rattle.theorem_copies_grown.proofs.TakenEntries.{Taking, holds, hash-kept, size-kept}
-use Rattle.theorem_copies_grown.proofs.KnownNow.{now-split, place}
+use Rattle.theorem_copies_grown.proofs.KnownNow.{now, now-split, place}
 
 module _ {F : List ℕ → List ℕ} {c : Copy} {p : List ℕ} {i : ℕ} (tg : Taking F c p i) where
   abbrev g : Grows F c
   g = tg .grows
-
-  abbrev ps : List ℕ
-  ps = placesOf (brought F p (c .n) i)
-
-  abbrev t : List ℕ
-  t = c .tree
 
   abbrev u : List ℕ
   u = withGiven (c .tree) (brought F p (c .n) i)
 
   abbrev there : ChunkOf (c .n) i
   there = tg .took .packet .shaped .chunk
-
-  abbrev now : ℕ → Bool
-  now = or-among (g .knowsOf) (placesOf (brought F p (c .n) i))
 
   made-follows : (d : ℕ) → d < length (siblings (c .n) i) → Follows F u d (i / 2 ^ suc d)
   unfolding parentOf
@@ -61,13 +51,13 @@ module _ {F : List ℕ → List ℕ} {c : Copy} {p : List ℕ} {i : ℕ} (tg : T
             ∙ ap₂ (λ (x y : List ℕ). F (parentMessage (q .left .size + q .right .size) x y)) (a .hash) (b .hash));
       }
 
-  pub now-follows : (d k : ℕ) → filled (c .n) (index (suc d) k) ≡ true → now (index d (2 * k)) ≡ true → Follows F u d k
+  pub now-follows : (d k : ℕ) → filled (c .n) (index (suc d) k) ≡ true → now tg (index d (2 * k)) ≡ true → Follows F u d k
   now-follows d k f e = pick (now-split tg (index d (2 * k)) e)
     where
       above : filled (c .n) (parent (index d (2 * k))) ≡ true
       above = ap (filled (c .n)) (parent-left d k) ∙ f
 
-      pick : In (index d (2 * k)) ps ⊎ (g .knowsOf (index d (2 * k)) ≡ true) → Follows F u d k
+      pick : In (index d (2 * k)) (placesOf (brought F p (c .n) i)) ⊎ (g .knowsOf (index d (2 * k)) ≡ true) → Follows F u d k
       pick (inl m) =
           let q = place tg (index d (2 * k)) m in
           let v : Under (c .n) i there F p (q .0 .at) =
@@ -90,6 +80,6 @@ module _ {F : List ℕ → List ℕ} {c : Copy} {p : List ℕ} {i : ℕ} (tg : T
             hash = hash-kept tg (index (suc d) k) up ∙ o .hash
                 ∙ sym (ap₂ (λ (x y : ℕ). F (parentMessage (x + y) (storedHash u (index d (2 * k))) (storedHash u (index d (2 * k + 1))))) (size-kept tg (index d (2 * k)) l)
                 (size-kept tg (index d (2 * k + 1)) r)
-                ∙ ap₂ (λ (x y : List ℕ). F (parentMessage (storedSize t (index d (2 * k)) + storedSize t (index d (2 * k + 1))) x y)) (hash-kept tg (index d (2 * k)) l)
+                ∙ ap₂ (λ (x y : List ℕ). F (parentMessage (storedSize (c .tree) (index d (2 * k)) + storedSize (c .tree) (index d (2 * k + 1))) x y)) (hash-kept tg (index d (2 * k)) l)
                 (hash-kept tg (index d (2 * k + 1)) r));
           }

@@ -2,38 +2,33 @@
 -- Assumes nothing.
 use Prim.Native.Nat.{ℕ, _+_, _-_, _≤_, _<_}
 use mathlib.Core.Path.{_≡_, refl, sym, ap, ap₂, _∙_, subst}
-use mathlib.Core.Bool.{Bool, true, false, cond, not, _&&_}
+use mathlib.Core.Bool.{Bool, true, false, not, _&&_}
 use mathlib.Core.Logic.{_⊎_, inl, inr}
-use mathlib.Core.List.{List, [], _∷_}
+use mathlib.Core.List.{List}
 use native.Mathlib.Omega.{arith}
 use borrow.Author.Tests.{leb-true, leb-false, ltb-true, ltb-false, eqb-true, eqb-false}
 use lib.Dec.{leb, ltb, eqb}
 use lib.ListN.{length, getD, take, length-replicate}
-use Rattle.answer_types.specs.Verdict.{Verdict, tree, done, refused}
+use Rattle.answer_types.specs.Verdict.{tree, done}
 use Rattle.byte_strings.specs.Lists.{part, put, zeros}
-use Rattle.byte_strings.proofs.Lists.{length-put, getD-part, part-put, part-put-before, part-put-behind}
+use Rattle.byte_strings.proofs.Lists.{length-put, getD-part, part-put, part-put-before, part-put-behind, getD-zeros}
 use Rattle.byte_strings.proofs.Bools.{both-true}
-use Rattle.byte_strings.proofs.Lists.{getD-zeros}
 use Rattle.tree_index.specs.Tree.{index}
 use Rattle.bitfield.specs.Release.{storedHeld, releasedBits}
 use Rattle.bitfield.proofs.Bits.{without-one}
 use Rattle.file_format.specs.Sizes.{usedBitfield}
 use Rattle.file_format.specs.Messages.{leafMessage}
 use Rattle.file_format.specs.Stored.{storedHash, storedSize}
-use Rattle.checks.specs.Checks.{judged}
-use Rattle.checks.proofs.Judged.{judged-done}
-use Rattle.lookup.specs.Lookup.{startOf, stopRefused, toChunk}
+use Rattle.lookup.specs.Lookup.{toChunk}
+use Rattle.release.proofs.Calls.{cleared-at}
 use Rattle.release.specs.Release.{releasedRegister}
 use Rattle.copy_checks.specs.Copy.{Copy, unsigned}
-use Rattle.copy_checks.proofs.Steps.{copy-passed}
-use Rattle.copy_checks.specs.Descents.{copyToChunk}
-use Rattle.copy_lookup.specs.Lookups.{copyHeldVerdict}
+use Rattle.copy_lookup.proofs.AsRegister.{held-done}
 use Rattle.copy_release.specs.Release.{copyReleaseVerdict, releasedCopy}
-use Rattle.file_format.proofs.Shown.{shown, shown-long, held-less}
+use Rattle.file_format.proofs.Shown.{shown, shown-long, held-less, shown-front}
 use Rattle.byte_strings.proofs.Puts.{getD-beside}
 use Rattle.theorem_taking_laws.proofs.Reaches.{chunkStart}
 use Rattle.theorem_copies_grown.proofs.Grows.{Outside, Grows, stored-held, comes-to, inside-data, lie-apart}
-use Rattle.file_format.proofs.Shown.{shown-front}
 
 -- what a release that is done was asked
 pub record Asked (c : Copy) (i : ℕ) : Type 0 where
@@ -41,16 +36,8 @@ pub record Asked (c : Copy) (i : ℕ) : Type 0 where
   pub bit : storedHeld (c .bitfield) i ≡ true
 
 pub asked : (c : Copy) (i : ℕ) → copyReleaseVerdict c i ≡ done → Asked c i
-unfolding copyReleaseVerdict copyHeldVerdict
-asked c i e =
-    let next : Verdict = cond (storedHeld (c .bitfield) i) (stopRefused (copyToChunk c i)) (refused 18 (tree (index 0 i))) in
-    let a = copy-passed c (judged (record { number = 9; right = ltb i (c .n) } ∷ []) next) e in
-    let b = judged-done (record { number = 9; right = ltb i (c .n) } ∷ []) next (a .1) in
-    record { below = ltb-true i (c .n) (b .0 .0); bit = pick (storedHeld (c .bitfield) i) (b .1) }
-  where
-    pick : (x : Bool) → cond x (stopRefused (copyToChunk c i)) (refused 18 (tree (index 0 i))) ≡ done → x ≡ true
-    pick true f = refl
-    pick false f = absurd (let z : _≡_ {A = ℕ} 0 1 = cc in omega arith)
+unfolding copyReleaseVerdict
+asked c i e = let h = held-done c i e .1 in record { below = h .below; bit = h .held }
 
 module _ (F : List ℕ → List ℕ) (c : Copy) (g : Grows F c) (i : ℕ) (a : Asked c i) where
   abbrev t : List ℕ
@@ -71,10 +58,6 @@ module _ (F : List ℕ → List ℕ) (c : Copy) (g : Grows F c) (i : ℕ) (a : A
   was-known : g .knowsOf (index 0 i) ≡ true
   was-known = g .heldKnown i was-held
 
-  place : startOf (toChunk (unsigned c) i) ≡ start i
-  unfolding toChunk
-  place = ap startOf (comes-to F c g i was-known)
-
   long : length (zeros (size i)) ≡ size i
   long = length-replicate {A = ℕ} (size i) 0
 
@@ -85,8 +68,8 @@ module _ (F : List ℕ → List ℕ) (c : Copy) (g : Grows F c) (i : ℕ) (a : A
   content' = put (c .content) (chunkStart (c .tree) (c .n) i) (zeros (storedSize (c .tree) (index 0 i)))
 
   content-is : releasedCopy c i .content ≡ content'
-  unfolding releasedCopy releasedRegister
-  content-is = ap (λ (x : ℕ). put (c .content) x (zeros (size i))) place
+  unfolding releasedCopy toChunk
+  content-is = cleared-at (unsigned c) i (a .below) (comes-to F c g i was-known)
 
   bits-left : releasedCopy c i .bitfield ≡ shown left (g .knowsOf) (c .n) (g .tail)
   unfolding releasedCopy releasedRegister

@@ -14,8 +14,6 @@ use Rattle.byte_strings.proofs.Lists.{length-put}
 use Rattle.byte_strings.proofs.Bools.{clash, both-true}
 use Rattle.tree_index.specs.Tree.{index, depth, parent, filled}
 use Rattle.tree_index.proofs.Index.{depth-index}
-use Rattle.bitfield.proofs.Bits.{with-one}
-use Rattle.bitfield.proofs.Append.{or-among}
 use Rattle.file_format.specs.Sizes.{longestChunk, usedTree, usedBitfield}
 use Rattle.file_format.specs.Entries.{Entry, leaf}
 use Rattle.file_format.specs.Stored.{storedSize}
@@ -35,7 +33,7 @@ use Rattle.theorem_released_back.proofs.Took.{chunk-short}
 use Rattle.theorem_copies_grown.specs.Grown.{leafShort, leavesShort}
 use Rattle.theorem_copies_grown.proofs.Grows.{Grows}
 use Rattle.theorem_copies_grown.proofs.TakenEntries.{Taking, fitting, holds, size-kept}
-use Rattle.theorem_copies_grown.proofs.KnownNow.{old-now, new-now, now-split, place, entry-place, bits-now, leaf-place, held-split}
+use Rattle.theorem_copies_grown.proofs.KnownNow.{now, holdsNow, old-now, new-now, now-split, place, entry-place, bits-now, leaf-place, held-split}
 use Rattle.theorem_copies_grown.proofs.ParentsNow.{now-follows}
 use Rattle.theorem_copies_grown.proofs.BytesNow.{roots-now, own-room, bytes-now, blank-now}
 
@@ -67,22 +65,10 @@ module _ {F : List ℕ → List ℕ} {c : Copy} {p : List ℕ} {i : ℕ} (tg : T
   abbrev u : List ℕ
   u = withGiven (c .tree) (brought F p (c .n) i)
 
-  abbrev start : ℕ
-  start = packetStart p (c .n) i
-
-  abbrev piece : List ℕ
-  piece = packetChunk p
-
   abbrev there : ChunkOf (c .n) i
   there = tg .took .packet .shaped .chunk
 
-  abbrev now : ℕ → Bool
-  now = or-among (g .knowsOf) (placesOf (brought F p (c .n) i))
-
-  abbrev holdsNow : ℕ → Bool
-  holdsNow = with-one (g .heldOf) i
-
-  short-now : leavesShort (lying p (c .n) i) ≡ true → (k : ℕ) → now (index 0 k) ≡ true → storedSize u (index 0 k) ≤ longestChunk
+  short-now : leavesShort (lying p (c .n) i) ≡ true → (k : ℕ) → now tg (index 0 k) ≡ true → storedSize u (index 0 k) ≤ longestChunk
   unfolding leaf
   short-now sh k e = pick (now-split tg (index 0 k) e)
     where
@@ -114,14 +100,14 @@ module _ {F : List ℕ → List ℕ} {c : Copy} {p : List ℕ} {i : ℕ} (tg : T
               tree = subst (λ (x : ℕ). usedTree (c .n) ≤ x) (sym (length-given t gs (fitting tg))) (g .lent .tree);
               bitfield =
                   subst (λ (l : List ℕ). usedBitfield (c .n) ≤ length l) (sym (bits-now tg))
-                  (omega (arith, shown-long holdsNow now (c .n) (g .tail)));
-              content = subst (λ (x : ℕ). c .size ≤ x) (sym (length-put (c .content) start piece (own-room tg))) (g .lent .content);
+                  (omega (arith, shown-long (holdsNow tg) (now tg) (c .n) (g .tail)));
+              content = subst (λ (x : ℕ). c .size ≤ x) (sym (length-put (c .content) (packetStart p (c .n) i) (packetChunk p) (own-room tg))) (g .lent .content);
               treeFront = front-given t gs (fitting tg) ∙ g .lent .treeFront;
-              bitfieldFront = ap (take 32) (bits-now tg) ∙ shown-front holdsNow now (c .n) (g .tail);
+              bitfieldFront = ap (take 32) (bits-now tg) ∙ shown-front (holdsNow tg) (now tg) (c .n) (g .tail);
             };
         empty = g .empty;
-        heldOf = holdsNow;
-        knowsOf = now;
+        heldOf = holdsNow tg;
+        knowsOf = now tg;
         tail = g .tail;
         bits = bits-now tg;
         heldBelow = λ k e. below k (held-split tg k e);
@@ -148,17 +134,17 @@ module _ {F : List ℕ → List ℕ} {c : Copy} {p : List ℕ} {i : ℕ} (tg : T
       filled-now j (inl m) = let q = place tg j m in subst (λ (x : ℕ). filled (c .n) x ≡ true) (q .2) (brought-filled (c .n) i there F p (q .0) (q .1))
       filled-now j (inr k) = g .knowsFilled j k
 
-      held-known : (k : ℕ) → (k ≡ i) ⊎ ((k ≡ i → ⊥) × (g .heldOf k ≡ true)) → now (index 0 k) ≡ true
-      held-known k (inl q) = subst (λ (x : ℕ). now (index 0 x) ≡ true) (sym q) (new-now tg (index 0 i) (leaf-place tg))
+      held-known : (k : ℕ) → (k ≡ i) ⊎ ((k ≡ i → ⊥) × (g .heldOf k ≡ true)) → now tg (index 0 k) ≡ true
+      held-known k (inl q) = subst (λ (x : ℕ). now tg (index 0 x) ≡ true) (sym q) (new-now tg (index 0 i) (leaf-place tg))
       held-known k (inr q) = old-now tg (index 0 k) (g .heldKnown k (q .1))
 
-      up : (j : ℕ) → filled (c .n) (parent j) ≡ true → In j ps ⊎ (g .knowsOf j ≡ true) → (now (parent j) ≡ true) × (now (sibling j) ≡ true)
+      up : (j : ℕ) → filled (c .n) (parent j) ≡ true → In j ps ⊎ (g .knowsOf j ≡ true) → (now tg (parent j) ≡ true) × (now tg (sibling j) ≡ true)
       up j f (inl m) =
           let q = place tg j m in
           let h : filled (c .n) (parent (q .0 .at)) ≡ true = subst (λ (x : ℕ). filled (c .n) (parent x) ≡ true) (sym (q .2)) f in
           let a = parent-brought (c .n) i there F p (q .0) (q .1) h in
           let b = sibling-brought (c .n) i there F p (q .0) (q .1) h in (
-            subst (λ (x : ℕ). now (parent x) ≡ true) (q .2) (new-now tg (parent (q .0 .at)) (entry-place tg (parent (q .0 .at)) (a .0) (a .1))),
-            subst (λ (x : ℕ). now (sibling x) ≡ true) (q .2) (new-now tg (sibling (q .0 .at)) (entry-place tg (sibling (q .0 .at)) (b .0) (b .1))),
+            subst (λ (x : ℕ). now tg (parent x) ≡ true) (q .2) (new-now tg (parent (q .0 .at)) (entry-place tg (parent (q .0 .at)) (a .0) (a .1))),
+            subst (λ (x : ℕ). now tg (sibling x) ≡ true) (q .2) (new-now tg (sibling (q .0 .at)) (entry-place tg (sibling (q .0 .at)) (b .0) (b .1))),
           )
       up j f (inr k) = let w = g .upward j k f in (old-now tg (parent j) (w .0), old-now tg (sibling j) (w .1))

@@ -12,7 +12,8 @@ use Rattle.file_format.specs.Sizes.{usedBitfield}
 use Rattle.file_format.specs.Stored.{storedSize}
 use Rattle.release.specs.Release.{releasedRegister}
 use Rattle.release.proofs.Bits.{bits-long, bits-header}
-use Rattle.lookup.specs.Lookup.{startOf, toChunk}
+use Rattle.release.proofs.Calls.{cleared-at}
+use Rattle.copy_checks.proofs.Descents.{chunk-read, chunk-same}
 use Rattle.lookup.specs.Unknown.{firstUnknown}
 use Rattle.stored_leaf.specs.StoredLeaf.{leafIn, leafHash, leafLength}
 use Rattle.copy_checks.specs.Copy.{Copy, known, unsigned}
@@ -48,11 +49,11 @@ module _ (c : Copy) (i : ℕ) (e : copyReleaseVerdict c i ≡ done) where
   same-roots = ap (λ (f : ℕ → Bool). firstUnknown f (roots (c .n))) knows
 
   content-room : c .size ≤ length (releasedCopy c i .content)
-  unfolding releasedCopy releasedRegister
+  unfolding releasedCopy
   content-room =
-      let p = put-least (c .content) (startOf (toChunk (unsigned c) i)) (zeros (storedSize (c .tree) (index 0 i))) in
-      let l = had .knowing .lent .content in
-      omega arith
+      let e = cleared-at (unsigned c) i (had .below) (sym (chunk-same c i (chunk-read c i (had .comes))) ∙ had .comes) in
+      let p = put-least (c .content) (had .start) (zeros (storedSize (c .tree) (index 0 i))) in
+      omega (arith, ap length e, had .knowing .lent .content)
 
   still : Knowing d
   unfolding releasedCopy releasedRegister

@@ -24,7 +24,9 @@ use Rattle.file_format.specs.Stored.{storedSize}
 use Rattle.checks.specs.Checks.{addsUp}
 use Rattle.audit.specs.Audit.{heldBits}
 use Rattle.lookup.specs.Descent.{reached, always, chunkWithin, descent}
-use Rattle.lookup.specs.Lookup.{startOf, stopRefused, toChunk}
+use Rattle.lookup.specs.Lookup.{toChunk}
+use Rattle.lookup.proofs.Lookups.{one-start}
+use Rattle.release.proofs.Calls.{cleared-at}
 use Rattle.packet.specs.Inner.{ChunkOf}
 use Rattle.release.specs.Release.{releasedRegister}
 use Rattle.release.proofs.Bits.{bits-long, bits-header}
@@ -38,7 +40,7 @@ use Rattle.copy_audit.specs.Audit.{knownBits}
 use Rattle.theorem_taking_laws.proofs.ChunksApart.{descents-apart}
 use Rattle.bitfield.proofs.StoredBits.{RoomFor}
 use Rattle.file_format.proofs.Shown.{shown, shown-used, used-shown, shown-held, held-less}
-use Rattle.theorem_copy_audit.specs.Theorems.{leafStart, leafData, LeafSound, Sound}
+use Rattle.theorem_copy_audit.specs.Theorems.{leafData, LeafSound, Sound}
 use Rattle.theorem_copy_audit.proofs.Sound.{bits-are, passed-too}
 use Rattle.theorem_copies_kept.proofs.Stay.{known-less, Asked, data-room}
 use Rattle.file_format.specs.Images.{bitfieldOf}
@@ -58,28 +60,24 @@ module _ (F : List ℕ → List ℕ) (c : Copy) (s : Sound F c) (i : ℕ) (a : A
 
   -- ---- the data
 
-  descends : (k : ℕ) → LeafSound F c k → descent always (chunkWithin k) t (c .n) ≡ reached k (leafStart c k)
-  unfolding toChunk stopRefused
-  descends k l = sym (chunk-same c k (chunk-read c k (ap stopRefused (l .comes)))) ∙ l .comes
-
-  from : startOf (toChunk (unsigned c) i) ≡ leafStart c i
+  descends : (k : ℕ) (l : LeafSound F c k) → descent always (chunkWithin k) t (c .n) ≡ reached k (l .start)
   unfolding toChunk
-  from = ap startOf (descends i own)
+  descends k l = sym (chunk-same c k (chunk-read c k (l .comes))) ∙ l .comes
 
   abbrev content' : List ℕ
-  content' = put (c .content) (leafStart c i) (zeros (storedSize (c .tree) (index 0 i)))
+  content' = put (c .content) (own .start) (zeros (storedSize (c .tree) (index 0 i)))
 
   content-is : d .content ≡ content'
-  unfolding releasedCopy releasedRegister
-  content-is = ap (λ (x : ℕ). put (c .content) x (zeros (size i))) from
+  unfolding releasedCopy toChunk
+  content-is = cleared-at (unsigned c) i (a .below) (descends i own)
 
   long : length (zeros (size i)) ≡ size i
   long = length-replicate {A = ℕ} (size i) 0
 
-  inside : leafStart c i + size i ≤ length (c .content)
+  inside : own .start + size i ≤ length (c .content)
   inside = omega (arith, own .inside, a .knowing .lent .content)
 
-  apart : (k : ℕ) → k < c .n → (k ≡ i → ⊥) → LeafSound F c k → (leafStart c k + size k ≤ leafStart c i) ⊎ (leafStart c i + size i ≤ leafStart c k)
+  apart : (k : ℕ) → k < c .n → (k ≡ i → ⊥) → (l : LeafSound F c k) → (l .start + size k ≤ own .start) ⊎ (own .start + size i ≤ l .start)
   apart k h n l = pick (ltb k i) refl
     where
       of : (j : ℕ) → j < c .n → ChunkOf (c .n) j
@@ -88,22 +86,22 @@ module _ (F : List ℕ → List ℕ) (c : Copy) (s : Sound F c) (i : ℕ) (a : A
       other : i ≤ k → i < k
       other b = omega (arith, n)
 
-      pick : (x : Bool) → ltb k i ≡ x → (leafStart c k + size k ≤ leafStart c i) ⊎ (leafStart c i + size i ≤ leafStart c k)
+      pick : (x : Bool) → ltb k i ≡ x → (l .start + size k ≤ own .start) ⊎ (own .start + size i ≤ l .start)
       pick true e =
-          inl (descents-apart t k i (ltb-true k i e) (c .n) k (leafStart c k) i (leafStart c i) (of i (a .below)) (descends k l) (descends i own))
+          inl (descents-apart t k i (ltb-true k i e) (c .n) k (l .start) i (own .start) (of i (a .below)) (descends k l) (descends i own))
       pick false e =
-          inr (descents-apart t i k (other (ltb-false k i e)) (c .n) i (leafStart c i) k (leafStart c k) (of k h) (descends i own) (descends k l))
+          inr (descents-apart t i k (other (ltb-false k i e)) (c .n) i (own .start) k (l .start) (of k h) (descends i own) (descends k l))
 
   -- of another chunk they stay
-  kept : (k : ℕ) → k < c .n → (k ≡ i → ⊥) → LeafSound F c k → part content' (leafStart c k) (size k) ≡ leafData c k
+  kept : (k : ℕ) → k < c .n → (k ≡ i → ⊥) → (l : LeafSound F c k) → part content' (l .start) (size k) ≡ leafData c k (l .start)
   kept k h n l = pick (apart k h n l)
     where
-      pick : (leafStart c k + size k ≤ leafStart c i) ⊎ (leafStart c i + size i ≤ leafStart c k) → part content' (leafStart c k) (size k) ≡ leafData c k
-      pick (inl q) = part-put-before (c .content) (leafStart c i) (zeros (size i)) (leafStart c k) (size k) q (omega (arith, inside))
-      pick (inr q) = part-put-behind (c .content) (leafStart c i) (zeros (size i)) (leafStart c k) (size k) (omega (arith, long)) (omega (arith, inside))
+      pick : (l .start + size k ≤ own .start) ⊎ (own .start + size i ≤ l .start) → part content' (l .start) (size k) ≡ leafData c k (l .start)
+      pick (inl q) = part-put-before (c .content) (own .start) (zeros (size i)) (l .start) (size k) q (omega (arith, inside))
+      pick (inr q) = part-put-behind (c .content) (own .start) (zeros (size i)) (l .start) (size k) (omega (arith, long)) (omega (arith, inside))
 
-  gone : part content' (leafStart c i) (size i) ≡ zeros (size i)
-  gone = part-put (c .content) (leafStart c i) (size i) (zeros (size i)) long (omega (arith, inside))
+  gone : part content' (own .start) (size i) ≡ zeros (size i)
+  gone = part-put (c .content) (own .start) (size i) (zeros (size i)) long (omega (arith, inside))
 
   -- ---- the bits
 
@@ -171,23 +169,22 @@ module _ (F : List ℕ → List ℕ) (c : Copy) (s : Sound F c) (i : ℕ) (a : A
   unfolding releasedCopy releasedRegister
   leaf-left k h l =
       record {
-        comes = same-descent k ∙ l .comes ∙ ap (reached k) (sym start);
+        start = l .start;
+        comes = same-descent k ∙ l .comes;
         short = l .short;
-        inside = subst (λ (x : ℕ). x + size k ≤ c .size) (sym start) (l .inside);
+        inside = l .inside;
         held = λ e. let q = held-still k h e in l .held (q .0) ∙ ap (λ (x : List ℕ). F (leafMessage x)) (sym (bytes ∙ kept k h (q .1) l));
         released = λ e. pick (eqb k i) refl e;
       }
     where
-      start : leafStart d k ≡ leafStart c k
-      start = ap startOf (same-descent k)
+      bytes : leafData d k (l .start) ≡ part content' (l .start) (size k)
+      bytes = ap (λ (x : List ℕ). part x (l .start) (size k)) content-is
 
-      bytes : leafData d k ≡ part content' (leafStart c k) (size k)
-      bytes = ap₂ (λ (x : List ℕ) (y : ℕ). part x y (size k)) content-is start
-
-      pick : (b : Bool) → eqb k i ≡ b → storedHeld (d .bitfield) k ≡ false → leafData d k ≡ zeros (size k)
+      pick : (b : Bool) → eqb k i ≡ b → storedHeld (d .bitfield) k ≡ false → leafData d k (l .start) ≡ zeros (size k)
       pick true q e =
           let w : k ≡ i = eqb-true k i q in
-          bytes ∙ ap (λ (j : ℕ). part content' (leafStart c j) (size j)) w ∙ gone ∙ ap (λ (j : ℕ). zeros (size j)) (sym w)
+          let one : l .start ≡ own .start = one-start (sym (l .comes) ∙ ap (copyToChunk c) w ∙ own .comes) in
+          bytes ∙ ap₂ (part content') one (ap size w) ∙ gone ∙ ap (λ (j : ℕ). zeros (size j)) (sym w)
       pick false q e = let n = eqb-false k i q in bytes ∙ kept k h n l ∙ l .released (released-was k h n e)
 
   lent-left : Lent d
@@ -200,7 +197,7 @@ module _ (F : List ℕ → List ℕ) (c : Copy) (s : Sound F c) (i : ℕ) (a : A
         bitfield = subst (λ (x : ℕ). usedBitfield (c .n) ≤ x) (sym (bits-long (c .bitfield) i room)) (l .bitfield);
         content =
             subst (λ (x : List ℕ). c .size ≤ length x) (sym content-is)
-            (subst (λ (x : ℕ). c .size ≤ x) (sym (length-put (c .content) (leafStart c i) (zeros (size i)) (omega (arith, inside, long)))) (l .content));
+            (subst (λ (x : ℕ). c .size ≤ x) (sym (length-put (c .content) (own .start) (zeros (size i)) (omega (arith, inside, long)))) (l .content));
         treeFront = l .treeFront;
         bitfieldFront = bits-header (c .bitfield) i room ∙ l .bitfieldFront;
       }

@@ -2,15 +2,14 @@
 use Prim.Native.Nat.{ℕ, _+_, _-_, _*_, _/_, _%_, _<_}
 use mathlib.Core.Path.{_≡_, refl, sym, ap, _∙_}
 use mathlib.Core.Logic.{inl, inr}
-use mathlib.Core.Bool.{Bool, true, false, cond, _||_}
-use mathlib.Core.List.{List, [], _∷_}
+use mathlib.Core.Bool.{Bool, true, false, _||_}
+use mathlib.Core.List.{List}
 use native.Mathlib.Decide.{decLt}
 use native.Mathlib.Omega.{arith}
-use borrow.Author.Tests.{ltb-true}
-use lib.Dec.{ltb, eqb}
+use lib.Dec.{eqb}
 use lib.ListN.{length, length-set}
 use lib.Seq.{getD-set-other}
-use Rattle.answer_types.specs.Verdict.{Verdict, tree, done, refused}
+use Rattle.answer_types.specs.Verdict.{tree, done}
 use Rattle.byte_strings.specs.Lists.{part, among, Bytes}
 use Rattle.byte_strings.specs.Numbers.{number}
 use Rattle.byte_strings.proofs.Lists.{part-part}
@@ -25,15 +24,13 @@ use Rattle.bitfield.proofs.Levels.{length-index}
 use Rattle.file_format.specs.Sizes.{entryPlace, usedBitfield}
 use Rattle.file_format.specs.Messages.{HashFunction}
 use Rattle.file_format.specs.Stored.{storedSize}
-use Rattle.checks.specs.Checks.{judged}
-use Rattle.checks.proofs.Judged.{judged-done}
-use Rattle.lookup.specs.Lookup.{stopRefused}
+use Rattle.lookup.specs.Descent.{reached}
 use Rattle.copy_checks.specs.Copy.{Copy, known}
 use Rattle.copy_checks.specs.Descents.{copyToChunk}
-use Rattle.copy_checks.proofs.Steps.{Lent, Knowing, copy-passed}
+use Rattle.copy_checks.proofs.Steps.{Lent, Knowing}
 use Rattle.copy_take_in.specs.TakeIn.{Given, brought, takeVerdict, takenIn}
 use Rattle.release.specs.Release.{releasedRegister}
-use Rattle.copy_lookup.specs.Lookups.{copyHeldVerdict}
+use Rattle.copy_lookup.proofs.AsRegister.{held-done}
 use Rattle.copy_release.specs.Release.{copyReleaseVerdict, releasedCopy}
 use Rattle.bitfield.proofs.StoredBits.{RoomFor}
 use Rattle.theorem_taking_laws.proofs.Given.{placesOf, given-keeps}
@@ -61,20 +58,12 @@ pub record Asked (c : Copy) (i : ℕ) : Type 0 where
   pub knowing : Knowing c
   pub below : i < c .n
   pub held : storedHeld (c .bitfield) i ≡ true
-  pub arrives : stopRefused (copyToChunk c i) ≡ done
+  pub start : ℕ
+  pub comes : copyToChunk c i ≡ reached i start
 
 pub asked : (c : Copy) (i : ℕ) → copyReleaseVerdict c i ≡ done → Asked c i
-unfolding copyReleaseVerdict copyHeldVerdict
-asked c i e =
-    let gone : Verdict = cond (storedHeld (c .bitfield) i) (stopRefused (copyToChunk c i)) (refused 18 (tree (index 0 i))) in
-    let a = copy-passed c (judged (record { number = 9; right = ltb i (c .n) } ∷ []) gone) e in
-    let b = judged-done (record { number = 9; right = ltb i (c .n) } ∷ []) gone (a .1) in
-    let q = pick (storedHeld (c .bitfield) i) (b .1) in
-    record { knowing = a .0; below = ltb-true i (c .n) (b .0 .0); held = q .0; arrives = q .1 }
-  where
-    pick : (x : Bool) → cond x (stopRefused (copyToChunk c i)) (refused 18 (tree (index 0 i))) ≡ done → (x ≡ true) × (stopRefused (copyToChunk c i) ≡ done)
-    pick true f = (refl, f)
-    pick false f = absurd (let z : _≡_ {A = ℕ} 0 1 = cc in omega arith)
+unfolding copyReleaseVerdict
+asked c i e = let a = held-done c i e in let h = a .1 in record { knowing = h .knows; below = h .below; held = h .held; start = a .0; comes = h .comes }
 
 -- the entry of its data bit lies in the file
 pub data-room : (c : Copy) (i : ℕ) → Lent c → i < c .n → RoomFor (c .bitfield) (i / 8192)

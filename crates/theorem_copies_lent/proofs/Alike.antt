@@ -1,30 +1,27 @@
 -- The proof of `LentForAll`, call by call. Assumes nothing.
-use Prim.Native.Nat.{ℕ, _+_, _-_}
+use Prim.Native.Nat.{ℕ, _-_}
 use mathlib.Core.Path.{_≡_, refl, sym, ap, ap₂, _∙_}
-use mathlib.Core.Bool.{cond}
-use mathlib.Core.List.{List, [], _∷_}
+use mathlib.Core.List.{List}
 use borrow.Author.Tests.{leb-true}
-use lib.Dec.{leb, ltb}
 use lib.ListN.{length}
 use Rattle.answer_types.specs.Verdict.{Verdict, tree, done, refused, unlessRefused, andThen}
-use Rattle.byte_strings.specs.Lists.{part, sameList, zeros, put}
+use Rattle.byte_strings.specs.Lists.{part, zeros, put}
 use Rattle.byte_strings.specs.Lowest.{Lowest, lowest}
-use Rattle.tree_index.specs.Tree.{index, roots}
+use Rattle.tree_index.specs.Tree.{roots}
 use Rattle.bitfield.specs.Release.{storedHeld}
-use Rattle.file_format.specs.Messages.{leafMessage}
-use Rattle.file_format.specs.Stored.{storedHash, storedSize, storedRootMessage}
+use Rattle.file_format.specs.Stored.{storedRootMessage}
 use Rattle.file_format.specs.Belongs.{Register, Buffers, buffersOf}
-use Rattle.checks.specs.Checks.{Check, judged, holds}
+use Rattle.checks.specs.Checks.{holds}
 use Rattle.checks.proofs.Judged.{judged-same}
 use Rattle.writing.specs.Append.{rootUnlessRefused}
 use Rattle.writing.specs.RootHash.{rootVerdict, rootAnswer}
 use Rattle.audit.specs.Audit.{refusedAt}
 use Rattle.audit.proofs.Audited.{accepted-audited}
 use Rattle.prefix_root.specs.PrefixRoot.{ownChecks, prefixVerdict, prefixRoot, rootUnless}
-use Rattle.lookup.specs.Descent.{Ending, always}
-use Rattle.lookup.specs.Lookup.{foundUnless, chunkOf, startOf, stopRefused, toChunk, toByte, placeVerdict, heldVerdict, byteVerdict, placeOf, heldPlaceOf, byteAt, foundBehind}
-use Rattle.lookup.specs.Read.{chunkBytes, partUnless, readVerdict, readPart}
-use Rattle.lookup.specs.Meaning.{readFound}
+use Rattle.lookup.specs.Descent.{always}
+use Rattle.lookup.specs.Lookup.{foundBehind, toChunk, toByte, placeOf, heldPlaceOf, byteAt}
+use Rattle.lookup.specs.Read.{verdictFound, bytesFound, chunkBytes, hashJudged, readFound, readVerdict, readPart}
+use Rattle.lookup.proofs.Lookups.{place-same, held-same, byte-same}
 use Rattle.release.specs.Release.{releaseVerdict, releasedRegister, afterRelease}
 use Rattle.stored_leaf.specs.StoredLeaf.{leafVerdict, leafHash, leafLength}
 use Rattle.stored_leaf.proofs.Calls.{leaf-same}
@@ -36,7 +33,8 @@ use Rattle.packet.specs.Packet.{packetOf, roomOr14, makeVerdict, afterMake, mad
 use Rattle.copy_checks.specs.Copy.{Copy, known, filesOf, unsigned, lentAsCopy}
 use Rattle.copy_checks.specs.Checks.{copyJudged}
 use Rattle.lookup.specs.Unknown.{firstUnknown}
-use Rattle.copy_lookup.specs.Lookups.{copyPlaceVerdict, copyHeldVerdict, copyByteVerdict, copyPlaceOf, copyHeldPlaceOf, copyByteAt}
+use Rattle.copy_checks.specs.Descents.{copyToChunk, copyToByte}
+use Rattle.copy_lookup.specs.Lookups.{copyPlaceOf, copyHeldPlaceOf, copyByteAt}
 use Rattle.copy_lookup.specs.Reading.{copyReadVerdict, copyReadPart, copyReadFound}
 use Rattle.copy_roots.specs.Roots.{copyRootVerdict, copyRootAnswer, copyPrefixVerdict, copyPrefixRoot, copySearch}
 use Rattle.copy_short_lookup.specs.Short.{copyShortPlaceOf, copyShortByteAt, copyShortSearch}
@@ -56,39 +54,21 @@ module _ (F : List ℕ → List ℕ) (r : Register) (all : AllKnown (lentAsCopy 
   abbrev c : Copy
   c = lentAsCopy r
 
-  abbrev size : ℕ → ℕ
-  size i = storedSize (r .tree) (index 0 i)
-
-  abbrev nine : ℕ → List Check
-  nine i = record { number = 9; right = ltb i (r .n) } ∷ []
-
-  abbrev nineByte : ℕ → List Check
-  nineByte b = record { number = 9; right = leb b (r .size) } ∷ []
-
   -- ---- lookups
 
   same-place : (i : ℕ) → copyPlaceOf c i ≡ placeOf r i
-  unfolding copyPlaceOf copyPlaceVerdict placeOf placeVerdict
-  same-place i =
-      ap (λ (e : Ending). foundUnless (copyJudged c (judged (nine i) (stopRefused e))) (startOf e) (size i)) (to-chunk r all i)
-      ∙ ap (λ (v : Verdict). foundUnless v (startOf (toChunk r i)) (size i)) (behind-same r all g (nine i) (stopRefused (toChunk r i)))
-
-  abbrev gone : ℕ → Ending → Verdict
-  gone i e = cond (storedHeld (r .bitfield) i) (stopRefused e) (refused 18 (tree (index 0 i)))
-
-  same-held : (i : ℕ) → copyHeldVerdict c i ≡ heldVerdict r i
-  unfolding copyHeldVerdict heldVerdict
-  same-held i = ap (λ (e : Ending). copyJudged c (judged (nine i) (gone i e))) (to-chunk r all i) ∙ behind-same r all g (nine i) (gone i (toChunk r i))
+  unfolding copyPlaceOf placeOf copyToChunk toChunk
+  same-place i = ap₂ foundBehind (checks-same r all g done) (place-same (known c) always (r .tree) (r .tree) (r .n) i (to-chunk r all i) (λ k s h e. refl))
 
   same-held-place : (i : ℕ) → copyHeldPlaceOf c i ≡ heldPlaceOf r i
-  unfolding copyHeldPlaceOf heldPlaceOf
-  same-held-place i = ap₂ (λ (v : Verdict) (e : Ending). foundUnless v (startOf e) (size i)) (same-held i) (to-chunk r all i)
+  unfolding copyHeldPlaceOf heldPlaceOf copyToChunk toChunk
+  same-held-place i =
+      ap₂ foundBehind (checks-same r all g done)
+      (held-same (known c) always (r .tree) (r .tree) (r .n) i (to-chunk r all i) (λ k s h e. refl) (r .bitfield) (r .bitfield) (λ h. refl))
 
   same-byte : (b : ℕ) → copyByteAt c b ≡ byteAt r b
-  unfolding copyByteAt copyByteVerdict byteAt byteVerdict
-  same-byte b =
-      ap (λ (e : Ending). foundUnless (copyJudged c (judged (nineByte b) (stopRefused e))) (chunkOf e) (b - startOf e)) (to-byte r all b)
-      ∙ ap (λ (v : Verdict). foundUnless v (chunkOf (toByte r b)) (b - startOf (toByte r b))) (behind-same r all g (nineByte b) (stopRefused (toByte r b)))
+  unfolding copyByteAt byteAt copyToByte toByte
+  same-byte b = ap₂ foundBehind (checks-same r all g done) (byte-same (known c) always (r .tree) (r .tree) (r .n) (r .size) b (to-byte r all b))
 
   same-search : (from : ℕ) → copySearch c from ≡ searchFor r from
   unfolding copySearch searchFor
@@ -132,32 +112,26 @@ module _ (F : List ℕ → List ℕ) (r : Register) (all : AllKnown (lentAsCopy 
   unfolding copyPrefixRoot prefixRoot
   same-old-root m = ap (λ (v : Verdict). unlessRefused v (F (storedRootMessage (r .tree) m)) (zeros 32)) (same-old m)
 
-  same-bytes : (i : ℕ) → chunkBytes (unsigned c) i ≡ chunkBytes r i
-  unfolding chunkBytes toChunk
-  same-bytes i = refl
+  same-found : (i : ℕ) → copyReadFound F c i ≡ readFound F r i
+  unfolding copyReadFound readFound
+  same-found i = ap (hashJudged F (r .tree) (r .content) i) (same-held-place i)
 
   same-read : (i : ℕ) → copyReadVerdict F c i ≡ readVerdict F r i
   unfolding copyReadVerdict readVerdict
-  same-read i =
-      ap₂ (λ (v : Verdict) (bytes : List ℕ). andThen v (cond (sameList (storedHash (r .tree) (index 0 i)) (F (leafMessage bytes))) done (refused 10 (tree (index 0 i)))))
-      (same-held i) (same-bytes i)
+  same-read i = ap verdictFound (same-found i)
 
   same-part : (i : ℕ) → copyReadPart F c i ≡ readPart F r i
   unfolding copyReadPart readPart
-  same-part i = ap₂ (partUnless F) (same-read i) (same-bytes i)
-
-  same-found : (i : ℕ) → copyReadFound F c i ≡ readFound F r i
-  unfolding copyReadFound readFound toChunk
-  same-found i = ap (λ (v : Verdict). foundUnless v (startOf (toChunk r i)) (startOf (toChunk r i) + size i)) (same-read i)
+  same-part i = ap (bytesFound (r .content)) (same-found i)
 
   -- ---- what is written
 
   same-release : (i : ℕ) → copyReleaseVerdict c i ≡ releaseVerdict r i
   unfolding copyReleaseVerdict releaseVerdict
-  same-release i = same-held i
+  same-release i = ap verdictFound (same-held-place i)
 
   same-released : (i : ℕ) → releasedCopy c i ≡ lentAsCopy (releasedRegister r i)
-  unfolding releasedCopy releasedRegister toChunk
+  unfolding releasedCopy releasedRegister
   same-released i = refl
 
   files-of : (v : Verdict) (a b : Buffers) → unlessRefused v (filesIn a) (filesIn b) ≡ filesIn (unlessRefused v a b)
@@ -171,7 +145,7 @@ module _ (F : List ℕ → List ℕ) (r : Register) (all : AllKnown (lentAsCopy 
       ∙ files-of (releaseVerdict r i) (buffersOf (releasedRegister r i)) (buffersOf r)
 
   same-packet : (i : ℕ) → packetOf (unsigned c) i ≡ packetOf r i
-  unfolding packetOf packetWith chunkBytes toChunk
+  unfolding packetOf packetWith chunkBytes
   same-packet i = refl
 
   same-make : (i : ℕ) (out : List ℕ) → copyMakeVerdict F c i out ≡ makeVerdict F r i out

@@ -11,8 +11,7 @@ use Rattle.writing.specs.RootHash.{rootVerdict, rootAnswer}
 use Rattle.audit.specs.Audit.{audit, Accepted}
 use Rattle.prefix_root.specs.PrefixRoot.{prefixVerdict, prefixRoot}
 use Rattle.lookup.specs.Lookup.{placeOf, heldPlaceOf, byteAt}
-use Rattle.lookup.specs.Read.{readVerdict, readPart}
-use Rattle.lookup.specs.Meaning.{readFound}
+use Rattle.lookup.specs.Read.{readFound, readVerdict, readPart}
 use Rattle.release.specs.Release.{releaseVerdict, releasedRegister, afterRelease}
 use Rattle.search.specs.Search.{searchFor}
 use Rattle.stored_leaf.specs.StoredLeaf.{leafVerdict, leafHash, leafLength}

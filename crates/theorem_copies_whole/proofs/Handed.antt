@@ -19,7 +19,7 @@ use Rattle.file_format.specs.Entries.{Entry, entryBytes}
 use Rattle.file_format.specs.Images.{leaves}
 use Rattle.file_format.specs.Slots.{held, heldIn, allHeld, Within}
 use Rattle.file_format.specs.Belongs.{Register}
-use Rattle.file_format.proofs.Spans.{map-ext}
+use Rattle.file_format.proofs.Spans.{span, map-ext}
 use Rattle.file_format.proofs.Slots.{slotAt, leaves-length, all-length, all-contents, all-held, held-slot}
 use Rattle.file_format.proofs.Nodes.{entryAt-filled}
 use Rattle.file_format.proofs.OfImage.{stored-entry}
@@ -27,11 +27,10 @@ use Rattle.checks.specs.Checks.{judged, registerChecks}
 use Rattle.checks.proofs.Passed.{passes}
 use Rattle.audit.proofs.Audited.{accepted-audited}
 use Rattle.audit.proofs.Accepts.{has-register}
-use Rattle.lookup.specs.Lookup.{startOf}
 use Rattle.lookup.specs.Read.{chunkBytes}
 use Rattle.lookup.specs.Theorems.{Answers}
 use Rattle.lookup.proofs.Answers.{answers}
-use Rattle.lookup.proofs.Calls.{done-reached, done-first}
+use Rattle.lookup.proofs.Calls.{chunk-at, done-first}
 use Rattle.packet.specs.Packet.{siblings, otherRoots, section, packetOf, packetWith}
 use Rattle.packet.specs.Inner.{ChunkOf}
 use Rattle.packet.proofs.Answers.{packet-answers}
@@ -41,7 +40,7 @@ use Rattle.packet_compare.proofs.Stands.{sibling-is}
 use Rattle.copy_checks.specs.Copy.{Copy, unsigned, known}
 use Rattle.copy_checks.specs.Checks.{unknownRoot}
 use Rattle.copy_checks.specs.Descents.{copyToChunk}
-use Rattle.copy_lookup.specs.Lookups.{copyHeldVerdict}
+use Rattle.copy_lookup.proofs.AsRegister.{read-held}
 use Rattle.copy_lookup.specs.Reading.{copyReadVerdict}
 use Rattle.copy_packet.specs.Making.{copyMakeVerdict}
 use Rattle.copy_release.specs.Release.{copyReleaseVerdict}
@@ -71,8 +70,8 @@ module _ (F : List ℕ → List ℕ) (hf : HashFunction F) (cs : List (List ℕ)
     read-done = done-first (copyReadVerdict F d i) _ e
 
     release-done : copyReleaseVerdict d i ≡ done
-    unfolding copyReadVerdict copyReleaseVerdict
-    release-done = done-first (copyHeldVerdict d i) _ read-done
+    unfolding copyReleaseVerdict
+    release-done = read-held F d i read-done
 
     r : Releasing d i
     r = releasing d i release-done
@@ -86,10 +85,9 @@ module _ (F : List ℕ → List ℕ) (hf : HashFunction F) (cs : List (List ℕ)
     -- ---- the chunk
 
     piece : chunkBytes (unsigned d) i ≡ getD cs i []
-    unfolding chunkBytes
     piece =
-        ap₂ (part (d .content)) (ap startOf (lands F hf cs w d has knows tail q i r)) (size-is F hf cs w d has knows tail q i r)
-        ∙ q .chunk i (has-it F hf cs w d has knows tail q i r)
+        chunk-at (unsigned d) i (r .below) (lands F hf cs w d has knows tail q i r)
+        ∙ ap (part (d .content) (span cs 0 i)) (size-is F hf cs w d has knows tail q i r) ∙ q .chunk i (has-it F hf cs w d has knows tail q i r)
 
     in-all : heldIn (allHeld cs) i ≡ true
     in-all = all-held cs i ∙ lt-ltb i (length cs) in-sequence
@@ -122,7 +120,7 @@ module _ (F : List ℕ → List ℕ) (hf : HashFunction F) (cs : List (List ℕ)
 
     below-known : KnownBelow (known d) (d .tree) i (length (siblings (d .n) i))
     unfolding copyToChunk
-    below-known = let x = done-reached (copyToChunk d i) (r .stop) in descent-known (known d) (d .tree) i (d .n) (x .0) (x .1) chunk (x .2)
+    below-known = descent-known (known d) (d .tree) i (d .n) i (r .start) chunk (r .comes)
 
     root-known : (j : ℕ) → In j (roots (d .n)) → known d j ≡ true
     unfolding unknownRoot

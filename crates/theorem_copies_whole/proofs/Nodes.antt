@@ -23,12 +23,10 @@ use Rattle.file_format.proofs.Nodes.{nodeAt-index}
 use Rattle.checks.specs.Checks.{judged, registerChecks}
 use Rattle.checks.proofs.Passed.{passes}
 use Rattle.checks.proofs.Judged.{not-both-verdicts}
-use Rattle.lookup.specs.Lookup.{heldVerdict}
 use Rattle.lookup.specs.Read.{chunkBytes, readVerdict}
 use Rattle.lookup.specs.Theorems.{Answers}
 use Rattle.lookup.proofs.Answers.{answers}
-use Rattle.lookup.proofs.Calls.{done-first}
-use Rattle.release.proofs.Calls.{held-passed}
+use Rattle.lookup.proofs.Calls.{done-first, reading}
 use Rattle.packet.specs.Packet.{rootAbove, beside, siblings, otherRoots, packetOf, makeVerdict}
 use Rattle.packet.specs.Check.{othersPlace, entryIn, entriesIn, otherEntries, ordered}
 use Rattle.packet.specs.Inner.{ChunkOf, Readable}
@@ -79,8 +77,7 @@ module _ (F : List ℕ → List ℕ) (hf : HashFunction F) (ss : List Slot) (w :
   read-done = done-first (readVerdict F r c) _ e
 
   pub passed : judged (registerChecks r) done ≡ done
-  unfolding readVerdict
-  passed = passes r done (held-passed r c (done-first (heldVerdict r c) _ read-done) .0)
+  passed = passes r done (reading F r c read-done .placing .passed)
 
   told : Answers F r ss (contents ss)
   told = answers F hf ss w r b passed

@@ -15,7 +15,7 @@ use Rattle.file_format.proofs.Spans.{span}
 use Rattle.file_format.proofs.Slots.{all-contents}
 use Rattle.file_format.proofs.OfImage.{stored-node-hash, stored-node-size}
 use Rattle.lookup.specs.Descent.{chunkWithin, descent, always}
-use Rattle.lookup.specs.Lookup.{startOf}
+use Rattle.lookup.proofs.Lookups.{one-start}
 use Rattle.packet.specs.Packet.{packetOf}
 use Rattle.packet.specs.Check.{packetChunk, packetVerdict}
 use Rattle.packet.specs.Inner.{ChunkOf}
@@ -61,7 +61,7 @@ module _ (F : List ℕ → List ℕ) (hf : HashFunction F) (cs : List (List ℕ)
 
     pub start : ChunkOf n i → packetStart p n i ≡ span cs 0 i
     start h =
-        ap startOf
+        one-start
         (sym (packet-descent F p n i h (full F hf cs w .tree) (holds-all h)
         (subst (λ (x : List ℕ). length x ≤ longestChunk) (sym (piece (h .below) ∙ ap (λ (l : List (List ℕ)). getD l i []) (sym (all-contents cs)))) (w .short i)))
         ∙ ap (descent always (chunkWithin i) (full F hf cs w .tree)) (count ∙ sym (full-count F hf cs w))

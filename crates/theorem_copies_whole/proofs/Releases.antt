@@ -1,15 +1,15 @@
 -- A release on a copy of a sequence leaves a copy of it. Assumes nothing.
 use Prim.Native.Nat.{ℕ, _+_, _≤_, _<_}
-use mathlib.Core.Path.{_≡_, refl, sym, ap, ap₂, _∙_, subst}
-use mathlib.Core.Bool.{Bool, true, false, cond, _&&_, not}
-use mathlib.Core.List.{List, [], _∷_}
+use mathlib.Core.Path.{_≡_, refl, sym, ap, _∙_, subst}
+use mathlib.Core.Bool.{Bool, true, false, _&&_, not}
+use mathlib.Core.List.{List, []}
 use native.Mathlib.Nat.{div-one, mul-one}
 use native.Mathlib.Omega.{arith}
 use lib.Arith.{lt-of-le-ne}
 use lib.Dec.{eqb, ltb}
 use lib.ListN.{length, getD, length-replicate}
 use borrow.Author.Tests.{eq-eqb, ltb-true, ltb-false}
-use Rattle.answer_types.specs.Verdict.{Verdict, tree, done, refused}
+use Rattle.answer_types.specs.Verdict.{tree, done}
 use Rattle.byte_strings.specs.Lists.{part, put, zeros}
 use Rattle.byte_strings.specs.Lowest.{nowhere}
 use Rattle.byte_strings.proofs.Lists.{length-put, part-put-before, part-put-behind}
@@ -27,17 +27,16 @@ use Rattle.file_format.proofs.Spans.{span, chunk-inside}
 use Rattle.file_format.proofs.Slots.{all-length, all-contents, leaf-size}
 use Rattle.file_format.proofs.Nodes.{nodeAt-index, nodeAt-proper}
 use Rattle.file_format.proofs.OfImage.{entry-size, stored-node-size}
-use Rattle.checks.specs.Checks.{Check, judged}
-use Rattle.checks.proofs.Judged.{judged-done}
 use Rattle.lookup.specs.Descent.{reached, chunkWithin, descent, always}
-use Rattle.lookup.specs.Lookup.{startOf, stopRefused, toChunk}
+use Rattle.lookup.specs.Lookup.{toChunk}
+use Rattle.release.proofs.Calls.{cleared-at}
 use Rattle.release.specs.Release.{releasedRegister}
 use Rattle.copy_checks.specs.Copy.{Copy, unsigned, known}
-use Rattle.copy_checks.proofs.Steps.{Knowing, copy-passed}
+use Rattle.copy_checks.proofs.Steps.{Knowing}
 use Rattle.copy_checks.specs.Descents.{copyToChunk}
 use Rattle.lookup.proofs.ReadOrder.{reads}
 use Rattle.copy_checks.proofs.Descents.{unknownToChunk, chunk-read}
-use Rattle.copy_lookup.specs.Lookups.{copyHeldVerdict}
+use Rattle.copy_lookup.proofs.AsRegister.{held-done}
 use Rattle.copy_release.specs.Release.{copyReleaseVerdict, releasedCopy}
 use Rattle.byte_strings.proofs.Members.{In}
 use Rattle.file_format.proofs.Shown.{shown-held, shown-known, held-less}
@@ -47,33 +46,21 @@ use Rattle.theorem_copies_whole.proofs.Alike.{all-known, reads-filled}
 use Rattle.theorem_copies_whole.proofs.Partly.{Partly, tree-bit-in}
 use Rattle.theorem_copies_whole.proofs.ChunkSpans.{span-before}
 
-must-hold : (b : Bool) (v : Verdict) (i : ℕ) → cond b v (refused 18 (tree i)) ≡ done → (b ≡ true) × (v ≡ done)
-must-hold true v i e = (refl, e)
-must-hold false v i e = absurd (let z : _≡_ {A = ℕ} 0 1 = cc in omega arith)
-
 -- a release that is done: the copy passes the checks of a call, the chunk is there and held, its descent comes to the leaf and reads known entries alone
 pub record Releasing (c : Copy) (i : ℕ) : Type 0 where
   pub knowing : Knowing c
   pub below : i < c .n
   pub holds : storedHeld (c .bitfield) i ≡ true
-  pub stop : stopRefused (copyToChunk c i) ≡ done
+  pub start : ℕ
+  pub comes : copyToChunk c i ≡ reached i start
   pub unknown : unknownToChunk c i ≡ nowhere
 
 pub releasing : (c : Copy) (i : ℕ) → copyReleaseVerdict c i ≡ done → Releasing c i
-unfolding copyReleaseVerdict copyHeldVerdict
+unfolding copyReleaseVerdict
 releasing c i e =
-    let check : Check = record { number = 9; right = ltb i (c .n) } in
-    let next : Verdict = cond (storedHeld (c .bitfield) i) (stopRefused (copyToChunk c i)) (refused 18 (tree (index 0 i))) in
-    let a = copy-passed c (judged (check ∷ []) next) e in
-    let b = judged-done (check ∷ []) next (a .1) in
-    let d = must-hold (storedHeld (c .bitfield) i) (stopRefused (copyToChunk c i)) (index 0 i) (b .1) in
-    record {
-      knowing = a .0;
-      below = ltb-true i (c .n) (b .0 .0);
-      holds = d .0;
-      stop = d .1;
-      unknown = chunk-read c i (d .1);
-    }
+    let a = held-done c i e in
+    let h = a .1 in
+    record { knowing = h .knows; below = h .below; holds = h .held; start = a .0; comes = h .comes; unknown = chunk-read c i (h .comes) }
 
 module _ (F : List ℕ → List ℕ) (hf : HashFunction F) (cs : List (List ℕ)) (w : Within (allHeld cs)) (c : Copy) (has knows : ℕ → Bool) (tail : List ℕ)
     (q : Partly F cs c has knows tail) where
@@ -132,8 +119,9 @@ module _ (F : List ℕ → List ℕ) (hf : HashFunction F) (cs : List (List ℕ)
     gone-long : length gone ≡ length (getD cs i [])
     gone-long = length-replicate {A = ℕ} (length (getD cs i [])) 0
 
-    content-is : put (c .content) (startOf (toChunk (unsigned c) i)) (zeros (storedSize (c .tree) (index 0 i))) ≡ put (c .content) (span cs 0 i) gone
-    content-is = ap₂ (λ (a m : ℕ). put (c .content) a (zeros m)) (ap startOf lands) size-is
+    content-is : releasedCopy c i .content ≡ put (c .content) (span cs 0 i) gone
+    unfolding releasedCopy
+    content-is = cleared-at (unsigned c) i (r .below) lands ∙ ap (λ (m : ℕ). put (c .content) (span cs 0 i) (zeros m)) size-is
 
     at-end : span cs 0 i + length gone ≤ length (c .content)
     at-end = omega (arith, gone-long, chunk-inside cs i (subst (λ (n : ℕ). i < n) (q .count) (r .below)), q .bytes, q .total)

@@ -1,7 +1,7 @@
 -- A copy of a sequence takes in every packet that is made from a register of the sequence. Assumes nothing.
 use Prim.Native.Nat.{ℕ, _+_, _<_}
 use mathlib.Core.Path.{_≡_, refl, sym, ap, ap₂, _∙_}
-use mathlib.Core.Bool.{Bool, true, false, cond}
+use mathlib.Core.Bool.{Bool, true}
 use mathlib.Core.List.{List, [], _∷_, _++_, map}
 use native.Mathlib.Omega.{arith}
 use borrow.Author.Tests.{eq-eqb}
@@ -9,7 +9,7 @@ use lib.Dec.{eqb}
 use lib.ListN.{length, getD, take}
 use lib.Seq.{take-at}
 use Rattle.answer_types.specs.Verdict.{Verdict, tree, done, andThen}
-use Rattle.byte_strings.specs.Lists.{part, total, sameList}
+use Rattle.byte_strings.specs.Lists.{part, total}
 use Rattle.byte_strings.specs.Lowest.{Lowest, nowhere, first}
 use Rattle.tree_index.specs.Tree.{index, entries, roots}
 use Rattle.tree_index.proofs.Filled.{filled-below}
@@ -17,7 +17,6 @@ use Rattle.tree_index.proofs.Roots.{root-filled}
 use Rattle.bitfield.specs.Release.{storedHeld}
 use Rattle.bitfield.specs.Known.{storedKnown}
 use Rattle.file_format.specs.Headers.{bitfieldHeader}
-use Rattle.file_format.specs.Sizes.{entryPlace}
 use Rattle.file_format.specs.Messages.{HashFunction}
 use Rattle.file_format.specs.Entries.{entryBytes}
 use Rattle.file_format.specs.Stored.{storedSize, storedRootSizes}
@@ -34,10 +33,10 @@ use Rattle.copy_checks.specs.Copy.{Copy, known}
 use Rattle.copy_checks.specs.Least.{lowerOf}
 use Rattle.copy_checks.specs.Checks.{unknownRoot, passedOver}
 use Rattle.copy_checks.proofs.Steps.{Lent, partly-passes}
-use Rattle.copy_take_in.specs.TakeIn.{Given, packetStart, contradicts, contradictsBytes, brought, contradiction, takeVerdict}
+use Rattle.copy_take_in.specs.TakeIn.{Given, packetStart, bytesContradicted, indexIf, contradicts, brought, contradiction, takeVerdict}
+use Rattle.copy_take_in.proofs.Contradicted.{no-entry, no-bytes}
 use Rattle.copy_take_in.proofs.Stages.{fits}
 use Rattle.byte_strings.proofs.Members.{In, place-in}
-use Rattle.byte_strings.proofs.Lists.{same-of}
 use Rattle.theorem_taking_laws.proofs.Among.{brought-filled}
 use Rattle.file_format.proofs.Shown.{shown, shown-long, shown-held, shown-known}
 use Rattle.theorem_taking_laws.proofs.Starts.{roots-total}
@@ -92,34 +91,19 @@ module _ (F : List ℕ → List ℕ) (hf : HashFunction F) (cs : List (List ℕ)
     gs = brought F p (c .n) i
 
     agrees : (g : Given) → In g gs → contradicts (c .tree) (c .bitfield) g ≡ nowhere
-    unfolding contradicts
-    agrees g l = pick (storedKnown (c .bitfield) (g .at)) refl
-      where
-        pick : (b : Bool) → storedKnown (c .bitfield) (g .at) ≡ b
-            → cond (storedKnown (c .bitfield) (g .at)) (cond (sameList (part (c .tree) (entryPlace (g .at)) 40) (entryBytes (g .entry))) nowhere (first (g .at))) nowhere ≡ nowhere
-        pick false e = ap (λ (b : Bool). cond b (cond (sameList (part (c .tree) (entryPlace (g .at)) 40) (entryBytes (g .entry))) nowhere (first (g .at))) nowhere) e
-        pick true e =
-            let f = brought-filled (c .n) i (own-chunk F hf cs w (c .n) (q .count) p i m) F p g l in
-            let k : knows (g .at) ≡ true = sym (knows-as (g .at) (filled-below (c .n) (g .at) f)) ∙ e in
-            ap₂ (λ (a b : Bool). cond a (cond b nowhere (first (g .at))) nowhere) e
-            (same-of (part (c .tree) (entryPlace (g .at)) 40) (entryBytes (g .entry))
-            (q .entry (g .at) k ∙ ap entryBytes (sym (nodes F hf cs w (c .n) (q .count) p i m g l))))
+    agrees g l =
+        no-entry (c .tree) (c .bitfield) g (λ e.
+        let f = brought-filled (c .n) i (own-chunk F hf cs w (c .n) (q .count) p i m) F p g l in
+        q .entry (g .at) (sym (knows-as (g .at) (filled-below (c .n) (g .at) f)) ∙ e)
+        ∙ ap entryBytes (sym (nodes F hf cs w (c .n) (q .count) p i m g l)))
 
-    bytes-agree : contradictsBytes (c .bitfield) (c .content) i (packetStart p (c .n) i) (packetChunk p) ≡ nowhere
-    unfolding contradictsBytes
-    bytes-agree = pick (storedHeld (c .bitfield) i) refl
-      where
-        pick : (b : Bool) → storedHeld (c .bitfield) i ≡ b
-            → cond (storedHeld (c .bitfield) i) (cond (sameList (part (c .content) (packetStart p (c .n) i) (length (packetChunk p))) (packetChunk p)) nowhere (first (index 0 i))) nowhere ≡ nowhere
-        pick false e =
-            ap (λ (b : Bool). cond b (cond (sameList (part (c .content) (packetStart p (c .n) i) (length (packetChunk p))) (packetChunk p)) nowhere (first (index 0 i))) nowhere) e
-        pick true e =
-            let h = own-chunk F hf cs w (c .n) (q .count) p i m in
-            let k : has i ≡ true = sym (ap (λ (x : List ℕ). storedHeld x i) (q .bits) ∙ shown-held has knows (c .n) tail i (h .below)) ∙ e in
-            let x : packetChunk p ≡ getD cs i [] = piece F hf cs w (c .n) (q .count) p i m (h .below) in
-            ap₂ (λ (a b : Bool). cond a (cond b nowhere (first (index 0 i))) nowhere) e
-            (same-of (part (c .content) (packetStart p (c .n) i) (length (packetChunk p))) (packetChunk p)
-            (ap₂ (λ (a : ℕ) (y : List ℕ). part (c .content) a (length y)) (start F hf cs w (c .n) (q .count) p i m h) x ∙ q .chunk i k ∙ sym x))
+    bytes-agree : indexIf (bytesContradicted (c .bitfield) (c .content) i (packetStart p (c .n) i) (packetChunk p)) (index 0 i) ≡ nowhere
+    bytes-agree =
+        no-bytes (c .bitfield) (c .content) i (packetStart p (c .n) i) (packetChunk p) (index 0 i) (λ e.
+        let h = own-chunk F hf cs w (c .n) (q .count) p i m in
+        let k : has i ≡ true = sym (ap (λ (x : List ℕ). storedHeld x i) (q .bits) ∙ shown-held has knows (c .n) tail i (h .below)) ∙ e in
+        let x : packetChunk p ≡ getD cs i [] = piece F hf cs w (c .n) (q .count) p i m (h .below) in
+        ap₂ (λ (a : ℕ) (y : List ℕ). part (c .content) a (length y)) (start F hf cs w (c .n) (q .count) p i m h) x ∙ q .chunk i k ∙ sym x)
 
     none : contradiction F c p i ≡ nowhere
     unfolding contradiction lowerOf

@@ -3,11 +3,10 @@
 use Prim.Native.Nat.{ℕ, zero, suc, _+_, _*_, _≤_, _<_}
 use mathlib.Core.Path.{_≡_, refl, sym, ap, ap₂, _∙_, subst}
 use mathlib.Core.Bool.{Bool, true, false, _&&_}
-use mathlib.Core.List.{List, [], _∷_, _++_}
+use mathlib.Core.List.{List, [], _++_}
 use native.Mathlib.Nat.{mul-one}
 use native.Mathlib.Omega.{arith}
-use borrow.Author.Tests.{leb-true, le-leb, lt-ltb, eqb-true, eq-eqb}
-use lib.Dec.{ltb}
+use borrow.Author.Tests.{leb-true, le-leb, eqb-true, eq-eqb}
 use lib.ListN.{length, getD, take, drop}
 use lib.Seq.{take-add, getD-take}
 use Rattle.answer_types.specs.Verdict.{done}
@@ -27,13 +26,13 @@ use Rattle.file_format.specs.Sizes.{mostChunks, usedBitfield}
 use Rattle.file_format.specs.Messages.{leafMessage}
 use Rattle.file_format.specs.Stored.{storedSize, storedStart, storedChunk, storedRootSizes}
 use Rattle.file_format.specs.Belongs.{Register}
-use Rattle.checks.specs.Checks.{judged, addsUp}
+use Rattle.checks.specs.Checks.{addsUp}
 use Rattle.checks.proofs.Passed.{Passed}
 use Rattle.audit.specs.Audit.{heldBits, entryRight, Accepted}
 use Rattle.audit.proofs.Audited.{LeafRight, ParentRight, Audited, audited-accepted, leaf-says, says-leaf, parent-says, says-parent, hole-says, says-hole, all-zero, zeros-zero}
-use Rattle.lookup.specs.Descent.{Ending, stopped, reached, unknown, always, chunkWithin, descent}
-use Rattle.lookup.specs.Lookup.{Found, refusal, found, foundUnless, stopRefused, startOf, toChunk}
-use Rattle.lookup.specs.Inner.{placeIn}
+use Rattle.lookup.specs.Descent.{reached, unknown, always, chunkWithin, descent}
+use Rattle.lookup.specs.Lookup.{found, toChunk, placeIn}
+use Rattle.lookup.proofs.Lookups.{place-reaches, one-start}
 use Rattle.short_lookup.specs.Theorems.{LeavesFit, LengthsRight}
 use Rattle.short_lookup.proofs.Walks.{place-there}
 use Rattle.short_lookup.proofs.Answers.{fits-right, place-at}
@@ -48,16 +47,13 @@ use Rattle.copy_audit.specs.Audit.{knownBits}
 use Rattle.file_format.proofs.Shown.{used-shown, shown-known}
 use Rattle.theorem_copies_agree.specs.Theorems.{AllKnown}
 use Rattle.theorem_copies_agree.proofs.Known.{root-known, chunk-known}
-use Rattle.theorem_copy_audit.specs.Theorems.{leafStart, leafData, LeafSound, ParentSound, Sound, SignaturesPass}
+use Rattle.theorem_copy_audit.specs.Theorems.{leafData, LeafSound, ParentSound, Sound, SignaturesPass}
 use Rattle.theorem_copy_audit.proofs.Sound.{bits-are, passed-too, comes-to, leaf-filled}
 use Rattle.file_format.specs.Images.{bitfieldImage, bitfieldOf}
 
 -- ---- where every length is right a chunk begins at the sum of the leaf lengths before it
 
 module _ (t : List ℕ) (n : ℕ) (few : n ≤ mostChunks) (right : LengthsRight t n) (k : ℕ) (below : k < n) where
-  abbrev at : Ending
-  at = descent always (chunkWithin k) t n
-
   told : placeIn always t n k ≡ found (storedStart t k) (storedSize t (index 0 k))
   unfolding LengthsRight LeavesFit
   told =
@@ -67,32 +63,10 @@ module _ (t : List ℕ) (n : ℕ) (few : n ≤ mostChunks) (right : LengthsRight
       filled-at : (j : ℕ) → j < n → filled n (index 0 j) ≡ true
       filled-at j h = leaf-filled (λ l. l) (record { tree = t; bitfield = []; content = []; n = n; size = 0 }) j h
 
-  abbrev firstOf : Found → ℕ
-  firstOf (refusal m s) = 0
-  firstOf (found a b) = a
-
   pub comes-at : descent always (chunkWithin k) t n ≡ reached k (storedStart t k)
-  unfolding placeIn judged stopRefused
-  comes-at = must at refl (sym told)
-    where
-      after : Ending → Found
-      after x = foundUnless (judged (record { number = 9; right = ltb k n } ∷ []) (stopRefused x)) (startOf x) (storedSize t (index 0 k))
-
-      behind : (x : Ending) → after x ≡ foundUnless (stopRefused x) (startOf x) (storedSize t (index 0 k))
-      behind x =
-          ap (λ (b : Bool). foundUnless (judged (record { number = 9; right = b } ∷ []) (stopRefused x)) (startOf x) (storedSize t (index 0 k))) (lt-ltb k n below)
-
-      must : (x : Ending) → at ≡ x → found (storedStart t k) (storedSize t (index 0 k)) ≡ after at → at ≡ reached k (storedStart t k)
-      must (stopped i) w e =
-          let q : found (storedStart t k) (storedSize t (index 0 k)) ≡ after (stopped i) = e ∙ ap after w in
-          let z = q ∙ behind (stopped i) in
-          absurd (let y : _≡_ {A = ℕ} 0 1 = cc in omega arith)
-      must (unknown i) w e =
-          let q : found (storedStart t k) (storedSize t (index 0 k)) ≡ after (unknown i) = e ∙ ap after w in
-          let z = q ∙ behind (unknown i) in
-          absurd (let y : _≡_ {A = ℕ} 0 1 = cc in omega arith)
-      must (reached j s) w e =
-          w ∙ ap₂ reached (comes-to always t n k j s few below w) (sym (ap firstOf (e ∙ ap after w ∙ behind (reached j s))))
+  comes-at =
+      let q = place-reaches always t n k told in
+      q .comes ∙ ap (λ (j : ℕ). reached j (storedStart t k)) (comes-to always t n k (q .chunk) (storedStart t k) few below (q .comes))
 
 -- ---- the bitfield file of a register
 
@@ -170,16 +144,15 @@ module _ (F : List ℕ → List ℕ) (r : Register) (a : Audited F r) where
   unfolding index storedChunk
   lent-leaf k h =
       let l = leaf-of k h in
-      let s : leafStart (lentAsCopy r) k ≡ storedStart t k = ap startOf (comes k h) in
-      let same : leafData (lentAsCopy r) k ≡ storedChunk t (r .content) k = ap (λ (x : ℕ). part (r .content) x (storedSize t (2 * k))) s in
       record {
-        comes = comes k h ∙ ap (reached k) (sym s);
+        start = storedStart t k;
+        comes = comes k h;
         short = l .short;
-        inside = subst (λ (x : ℕ). x + storedSize t (2 * k) ≤ r .size) (sym s) (l .inside);
-        held = λ e. l .hash e ∙ ap (λ (x : List ℕ). F (leafMessage x)) (sym same);
+        inside = l .inside;
+        held = l .hash;
         released = λ e.
             let room : storedStart t k + storedSize t (2 * k) ≤ length (r .content) = omega (arith, l .inside, a .checked .content) in
-            same ∙ all-zero (storedChunk t (r .content) k) (l .cleared e)
+            all-zero (storedChunk t (r .content) k) (l .cleared e)
             ∙ ap zeros (length-part (r .content) (storedStart t k) (storedSize t (2 * k)) room);
       }
 
@@ -266,16 +239,16 @@ module _ (F : List ℕ → List ℕ) (r : Register) (s : Sound F (lentAsCopy r))
   sizes zero k f = leaf-at k f .short
   sizes (suc d) k f = parent-at d k f .size
 
-  starts : (k : ℕ) → k < r .n → leafStart (lentAsCopy r) k ≡ storedStart u k
+  starts : (k : ℕ) → k < r .n → (l : LeafSound F (lentAsCopy r) k) → l .start ≡ storedStart u k
   unfolding toChunk
-  starts k h = ap startOf (chunk-same (lentAsCopy r) k (chunk-known (lentAsCopy r) all k) ∙ comes-at u (r .n) (lent .count) sizes k h)
+  starts k h l = one-start (sym (l .comes) ∙ chunk-same (lentAsCopy r) k (chunk-known (lentAsCopy r) all k) ∙ comes-at u (r .n) (lent .count) sizes k h)
 
   right-leaf : (k : ℕ) → filled (r .n) (index 0 k) ≡ true → LeafRight F u (r .content) (r .size) (storedHeld (r .bitfield) k) k
   unfolding index storedChunk
   right-leaf k f =
       let l = leaf-at k f in
-      let e : leafStart (lentAsCopy r) k ≡ storedStart u k = starts k (omega (arith, mul-one (k + 1), filled-end (r .n) 0 k f)) in
-      let same : leafData (lentAsCopy r) k ≡ storedChunk u (r .content) k = ap (λ (x : ℕ). part (r .content) x (storedSize u (2 * k))) e in
+      let e : l .start ≡ storedStart u k = starts k (omega (arith, mul-one (k + 1), filled-end (r .n) 0 k f)) l in
+      let same : leafData (lentAsCopy r) k (l .start) ≡ storedChunk u (r .content) k = ap (λ (x : ℕ). part (r .content) x (storedSize u (2 * k))) e in
       record {
         short = l .short;
         inside = subst (λ (x : ℕ). x + storedSize u (2 * k) ≤ r .size) e (l .inside);

@@ -7,7 +7,7 @@ use native.Mathlib.Nat.{zero-add, mul-one, mul-comm}
 use native.Mathlib.Omega.{arith}
 use borrow.Author.Tests.{leb-true, le-leb, eqb-true, eq-eqb}
 use lib.Dec.{leb}
-use lib.ListN.{length, getD, take}
+use lib.ListN.{getD, take}
 use lib.Seq.{take-add, getD-take}
 use Rattle.answer_types.specs.Verdict.{tree, bitfield, done}
 use Rattle.byte_strings.specs.Lists.{part, run, joined, sameList, allZero, zeros}
@@ -28,7 +28,6 @@ use Rattle.file_format.specs.Stored.{storedHash, storedSize}
 use Rattle.audit.specs.Audit.{parentRight, holeRight, heldBits, refusedAt, byteRightBy, leafFrom}
 use Rattle.audit.proofs.Audited.{parent-right, right-parent, at-must, all-zero, zeros-zero}
 use Rattle.lookup.specs.Descent.{Ending, stopped, reached, unknown, chunkWithin, descent}
-use Rattle.lookup.specs.Lookup.{startOf}
 use Rattle.lookup.proofs.Descents.{Ends, ends, chunk-order}
 use Rattle.short_lookup.proofs.Accepted.{entries-cut}
 use Rattle.copy_checks.specs.Copy.{Copy, known}
@@ -39,7 +38,7 @@ use Rattle.copy_checks.proofs.Steps.{Lent, partly-passed, partly-passes}
 use Rattle.copy_audit.specs.Audit.{wrongUnless, heldLeaf, bothKnown, wrongFrom, wrongByLeaf, wrongByParent, wrongByKnown, wrongByUnknown, copyByteRight}
 use Rattle.copy_audit.specs.Audit.{wrongBy, wrongEntryOfCopy, knownBits, wrongByteOfCopy, auditCopy, AcceptedCopy, leafRightFrom}
 use Rattle.copy_audit.proofs.Judged.{unless-right, right-unless}
-use Rattle.theorem_copy_audit.specs.Theorems.{leafStart, leafData, bitsOf, EntryZero, LeafSound, ParentSound, Sound}
+use Rattle.theorem_copy_audit.specs.Theorems.{leafData, bitsOf, EntryZero, LeafSound, ParentSound, Sound}
 use Rattle.file_format.specs.Images.{bitfieldOf}
 
 -- ---- what a test finds
@@ -90,31 +89,30 @@ module _ (F : List ℕ → List ℕ) (c : Copy) where
       from (reached j s) w q =
           let a = both-true (leb (size k) longestChunk) _ (unless-right (leafRightFrom F c k s) (index 0 k) q) in
           let b = both-true (leb (s + size k) (c .size)) (lastTest (heldBit k) k s) (a .1) in
-          let start : s ≡ leafStart c k = sym (ap startOf w) in
           let inside : s + size k ≤ c .size = leb-true (s + size k) (c .size) (b .0) in
           record {
-            comes = w ∙ ap₂ reached (comes-to (known c) (c .tree) (c .n) k j s (lent .count) below w) start;
+            start = s;
+            comes = w ∙ ap (λ (x : ℕ). reached x s) (comes-to (known c) (c .tree) (c .n) k j s (lent .count) below w);
             short = leb-true (size k) longestChunk (a .0);
-            inside = subst (λ (x : ℕ). x + size k ≤ c .size) start inside;
-            held = λ h. same-eq (storedHash t (index 0 k)) (F (leafMessage (leafData c k))) (ap₂ (λ (x : Bool) (y : ℕ). lastTest x k y) (sym h) (sym start) ∙ b .1);
+            inside = inside;
+            held = λ h. same-eq (storedHash t (index 0 k)) (F (leafMessage (leafData c k s))) (ap (λ (x : Bool). lastTest x k s) (sym h) ∙ b .1);
             released = λ h.
-                let z : allZero (leafData c k) ≡ true = ap₂ (λ (x : Bool) (y : ℕ). lastTest x k y) (sym h) (sym start) ∙ b .1 in
-                let room : leafStart c k + size k ≤ length (c .content) = omega (arith, subst (λ (x : ℕ). x + size k ≤ c .size) start inside, lent .content) in
-                all-zero (leafData c k) z ∙ ap zeros (length-part (c .content) (leafStart c k) (size k) room);
+                all-zero (leafData c k s) (ap (λ (x : Bool). lastTest x k s) (sym h) ∙ b .1)
+                ∙ ap zeros (length-part (c .content) s (size k) (omega (arith, inside, lent .content)));
           }
 
   sound-leaf : (k : ℕ) → LeafSound F c k → wrongByLeaf F c k ≡ nowhere
   unfolding wrongByLeaf wrongFrom leafFrom
   sound-leaf k s =
       ap (wrongFrom F c k) (s .comes)
-      ∙ right-unless (leafRightFrom F c k (leafStart c k)) (index 0 k)
+      ∙ right-unless (leafRightFrom F c k (s .start)) (index 0 k)
       (true-both _ _ (le-leb (size k) longestChunk (s .short))
-      (true-both _ _ (le-leb (leafStart c k + size k) (c .size) (s .inside)) (last (heldBit k) refl)))
+      (true-both _ _ (le-leb (s .start + size k) (c .size) (s .inside)) (last (heldBit k) refl)))
     where
-      last : (b : Bool) → heldBit k ≡ b → lastTest (heldBit k) k (leafStart c k) ≡ true
+      last : (b : Bool) → heldBit k ≡ b → lastTest (heldBit k) k (s .start) ≡ true
       last true e =
-          ap (λ (x : Bool). lastTest x k (leafStart c k)) e ∙ same-of (storedHash t (index 0 k)) (F (leafMessage (leafData c k))) (s .held e)
-      last false e = ap (λ (x : Bool). lastTest x k (leafStart c k)) e ∙ ap allZero (s .released e) ∙ zeros-zero (size k)
+          ap (λ (x : Bool). lastTest x k (s .start)) e ∙ same-of (storedHash t (index 0 k)) (F (leafMessage (leafData c k (s .start)))) (s .held e)
+      last false e = ap (λ (x : Bool). lastTest x k (s .start)) e ∙ ap allZero (s .released e) ∙ zeros-zero (size k)
 
   -- ---- a parent
 

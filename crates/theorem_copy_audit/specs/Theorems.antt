@@ -25,7 +25,6 @@ use Rattle.file_format.specs.Belongs.{Register, Lent, Belongs}
 use Rattle.checks.specs.Checks.{signedRight, holds, headed}
 use Rattle.audit.specs.Audit.{Accepted}
 use Rattle.lookup.specs.Descent.{reached}
-use Rattle.lookup.specs.Lookup.{startOf}
 use Rattle.copy_checks.specs.Copy.{Copy, known, lentAsCopy, unsigned}
 use Rattle.copy_checks.specs.Descents.{copyToChunk}
 use Rattle.copy_checks.specs.Checks.{copyJudged, partlyJudged}
@@ -34,12 +33,9 @@ use Rattle.copy_lookup.specs.Reading.{copyReadVerdict, copyReadPart}
 use Rattle.theorem_copies_agree.specs.Theorems.{AllKnown}
 use Rattle.file_format.specs.Images.{bitfieldOf}
 
--- where the descent to chunk k finds its data, and these data
-abbrev pub leafStart : Copy → ℕ → ℕ
-leafStart c k = startOf (copyToChunk c k)
-
-abbrev pub leafData : Copy → ℕ → List ℕ
-leafData c k = part (c .content) (leafStart c k) (storedSize (c .tree) (index 0 k))
+-- the data of chunk k, from where they begin
+abbrev pub leafData : Copy → ℕ → ℕ → List ℕ
+leafData c k start = part (c .content) start (storedSize (c .tree) (index 0 k))
 
 -- the entry i of a tree file is zero
 abbrev pub EntryZero : List ℕ → ℕ → Type 0
@@ -59,14 +55,15 @@ bitsOf c = bitfieldOf (dataBits c) (treeBits c) (c .n)
 module _ (F : List ℕ → List ℕ) where
   -- a known leaf
   pub record LeafSound (c : Copy) (k : ℕ) : Type 0 where
-    -- the descent comes to it: it meets no unknown entry and no stop
-    pub comes : copyToChunk c k ≡ reached k (leafStart c k)
+    -- the descent comes to it: it meets no unknown entry and no stop. There its data begin
+    pub start : ℕ
+    pub comes : copyToChunk c k ≡ reached k start
     pub short : storedSize (c .tree) (index 0 k) ≤ longestChunk
-    pub inside : leafStart c k + storedSize (c .tree) (index 0 k) ≤ c .size
+    pub inside : start + storedSize (c .tree) (index 0 k) ≤ c .size
     -- of a chunk that is held it has F of the leaf message
-    pub held : storedHeld (c .bitfield) k ≡ true → storedHash (c .tree) (index 0 k) ≡ F (leafMessage (leafData c k))
+    pub held : storedHeld (c .bitfield) k ≡ true → storedHash (c .tree) (index 0 k) ≡ F (leafMessage (leafData c k start))
     -- of one that is not its data are zero
-    pub released : storedHeld (c .bitfield) k ≡ false → leafData c k ≡ zeros (storedSize (c .tree) (index 0 k))
+    pub released : storedHeld (c .bitfield) k ≡ false → leafData c k start ≡ zeros (storedSize (c .tree) (index 0 k))
 
   -- a known parent whose children are known: the sum of their lengths, and F of the parent message
   pub record ParentSound (t : List ℕ) (d k : ℕ) : Type 0 where

@@ -24,7 +24,7 @@ use Rattle.lookup.specs.Descent.{reached}
 use Rattle.lookup.specs.Lookup.{toChunk}
 use Rattle.lookup.specs.Read.{chunkBytes}
 use Rattle.lookup.proofs.Answers.{stays-inside}
-use Rattle.lookup.proofs.Calls.{done-reached, done-first}
+use Rattle.lookup.proofs.Calls.{done-first, reading}
 use Rattle.packet.specs.Packet.{siblings, packetOf}
 use Rattle.packet.specs.Check.{packetChunk, packetVerdict, checkedChunk}
 use Rattle.packet.specs.Inner.{Readable}
@@ -33,9 +33,9 @@ use Rattle.copy_checks.specs.Copy.{Copy, filesOf, known, unsigned}
 use Rattle.copy_checks.specs.Descents.{copyToChunk}
 use Rattle.copy_checks.specs.Checks.{unknownRoot}
 use Rattle.copy_checks.proofs.Signed.{signed, signed-passes}
-use Rattle.copy_lookup.specs.Lookups.{copyHeldVerdict}
 use Rattle.copy_lookup.specs.Reading.{copyReadVerdict}
-use Rattle.copy_lookup.proofs.AsRegister.{held-same, read-as}
+use Rattle.copy_lookup.proofs.AsRegister.{read-held, read-as}
+use Rattle.copy_checks.proofs.Descents.{chunk-same}
 use Rattle.copy_roots.specs.Roots.{copyRootAnswer}
 use Rattle.copy_packet.specs.Making.{copyMakeVerdict}
 use Rattle.copy_release.specs.Release.{copyReleaseVerdict, releasedCopy}
@@ -48,7 +48,7 @@ use Rattle.theorem_taking_laws.proofs.Halves.{Half, inLeft, inRight, halves}
 use Rattle.file_format.proofs.Shown.{shown}
 use Rattle.theorem_taken_in.proofs.Has.{Has, reads-piece, root-done, root-is, release-done, taken-again, comes-back}
 use Rattle.theorem_packet_returns.proofs.Made.{Sound, sound-has}
-use Rattle.theorem_packet_returns.proofs.ComesBack.{read-hash, shown-again}
+use Rattle.theorem_packet_returns.proofs.ComesBack.{shown-again}
 use Rattle.theorem_copies_whole.proofs.Alike.{all-known}
 use Rattle.theorem_copies_whole.proofs.Known.{KnownBelow, descent-known, brought-known}
 use Rattle.theorem_copies_whole.proofs.Releases.{Releasing, releasing}
@@ -58,23 +58,17 @@ use Rattle.theorem_copy_packets.proofs.Audited.{parent-follows, heldOf,
 -- ---- a read that is done
 
 module _ (F : List ℕ → List ℕ) (c : Copy) (i : ℕ) (e : copyReadVerdict F c i ≡ done) where
-  held-done : copyHeldVerdict c i ≡ done
-  unfolding copyReadVerdict
-  held-done = done-first (copyHeldVerdict c i) _ e
-
   r : Releasing c i
   unfolding copyReleaseVerdict
-  r = releasing c i held-done
+  r = releasing c i (read-held F c i e)
 
   pub read-there : Readable (c .tree) (c .n) i (chunkBytes (unsigned c) i)
-  unfolding chunkBytes toChunk
+  unfolding chunkBytes
   read-there = readable F (signed c) i (sym (read-as F c i e)) (chunkBytes (signed c) i) refl
 
   pub below-there : KnownBelow (known c) (c .tree) i (length (siblings (c .n) i))
   unfolding copyToChunk
-  below-there =
-      let q = done-reached (copyToChunk c i) (r .stop) in
-      descent-known (known c) (c .tree) i (c .n) (q .0) (q .1) (read-there .chunk) (q .2)
+  below-there = descent-known (known c) (c .tree) i (c .n) i (r .start) (read-there .chunk) (r .comes)
 
   pub roots-there : (x : ℕ) → In x (roots (c .n)) → known c x ≡ true
   unfolding unknownRoot
@@ -107,9 +101,8 @@ module _ (F : List ℕ → List ℕ) (c : Copy) (i : ℕ) (e : copyReadVerdict F
     unfolding addsUp chunkBytes toChunk
     sound =
         let k = r .knowing in
-        let q = done-reached (copyToChunk c i) (r .stop) in
         let below = r .below in
-        let lands : toChunk (signed c) i ≡ reached (q .0) (q .1) = sym (held-same c i (held-done)) ∙ q .2 in
+        let lands : toChunk (signed c) i ≡ reached i (r .start) = sym (chunk-same c i (r .unknown)) ∙ r .comes in
         record {
           lent = k .lent;
           treeBytes = bt;
@@ -117,8 +110,8 @@ module _ (F : List ℕ → List ℕ) (c : Copy) (i : ℕ) (e : copyReadVerdict F
           read = read-there;
           adds = eqb-true (total (storedRootSizes (c .tree) (c .n))) (c .size) (k .adds);
           small = small;
-          leafSize = sym (stays-inside (signed c) (signed-passes c k) .read i below (q .0) (q .1) lands);
-          leafHash = read-hash F (signed c) i (read-as F c i e);
+          leafSize = sym (stays-inside (signed c) (signed-passes c k) .read i below i (r .start) lands);
+          leafHash = reading F (signed c) i (read-as F c i e) .hash;
           parents = λ d l.
               let p = parents-right d l (halves i d (i / 2 ^ suc d) refl) in
               parent-follows F c a d (i / 2 ^ suc d) (way-filled (c .n) i (read-there .chunk) (suc d) l)

@@ -22,13 +22,15 @@ use Rattle.theorem_taking_laws.proofs.Ways.{sideIndex, siblings-deep, other-roo
 use Rattle.theorem_used_bytes.proofs.Lookups.{then-same, then-first}
 use Rattle.copy_checks.specs.Copy.{Copy, known, unsigned}
 use Rattle.copy_checks.specs.Descents.{copyToChunk}
-use Rattle.copy_lookup.specs.Lookups.{copyHeldVerdict}
+use Rattle.lookup.specs.Read.{verdictFound}
+use Rattle.copy_lookup.specs.Lookups.{copyHeldPlaceOf}
+use Rattle.copy_lookup.proofs.AsRegister.{read-held}
 use Rattle.copy_lookup.specs.Reading.{copyReadVerdict}
 use Rattle.copy_packet.specs.Making.{copyMakeVerdict, copyAfterMake, copyMadeLength}
 use Rattle.copy_release.specs.Release.{copyReleaseVerdict}
 use Rattle.theorem_copy_reads.proofs.Descents.{sides-known}
 use Rattle.theorem_copy_reads.proofs.Checks.{Agreed, one, two, root-known}
-use Rattle.theorem_copy_reads.proofs.Lookups.{Reached, held-reached, held-says, bytes-same, read-says, read-first}
+use Rattle.theorem_copy_reads.proofs.Lookups.{Reached, held-reached, held-place-same, bytes-same, read-says}
 
 side-at : (n i j : ℕ) → j < length (siblings n i) → getD (siblings n i) j 0 ≡ sideIndex i j
 unfolding siblings
@@ -61,7 +63,7 @@ module _ (t u bits : List ℕ) (n : ℕ) (g : Agreed t u bits n) (content : List
         ap (λ (l : List (List ℕ)). length is ∷ joined l)
         (map-ext (λ i. part t (entryPlace i) 40) (λ i. part u (entryPlace i) 40) is (λ j l. g .entries (getD is j 0) (f j l) (k j l)))
 
-  packet-same : copyHeldVerdict a i ≡ done → packetOf (unsigned a) i ≡ packetOf (unsigned b) i
+  packet-same : verdictFound (copyHeldPlaceOf a i) ≡ done → packetOf (unsigned a) i ≡ packetOf (unsigned b) i
   unfolding packetOf packetWith
   packet-same e =
       let r = held-reached a i e in
@@ -78,7 +80,7 @@ module _ (t u bits : List ℕ) (n : ℕ) (g : Agreed t u bits n) (content : List
     unfolding copyMakeVerdict
     make-says =
         then-same (copyReadVerdict F a i) (room (packetOf (unsigned a) i)) (room (packetOf (unsigned b) i))
-        (λ e. ap room (packet-same (read-first t u bits n g content size i F e)))
+        (λ e. ap room (packet-same (read-held F a i e)))
         ∙ ap (λ (v : Verdict). andThen v (room (packetOf (unsigned b) i))) (read-says t u bits n g content size i F)
 
     -- what is done with a packet where it is made
@@ -88,7 +90,7 @@ module _ (t u bits : List ℕ) (n : ℕ) (g : Agreed t u bits n) (content : List
     made-with f h = go (copyMakeVerdict F a i out) refl ∙ ap (λ (v : Verdict). f v (packetOf (unsigned b) i)) make-says
       where
         go : (v : Verdict) → copyMakeVerdict F a i out ≡ v → f v (packetOf (unsigned a) i) ≡ f v (packetOf (unsigned b) i)
-        go done e = ap (f done) (packet-same (read-first t u bits n g content size i F (then-first (copyReadVerdict F a i) _ e)))
+        go done e = ap (f done) (packet-same (read-held F a i (then-first (copyReadVerdict F a i) _ e)))
         go (refused m at) e = h m at (packetOf (unsigned a) i) (packetOf (unsigned b) i)
 
     pub after-same : copyAfterMake F a i out ≡ copyAfterMake F b i out
@@ -103,4 +105,4 @@ module _ (t u bits : List ℕ) (n : ℕ) (g : Agreed t u bits n) (content : List
 
   pub release-says : copyReleaseVerdict a i ≡ copyReleaseVerdict b i
   unfolding copyReleaseVerdict
-  release-says = held-says t u bits n g content size i
+  release-says = ap verdictFound (held-place-same t u bits n g content size i)

@@ -1,7 +1,7 @@
 -- Taking in a packet: two copies that agree on what is known say the same of it, and the same bytes are written into both. Assumes nothing.
 use Prim.Native.Nat.{ℕ, _+_, _-_, _/_, _≤_, _<_}
 use mathlib.Core.Path.{_≡_, refl, sym, ap, _∙_, subst}
-use mathlib.Core.Bool.{Bool, true, false, cond, _||_}
+use mathlib.Core.Bool.{Bool, true, false, _&&_, _||_, not}
 use mathlib.Core.Logic.{inl, inr}
 use mathlib.Core.List.{List, [], _∷_}
 use native.Mathlib.Decide.{decLt}
@@ -10,9 +10,9 @@ use lib.Dec.{leb}
 use lib.ListN.{length, getD}
 use Rattle.answer_types.specs.Verdict.{Verdict, tree, done, andThen}
 use Rattle.byte_strings.specs.Lists.{part, put, among, sameList, Bytes}
-use Rattle.byte_strings.specs.Lowest.{Lowest, nowhere, first}
+use Rattle.byte_strings.specs.Lowest.{Lowest}
 use Rattle.byte_strings.proofs.Lists.{part-put, getD-part}
-use Rattle.tree_index.specs.Tree.{filled}
+use Rattle.tree_index.specs.Tree.{index, filled}
 use Rattle.bitfield.specs.Append.{bitsPlace}
 use Rattle.bitfield.specs.Known.{storedKnown, heldAgain}
 use Rattle.file_format.specs.Sizes.{entryPlace, usedTree}
@@ -25,7 +25,7 @@ use Rattle.packet.specs.Inner.{ChunkOf}
 use Rattle.copy_checks.specs.Copy.{Copy}
 use Rattle.copy_checks.specs.Checks.{partlyJudged}
 use Rattle.copy_checks.specs.Least.{lowerOf, leastOf}
-use Rattle.copy_take_in.specs.TakeIn.{Given, packetStart, contradicts, contradictsBytes, withGiven, withKnown, brought, contradiction, takeVerdict, takenIn}
+use Rattle.copy_take_in.specs.TakeIn.{Given, packetStart, contradicted, bytesContradicted, indexIf, contradicts, withGiven, withKnown, brought, contradiction, takeVerdict, takenIn}
 use Rattle.copy_take_in.proofs.Stages.{Passes, totalCheck, staged-passes, fits}
 use Rattle.byte_strings.proofs.Members.{In, in-map}
 use Rattle.bitfield.proofs.StoredBits.{RoomFor, known-again}
@@ -96,20 +96,20 @@ module _ (t u bits : List ℕ) (n : ℕ) (g : Agreed t u bits n) (content : List
 
   -- a brought entry contradicts in both or in neither
   entry-same : (x : Given) → filled n (x .at) ≡ true → contradicts t bits x ≡ contradicts u bits x
-  unfolding contradicts
+  unfolding contradicted
   entry-same x f = pick (storedKnown bits (x .at)) refl
     where
-      by : List ℕ → Lowest
-      by y = cond (sameList y (entryBytes (x .entry))) nowhere (first (x .at))
+      by : Bool → List ℕ → Lowest
+      by k y = indexIf (k && not (sameList y (entryBytes (x .entry)))) (x .at)
 
-      pick : (k : Bool) → storedKnown bits (x .at) ≡ k → cond k (by (part t (entryPlace (x .at)) 40)) nowhere ≡ cond k (by (part u (entryPlace (x .at)) 40)) nowhere
-      pick true e = ap by (g .entries (x .at) f e)
+      pick : (k : Bool) → storedKnown bits (x .at) ≡ k → by k (part t (entryPlace (x .at)) 40) ≡ by k (part u (entryPlace (x .at)) 40)
+      pick true e = ap (by true) (g .entries (x .at) f e)
       pick false e = refl
 
   contradiction-same : ChunkOf n i → contradiction F a p i ≡ contradiction F b p i
   unfolding contradiction
   contradiction-same h =
-      ap (λ (l : List Lowest). lowerOf (contradictsBytes bits content i (packetStart p n i) (packetChunk p)) (leastOf l))
+      ap (λ (l : List Lowest). lowerOf (indexIf (bytesContradicted bits content i (packetStart p n i) (packetChunk p)) (index 0 i)) (leastOf l))
       (map-same (contradicts t bits) (contradicts u bits) gs (λ x m. entry-same x (brought-filled n i h F p x m)))
 
   module _ (root : List ℕ) where

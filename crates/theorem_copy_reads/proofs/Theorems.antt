@@ -1,11 +1,10 @@
 -- All calls: copies that have the same known entries differ in their tree files alone. Assumes nothing.
 use Prim.Native.Nat.{ℕ}
-use mathlib.Core.Path.{_≡_, refl, sym, ap₂, _∙_, subst}
+use mathlib.Core.Path.{_≡_, refl, sym, ap, ap₂, _∙_, subst}
 use mathlib.Core.List.{List}
 use Rattle.answer_types.specs.Verdict.{Verdict, done}
-use Rattle.byte_strings.specs.Lists.{put, zeros}
 use Rattle.record_find.specs.ChunkRecords.{headerAfter, nodeAfter}
-use Rattle.release.specs.Release.{releasedRegister}
+use Rattle.release.specs.Release.{bytesCleared, releasedRegister}
 use Rattle.release.proofs.Bits.{bit-room}
 use Rattle.copy_checks.specs.Copy.{Copy}
 use Rattle.copy_checks.specs.Checks.{copyJudged}
@@ -15,7 +14,7 @@ use Rattle.copy_records.specs.Records.{copyFind}
 use Rattle.theorem_used_bytes.proofs.Records.{find-same}
 use Rattle.theorem_copy_reads.specs.Theorems.{SameKnown, KnownAlone, KnownAloneForAll}
 use Rattle.theorem_copy_reads.proofs.Checks.{Agreed, one, two, copy-same}
-use Rattle.theorem_copy_reads.proofs.Lookups.{held-reached, place-same, held-place-same, byte-same, start-same, length-same, read-says, read-same, read-finds}
+use Rattle.theorem_copy_reads.proofs.Lookups.{held-reached, place-same, held-place-same, byte-same, lies-same, read-says, read-same, read-finds}
 use Rattle.theorem_copy_reads.proofs.Short.{short-place-same, short-byte-same}
 use Rattle.theorem_copy_reads.proofs.Roots.{root-says, root-same, old-says, old-same, search-same, short-search-same}
 use Rattle.theorem_copy_reads.proofs.Packets.{make-says, after-same, made-length-same, release-says}
@@ -49,7 +48,7 @@ module _ (t u bits : List ℕ) (n : ℕ) (g : Agreed t u bits n) (content : List
         n = refl;
         size = refl;
         bitfield = refl;
-        content = ap₂ (λ (s z : ℕ). put content s (zeros z)) (start-same t u bits n g content size i e) (length-same t u bits n g content size i e);
+        content = ap (bytesCleared content) (lies-same t u bits n g content size i e);
         long = g .long;
         header = g .header;
         entries = λ j f k. g .entries j f (sym (known-released bits i (bit-room bits n i (r .knows .lent .bitfield) (r .chunk .below)) j) ∙ k);

@@ -22,7 +22,7 @@ use Rattle.checks.specs.Checks.{Check, judged, addsUp}
 use Rattle.checks.proofs.Judged.{AllRight, judged-right}
 use Rattle.audit.specs.Audit.{refusedAt}
 use Rattle.lookup.specs.Descent.{Ending, stopped, reached, unknown, ifKnown, chunkWithin, byteWithin, descend, fromRoots, descent}
-use Rattle.lookup.specs.Lookup.{Found, refusal, found, stopRefused, byteEnding, foundBehind}
+use Rattle.lookup.specs.Lookup.{Found, refusal, found, foundBehind, placeFrom, byteFrom, placeIn, heldPlaceIn, byteIn}
 use Rattle.lookup.specs.Unknown.{firstUnknown}
 use Rattle.lookup.specs.Theorems.{Right, Visits, fromRoot, toLeft, toRight, HoldsChunk, HoldsByte}
 use Rattle.packet.specs.Packet.{rootAbove}
@@ -34,7 +34,7 @@ use Rattle.copy_checks.specs.Copy.{Copy, known}
 use Rattle.copy_checks.specs.Checks.{lentChecks, unknownRoot, sizeCheck, copyJudged}
 use Rattle.copy_checks.specs.Descents.{copyToChunk, copyToByte}
 use Rattle.copy_checks.proofs.Steps.{lent-passed, copy-passed}
-use Rattle.copy_lookup.specs.Lookups.{copyPlaceVerdict, copyHeldVerdict, copyByteVerdict}
+use Rattle.copy_lookup.specs.Lookups.{copyPlaceOf, copyHeldPlaceOf, copyByteAt}
 use Rattle.short_lookup.specs.ShortLookup.{leafRight, leafRefused, leafPassed, placeByLeaves, byteByLeaves, shortPlaceIn, shortByteIn}
 use Rattle.short_lookup.proofs.Answers.{lowest-says}
 use Rattle.copy_short_lookup.specs.Short.{copyShortPlaceOf, copyShortByteAt}
@@ -194,22 +194,17 @@ byte-sought t n b =
     }
 
 meets : (c : Copy) → Meets c
-unfolding copyToChunk copyToByte byteEnding
+unfolding copyToChunk copyToByte
 meets c =
     record {
       chunk = λ i few below j e.
           let q = descent-on (known c) (chunkWithin i) (c .tree) (c .n) (ChunkBehind i) (HoldsChunk i)
           (chunk-sought (c .tree) (c .n) i (record { count = few; below = below })) j e in
           record { unknown = q .0; way = q .1 };
-      byte = λ b j e. at b j (eqb b (c .size)) e;
+      byte = λ b j e.
+          let q = descent-on (known c) (byteWithin b) (c .tree) (c .n) (ByteBehind (c .tree) b) (HoldsByte (c .tree) b) (byte-sought (c .tree) (c .n) b) j e in
+          record { unknown = q .0; way = q .1 };
     }
-  where
-    at : (b j : ℕ) (x : Bool) → chosen x (reached (c .n) (c .size)) (descent (known c) (byteWithin b) (c .tree) (c .n)) ≡ unknown j
-        → Met c (ByteBehind (c .tree) b) (HoldsByte (c .tree) b) j
-    at b j true e = let z : _≡_ {A = ℕ} 0 1 = cc in absurd (omega arith)
-    at b j false e =
-        let q = descent-on (known c) (byteWithin b) (c .tree) (c .n) (ByteBehind (c .tree) b) (HoldsByte (c .tree) b) (byte-sought (c .tree) (c .n) b) j e in
-        record { unknown = q .0; way = q .1 }
 
 -- ---- a call's 20
 
@@ -314,15 +309,53 @@ copy-twenty c next at e =
         let here : at ≡ tree j = cc in inl (j, here, r .0, record { before = l .before; after = l .after; here = l .here; left = l .left })
 
 -- a descent's 20 is an ending at an unknown entry
-stop-twenty : (e : Ending) (at : Spot) → stopRefused e ≡ refused 20 at → (j : ℕ) × (at ≡ tree j) × (e ≡ unknown j)
-unfolding stopRefused
-stop-twenty (stopped i) at q = let z : _≡_ {A = ℕ} 10 20 = cc in absurd (omega arith)
-stop-twenty (reached k s) at q = let z : _≡_ {A = ℕ} 0 1 = cc in absurd (omega arith)
-stop-twenty (unknown j) at q = let here : at ≡ tree j = cc in (j, here, refl)
+abbrev Stopped : Spot → Ending → Type 0
+Stopped at e = (j : ℕ) × (at ≡ tree j) × (e ≡ unknown j)
 
-held-twenty : (b : Bool) (v : Verdict) (spot at : Spot) → cond b v (refused 18 spot) ≡ refused 20 at → v ≡ refused 20 at
-held-twenty true v spot at e = e
-held-twenty false v spot at e = let z : _≡_ {A = ℕ} 18 20 = cc in absurd (omega arith)
+place-stopped : (t : List ℕ) (i : ℕ) (e : Ending) (at : Spot) → placeFrom t i e ≡ refusal 20 at → Stopped at e
+place-stopped t i (stopped k) at q = let z : _≡_ {A = ℕ} 10 20 = cc in absurd (omega arith)
+place-stopped t i (reached k s) at q = let z : _≡_ {A = ℕ} 0 1 = cc in absurd (omega arith)
+place-stopped t i (unknown j) at q = let here : at ≡ tree j = cc in (j, here, refl)
+
+byte-stopped : (b : ℕ) (e : Ending) (at : Spot) → byteFrom b e ≡ refusal 20 at → Stopped at e
+byte-stopped b (stopped k) at q = let z : _≡_ {A = ℕ} 10 20 = cc in absurd (omega arith)
+byte-stopped b (reached k s) at q = let z : _≡_ {A = ℕ} 0 1 = cc in absurd (omega arith)
+byte-stopped b (unknown j) at q = let here : at ≡ tree j = cc in (j, here, refl)
+
+module _ (c : Copy) (at : Spot) where
+  place-twenty : (i : ℕ) → placeIn (known c) (c .tree) (c .n) i ≡ refusal 20 at → (i < c .n) × Stopped at (copyToChunk c i)
+  unfolding placeIn copyToChunk
+  place-twenty i = pick (ltb i (c .n)) refl
+    where
+      pick : (x : Bool) → ltb i (c .n) ≡ x → cond x (placeFrom (c .tree) i (copyToChunk c i)) (refusal 9 none) ≡ refusal 20 at
+          → (i < c .n) × Stopped at (copyToChunk c i)
+      pick true f q = (ltb-true i (c .n) f, place-stopped (c .tree) i (copyToChunk c i) at q)
+      pick false f q = let z : _≡_ {A = ℕ} 9 20 = cc in absurd (omega arith)
+
+  held-twenty : (i : ℕ) → heldPlaceIn (known c) (c .tree) (c .n) (c .bitfield) i ≡ refusal 20 at → (i < c .n) × Stopped at (copyToChunk c i)
+  unfolding heldPlaceIn copyToChunk
+  held-twenty i = pick (ltb i (c .n)) refl (storedHeld (c .bitfield) i)
+    where
+      pick : (x : Bool) → ltb i (c .n) ≡ x → (h : Bool)
+          → cond x (cond h (placeFrom (c .tree) i (copyToChunk c i)) (refusal 18 (tree (index 0 i)))) (refusal 9 none) ≡ refusal 20 at
+          → (i < c .n) × Stopped at (copyToChunk c i)
+      pick true f true q = (ltb-true i (c .n) f, place-stopped (c .tree) i (copyToChunk c i) at q)
+      pick true f false q = let z : _≡_ {A = ℕ} 18 20 = cc in absurd (omega arith)
+      pick false f h q = let z : _≡_ {A = ℕ} 9 20 = cc in absurd (omega arith)
+
+  byte-twenty : (b : ℕ) → byteIn (known c) (c .tree) (c .n) (c .size) b ≡ refusal 20 at → Stopped at (copyToByte c b)
+  unfolding byteIn copyToByte
+  byte-twenty b = pick (ltb (c .size) b) (eqb b (c .size))
+    where
+      pick : (x y : Bool) → cond x (refusal 9 none) (cond y (found (c .n) 0) (byteFrom b (copyToByte c b))) ≡ refusal 20 at → Stopped at (copyToByte c b)
+      pick true y q = let z : _≡_ {A = ℕ} 9 20 = cc in absurd (omega arith)
+      pick false true q = let z : _≡_ {A = ℕ} 0 1 = cc in absurd (omega arith)
+      pick false false q = byte-stopped b (copyToByte c b) at q
+
+-- what a call comes to where every root is known is none
+other-way : (c : Copy) (Other : ℕ → Type 0) (j : ℕ) → known c j ≡ false → RootsKnown c → (among j (roots (c .n)) ≡ true) ⊎ Other j → RootsKnown c × Other j
+other-way c Other j u k (inl a) = let z : false ≡ true = sym u ∙ k j a in let w : _≡_ {A = ℕ} 0 1 = cc in absurd (omega arith)
+other-way c Other j u k (inr o) = (k, o)
 
 -- an unknown root, or what a call comes to behind the checks and its own
 called : (c : Copy) (Other : ℕ → Type 0) (at : Spot) (right : Bool) (next : Verdict)
@@ -330,22 +363,17 @@ called : (c : Copy) (Other : ℕ → Type 0) (at : Spot) (right : Bool) (next : 
     → copyJudged c (judged (record { number = 9; right = right } ∷ []) next) ≡ refused 20 at → Twenty c Other at
 called c Other at right next come q = pick (copy-twenty c (judged (record { number = 9; right = right } ∷ []) next) at q)
   where
-    other : (j : ℕ) → known c j ≡ false → RootsKnown c → (among j (roots (c .n)) ≡ true) ⊎ Other j → RootsKnown c × Other j
-    other j u k (inl a) = let z : false ≡ true = sym u ∙ k j a in let w : _≡_ {A = ℕ} 0 1 = cc in absurd (omega arith)
-    other j u k (inr o) = (k, o)
-
     pick : AtRoot c at ⊎ Behind20 c (judged (record { number = 9; right = right } ∷ []) next) at → Twenty c Other at
     pick (inl r) = record { j = r .0; here = r .1; unknown = r .2; way = inl (r .3) }
     pick (inr r) =
         let a = behind-others 20 at (record { number = 9; right = right } ∷ []) next (λ e. omega arith, tt) (r .2) in
-        let d = come (r .0) (a .0 .0) (a .1) in record { j = d .0; here = d .1; unknown = d .2; way = inr (other (d .0) (d .2) (r .1) (d .3)) }
+        let d = come (r .0) (a .0 .0) (a .1) in record { j = d .0; here = d .1; unknown = d .2; way = inr (other-way c Other (d .0) (d .2) (r .1) (d .3)) }
 
 -- a descent's
-met : (c : Copy) (Behind : List ℕ → Type 0) (Has : ℕ → ℕ → ℕ → Type 0) (at : Spot) (e : Ending) → stopRefused e ≡ refused 20 at
+met : (c : Copy) (Behind : List ℕ → Type 0) (Has : ℕ → ℕ → ℕ → Type 0) (at : Spot) (e : Ending) → Stopped at e
     → ((j : ℕ) → e ≡ unknown j → Met c Behind Has j)
     → (j : ℕ) × (at ≡ tree j) × (known c j ≡ false) × ((among j (roots (c .n)) ≡ true) ⊎ ChildOnWay (c .tree) (c .n) Has j)
-met c Behind Has at e q meet =
-    let d = stop-twenty e at q in
+met c Behind Has at e d meet =
     let m = meet (d .0) (d .2) in (d .0, d .1, m .unknown, pick (d .0) (m .way))
   where
     pick : (j : ℕ) → RootOnWay (c .n) Behind j ⊎ ChildOnWay (c .tree) (c .n) Has j → (among j (roots (c .n)) ≡ true) ⊎ ChildOnWay (c .tree) (c .n) Has j
@@ -384,15 +412,22 @@ rooted : (c : Copy) (Other : ℕ → Type 0) (at : Spot) → AtRoot c at ⊎ Beh
 rooted c Other at (inl r) = record { j = r .0; here = r .1; unknown = r .2; way = inl (r .3) }
 rooted c Other at (inr r) = let e = r .2 in let z : _≡_ {A = ℕ} 0 1 = cc in absurd (omega arith)
 
--- behind the checks: an unknown root, or what the walk comes to
+-- behind the checks: an unknown root, or what the lookup comes to
+found-twenty : (c : Copy) (Other : ℕ → Type 0) (at : Spot) (x : Found)
+    → (c .n ≤ mostChunks → x ≡ refusal 20 at → (j : ℕ) × (at ≡ tree j) × (known c j ≡ false) × ((among j (roots (c .n)) ≡ true) ⊎ Other j))
+    → foundBehind (copyJudged c done) x ≡ refusal 20 at → Twenty c Other at
+found-twenty c Other at x come e = pick (copyJudged c done) refl e
+  where
+    pick : (v : Verdict) → copyJudged c done ≡ v → foundBehind v x ≡ refusal 20 at → Twenty c Other at
+    pick done f q =
+        let k = copy-passed c done f .0 in
+        let r = come (k .lent .count) q in
+        record { j = r .0; here = r .1; unknown = r .2; way = inr (other-way c Other (r .0) (r .2) (roots-known c (k .rooted)) (r .3)) }
+    pick (refused k s) f q = let g : refused k s ≡ refused 20 at = cc in rooted c Other at (copy-twenty c done at (f ∙ g))
+
 walked-twenty : (c : Copy) (m : ℕ) (at : Spot) (x : Found) → (x ≡ refusal 20 at → Come c m at) → foundBehind (copyJudged c done) x ≡ refusal 20 at
     → Twenty c (LeafBelow m) at
-walked-twenty c m at x come e = pick (copyJudged c done) refl e
-  where
-    pick : (v : Verdict) → copyJudged c done ≡ v → foundBehind v x ≡ refusal 20 at → Twenty c (LeafBelow m) at
-    pick done f q =
-        let r = come q in record { j = r .0; here = r .1; unknown = r .2; way = inr (roots-known c (copy-passed c done f .0 .rooted), r .3) }
-    pick (refused k s) f q = let g : refused k s ≡ refused 20 at = cc in rooted c (LeafBelow m) at (copy-twenty c done at (f ∙ g))
+walked-twenty c m at x come = found-twenty c (LeafBelow m) at x (λ few q. let r = come q in (r .0, r .1, r .2, inr (r .3)))
 
 place-come : (c : Copy) (i : ℕ) (at : Spot) → shortPlaceIn (known c) (c .tree) (c .n) i ≡ refusal 20 at → Come c (i + 1) at
 unfolding shortPlaceIn placeByLeaves
@@ -429,18 +464,16 @@ byte-come c b at e = pick (ltb (c .size) b) (eqb b (c .size)) (lowest (leafPasse
         at-leaf k (omega (arith, lowest-says (leafPassed (known c) (c .tree) b) 0 (c .n) k f .below)) (leafRight (known c) (c .tree) k) q
 
 twenties : (c : Copy) → Twenties c
-unfolding copyPlaceVerdict copyHeldVerdict copyByteVerdict copyShortPlaceOf copyShortByteAt copyPrefixVerdict copyLeafVerdict leafIn
+unfolding copyPlaceOf copyHeldPlaceOf copyByteAt copyShortPlaceOf copyShortByteAt copyPrefixVerdict copyLeafVerdict leafIn
 twenties c =
     record {
-      place = λ i at e.
-          called c (Child i) at (ltb i (c .n)) (stopRefused (copyToChunk c i)) (λ few r q. met c (ChunkBehind i) (HoldsChunk i) at (copyToChunk c i) q (by-chunk i few r)) e;
-      held = λ i at e.
-          called c (Child i) at (ltb i (c .n)) (cond (storedHeld (c .bitfield) i) (stopRefused (copyToChunk c i)) (refused 18 (tree (index 0 i))))
-          (λ few r q. met c (ChunkBehind i) (HoldsChunk i) at (copyToChunk c i)
-          (held-twenty (storedHeld (c .bitfield) i) (stopRefused (copyToChunk c i)) (tree (index 0 i)) at q) (by-chunk i few r)) e;
-      byte = λ b at e.
-          called c (ChildOnWay (c .tree) (c .n) (HoldsByte (c .tree) b)) at (leb b (c .size)) (stopRefused (copyToByte c b))
-          (λ few r q. met c (ByteBehind (c .tree) b) (HoldsByte (c .tree) b) at (copyToByte c b) q (meets c .byte b)) e;
+      place = λ i at.
+          found-twenty c (Child i) at (placeIn (known c) (c .tree) (c .n) i) (λ few q. by-chunk i at few (place-twenty c at i q));
+      held = λ i at.
+          found-twenty c (Child i) at (heldPlaceIn (known c) (c .tree) (c .n) (c .bitfield) i) (λ few q. by-chunk i at few (held-twenty c at i q));
+      byte = λ b at.
+          found-twenty c (ChildOnWay (c .tree) (c .n) (HoldsByte (c .tree) b)) at (byteIn (known c) (c .tree) (c .n) (c .size) b)
+          (λ few q. met c (ByteBehind (c .tree) b) (HoldsByte (c .tree) b) at (copyToByte c b) (byte-twenty c at b q) (meets c .byte b));
       shortPlace = λ i at e. walked-twenty c (i + 1) at _ (place-come c i at) e;
       shortByte = λ b at e. walked-twenty c (c .n) at _ (byte-come c b at) e;
       old = λ m at e.
@@ -453,8 +486,9 @@ twenties c =
     Child : ℕ → ℕ → Type 0
     Child i = ChildOnWay (c .tree) (c .n) (HoldsChunk i)
 
-    by-chunk : (i : ℕ) → c .n ≤ mostChunks → ltb i (c .n) ≡ true → (j : ℕ) → copyToChunk c i ≡ unknown j → Met c (ChunkBehind i) (HoldsChunk i) j
-    by-chunk i few r j q = meets c .chunk i few (ltb-true i (c .n) r) j q
+    by-chunk : (i : ℕ) (at : Spot) → c .n ≤ mostChunks → (i < c .n) × Stopped at (copyToChunk c i)
+        → (j : ℕ) × (at ≡ tree j) × (known c j ≡ false) × ((among j (roots (c .n)) ≡ true) ⊎ Child i j)
+    by-chunk i at few d = met c (ChunkBehind i) (HoldsChunk i) at (copyToChunk c i) (d .1) (meets c .chunk i few (d .0))
 
     -- a leaf that is not known
     leaf-twenty : (k : ℕ) (at : Spot) (b : Bool) → known c (index 0 k) ≡ b → cond b done (refused 20 (tree (index 0 k))) ≡ refused 20 at

@@ -20,7 +20,7 @@ use Rattle.lookup.specs.Theorems.{Visits, HoldsChunk, HoldsByte}
 use Rattle.copy_checks.specs.Copy.{Copy, known}
 use Rattle.copy_checks.specs.Checks.{copyJudged}
 use Rattle.copy_checks.specs.Descents.{copyToChunk, copyToByte}
-use Rattle.copy_lookup.specs.Lookups.{copyPlaceVerdict, copyHeldVerdict, copyByteVerdict}
+use Rattle.copy_lookup.specs.Lookups.{copyPlaceOf, copyHeldPlaceOf, copyByteAt}
 use Rattle.copy_short_lookup.specs.Short.{copyShortPlaceOf, copyShortByteAt}
 use Rattle.copy_roots.specs.Roots.{copyPrefixVerdict}
 use Rattle.copy_stored_leaf.specs.StoredLeaf.{copyLeafVerdict}
@@ -81,10 +81,10 @@ abbrev pub LeafBelow : ℕ → ℕ → Type 0
 LeafBelow m j = (k : ℕ) × (k < m) × (j ≡ index 0 k)
 
 pub record Twenties (c : Copy) : Type 0 where
-  pub place : (i : ℕ) (at : Spot) → copyPlaceVerdict c i ≡ refused 20 at → Twenty c (ChildOnWay (c .tree) (c .n) (HoldsChunk i)) at
+  pub place : (i : ℕ) (at : Spot) → copyPlaceOf c i ≡ refusal 20 at → Twenty c (ChildOnWay (c .tree) (c .n) (HoldsChunk i)) at
   -- of a read, a packet, a release, a record
-  pub held : (i : ℕ) (at : Spot) → copyHeldVerdict c i ≡ refused 20 at → Twenty c (ChildOnWay (c .tree) (c .n) (HoldsChunk i)) at
-  pub byte : (b : ℕ) (at : Spot) → copyByteVerdict c b ≡ refused 20 at → Twenty c (ChildOnWay (c .tree) (c .n) (HoldsByte (c .tree) b)) at
+  pub held : (i : ℕ) (at : Spot) → copyHeldPlaceOf c i ≡ refusal 20 at → Twenty c (ChildOnWay (c .tree) (c .n) (HoldsChunk i)) at
+  pub byte : (b : ℕ) (at : Spot) → copyByteAt c b ≡ refusal 20 at → Twenty c (ChildOnWay (c .tree) (c .n) (HoldsByte (c .tree) b)) at
   -- the short way reads leaves, up to chunk i's own
   pub shortPlace : (i : ℕ) (at : Spot) → copyShortPlaceOf c i ≡ refusal 20 at → Twenty c (LeafBelow (i + 1)) at
   pub shortByte : (b : ℕ) (at : Spot) → copyShortByteAt c b ≡ refusal 20 at → Twenty c (LeafBelow (c .n)) at

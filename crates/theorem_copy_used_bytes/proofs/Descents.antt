@@ -1,10 +1,7 @@
 -- The descents of a copy and of the same cut to its used sizes end alike. Assumes nothing.
 use Prim.Native.Nat.{ℕ}
-use mathlib.Core.Path.{_≡_, ap}
-use lib.Dec.{eqb}
-use Rattle.byte_strings.proofs.Bools.{chosen}
-use Rattle.lookup.specs.Descent.{reached, chunkWithin, byteWithin}
-use Rattle.lookup.specs.Lookup.{byteEnding}
+use mathlib.Core.Path.{_≡_}
+use Rattle.lookup.specs.Descent.{chunkWithin, byteWithin}
 use Rattle.theorem_used_bytes.proofs.Lookups.{descent-cut}
 use Rattle.copy_checks.specs.Copy.{Copy, known}
 use Rattle.copy_checks.specs.Descents.{copyToChunk, copyToByte}
@@ -16,7 +13,5 @@ module _ (c : Copy) where
   to-chunk-cut i = descent-cut (known (cutCopy c)) (known c) (chunkWithin i) (c .tree) (c .n) (known-cut (c .bitfield) (c .n))
 
   pub to-byte-cut : (b : ℕ) → copyToByte (cutCopy c) b ≡ copyToByte c b
-  unfolding copyToByte byteEnding
-  to-byte-cut b =
-      ap (chosen (eqb b (c .size)) (reached (c .n) (c .size)))
-      (descent-cut (known (cutCopy c)) (known c) (byteWithin b) (c .tree) (c .n) (known-cut (c .bitfield) (c .n)))
+  unfolding copyToByte
+  to-byte-cut b = descent-cut (known (cutCopy c)) (known c) (byteWithin b) (c .tree) (c .n) (known-cut (c .bitfield) (c .n))

@@ -17,13 +17,13 @@ use Rattle.file_format.specs.Stored.{storedSize}
 use Rattle.file_format.proofs.OfImage.{treeHeader-length, bitfieldHeader-length}
 use Rattle.checks.specs.Checks.{judged, countRight, holds}
 use Rattle.checks.proofs.Judged.{judged-done}
-use Rattle.lookup.specs.Lookup.{startOf, toChunk}
+use Rattle.lookup.specs.Read.{verdictFound}
 use Rattle.release.specs.Release.{releasedRegister}
 use Rattle.release.proofs.Bits.{bit-room, bits-long, bits-rest}
-use Rattle.release.proofs.Calls.{held-passed, release-inside}
-use Rattle.copy_checks.specs.Copy.{Copy, unsigned}
+use Rattle.release.proofs.Calls.{clearing}
+use Rattle.copy_checks.specs.Copy.{Copy}
 use Rattle.copy_checks.proofs.Signed.{signed}
-use Rattle.copy_lookup.proofs.AsRegister.{held-as}
+use Rattle.copy_lookup.proofs.AsRegister.{held-done}
 use Rattle.copy_make.specs.Make.{makeChecks, makeVerdict, madeCopy}
 use Rattle.copy_release.specs.Release.{copyReleaseVerdict, releasedCopy}
 use Rattle.theorem_copy_used_bytes.specs.UsedBytes.{MakesUsed}
@@ -104,25 +104,26 @@ makes-used a b h =
 -- ---- releasing
 
 released-behind : (c : Copy) (i : ℕ) → copyReleaseVerdict c i ≡ done → KeptBehind c (releasedCopy c i)
-unfolding copyReleaseVerdict releasedCopy releasedRegister toChunk
+unfolding copyReleaseVerdict releasedCopy releasedRegister
 released-behind c i e =
-    let v = held-as c i e in
-    let p = held-passed (signed c) i v in
-    let start : ℕ = startOf (toChunk (unsigned c) i) in
+    let v = clearing (signed c) i (ap verdictFound (held-done c i e .1 .register)) in
+    let p = v .placing .passed in
+    let below = v .placing .below in
+    let start : ℕ = v .start in
     let zs : List ℕ = zeros (storedSize (c .tree) (index 0 i)) in
     let l : length zs ≡ storedSize (c .tree) (index 0 i) = length-replicate {A = ℕ} (storedSize (c .tree) (index 0 i)) 0 in
-    let inside : start + length zs ≤ c .size = omega (arith, release-inside (signed c) i v) in
+    let inside : start + length zs ≤ c .size = omega (arith, v .placing .inside) in
     record {
       tree = record { long = refl; behind = refl };
       bitfield =
           record {
-            long = bits-long (c .bitfield) i (bit-room (c .bitfield) (c .n) i (p .0 .bitfield) (p .1));
-            behind = bits-rest (c .bitfield) (c .n) i (p .0 .bitfield) (p .1);
+            long = bits-long (c .bitfield) i (bit-room (c .bitfield) (c .n) i (p .bitfield) below);
+            behind = bits-rest (c .bitfield) (c .n) i (p .bitfield) below;
           };
       content =
           record {
-            long = length-put (c .content) start zs (omega (arith, p .0 .content));
-            behind = drop-put (c .size) (c .content) start zs inside (omega (arith, p .0 .content));
+            long = ap length (v .content) ∙ length-put (c .content) start zs (omega (arith, p .content));
+            behind = ap (drop (c .size)) (v .content) ∙ drop-put (c .size) (c .content) start zs inside (omega (arith, p .content));
           };
     }
 

@@ -1,7 +1,7 @@
 -- Taking in a packet gets the same of a copy and of the same cut to its used sizes, and leaves what lies behind them. Assumes nothing.
 use Prim.Native.Nat.{ℕ, _+_, _/_, _≤_, _<_}
 use mathlib.Core.Path.{_≡_, refl, sym, ap, ap₂, _∙_, subst}
-use mathlib.Core.Bool.{true, cond}
+use mathlib.Core.Bool.{Bool, true, _&&_, not}
 use mathlib.Core.Logic.{inl, inr}
 use mathlib.Core.List.{List, [], _∷_, map}
 use native.Mathlib.Omega.{arith}
@@ -9,7 +9,7 @@ use borrow.Author.Tests.{eqb-true}
 use lib.ListN.{length, take}
 use Rattle.answer_types.specs.Verdict.{Verdict, tree, done, andThen}
 use Rattle.byte_strings.specs.Lists.{put, sameList, Bytes}
-use Rattle.byte_strings.specs.Lowest.{Lowest, nowhere, first}
+use Rattle.byte_strings.specs.Lowest.{Lowest}
 use Rattle.byte_strings.proofs.Lists.{length-put, drop-put, part-take}
 use Rattle.tree_index.specs.Tree.{index, filled}
 use Rattle.tree_index.proofs.Filled.{filled-below}
@@ -27,7 +27,7 @@ use Rattle.release.proofs.Answers.{front-put}
 use Rattle.copy_checks.specs.Copy.{Copy}
 use Rattle.copy_checks.specs.Checks.{partlyJudged}
 use Rattle.copy_checks.specs.Least.{lowerOf, leastOf}
-use Rattle.copy_take_in.specs.TakeIn.{Given, packetStart, contradicts, contradictsBytes, withGiven, withKnown, brought, contradiction, takeVerdict, takenIn}
+use Rattle.copy_take_in.specs.TakeIn.{Given, packetStart, contradicted, bytesContradicted, indexIf, contradicts, withGiven, withKnown, brought, contradiction, takeVerdict, takenIn}
 use Rattle.copy_take_in.specs.Inner.{Fits}
 use Rattle.copy_take_in.proofs.Stages.{Passes, totalCheck, staged-passes, fits}
 use Rattle.copy_take_in.proofs.Start.{start-inside}
@@ -75,24 +75,24 @@ module _ (F : List ℕ → List ℕ) (c : Copy) (p : List ℕ) (i : ℕ) where
   -- ---- what contradicts
 
   entry-same : (x : Given) → filled (c .n) (x .at) ≡ true → contradicts (cutCopy c .tree) (cutCopy c .bitfield) x ≡ contradicts (c .tree) (c .bitfield) x
-  unfolding contradicts
+  unfolding contradicted
   entry-same x f =
       let k = known-cut (c .bitfield) (c .n) (x .at) f in
       let e = entry-cut (c .tree) (c .n) (x .at) (filled-below (c .n) (x .at) f) in
-      λ j. cond (k j) (cond (sameList (e j) (entryBytes (x .entry))) nowhere (first (x .at))) nowhere
+      λ j. indexIf (k j && not (sameList (e j) (entryBytes (x .entry)))) (x .at)
 
   bytes-same : i < c .n → start + length chunk ≤ c .size
-      → contradictsBytes (cutCopy c .bitfield) (cutCopy c .content) i start chunk ≡ contradictsBytes (c .bitfield) (c .content) i start chunk
-  unfolding contradictsBytes
+      → bytesContradicted (cutCopy c .bitfield) (cutCopy c .content) i start chunk ≡ bytesContradicted (c .bitfield) (c .content) i start chunk
+  unfolding bytesContradicted
   bytes-same h l =
       let k = held-cut (c .bitfield) (c .n) i h in
       let e = part-take (c .content) (c .size) start (length chunk) l in
-      λ j. cond (k j) (cond (sameList (e j) chunk) nowhere (first (index 0 i))) nowhere
+      λ j. k j && not (sameList (e j) chunk)
 
   contradiction-cut : Fits p (c .n) i → packetTotal p (c .n) i ≡ c .size → contradiction F (cutCopy c) p i ≡ contradiction F c p i
   unfolding contradiction
   contradiction-cut f e =
-      ap₂ (λ (x : Lowest) (l : List Lowest). lowerOf x (leastOf l))
+      ap₂ (λ (x : Bool) (l : List Lowest). lowerOf (indexIf x (index 0 i)) (leastOf l))
       (bytes-same (f .shaped .chunk .below) (omega (arith, start-inside p (c .n) i, chunk-long p (c .n) i (f .shaped))))
       (map-same (contradicts (cutCopy c .tree) (cutCopy c .bitfield)) (contradicts (c .tree) (c .bitfield)) gs
       (λ x m. entry-same x (brought-filled (c .n) i (f .shaped .chunk) F p x m)))

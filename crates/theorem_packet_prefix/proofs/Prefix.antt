@@ -1,27 +1,25 @@
 -- The proof of `PrefixPacketsForAll`. Assumes nothing.
 use Prim.Native.Nat.{ℕ, _+_, _≤_, _<_}
-use mathlib.Core.Path.{_≡_, refl, sym, ap, ap₂, _∙_}
-use mathlib.Core.Bool.{Bool, true, cond}
+use mathlib.Core.Path.{_≡_, sym, ap, ap₂, _∙_}
+use mathlib.Core.Bool.{true}
 use mathlib.Core.List.{List, [], _∷_, _++_, map}
 use native.Mathlib.Nat.{le-dest, le-refl}
 use native.Mathlib.Omega.{arith}
-use borrow.Author.Tests.{lt-ltb, le-leb}
-use lib.Dec.{ltb}
+use borrow.Author.Tests.{le-leb}
 use lib.ListN.{length, getD, take}
 use lib.Seq.{length-take-le}
-use Rattle.answer_types.specs.Verdict.{Verdict, tree, done, refused, unlessRefused, andThen}
-use Rattle.byte_strings.specs.Lists.{part, joined, total, sameList, put}
+use Rattle.answer_types.specs.Verdict.{Verdict, tree, done, unlessRefused, andThen}
+use Rattle.byte_strings.specs.Lists.{part, joined, total, put}
 use Rattle.byte_strings.specs.Numbers.{be}
 use Rattle.tree_index.specs.Tree.{index, filled, roots, entries}
 use Rattle.tree_index.proofs.Filled.{filled-below}
 use Rattle.tree_index.proofs.Roots.{root-filled}
-use Rattle.bitfield.specs.Release.{storedHeld}
 use Rattle.bitfield.specs.Image.{entryCount}
 use Rattle.file_format.specs.Sizes.{entryPlace, usedTree, usedBitfield}
 use Rattle.file_format.specs.Messages.{HashFunction, leafMessage}
-use Rattle.file_format.specs.Entries.{Entry, entryBytes, nodeAt, entryAt}
+use Rattle.file_format.specs.Entries.{Entry, entryBytes}
 use Rattle.file_format.specs.Images.{leaves, rootHashFor}
-use Rattle.file_format.specs.Stored.{storedHash, storedSize, storedRootSizes}
+use Rattle.file_format.specs.Stored.{storedSize, storedRootSizes}
 use Rattle.file_format.specs.Slots.{Slot, contents, heldIn, Within}
 use Rattle.file_format.specs.Belongs.{Register, Belongs}
 use Rattle.file_format.proofs.Slots.{contents-length, leaves-length}
@@ -29,16 +27,17 @@ use Rattle.file_format.proofs.Nodes.{entryAt-filled}
 use Rattle.file_format.proofs.Spans.{span, span-add, span-all, map-ext}
 use Rattle.file_format.proofs.Held.{stored-held}
 use Rattle.file_format.proofs.OfImage.{stored-entry, stored-node-size, stored-total}
-use Rattle.checks.specs.Checks.{Check, judged, holds, registerChecks}
-use Rattle.checks.proofs.Judged.{judged-append, judged-right}
+use Rattle.checks.specs.Checks.{holds}
 use Rattle.checks.proofs.Passed.{Passed, passes, passed}
 use Rattle.audit.proofs.Audited.{accepted-audited}
 use Rattle.audit.proofs.Accepts.{has-register}
 use Rattle.prefix_root.proofs.First.{filled-more, nodeAt-first}
-use Rattle.lookup.specs.Descent.{always, chunkWithin, descent}
-use Rattle.lookup.specs.Lookup.{startOf, stopRefused, toChunk, heldVerdict}
-use Rattle.lookup.specs.Read.{chunkBytes, partUnless, readVerdict, readPart}
-use Rattle.lookup.proofs.Answers.{answers, to-chunk}
+use Rattle.lookup.specs.Descent.{reached, always, chunkWithin, descent}
+use Rattle.lookup.specs.Lookup.{Found, toChunk}
+use Rattle.lookup.specs.Read.{verdictFound, chunkBytes, hashJudged, readFound, readVerdict, readPart}
+use Rattle.lookup.proofs.Lookups.{hash-right}
+use Rattle.lookup.proofs.Answers.{answers, to-chunk, held-at}
+use Rattle.lookup.proofs.Calls.{chunk-at, reading}
 use Rattle.packet.specs.Packet.{section, siblings, otherRoots, packetOf, roomOr14, makeVerdict, madeLength, afterMake, packetWith}
 use Rattle.packet.specs.Check.{packetVerdict, checkedChunk}
 use Rattle.packet.specs.Inner.{ChunkOf}
@@ -50,12 +49,7 @@ use Rattle.theorem_packet_prefix.proofs.First.{chunk-first, held-first,
 
 -- the bytes of a chunk that is read
 bytes-read : (F : List ℕ → List ℕ) (r : Register) (i : ℕ) (c : List ℕ) → readVerdict F r i ≡ done → readPart F r i ≡ c → chunkBytes r i ≡ c
-unfolding readPart
-bytes-read F r i c e f = sym (ap (λ (v : Verdict). partUnless F v (chunkBytes r i)) e) ∙ f
-
-then-second : (v x : Verdict) → andThen v x ≡ done → x ≡ done
-then-second done x e = e
-then-second (refused k at) x e = let z : _≡_ {A = ℕ} 0 1 = cc in absurd (omega arith)
+bytes-read F r i c e f = sym (reading F r i e .bytes) ∙ f
 
 -- a chunk that is read is packed where there is room
 made-by : (F : List ℕ → List ℕ) (x : Register) (i : ℕ) → readVerdict F x i ≡ done → (out : List ℕ) → makeVerdict F x i out ≡ roomOr14 (holds out (length (packetOf x i)))
@@ -150,35 +144,34 @@ module _ (F : List ℕ → List ℕ) (hf : HashFunction F) (ss : List Slot) (w :
     descents =
         descent-same (chunkWithin i) (q .tree) (r .tree) m size-same ∙ ap (descent always (chunkWithin i) (q .tree)) (sym mq)
 
-    start-same : startOf (toChunk told i) ≡ startOf (toChunk r i)
-    start-same =
-        ap startOf (descents ∙ to-chunk F hf (take m ss) wq q bq pq i in-q) ∙ span-first ss m i (omega arith)
-        ∙ sym (ap startOf (to-chunk F hf ss w r b p i (omega (arith, few))))
+    -- it comes to the same start
+    abbrev start : ℕ
+    start = span (contents ss) 0 i
+
+    in-r : i < r .n
+    in-r = omega (arith, few)
+
+    lands : toChunk told i ≡ reached i start
+    lands = descents ∙ to-chunk F hf (take m ss) wq q bq pq i in-q ∙ ap (reached i) (span-first ss m i (omega arith))
+
+    bytes-at : chunkBytes r i ≡ part (r .content) start (storedSize (r .tree) (index 0 i))
+    bytes-at = chunk-at r i in-r (to-chunk F hf ss w r b p i in-r)
 
     bytes-same : chunkBytes told i ≡ chunkBytes r i
-    unfolding toldAs chunkBytes
-    bytes-same = ap (λ (a : ℕ). part (r .content) a (storedSize (r .tree) (index 0 i))) start-same
+    unfolding toldAs
+    bytes-same = chunk-at told i h lands ∙ sym bytes-at
 
     -- the read of it
-    held-done : heldVerdict told i ≡ done
-    unfolding toldAs heldVerdict stopRefused
-    held-done =
-        let nine : List Check = record { number = 9; right = ltb i m } ∷ [] in
-        let next : Verdict = cond (storedHeld (r .bitfield) i) (stopRefused (toChunk told i)) (refused 18 (tree (index 0 i))) in
-        judged-append (registerChecks told) nine next ∙ passes told (judged nine next) told-passes ∙ judged-right nine next (lt-ltb i m h, tt)
-        ∙ ap (λ (x : Bool). cond x (stopRefused (toChunk told i)) (refused 18 (tree (index 0 i)))) (stored-held F ss r b i (omega (arith, few)) ∙ e)
-        ∙ ap stopRefused (descents ∙ to-chunk F hf (take m ss) wq q bq pq i in-q)
-
-    -- the leaf hash compared with that of some bytes
-    abbrev compared : List ℕ → Verdict
-    compared c = cond (sameList (storedHash (r .tree) (index 0 i)) (F (leafMessage c))) done (refused 10 (tree (index 0 i)))
-
     of-all : readVerdict F r i ≡ done
     of-all = answers F hf ss w r b (passes r done p) .readDone i e
 
     told-read : readVerdict F told i ≡ done
-    unfolding toldAs readVerdict
-    told-read = ap (λ (v : Verdict). andThen v (compared (chunkBytes told i))) held-done ∙ ap compared bytes-same ∙ then-second (heldVerdict r i) (compared (chunkBytes r i)) of-all
+    unfolding toldAs readFound readVerdict
+    told-read =
+        ap (λ (f : Found). verdictFound (hashJudged F (r .tree) (r .content) i f)) (held-at told told-passes i h (stored-held F ss r b i in-r ∙ e) lands)
+        ∙ ap verdictFound
+        (hash-right F (r .tree) (r .content) i start (storedSize (r .tree) (index 0 i))
+        (reading F r i of-all .hash ∙ ap (λ (l : List ℕ). F (leafMessage l)) bytes-at))
 
     eq : heldIn (take m ss) i ≡ true
     eq = held-first ss m i h ∙ e

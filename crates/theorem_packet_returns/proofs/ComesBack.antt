@@ -2,15 +2,14 @@
 use Prim.Native.Nat.{ℕ, suc, _*_, _/_, _^_, _≤_, _<_}
 use mathlib.Core.Path.{_≡_, refl, sym, ap, ap₂, _∙_, subst}
 use mathlib.Core.Logic.{⊎-elim}
-use mathlib.Core.Bool.{Bool, true, false, cond, _||_}
+use mathlib.Core.Bool.{Bool, true, _||_}
 use mathlib.Core.List.{List}
 use native.Mathlib.Omega.{arith}
 use borrow.Author.Tests.{eqb-true, le-leb}
 use lib.Dec.{eqb}
 use lib.ListN.{length, drop}
-use Rattle.answer_types.specs.Verdict.{Verdict, tree, done, refused, unlessRefused, andThen}
-use Rattle.byte_strings.specs.Lists.{sameList, put}
-use Rattle.byte_strings.proofs.Lists.{same-eq}
+use Rattle.answer_types.specs.Verdict.{Verdict, tree, done, unlessRefused, andThen}
+use Rattle.byte_strings.specs.Lists.{put}
 use Rattle.byte_strings.proofs.Bools.{or-true, or-none, cases}
 use Rattle.tree_index.specs.Tree.{index, filled, entries}
 use Rattle.tree_index.proofs.Filled.{filled-below}
@@ -20,9 +19,9 @@ use Rattle.bitfield.specs.Known.{storedKnown, heldAgain}
 use Rattle.bitfield.proofs.Bits.{with-one}
 use Rattle.blake2b.specs.Hash.{nodeHash}
 use Rattle.file_format.specs.Sizes.{usedBitfield}
-use Rattle.file_format.specs.Messages.{HashFunction, leafMessage}
+use Rattle.file_format.specs.Messages.{HashFunction}
 use Rattle.file_format.specs.Images.{dataSize, bitfieldOf}
-use Rattle.file_format.specs.Stored.{storedHash, storedRootMessage}
+use Rattle.file_format.specs.Stored.{storedRootMessage}
 use Rattle.file_format.specs.Slots.{Slot, contents, heldIn, Within}
 use Rattle.file_format.specs.Belongs.{Register, Lent, Belongs}
 use Rattle.file_format.proofs.Hashed.{hash-function}
@@ -36,10 +35,9 @@ use Rattle.audit.specs.Audit.{Accepted}
 use Rattle.audit.proofs.Audited.{Audited, accepted-audited, parent-says}
 use Rattle.audit.proofs.Accepts.{Signed}
 use Rattle.audit.proofs.Only.{cut, cut-held, accepted-belongs}
-use Rattle.lookup.specs.Lookup.{toChunk, heldVerdict}
-use Rattle.lookup.specs.Read.{chunkBytes, readVerdict}
+use Rattle.lookup.specs.Read.{verdictFound, chunkBytes, readVerdict}
 use Rattle.lookup.proofs.Answers.{stays-inside, to-chunk, answers}
-use Rattle.lookup.proofs.Calls.{done-first}
+use Rattle.lookup.proofs.Calls.{reading}
 use Rattle.release.specs.Release.{releaseVerdict, releasedRegister}
 use Rattle.packet.specs.Packet.{packetOf, roomOr14, makeVerdict, afterMake, madeLength, packetWith}
 use Rattle.packet.specs.Inner.{Readable}
@@ -67,15 +65,6 @@ pub shown-again : (held known : ℕ → Bool) (n : ℕ) (tail : List ℕ) (i : �
     → heldAgain (shown held known n tail) i ≡ shown held known n tail
 shown-again held known n tail i l e =
     held-more held known n tail i l ∙ shown-ext (with-one held i) held known known n tail (with-same held i e) (λ j. refl)
-
-pub read-hash : (F : List ℕ → List ℕ) (r : Register) (i : ℕ) → readVerdict F r i ≡ done → storedHash (r .tree) (index 0 i) ≡ F (leafMessage (chunkBytes r i))
-unfolding readVerdict
-read-hash F r i e = same-eq _ _ (pick (heldVerdict r i) (sameList (storedHash (r .tree) (index 0 i)) (F (leafMessage (chunkBytes r i)))) e)
-  where
-    pick : (v : Verdict) (b : Bool) → andThen v (cond b done (refused 10 (tree (index 0 i)))) ≡ done → b ≡ true
-    pick done true f = refl
-    pick done false f = let z : _≡_ {A = ℕ} 0 1 = cc in absurd (omega arith)
-    pick (refused m at) b f = let z : _≡_ {A = ℕ} 0 1 = cc in absurd (omega arith)
 
 module _ (F : List ℕ → List ℕ) (H : HashFunction F) (r : Register) (l : Lent r) (a : Accepted F r) (i : ℕ) (below : i < r .n)
     (held : storedHeld (r .bitfield) i ≡ true) where
@@ -134,7 +123,7 @@ module _ (F : List ℕ → List ℕ) (H : HashFunction F) (r : Register) (l : Le
       omega (arith, own .1 .total)
 
   sound : Sound F (lentAsCopy r) i
-  unfolding chunkBytes toChunk
+  unfolding chunkBytes
   sound =
       record {
         lent =
@@ -152,7 +141,7 @@ module _ (F : List ℕ → List ℕ) (H : HashFunction F) (r : Register) (l : Le
         adds = ok .adds;
         small = few;
         leafSize = sym (stays-inside r ok .read i below i _ (to-chunk F H (cut r) (own .0) r (own .1) ok i below));
-        leafHash = read-hash F r i read-done;
+        leafHash = reading F r i read-done .hash;
         parents = λ d m.
             parent-says F (r .tree) (r .content) (r .bitfield) (r .n) (r .size) d (i / 2 ^ suc d) (way-filled (r .n) i (read .chunk) (suc d) m)
             (audited .entry (index (suc d) (i / 2 ^ suc d)) (filled-below (r .n) _ (way-filled (r .n) i (read .chunk) (suc d) m)));
@@ -170,11 +159,11 @@ module _ (F : List ℕ → List ℕ) (H : HashFunction F) (r : Register) (l : Le
   root-is = ap (λ (v : Verdict). rootUnlessRefused F v r) root-done
 
   has : Has F (lentAsCopy r) (packetOf r i) i (rootAnswer F r)
-  unfolding packetOf packetWith chunkBytes toChunk
+  unfolding packetOf packetWith chunkBytes
   has = subst (Has F (lentAsCopy r) (packetOf r i) i) (sym root-is) (sound-has F (lentAsCopy r) i sound)
 
   released-same : releasedCopy (lentAsCopy r) i ≡ lentAsCopy (releasedRegister r i)
-  unfolding releasedCopy releasedRegister toChunk
+  unfolding releasedCopy releasedRegister
   released-same = refl
 
   make-done : (out : List ℕ) → length (packetOf r i) ≤ length out → makeVerdict F r i out ≡ done
@@ -183,8 +172,8 @@ module _ (F : List ℕ → List ℕ) (H : HashFunction F) (r : Register) (l : Le
       ap (λ (v : Verdict). andThen v (roomOr14 (holds out (length (packetOf r i))))) read-done ∙ ap roomOr14 (le-leb (length (packetOf r i)) (length out) h)
 
   released-done : releaseVerdict r i ≡ done
-  unfolding releaseVerdict readVerdict
-  released-done = done-first (heldVerdict r i) _ read-done
+  unfolding releaseVerdict
+  released-done = ap verdictFound (reading F r i read-done .held)
 
   again : takeVerdict F (lentAsCopy (releasedRegister r i)) (packetOf r i) i (rootAnswer F r) ≡ done
   again =

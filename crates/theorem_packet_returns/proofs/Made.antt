@@ -22,8 +22,8 @@ use Rattle.file_format.specs.Stored.{storedHash, storedSize, storedRootSizes, s
 use Rattle.file_format.proofs.Nodes.{bytes-cons}
 use Rattle.audit.proofs.Audited.{ParentRight}
 use Rattle.audit.proofs.Only.{entry-bytes}
-use Rattle.lookup.specs.Lookup.{startOf, toChunk}
-use Rattle.lookup.specs.Descent.{reached}
+use Rattle.lookup.specs.Lookup.{toChunk}
+use Rattle.lookup.proofs.Calls.{chunk-at}
 use Rattle.lookup.specs.Read.{chunkBytes}
 use Rattle.lookup.proofs.Visits.{filled-entry}
 use Rattle.packet.specs.Packet.{siblings, otherRoots, section, packetOf, packetWith}
@@ -195,17 +195,20 @@ module _ (F : List ℕ → List ℕ) (c : Copy) (i : ℕ) (s : Sound F c i) wher
       (true-both _ _ (le-leb (packetTotal p n i) 68719476736 (subst (λ (x : ℕ). x ≤ 68719476736) (sym sums) (s .small)))
       (same-of _ _ (ap F (message-there F p n i chunk t stored)))) refl)
 
+  back : packetChunk p ≡ bytes
+  back = chunk-back t n i bytes (s .read)
+
+  bytes-at : bytes ≡ part (c .content) (packetStart p n i) (storedSize t (index 0 i))
+  unfolding toChunk
+  bytes-at =
+      chunk-at (unsigned c) i (chunk .below)
+      (packet-descent F p n i chunk t stored (subst (λ (x : List ℕ). length x ≤ longestChunk) (sym back) (s .read .short)))
+
   piece : part (c .content) (packetStart p n i) (length (packetChunk p)) ≡ packetChunk p
-  unfolding chunkBytes toChunk
-  piece =
-      let back : packetChunk p ≡ bytes = chunk-back t n i bytes (s .read) in
-      let lands : toChunk (unsigned c) i ≡ reached i (packetStart p n i) =
-      packet-descent F p n i chunk t stored (subst (λ (x : List ℕ). length x ≤ longestChunk) (sym back) (s .read .short)) in
-      ap₂ (part (c .content)) (sym (ap startOf lands)) (ap length back ∙ sym (s .leafSize)) ∙ sym back
+  piece = ap (part (c .content) (packetStart p n i)) (ap length back ∙ sym (s .leafSize)) ∙ sym (back ∙ bytes-at)
 
   content-bytes : Bytes bytes
-  unfolding chunkBytes
-  content-bytes = bytes-part (c .content) (startOf (toChunk (unsigned c) i)) (storedSize t (index 0 i)) (s .contentBytes)
+  content-bytes = subst Bytes (sym bytes-at) (bytes-part (c .content) (packetStart p n i) (storedSize t (index 0 i)) (s .contentBytes))
 
   -- it has what its own packet brings
   pub sound-has : Has F c (packetOf (unsigned c) i) i (F (storedRootMessage (c .tree) (c .n)))

@@ -2,15 +2,15 @@
 use Prim.Native.Nat.{ℕ, _+_, _/_, _≤_}
 use mathlib.Core.Path.{_≡_, refl, sym, ap, ap₂, _∙_, subst}
 use mathlib.Core.Logic.{_⊎_, inl, inr, ⊎-elim}
-use mathlib.Core.Bool.{Bool, true, false, cond, _||_}
+use mathlib.Core.Bool.{Bool, true, false, _||_}
 use mathlib.Core.List.{List, [], _∷_, map}
 use native.Mathlib.Omega.{arith}
 use borrow.Author.Tests.{eq-eqb, ne-eqb}
 use lib.Dec.{eqb}
 use lib.ListN.{length}
-use Rattle.byte_strings.specs.Lists.{part, put, among, sameList}
-use Rattle.byte_strings.specs.Lowest.{Lowest, nowhere, first}
-use Rattle.byte_strings.proofs.Lists.{part-put, part-put-before, part-put-behind, same-eq, same-of}
+use Rattle.byte_strings.specs.Lists.{part, put, among}
+use Rattle.byte_strings.specs.Lowest.{Lowest, nowhere}
+use Rattle.byte_strings.proofs.Lists.{part-put, part-put-before, part-put-behind}
 use Rattle.byte_strings.proofs.Bools.{or-right, cases}
 use Rattle.tree_index.specs.Tree.{index}
 use Rattle.bitfield.specs.Append.{bitsPlace}
@@ -21,7 +21,8 @@ use Rattle.file_format.specs.Sizes.{entryPlace}
 use Rattle.packet.proofs.Above.{Distinct}
 use Rattle.copy_checks.specs.Least.{lowerOf, leastOf}
 use Rattle.copy_checks.proofs.Least.{lower-none}
-use Rattle.copy_take_in.specs.TakeIn.{Given, contradicts, contradictsBytes, withGiven, withKnown}
+use Rattle.copy_take_in.specs.TakeIn.{Given, bytesContradicted, indexIf, contradicts, withGiven, withKnown}
+use Rattle.copy_take_in.proofs.Contradicted.{entry-alike, no-entry, bytes-alike, no-bytes}
 use Rattle.byte_strings.proofs.Members.{In, map-in}
 use Rattle.theorem_taking_laws.proofs.Distinct.{apart-out}
 use Rattle.bitfield.proofs.Beside.{puts-turn}
@@ -34,28 +35,6 @@ use Rattle.theorem_taking_laws.proofs.Unknown.{each-least}
 -- a known entry is the one that is given
 abbrev pub Clear : List ℕ → List ℕ → Given → Type 0
 Clear t bits g = storedKnown bits (g .at) ≡ true → part t (entryPlace (g .at)) 40 ≡ bytesFor g
-
-abbrev sorted : Bool → Bool → ℕ → Lowest
-sorted known same i = cond known (cond same nowhere (first i)) nowhere
-
-sorted-same : (known same : Bool) (i : ℕ) → sorted known same i ≡ nowhere → known ≡ true → same ≡ true
-sorted-same true true i e k = refl
-sorted-same true false i e k = absurd (let z : _≡_ {A = ℕ} 0 1 = cc in omega arith)
-sorted-same false same i e k = absurd (let z : _≡_ {A = ℕ} 0 1 = cc in omega arith)
-
-same-sorted : (known same : Bool) (i : ℕ) → (known ≡ true → same ≡ true) → sorted known same i ≡ nowhere
-same-sorted true same i h = ap (λ (b : Bool). cond b nowhere (first i)) (h refl)
-same-sorted false same i h = refl
-
-module _ (t bits : List ℕ) (g : Given) where
-  clear-of : contradicts t bits g ≡ nowhere → Clear t bits g
-  unfolding contradicts
-  clear-of e k = same-eq _ _ (sorted-same (storedKnown bits (g .at)) (sameList (part t (entryPlace (g .at)) 40) (bytesFor g)) (g .at) e k)
-
-  of-clear : Clear t bits g → contradicts t bits g ≡ nowhere
-  unfolding contradicts
-  of-clear h =
-      same-sorted (storedKnown bits (g .at)) (sameList (part t (entryPlace (g .at)) 40) (bytesFor g)) (g .at) (λ k. same-of _ _ (h k))
 
 -- ---- all entries
 
@@ -74,28 +53,19 @@ AllClear t bits gs = (g : Given) → In g gs → Clear t bits g
 abbrev pub ClearBytes : Bool → List ℕ → ℕ → List ℕ → Type 0
 ClearBytes held content start chunk = held ≡ true → part content start (length chunk) ≡ chunk
 
-module _ (bits content : List ℕ) (i start : ℕ) (chunk : List ℕ) where
-  bytes-of : contradictsBytes bits content i start chunk ≡ nowhere → ClearBytes (storedHeld bits i) content start chunk
-  unfolding contradictsBytes
-  bytes-of e k = same-eq _ _ (sorted-same (storedHeld bits i) (sameList (part content start (length chunk)) chunk) (index 0 i) e k)
-
-  of-bytes : ClearBytes (storedHeld bits i) content start chunk → contradictsBytes bits content i start chunk ≡ nowhere
-  unfolding contradictsBytes
-  of-bytes h = same-sorted (storedHeld bits i) (sameList (part content start (length chunk)) chunk) (index 0 i) (λ k. same-of _ _ (h k))
-
 -- both together
 pub lower-clear : (t bits content : List ℕ) (i start : ℕ) (chunk : List ℕ) (gs : List Given)
-    → lowerOf (contradictsBytes bits content i start chunk) (leastOf (map (contradicts t bits) gs)) ≡ nowhere
+    → lowerOf (indexIf (bytesContradicted bits content i start chunk) (index 0 i)) (leastOf (map (contradicts t bits) gs)) ≡ nowhere
     → ClearBytes (storedHeld bits i) content start chunk × AllClear t bits gs
 lower-clear t bits content i start chunk gs e =
-    let a = lower-none (contradictsBytes bits content i start chunk) (leastOf (map (contradicts t bits) gs)) e in
-    (bytes-of bits content i start chunk (a .0), λ g m. clear-of t bits g (least-each (contradicts t bits) gs (a .1) g m))
+    let a = lower-none (indexIf (bytesContradicted bits content i start chunk) (index 0 i)) (leastOf (map (contradicts t bits) gs)) e in
+    (bytes-alike bits content i start chunk (index 0 i) (a .0), λ g m. entry-alike t bits g (least-each (contradicts t bits) gs (a .1) g m))
 
 pub clear-lower : (t bits content : List ℕ) (i start : ℕ) (chunk : List ℕ) (gs : List Given) → ClearBytes (storedHeld bits i) content start chunk
-    → AllClear t bits gs → lowerOf (contradictsBytes bits content i start chunk) (leastOf (map (contradicts t bits) gs)) ≡ nowhere
+    → AllClear t bits gs → lowerOf (indexIf (bytesContradicted bits content i start chunk) (index 0 i)) (leastOf (map (contradicts t bits) gs)) ≡ nowhere
 unfolding lowerOf
 clear-lower t bits content i start chunk gs b c =
-    ap₂ lowerOf (of-bytes bits content i start chunk b) (each-least (contradicts t bits) gs (λ g m. of-clear t bits g (c g m)))
+    ap₂ lowerOf (no-bytes bits content i start chunk (index 0 i) b) (each-least (contradicts t bits) gs (λ g m. no-entry t bits g (c g m)))
 
 -- ---- a list whose indexes differ agrees with itself
 

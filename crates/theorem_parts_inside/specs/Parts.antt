@@ -9,7 +9,7 @@ use mathlib.Core.List.{List}
 use lib.ListN.{length}
 use Rattle.file_format.specs.Belongs.{Register}
 use Rattle.lookup.specs.Lookup.{Found, found, placeOf}
-use Rattle.lookup.specs.Meaning.{readFound}
+use Rattle.lookup.specs.Read.{readFound}
 use Rattle.copy_checks.specs.Copy.{Copy}
 use Rattle.copy_lookup.specs.Lookups.{copyPlaceOf}
 use Rattle.copy_lookup.specs.Reading.{copyReadFound}

@@ -43,8 +43,9 @@ use Rattle.audit.proofs.Audited.{accepted-audited}
 use Rattle.audit.proofs.Accepts.{Signed, belongs-accepted}
 use Rattle.audit.proofs.Only.{cut, accepted-belongs}
 use Rattle.lookup.specs.Descent.{reached}
-use Rattle.lookup.specs.Lookup.{startOf, toChunk}
-use Rattle.lookup.proofs.Answers.{answers, to-chunk}
+use Rattle.lookup.specs.Lookup.{found, toChunk, placeOf}
+use Rattle.lookup.proofs.Lookups.{one-start}
+use Rattle.lookup.proofs.Answers.{answers, to-chunk, place-found}
 use Rattle.lookup.proofs.Visits.{filled-entry}
 use Rattle.release.proofs.Answers.{front-put}
 use Rattle.release.proofs.Replaced.{data-set, size-set}
@@ -170,7 +171,7 @@ module _ (F : List ℕ → List ℕ) (hf : HashFunction F) (r : Register) (p : L
   descends = packet-descent F p (r .n) i chunk (r .tree) has-all (chunk-short p (r .n) i shaped bp)
 
   start-is : packetStart p (r .n) i ≡ span (contents ss) 0 i
-  start-is = ap startOf (sym descends ∙ to-chunk F hf ss w r b ok i (chunk .below))
+  start-is = one-start (sym descends ∙ to-chunk F hf ss w r b ok i (chunk .below))
 
   inside : packetStart p (r .n) i + length piece ≤ r .size
   inside = omega (arith, start-inside p (r .n) i, t .total, chunk-long p (r .n) i shaped)
@@ -274,9 +275,12 @@ module _ (F : List ℕ → List ℕ) (hf : HashFunction F) (r : Register) (l : L
   held-now : heldIn (set (cut r) i (held (packetChunk p))) i ≡ true
   held-now = sym (held-ts (cut r) i (packetChunk p) (below F hf r p bp i t ok (cut r) (own .0) (own .1)) i) ∙ or-self (heldIn (cut r) i) i
 
-  content-now : returned F r p i .content ≡ put (r .content) (startOf (toChunk r i)) (packetChunk p)
+  content-now : returned F r p i .content ≡ put (r .content) (packetStart p (r .n) i) (packetChunk p)
   unfolding returned takenIn
-  content-now = ap (λ (x : ℕ). put (r .content) x (packetChunk p)) (sym (ap startOf (descends F hf r p bp i t ok (cut r) (own .0) (own .1))))
+  content-now = refl
+
+  place-now : placeOf r i ≡ found (packetStart p (r .n) i) (storedSize (r .tree) (index 0 i))
+  place-now = place-found r ok i (chunk F hf r p bp i t ok (cut r) (own .0) (own .1) .below) (descends F hf r p bp i t ok (cut r) (own .0) (own .1))
 
   chunk-now : getD (contents (set (cut r) i (held (packetChunk p)))) i [] ≡ packetChunk p
   chunk-now =
@@ -308,6 +312,8 @@ module _ (F : List ℕ → List ℕ) (hf : HashFunction F) (r : Register) (l : L
         reads = told .read i held-now ∙ chunk-now;
         tree = returned-tree F hf r p bp i t ok (cut r) (own .0) (own .1);
         bitfield = returned-bits F hf r p bp i t ok (cut r) (own .0) (own .1);
+        start = packetStart p (r .n) i;
+        place = place-now;
         content = content-now;
         size = piece-long F hf r p bp i t ok (cut r) (own .0) (own .1);
         knownStay = known-stay F hf r p bp i t ok (cut r) (own .0) (own .1);

@@ -1,14 +1,14 @@
 -- What is brought to files that have it already: neither the tree nor a tree bit changes. Assumes nothing.
 use Prim.Native.Nat.{ℕ, _+_, _≤_}
 use mathlib.Core.Path.{_≡_, refl, sym, ap, _∙_}
-use mathlib.Core.Bool.{Bool, true, false, cond, _||_}
+use mathlib.Core.Bool.{Bool, true, false, _||_}
 use mathlib.Core.Logic.{inl, inr}
 use mathlib.Core.List.{List, [], _∷_, _++_, map}
 use native.Mathlib.Omega.{arith}
 use lib.ListN.{length, take, drop}
-use Rattle.byte_strings.specs.Lists.{part, put, sameList, among}
-use Rattle.byte_strings.specs.Lowest.{nowhere, first}
-use Rattle.byte_strings.proofs.Lists.{around, length-part, same-eq}
+use Rattle.byte_strings.specs.Lists.{part, put, among}
+use Rattle.byte_strings.specs.Lowest.{nowhere}
+use Rattle.byte_strings.proofs.Lists.{around, length-part}
 use Rattle.byte_strings.proofs.Bools.{or-none}
 use Rattle.tree_index.specs.Tree.{filled, entries}
 use Rattle.tree_index.proofs.Filled.{filled-below}
@@ -20,6 +20,7 @@ use Rattle.file_format.specs.Entries.{entryBytes}
 use Rattle.copy_checks.specs.Least.{leastOf}
 use Rattle.copy_checks.proofs.Least.{lower-none}
 use Rattle.copy_take_in.specs.TakeIn.{Given, contradicts, withGiven, withKnown}
+use Rattle.copy_take_in.proofs.Contradicted.{entry-alike}
 use Rattle.byte_strings.proofs.Members.{In}
 use Rattle.theorem_taking_laws.proofs.Given.{among-in}
 use Rattle.file_format.proofs.Shown.{shown, shown-ext, more-known}
@@ -27,24 +28,13 @@ use Rattle.file_format.proofs.Shown.{shown, shown-ext, more-known}
 -- ---- nothing is contradicted
 
 module _ (t bits : List ℕ) where
-  known-same : (g : Given) → contradicts t bits g ≡ nowhere → storedKnown bits (g .at) ≡ true → part t (entryPlace (g .at)) 40 ≡ entryBytes (g .entry)
-  unfolding contradicts
-  known-same g e k =
-      same-eq (part t (entryPlace (g .at)) 40) (entryBytes (g .entry))
-      (pick (sameList (part t (entryPlace (g .at)) 40) (entryBytes (g .entry)))
-      (sym (ap (λ (b : Bool). cond b (cond (sameList (part t (entryPlace (g .at)) 40) (entryBytes (g .entry))) nowhere (first (g .at))) nowhere) k) ∙ e))
-    where
-      pick : (b : Bool) → cond b nowhere (first (g .at)) ≡ nowhere → b ≡ true
-      pick true q = refl
-      pick false q = absurd (let z : _≡_ {A = ℕ} 0 1 = cc in omega arith)
-
   -- what no packet contradicts and is known is what it brings
   pub none-contradicts : (gs : List Given) → leastOf (map (contradicts t bits) gs) ≡ nowhere → (g : Given) → In g gs → storedKnown bits (g .at) ≡ true
       → part t (entryPlace (g .at)) 40 ≡ entryBytes (g .entry)
   unfolding leastOf In
   none-contradicts [] e g i k = absurd i
   none-contradicts (x ∷ gs) e g (inl q) k =
-      known-same g (ap (contradicts t bits) (sym q) ∙ lower-none (contradicts t bits x) (leastOf (map (contradicts t bits) gs)) e .0) k
+      entry-alike t bits g (ap (contradicts t bits) (sym q) ∙ lower-none (contradicts t bits x) (leastOf (map (contradicts t bits) gs)) e .0) k
   none-contradicts (x ∷ gs) e g (inr i) k =
       none-contradicts gs (lower-none (contradicts t bits x) (leastOf (map (contradicts t bits) gs)) e .1) g i k
 

@@ -11,6 +11,7 @@ use Rattle.byte_strings.specs.Lists.{Bytes}
 use Rattle.byte_strings.specs.Numbers.{number}
 use Rattle.byte_strings.specs.Lowest.{nowhere}
 use Rattle.byte_strings.proofs.Lists.{bytes-part}
+use Rattle.tree_index.specs.Tree.{index}
 use Rattle.checks.specs.Checks.{Check, judged}
 use Rattle.checks.proofs.Judged.{judged-done}
 use Rattle.audit.specs.Audit.{refusedAt}
@@ -22,7 +23,7 @@ use Rattle.copy_checks.specs.Copy.{Copy}
 use Rattle.copy_checks.specs.Least.{leastOf}
 use Rattle.copy_checks.proofs.Least.{lower-none}
 use Rattle.copy_checks.proofs.Steps.{Lent, partly-passed}
-use Rattle.copy_take_in.specs.TakeIn.{contradicts, contradictsBytes, packetStart, brought, contradiction, takeVerdict}
+use Rattle.copy_take_in.specs.TakeIn.{bytesContradicted, indexIf, contradicts, packetStart, brought, contradiction, takeVerdict}
 use Rattle.copy_take_in.specs.Inner.{Fits}
 use Rattle.copy_take_in.proofs.Stages.{fits, then-done}
 use Rattle.copy_take_in.proofs.Places.{chunk-long}
@@ -32,7 +33,7 @@ pub record Took (F : List ℕ → List ℕ) (c : Copy) (p : List ℕ) (i : ℕ) 
   pub lent : Lent c
   pub packet : Fits p (c .n) i
   pub total : packetTotal p (c .n) i ≡ c .size
-  pub bytes : contradictsBytes (c .bitfield) (c .content) i (packetStart p (c .n) i) (packetChunk p) ≡ nowhere
+  pub bytes : indexIf (bytesContradicted (c .bitfield) (c .content) i (packetStart p (c .n) i) (packetChunk p)) (index 0 i) ≡ nowhere
   pub entries : leastOf (map (contradicts (c .tree) (c .bitfield)) (brought F p (c .n) i)) ≡ nowhere
 
 pub took : (F : List ℕ → List ℕ) (c : Copy) (p : List ℕ) (i : ℕ) (root : List ℕ) → takeVerdict F c p i root ≡ done → Took F c p i

@@ -20,7 +20,7 @@ use Rattle.file_format.specs.Slots.{Slot, held, Within}
 use Rattle.file_format.specs.Belongs.{Register, Lent, Belongs}
 use Rattle.audit.specs.Audit.{Accepted}
 use Rattle.audit.specs.Theorems.{Imaged}
-use Rattle.lookup.specs.Lookup.{startOf, toChunk}
+use Rattle.lookup.specs.Lookup.{found, placeOf}
 use Rattle.lookup.specs.Read.{readVerdict, readPart}
 use Rattle.packet.specs.Check.{packetChunk}
 use Rattle.copy_checks.specs.Copy.{Copy, lentAsCopy}
@@ -49,7 +49,9 @@ module _ (F : List ℕ → List ℕ) where
     -- this chunk, where and as long as the register has it
     pub tree : returned r p i .tree ≡ r .tree
     pub bitfield : returned r p i .bitfield ≡ heldAgain (r .bitfield) i
-    pub content : returned r p i .content ≡ put (r .content) (startOf (toChunk r i)) (packetChunk p)
+    pub start : ℕ
+    pub place : placeOf r i ≡ found start (storedSize (r .tree) (index 0 i))
+    pub content : returned r p i .content ≡ put (r .content) start (packetChunk p)
     pub size : length (packetChunk p) ≡ storedSize (r .tree) (index 0 i)
     -- so every tree bit, and the data bit and the bytes of any other chunk, are as before
     pub knownStay : (j : ℕ) → j < entries (r .n) → storedKnown (returned r p i .bitfield) j ≡ storedKnown (r .bitfield) j

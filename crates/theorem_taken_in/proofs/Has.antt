@@ -3,16 +3,16 @@
 use Prim.Native.Nat.{ℕ, _+_, _/_, _≤_}
 use mathlib.Core.Path.{_≡_, refl, sym, ap, ap₂, _∙_, subst}
 use mathlib.Core.Logic.{inl}
-use mathlib.Core.Bool.{Bool, true, false, cond}
-use mathlib.Core.List.{List, [], _∷_}
+use mathlib.Core.Bool.{true, false}
+use mathlib.Core.List.{List}
 use native.Mathlib.Omega.{arith}
-use borrow.Author.Tests.{eq-eqb, lt-ltb, le-leb}
-use lib.Dec.{leb, ltb}
+use borrow.Author.Tests.{eq-eqb, le-leb}
+use lib.Dec.{leb}
 use lib.ListN.{length, length-replicate}
-use Rattle.answer_types.specs.Verdict.{Verdict, tree, done, refused, unlessRefused, andThen}
-use Rattle.byte_strings.specs.Lists.{part, put, total, sameList, zeros, Bytes}
+use Rattle.answer_types.specs.Verdict.{Verdict, tree, done, unlessRefused, andThen}
+use Rattle.byte_strings.specs.Lists.{part, put, total, zeros, Bytes}
 use Rattle.byte_strings.specs.Lowest.{Lowest, nowhere, first}
-use Rattle.byte_strings.proofs.Lists.{length-put, same-eq, same-of}
+use Rattle.byte_strings.proofs.Lists.{length-put, same-eq}
 use Rattle.tree_index.specs.Tree.{index, roots}
 use Rattle.bitfield.specs.Append.{bitsPlace}
 use Rattle.bitfield.specs.Release.{storedHeld, releasedBits}
@@ -20,12 +20,15 @@ use Rattle.bitfield.specs.Known.{storedKnown, heldAgain}
 use Rattle.file_format.specs.Sizes.{entryPlace, usedBitfield}
 use Rattle.file_format.specs.Messages.{HashFunction, leafMessage}
 use Rattle.file_format.specs.Entries.{entryBytes, leaf}
-use Rattle.file_format.specs.Stored.{storedHash, storedRootSizes, storedRootMessage}
-use Rattle.checks.specs.Checks.{judged, holds, addsUp}
-use Rattle.checks.proofs.Judged.{judged-right, judged-done}
-use Rattle.lookup.specs.Descent.{Ending, reached, chunkWithin}
-use Rattle.lookup.specs.Lookup.{startOf, stopRefused, toChunk}
-use Rattle.lookup.specs.Read.{chunkBytes, partUnless}
+use Rattle.file_format.specs.Stored.{storedSize, storedHash, storedRootSizes, storedRootMessage}
+use Rattle.checks.specs.Checks.{holds, addsUp}
+use Rattle.checks.proofs.Judged.{judged-done}
+use Rattle.lookup.specs.Descent.{reached, chunkWithin}
+use Rattle.lookup.specs.Lookup.{found, toChunk}
+use Rattle.lookup.specs.Read.{verdictFound, bytesFound, chunkBytes, hashJudged}
+use Rattle.lookup.proofs.Lookups.{hash-right, as-part}
+use Rattle.lookup.proofs.Calls.{chunk-at}
+use Rattle.release.proofs.Calls.{cleared-at}
 use Rattle.lookup.proofs.ReadOrder.{reads}
 use Rattle.release.specs.Release.{releasedRegister}
 use Rattle.release.proofs.Bits.{bits-long, bits-header}
@@ -37,8 +40,9 @@ use Rattle.copy_checks.specs.Descents.{copyToChunk}
 use Rattle.copy_checks.specs.Checks.{unknownRoot, passedOver}
 use Rattle.copy_checks.proofs.Steps.{Lent, Knowing, copy-passes}
 use Rattle.copy_checks.proofs.Descents.{unknownToChunk, chunk-same}
-use Rattle.copy_lookup.specs.Lookups.{copyHeldVerdict}
-use Rattle.copy_lookup.specs.Reading.{copyReadVerdict, copyReadPart}
+use Rattle.copy_lookup.specs.Lookups.{copyHeldPlaceOf}
+use Rattle.copy_lookup.proofs.AsRegister.{held-found-at}
+use Rattle.copy_lookup.specs.Reading.{copyReadFound, copyReadVerdict, copyReadPart}
 use Rattle.copy_roots.specs.Roots.{copyRootVerdict, copyRootAnswer}
 use Rattle.copy_packet.specs.Making.{copyMakeVerdict, copyAfterMake, copyMadeLength}
 use Rattle.copy_release.specs.Release.{copyReleaseVerdict, releasedCopy}
@@ -117,19 +121,16 @@ module _ (F : List ℕ → List ℕ) (H : HashFunction F) (c : Copy) (p : List �
         adds = eq-eqb (total (storedRootSizes (c .tree) (c .n))) (c .size) (roots-total F p n i chunk (c .tree) stored (fit .shaped) ∙ h .total);
       }
 
-  held-done : copyHeldVerdict c i ≡ done
-  unfolding copyHeldVerdict stopRefused
-  held-done =
-      let last : Bool → Ending → Verdict = λ b e. cond b (stopRefused e) (refused 18 (tree (index 0 i))) in
-      copy-passes c (judged (record { number = 9; right = ltb i (c .n) } ∷ []) (last (storedHeld (c .bitfield) i) (copyToChunk c i))) knowing
-      ∙ judged-right (record { number = 9; right = ltb i (c .n) } ∷ []) (last (storedHeld (c .bitfield) i) (copyToChunk c i)) (lt-ltb i (c .n) (chunk .below), tt)
-      ∙ ap₂ last (h .held) to-leaf
+  held-found : copyHeldPlaceOf c i ≡ found start (storedSize (c .tree) (index 0 i))
+  held-found = held-found-at c i knowing (chunk .below) (h .held) to-leaf
 
   -- ---- the read
 
+  piece-is : part (c .content) start (storedSize (c .tree) (index 0 i)) ≡ packetChunk p
+  piece-is = ap (part (c .content) start) (leaf-size F p n i chunk (c .tree) stored) ∙ h .piece
+
   bytes-are : chunkBytes (unsigned c) i ≡ packetChunk p
-  unfolding chunkBytes
-  bytes-are = ap₂ (part (c .content)) (ap startOf lands) (leaf-size F p n i chunk (c .tree) stored) ∙ h .piece
+  bytes-are = chunk-at (unsigned c) i (chunk .below) lands ∙ piece-is
 
   leaf-in : In (record { at = index 0 i; entry = leaf F (packetChunk p) }) gs
   unfolding brought steps In
@@ -139,16 +140,19 @@ module _ (F : List ℕ → List ℕ) (H : HashFunction F) (c : Copy) (p : List �
   unfolding leaf
   leaf-hash = stored _ leaf-in .hash
 
+  read-found : copyReadFound F c i ≡ found start (start + storedSize (c .tree) (index 0 i))
+  unfolding copyReadFound
+  read-found =
+      ap (hashJudged F (c .tree) (c .content) i) held-found
+      ∙ hash-right F (c .tree) (c .content) i start (storedSize (c .tree) (index 0 i)) (leaf-hash ∙ ap (λ (x : List ℕ). F (leafMessage x)) (sym piece-is))
+
   pub read-done : copyReadVerdict F c i ≡ done
   unfolding copyReadVerdict
-  read-done =
-      let same : Bool = sameList (storedHash (c .tree) (index 0 i)) (F (leafMessage (chunkBytes (unsigned c) i))) in
-      ap (λ (v : Verdict). andThen v (cond same done (refused 10 (tree (index 0 i))))) held-done
-      ∙ ap (λ (b : Bool). cond b done (refused 10 (tree (index 0 i)))) (same-of _ _ (leaf-hash ∙ ap (λ (x : List ℕ). F (leafMessage x)) (sym bytes-are)))
+  read-done = ap verdictFound read-found
 
   pub reads-piece : copyReadPart F c i ≡ packetChunk p
   unfolding copyReadPart
-  reads-piece = ap (λ (v : Verdict). partUnless F v (chunkBytes (unsigned c) i)) read-done ∙ bytes-are
+  reads-piece = ap (bytesFound (c .content)) read-found ∙ as-part (c .content) start (storedSize (c .tree) (index 0 i)) ∙ piece-is
 
   -- ---- the root hash
 
@@ -193,7 +197,7 @@ module _ (F : List ℕ → List ℕ) (H : HashFunction F) (c : Copy) (p : List �
 
   pub release-done : copyReleaseVerdict c i ≡ done
   unfolding copyReleaseVerdict
-  release-done = held-done
+  release-done = ap verdictFound held-found
 
   bits-room : RoomFor (c .bitfield) (i / 8192)
   bits-room = bit-room F H c p i (h .lent) (h .bytes) fit
@@ -205,8 +209,8 @@ module _ (F : List ℕ → List ℕ) (H : HashFunction F) (c : Copy) (p : List �
   inside = bytes-inside F H c p i (h .lent) (h .bytes) fit (h .total)
 
   content-left : releasedCopy c i .content ≡ put (c .content) start (zeros (length (packetChunk p)))
-  unfolding releasedCopy releasedRegister
-  content-left = ap₂ (λ (a k : ℕ). put (c .content) a (zeros k)) (ap startOf lands) (leaf-size F p n i chunk (c .tree) stored)
+  unfolding releasedCopy
+  content-left = cleared-at (unsigned c) i (chunk .below) lands ∙ ap (λ (k : ℕ). put (c .content) start (zeros k)) (leaf-size F p n i chunk (c .tree) stored)
 
   bits-left : releasedCopy c i .bitfield ≡ releasedBits (c .bitfield) i
   unfolding releasedCopy releasedRegister

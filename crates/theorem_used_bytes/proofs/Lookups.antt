@@ -2,35 +2,30 @@
 -- Assumes nothing.
 use Prim.Native.Nat.{ℕ, zero, suc, _+_, _-_, _*_, _^_, _≤_, _<_}
 use mathlib.Core.Path.{_≡_, refl, sym, ap, _∙_, subst}
-use mathlib.Core.Bool.{Bool, true, cond}
-use mathlib.Core.List.{List, [], _∷_, _++_}
+use mathlib.Core.Bool.{Bool, true}
+use mathlib.Core.List.{List, [], _∷_}
 use native.Mathlib.Nat.{mul-one}
 use native.Mathlib.Omega.{arith}
-use borrow.Author.Tests.{leb-true, ltb-true}
-use lib.Dec.{leb, ltb, eqb}
+use borrow.Author.Tests.{leb-true}
+use lib.Dec.{leb, eqb}
 use lib.ListN.{length, take, getD}
-use Rattle.answer_types.specs.Verdict.{Verdict, tree, done, refused, andThen}
-use Rattle.byte_strings.specs.Lists.{part, sameList}
+use Rattle.answer_types.specs.Verdict.{Verdict, done, refused, andThen}
+use Rattle.byte_strings.specs.Lists.{part}
 use Rattle.byte_strings.proofs.Bools.{chosen}
 use Rattle.byte_strings.proofs.Lists.{part-take}
 use Rattle.tree_index.specs.Tree.{index, depth, block, filled, roots, entries}
 use Rattle.tree_index.proofs.Filled.{end-filled, filled-below}
 use Rattle.tree_index.proofs.Roots.{root-filled}
-use Rattle.bitfield.specs.Release.{storedHeld}
-use Rattle.file_format.specs.Sizes.{longestChunk, usedTree}
-use Rattle.file_format.specs.Messages.{leafMessage}
-use Rattle.file_format.specs.Stored.{storedHash, storedSize}
+use Rattle.file_format.specs.Sizes.{longestChunk, usedTree, usedBitfield}
+use Rattle.file_format.specs.Stored.{storedSize}
 use Rattle.file_format.specs.Belongs.{Register}
-use Rattle.checks.specs.Checks.{Check, judged, registerChecks}
-use Rattle.checks.proofs.Judged.{judged-append, judged-same}
-use Rattle.checks.proofs.Passed.{Passed, all-must, passed, passes}
-use Rattle.lookup.specs.Descent.{Ending, stopped, reached, unknown, ifKnown, always, chunkWithin, byteWithin, descend, fromRoots, descent}
-use Rattle.lookup.specs.Lookup.{stopRefused, foundUnless, chunkOf, startOf, toChunk, byteEnding, toByte, placeVerdict, heldVerdict, byteVerdict, placeOf, byteAt}
-use Rattle.lookup.proofs.Calls.{held-done}
-use Rattle.lookup.specs.Read.{chunkBytes, readVerdict, partUnless, readPart}
-use Rattle.lookup.specs.Meaning.{readFound}
+use Rattle.checks.specs.Checks.{judged}
+use Rattle.lookup.specs.Descent.{stopped, reached, ifKnown, always, chunkWithin, byteWithin, descend, fromRoots, descent}
+use Rattle.lookup.specs.Lookup.{found, foundBehind, placeIn, heldPlaceIn, placeOf, heldPlaceOf, byteAt}
+use Rattle.lookup.specs.Read.{verdictFound, bytesFound, chunkBytes, hashJudged, readFound, readVerdict, readPart}
 use Rattle.lookup.proofs.Descents.{left-inside, right-end}
-use Rattle.lookup.proofs.Answers.{lookups-stay-inside}
+use Rattle.lookup.proofs.Lookups.{place-same, held-same, byte-same, hash-same, bytes-same, hashed}
+use Rattle.lookup.proofs.Calls.{Placing, held-placing, reading}
 use Rattle.theorem_used_bytes.proofs.Cut.{cut, held-cut, hash-cut, size-cut, checks-cut}
 
 -- ---- the descents
@@ -76,21 +71,9 @@ module _ (f g : ℕ → Bool) (within : ℕ → ℕ → ℕ → ℕ → Bool) (t
   unfolding descent
   descent-cut = from-cut (roots n) 0 (root-filled n)
 
-pub chunk-cut : (r : Register) (c : ℕ) → toChunk (cut r) c ≡ toChunk r c
-unfolding toChunk
-chunk-cut r c = descent-cut always always (chunkWithin c) (r .tree) (r .n) (λ i f. refl)
-
-pub byte-cut : (r : Register) (b : ℕ) → toByte (cut r) b ≡ toByte r b
-unfolding toByte byteEnding
-byte-cut r b = ap (chosen (eqb b (r .size)) (reached (r .n) (r .size))) (descent-cut always always (byteWithin b) (r .tree) (r .n) (λ i f. refl))
-
 -- ---- the lookups
 
 -- what comes behind a verdict is read only where that is done
-pub found-same : (v : Verdict) (a b x y : ℕ) → a ≡ b → (v ≡ done → x ≡ y) → foundUnless v a x ≡ foundUnless v b y
-found-same done a b x y e h = λ i. foundUnless done (e i) (h refl i)
-found-same (refused m at) a b x y e h = refl
-
 pub then-same : (v x y : Verdict) → (v ≡ done → x ≡ y) → andThen v x ≡ andThen v y
 then-same done x y h = h refl
 then-same (refused m at) x y h = refl
@@ -99,107 +82,64 @@ pub then-first : (v x : Verdict) → andThen v x ≡ done → v ≡ done
 then-first done x e = refl
 then-first (refused m at) x e = e
 
-module _ (r : Register) (c : ℕ) where
-  place-verdict-cut : placeVerdict (cut r) c ≡ placeVerdict r c
-  unfolding placeVerdict
-  place-verdict-cut = λ i. judged (checks-cut r i ++ (record { number = 9; right = ltb c (r .n) } ∷ [])) (stopRefused (chunk-cut r c i))
+pub leaf-below : (n c : ℕ) → c < n → index 0 c < entries n
+leaf-below n c h = filled-below n (index 0 c) (end-filled n 0 c (omega (arith, mul-one (c + 1))))
 
-  -- a chunk that a place lookup finds
-  pub place-found : placeVerdict r c ≡ done → Passed r × (c < r .n) × (stopRefused (toChunk r c) ≡ done)
-  unfolding placeVerdict
-  place-found e =
-      let check : Check = record { number = 9; right = ltb c (r .n) } in
-      let a = passed r (judged (check ∷ []) (stopRefused (toChunk r c))) (sym (judged-append (registerChecks r) (check ∷ []) (stopRefused (toChunk r c))) ∙ e) in
-      let b = all-must (check ∷ []) (stopRefused (toChunk r c)) (a .1) in
-      (a .0, ltb-true c (r .n) (b .0 .0), b .1)
+-- of a tree file and of the same cut to its used size
+module _ (f g : ℕ → Bool) (t : List ℕ) (n c : ℕ) (same : (i : ℕ) → filled n i ≡ true → f i ≡ g i) where
+  pub size-same : c < n → storedSize (take (usedTree n) t) (index 0 c) ≡ storedSize t (index 0 c)
+  size-same h = size-cut t n (index 0 c) (leaf-below n c h)
 
-  leaf-below : c < r .n → index 0 c < entries (r .n)
-  leaf-below h = filled-below (r .n) (index 0 c) (end-filled (r .n) 0 c (omega (arith, mul-one (c + 1))))
+  pub place-in-cut : placeIn f (take (usedTree n) t) n c ≡ placeIn g t n c
+  place-in-cut = place-same f g (take (usedTree n) t) t n c (descent-cut f g (chunkWithin c) t n same) (λ k s h e. size-same h)
 
-  pub leaf-size-cut : placeVerdict r c ≡ done → storedSize (cut r .tree) (index 0 c) ≡ storedSize (r .tree) (index 0 c)
-  leaf-size-cut e = size-cut (r .tree) (r .n) (index 0 c) (leaf-below (place-found e .1))
+  pub held-in-cut : (bits : List ℕ) → heldPlaceIn f (take (usedTree n) t) n (take (usedBitfield n) bits) c ≡ heldPlaceIn g t n bits c
+  held-in-cut bits =
+      held-same f g (take (usedTree n) t) t n c (descent-cut f g (chunkWithin c) t n same) (λ k s h e. size-same h) (take (usedBitfield n) bits) bits (held-cut bits n c)
 
-  leaf-inside : placeVerdict r c ≡ done → startOf (toChunk r c) + storedSize (r .tree) (index 0 c) ≤ r .size
-  unfolding stopRefused
-  leaf-inside e = go (toChunk r c) refl (place-found e .2)
-    where
-      go : (x : Ending) → toChunk r c ≡ x → stopRefused x ≡ done → startOf x + storedSize (r .tree) (index 0 c) ≤ r .size
-      go (stopped i) p q = let z : _≡_ {A = ℕ} 0 1 = cc in absurd (omega arith)
-      go (unknown i) p q = let z : _≡_ {A = ℕ} 0 1 = cc in absurd (omega arith)
-      go (reached k s) p q =
-          let f = place-found e in
-          let l = lookups-stay-inside r (passes r done (f .0)) .chunk c (f .1) k s p in
-          subst (λ (x : ℕ). s + storedSize (r .tree) (index 0 x) ≤ r .size) (l .0) (l .1 .inside)
-
-  pub place-cut : placeOf (cut r) c ≡ placeOf r c
+module _ (r : Register) where
+  pub place-cut : (c : ℕ) → placeOf (cut r) c ≡ placeOf r c
   unfolding placeOf
-  place-cut =
-      ap (λ (v : Verdict). foundUnless v (startOf (toChunk (cut r) c)) (storedSize (cut r .tree) (index 0 c))) place-verdict-cut
-      ∙ found-same (placeVerdict r c) (startOf (toChunk (cut r) c)) (startOf (toChunk r c)) (storedSize (cut r .tree) (index 0 c))
-      (storedSize (r .tree) (index 0 c)) (ap startOf (chunk-cut r c)) leaf-size-cut
+  place-cut c = λ i. foundBehind (judged (checks-cut r i) done) (place-in-cut always always (r .tree) (r .n) c (λ j f. refl) i)
 
-  -- ---- a chunk that is held
+  pub held-place-cut : (c : ℕ) → heldPlaceOf (cut r) c ≡ heldPlaceOf r c
+  unfolding heldPlaceOf
+  held-place-cut c = λ i. foundBehind (judged (checks-cut r i) done) (held-in-cut always always (r .tree) (r .n) c (λ j f. refl) (r .bitfield) i)
 
-  abbrev nine : Check
-  nine = record { number = 9; right = ltb c (r .n) }
+  pub byte-at-cut : (b : ℕ) → byteAt (cut r) b ≡ byteAt r b
+  unfolding byteAt
+  byte-at-cut b =
+      λ i. foundBehind (judged (checks-cut r i) done)
+      (byte-same always always (take (usedTree (r .n)) (r .tree)) (r .tree) (r .n) (r .size) b (descent-cut always always (byteWithin b) (r .tree) (r .n) (λ j f. refl)) i)
 
-  -- what stands behind 9 matters only where 9 is passed
-  pub held-verdict-cut : heldVerdict (cut r) c ≡ heldVerdict r c
-  unfolding heldVerdict
-  held-verdict-cut =
-      (λ i. judged (checks-cut r i ++ (nine ∷ [])) (behind (storedHeld (cut r .bitfield) c) (stopRefused (chunk-cut r c i))))
-      ∙ judged-append (registerChecks r) (nine ∷ []) (behind (storedHeld (cut r .bitfield) c) (stopRefused (toChunk r c)))
-      ∙ ap (judged (registerChecks r))
-      (judged-same (nine ∷ []) (behind (storedHeld (cut r .bitfield) c) (stopRefused (toChunk r c))) (behind (storedHeld (r .bitfield) c) (stopRefused (toChunk r c)))
-      (λ p. ap (λ (h : Bool). behind h (stopRefused (toChunk r c))) (held-cut (r .bitfield) (r .n) c (ltb-true c (r .n) (p .0)))))
-      ∙ sym (judged-append (registerChecks r) (nine ∷ []) (behind (storedHeld (r .bitfield) c) (stopRefused (toChunk r c))))
-    where
-      behind : Bool → Verdict → Verdict
-      behind h v = cond h v (refused 18 (tree (index 0 c)))
+-- ---- the read
 
-  -- ---- the read
+-- a part that lies within the data
+pub part-cut : (r : Register) (c : ℕ) {s z : ℕ} → Placing r c s z → part (cut r .content) s z ≡ part (r .content) s z
+part-cut r c {s} {z} p = part-take (r .content) (r .size) s z (p .inside)
 
-  pub bytes-cut : placeVerdict r c ≡ done → chunkBytes (cut r) c ≡ chunkBytes r c
-  unfolding chunkBytes
-  bytes-cut e =
-      (λ i. part (cut r .content) (startOf (chunk-cut r c i)) (leaf-size-cut e i))
-      ∙ part-take (r .content) (r .size) (startOf (toChunk r c)) (storedSize (r .tree) (index 0 c)) (leaf-inside e)
+module _ (F : List ℕ → List ℕ) (r : Register) (c : ℕ) where
+  pub read-found-cut : readFound F (cut r) c ≡ readFound F r c
+  unfolding readFound
+  read-found-cut =
+      ap (hashJudged F (cut r .tree) (cut r .content) c) (held-place-cut r c)
+      ∙ hash-same F (cut r .tree) (r .tree) (cut r .content) (r .content) c (heldPlaceOf r c)
+      (λ s z e. let p = held-placing r c e in (hash-cut (r .tree) (r .n) (index 0 c) (leaf-below (r .n) c (p .below)), part-cut r c p))
 
-  module _ (F : List ℕ → List ℕ) where
-    pub read-verdict-cut : readVerdict F (cut r) c ≡ readVerdict F r c
-    unfolding readVerdict
-    read-verdict-cut =
-        ap (λ (v : Verdict). andThen v (judge (cut r))) held-verdict-cut
-        ∙ then-same (heldVerdict r c) (judge (cut r)) (judge r)
-        (λ e i. verdict (hash-cut (r .tree) (r .n) (index 0 c) (leaf-below (place-found (held-done r c e .1) .1)) i) (bytes-cut (held-done r c e .1) i))
-      where
-        verdict : List ℕ → List ℕ → Verdict
-        verdict hash bytes = cond (sameList hash (F (leafMessage bytes))) done (refused 10 (tree (index 0 c)))
+  pub read-verdict-cut : readVerdict F (cut r) c ≡ readVerdict F r c
+  unfolding readVerdict
+  read-verdict-cut = ap verdictFound read-found-cut
 
-        judge : Register → Verdict
-        judge q = verdict (storedHash (q .tree) (index 0 c)) (chunkBytes q c)
+  pub read-part-cut : (s e : ℕ) → readFound F r c ≡ found s e → part (cut r .content) s (e - s) ≡ part (r .content) s (e - s)
+  unfolding readFound
+  read-part-cut s e q =
+      let h = hashed F (r .tree) (r .content) c (heldPlaceOf r c) q in
+      let z : e - s ≡ h .size = omega (arith, h .to) in
+      ap (part (cut r .content) s) z ∙ part-cut r c (held-placing r c (h .place)) ∙ sym (ap (part (r .content) s) z)
 
-    pub read-cut : readPart F (cut r) c ≡ readPart F r c
-    unfolding readPart readVerdict
-    read-cut = ap (λ (v : Verdict). partUnless F v (chunkBytes (cut r) c)) read-verdict-cut ∙ go (readVerdict F r c) refl
-      where
-        go : (v : Verdict) → readVerdict F r c ≡ v → partUnless F v (chunkBytes (cut r) c) ≡ partUnless F v (chunkBytes r c)
-        go done e = bytes-cut (held-done r c (then-first (heldVerdict r c) _ e) .1)
-        go (refused m at) e = refl
+  pub read-cut : readPart F (cut r) c ≡ readPart F r c
+  unfolding readPart
+  read-cut = ap (bytesFound (cut r .content)) read-found-cut ∙ bytes-same (cut r .content) (r .content) (readFound F r c) read-part-cut
 
-    pub read-found-cut : readFound F (cut r) c ≡ readFound F r c
-    unfolding readFound readVerdict
-    read-found-cut =
-        ap (λ (v : Verdict). foundUnless v (startOf (toChunk (cut r) c)) (startOf (toChunk (cut r) c) + storedSize (cut r .tree) (index 0 c))) read-verdict-cut
-        ∙ found-same (readVerdict F r c) (startOf (toChunk (cut r) c)) (startOf (toChunk r c))
-        (startOf (toChunk (cut r) c) + storedSize (cut r .tree) (index 0 c)) (startOf (toChunk r c) + storedSize (r .tree) (index 0 c))
-        (ap startOf (chunk-cut r c))
-        (λ e i. startOf (chunk-cut r c i) + leaf-size-cut (held-done r c (then-first (heldVerdict r c) _ e) .1) i)
-
--- ---- the byte lookup
-
-pub byte-at-cut : (r : Register) (b : ℕ) → byteAt (cut r) b ≡ byteAt r b
-unfolding byteAt byteVerdict
-byte-at-cut r b =
-    λ i. foundUnless (judged (checks-cut r i ++ (record { number = 9; right = leb b (r .size) } ∷ [])) (stopRefused (byte-cut r b i)))
-    (chunkOf (byte-cut r b i)) (b - startOf (byte-cut r b i))
+  pub bytes-cut : readVerdict F r c ≡ done → chunkBytes (cut r) c ≡ chunkBytes r c
+  bytes-cut e = sym (reading F (cut r) c (read-verdict-cut ∙ e) .bytes) ∙ read-cut ∙ reading F r c e .bytes

@@ -12,14 +12,13 @@ use Rattle.file_format.specs.Sizes.{entryPlace, usedTree}
 use Rattle.file_format.specs.Belongs.{Register}
 use Rattle.file_format.proofs.Spans.{map-ext}
 use Rattle.checks.specs.Checks.{holds}
-use Rattle.lookup.specs.Lookup.{placeVerdict, heldVerdict}
-use Rattle.lookup.proofs.Calls.{held-done}
+use Rattle.lookup.proofs.Calls.{reading}
 use Rattle.lookup.specs.Read.{readVerdict}
 use Rattle.packet.specs.Packet.{siblings, otherRoots, section, packetOf, roomOr14, makeVerdict, afterMake, madeLength, packetWith}
 use Rattle.packet.specs.Inner.{ChunkOf}
 use Rattle.packet.proofs.Rows.{Filled, siblings-filled, others-filled}
 use Rattle.theorem_used_bytes.proofs.Cut.{cut, entry-cut}
-use Rattle.theorem_used_bytes.proofs.Lookups.{then-same, then-first, place-found, bytes-cut, read-verdict-cut}
+use Rattle.theorem_used_bytes.proofs.Lookups.{then-same, then-first, bytes-cut, read-verdict-cut}
 
 section-cut : (t : List ℕ) (n : ℕ) (is : List ℕ) → Filled n is → section (take (usedTree n) t) is ≡ section t is
 unfolding section
@@ -30,12 +29,11 @@ section-cut t n is f =
 
 module _ (F : List ℕ → List ℕ) (r : Register) (c : ℕ) where
   pub packet-cut : readVerdict F r c ≡ done → packetOf (cut r) c ≡ packetOf r c
-  unfolding packetOf packetWith readVerdict
+  unfolding packetOf packetWith
   packet-cut e =
-      let p : placeVerdict r c ≡ done = held-done r c (then-first (heldVerdict r c) _ e) .1 in
-      let f = place-found r c p in
-      let h : ChunkOf (r .n) c = record { count = f .0 .count; below = f .1 } in
-      let b = bytes-cut r c p in
+      let p = reading F r c e .placing in
+      let h : ChunkOf (r .n) c = record { count = p .passed .count; below = p .below } in
+      let b = bytes-cut F r c e in
       let s = section-cut (r .tree) (r .n) (siblings (r .n) c) (siblings-filled (r .n) c h) in
       let o = section-cut (r .tree) (r .n) (otherRoots (r .n) c) (others-filled (r .n) c h) in
       λ i. be 4 (length (b i)) ++ (b i ++ (s i ++ o i))
@@ -47,7 +45,7 @@ module _ (F : List ℕ → List ℕ) (r : Register) (c : ℕ) where
     pub make-verdict-cut : makeVerdict F (cut r) c out ≡ makeVerdict F r c out
     unfolding makeVerdict
     make-verdict-cut =
-        ap (λ (v : Verdict). andThen v (room (packetOf (cut r) c))) (read-verdict-cut r c F)
+        ap (λ (v : Verdict). andThen v (room (packetOf (cut r) c))) (read-verdict-cut F r c)
         ∙ then-same (readVerdict F r c) (room (packetOf (cut r) c)) (room (packetOf r c)) (λ e. ap room (packet-cut e))
 
     -- what is done with a packet where it is made

@@ -15,8 +15,7 @@ use Rattle.prefix_root.proofs.Calls.{old-passed}
 use Rattle.audit.specs.Audit.{audit}
 use Rattle.compare.specs.Walk.{compare}
 use Rattle.lookup.specs.Lookup.{placeOf, byteAt}
-use Rattle.lookup.specs.Read.{readVerdict, readPart}
-use Rattle.lookup.specs.Meaning.{readFound}
+use Rattle.lookup.specs.Read.{readFound, readVerdict, readPart}
 use Rattle.search.specs.Search.{searchFor}
 use Rattle.short_lookup.specs.ShortLookup.{shortPlaceOf, shortByteAt, shortSearchFor}
 use Rattle.packet.specs.Packet.{makeVerdict, madeLength, afterMake}
@@ -76,9 +75,9 @@ reads F =
             old = λ m. by-cut (λ r. prefixRoot F r m) (λ r. old-cut F r m) a b h;
             place = λ c. by-cut (λ r. placeOf r c) (λ r. place-cut r c) a b h;
             byte = λ x. by-cut (λ r. byteAt r x) (λ r. byte-at-cut r x) a b h;
-            readSays = λ c. by-cut (λ r. readVerdict F r c) (λ r. read-verdict-cut r c F) a b h;
-            read = λ c. by-cut (λ r. readPart F r c) (λ r. read-cut r c F) a b h;
-            readFinds = λ c. by-cut (λ r. readFound F r c) (λ r. read-found-cut r c F) a b h;
+            readSays = λ c. by-cut (λ r. readVerdict F r c) (λ r. read-verdict-cut F r c) a b h;
+            read = λ c. by-cut (λ r. readPart F r c) (λ r. read-cut F r c) a b h;
+            readFinds = λ c. by-cut (λ r. readFound F r c) (λ r. read-found-cut F r c) a b h;
             search = λ from. by-cut (λ r. searchFor r from) (λ r. search-cut r from) a b h;
             shortPlace = λ c. by-cut (λ r. shortPlaceOf r c) (λ r. short-place-cut r c) a b h;
             shortByte = λ x. by-cut (λ r. shortByteAt r x) (λ r. short-byte-cut r x) a b h;

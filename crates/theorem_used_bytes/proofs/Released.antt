@@ -1,15 +1,15 @@
 -- The search for a chunk that is not held and the release of one get the same of a register and of the same cut to its used sizes.
 -- Assumes nothing.
 use Prim.Native.Nat.{ℕ, _+_, _-_, _*_, _/_, _%_, _<_}
-use mathlib.Core.Path.{_≡_, sym, ap, ap₂, _∙_}
+use mathlib.Core.Path.{_≡_, refl, sym, ap, _∙_}
 use mathlib.Core.Bool.{_||_}
 use mathlib.Core.List.{List}
 use native.Mathlib.Omega.{arith}
 use lib.Dec.{eqb}
-use lib.ListN.{length, take, length-replicate}
+use lib.ListN.{take, length-replicate}
 use lib.Seq.{getD-take}
 use Rattle.answer_types.specs.Verdict.{done}
-use Rattle.byte_strings.specs.Lists.{put, zeros}
+use Rattle.byte_strings.specs.Lists.{zeros}
 use Rattle.byte_strings.proofs.Lowest.{lowest-agree}
 use Rattle.tree_index.specs.Tree.{index}
 use Rattle.bitfield.specs.Image.{entryCount}
@@ -19,16 +19,17 @@ use Rattle.file_format.specs.Sizes.{usedTree, usedSignatures, usedBitfield}
 use Rattle.file_format.specs.Stored.{storedSize}
 use Rattle.file_format.specs.Belongs.{Register}
 use Rattle.checks.specs.Checks.{judged}
-use Rattle.lookup.specs.Lookup.{startOf, toChunk, heldVerdict}
-use Rattle.lookup.proofs.Calls.{held-done}
-use Rattle.release.specs.Release.{releaseVerdict, releasedRegister}
+use Rattle.lookup.specs.Descent.{always}
+use Rattle.lookup.specs.Lookup.{heldPlaceOf}
+use Rattle.lookup.specs.Read.{verdictFound}
+use Rattle.release.specs.Release.{bytesCleared, releaseVerdict, releasedRegister}
 use Rattle.release.proofs.Bits.{bits-front}
-use Rattle.release.proofs.Calls.{held-passed, release-inside}
+use Rattle.release.proofs.Calls.{Clearing, clearing}
 use Rattle.release.proofs.Answers.{front-put}
 use Rattle.search.specs.Search.{storedTuples, tupleIn, storedTuple, passedOver, notMissing, firstMissing, soughtUnless, searchFor}
 use Rattle.theorem_used_bytes.specs.UsedBytes.{SameUsed}
 use Rattle.theorem_used_bytes.proofs.Cut.{cut, same-cut, held-cut, checks-cut}
-use Rattle.theorem_used_bytes.proofs.Lookups.{chunk-cut, leaf-size-cut, held-verdict-cut}
+use Rattle.theorem_used_bytes.proofs.Lookups.{place-in-cut, held-place-cut}
 
 -- ---- the search
 
@@ -72,23 +73,25 @@ of-cut a b e =
 module _ (r : Register) (c : ℕ) where
   says-cut : releaseVerdict (cut r) c ≡ releaseVerdict r c
   unfolding releaseVerdict
-  says-cut = held-verdict-cut r c
+  says-cut = ap verdictFound (held-place-cut r c)
 
-  module _ (e : heldVerdict r c ≡ done) where
-    abbrev start : ℕ
-    start = startOf (toChunk r c)
+  module _ (e : verdictFound (heldPlaceOf r c) ≡ done) where
+    clears : Clearing r c
+    clears = clearing r c e
 
-    abbrev zs : List ℕ
-    zs = zeros (storedSize (r .tree) (index 0 c))
+    abbrev size : ℕ
+    size = storedSize (r .tree) (index 0 c)
 
     bits : take (usedBitfield (r .n)) (releasedBits (r .bitfield) c) ≡ releasedBits (cut r .bitfield) c
-    bits = let p = held-passed r c e in bits-front (r .bitfield) (r .n) c (p .0 .bitfield) (p .1)
+    bits = let p = clears .placing in bits-front (r .bitfield) (r .n) c (p .passed .bitfield) (p .below)
 
-    bytes : take (r .size) (put (r .content) start zs) ≡ put (cut r .content) (startOf (toChunk (cut r) c)) (zeros (storedSize (cut r .tree) (index 0 c)))
+    bytes : take (r .size) (releasedRegister r c .content) ≡ releasedRegister (cut r) c .content
+    unfolding releasedRegister
     bytes =
-        front-put (r .content) (r .size) start zs (held-passed r c e .0 .content)
-        (omega (arith, release-inside r c e, length-replicate {A = ℕ} (storedSize (r .tree) (index 0 c)) 0))
-        ∙ ap₂ (λ (at size : ℕ). put (cut r .content) at (zeros size)) (sym (ap startOf (chunk-cut r c))) (sym (leaf-size-cut r c (held-done r c e .1)))
+        let p = clears .placing in
+        ap (take (r .size)) (clears .content)
+        ∙ front-put (r .content) (r .size) (clears .start) (zeros size) (p .passed .content) (omega (arith, p .inside, length-replicate {A = ℕ} size 0))
+        ∙ sym (ap (bytesCleared (cut r .content)) (place-in-cut always always (r .tree) (r .n) c (λ j f. refl) ∙ p .place))
 
     pub released-cut : cut (releasedRegister r c) ≡ releasedRegister (cut r) c
     unfolding releasedRegister

@@ -27,8 +27,7 @@ use Rattle.prefix_root.specs.PrefixRoot.{prefixVerdict, prefixRoot}
 use Rattle.audit.specs.Audit.{audit}
 use Rattle.compare.specs.Walk.{compare}
 use Rattle.lookup.specs.Lookup.{placeOf, byteAt}
-use Rattle.lookup.specs.Read.{readVerdict, readPart}
-use Rattle.lookup.specs.Meaning.{readFound}
+use Rattle.lookup.specs.Read.{readFound, readVerdict, readPart}
 use Rattle.release.specs.Release.{releaseVerdict, releasedRegister}
 use Rattle.search.specs.Search.{searchFor}
 use Rattle.short_lookup.specs.ShortLookup.{shortPlaceOf, shortByteAt, shortSearchFor}

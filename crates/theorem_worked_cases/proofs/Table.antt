@@ -20,7 +20,7 @@ use Rattle.file_format.specs.Stored.{storedSize, storedRootSizes}
 use Rattle.checks.specs.Checks.{judged, addsUp, laterChecks, registerChecks}
 use Rattle.append_needs.specs.Needs.{leafRuns}
 use Rattle.lookup.specs.Descent.{byteWithin, descend, fromRoots, descent}
-use Rattle.lookup.specs.Lookup.{stopRefused, byteEnding, toByte, byteVerdict, byteAt}
+use Rattle.lookup.specs.Lookup.{byteIn, byteAt}
 use Rattle.listing_lines.specs.Input.{nextLength, chunkStands, chunksIn, inputOf}
 use Rattle.listing_lines.specs.Lines.{digits, chunksWord, bytesWord, rootsWord, leafWord, parentWord, holeWord, firstLine, firstUnder, countUnder, startOf}
 use Rattle.listing_lines.specs.Lines.{lengthOf, line, kindWord, entryLine, linesOf, linesFor, listing}
@@ -32,6 +32,6 @@ unfolding table newlyFilled indexOf three registerOf inputFor printedLines index
     indexByte indexBytes dataBytes treeBytes entry entryCount entriesFor front header treeHeader signaturesHeader bitfieldHeader entryPlace usedTree
     usedSignatures usedBitfield leafMessage parentMessage hole entryBytes leaf parentOf Nodes.node nodeAt entryAt treeEntries dataSize dataImage bitfieldOf
     signaturesImage leaves treeImage allHeld heldIn storedSize storedRootSizes judged addsUp laterChecks registerChecks byteWithin descend fromRoots descent
-    stopRefused byteEnding toByte byteVerdict byteAt keyBlock input blocks inner runsOf runs leafRuns nextLength chunkStands chunksIn inputOf digits chunksWord
+    byteIn byteAt keyBlock input blocks inner runsOf runs leafRuns nextLength chunkStands chunksIn inputOf digits chunksWord
     bytesWord rootsWord leafWord parentWord holeWord firstLine firstUnder countUnder startOf lengthOf line kindWord entryLine linesOf linesFor listing
 holds = (refl, refl)

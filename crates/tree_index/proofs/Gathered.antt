@@ -15,9 +15,9 @@ pub record Gathered (n d count : ℕ) (found : List ℕ) : Type 0 where
   pub list : found ≡ rootsAbove (21 - d) d n ++ replicate (20 - count) 0
   pub many : count ≡ length (rootsAbove (21 - d) d n)
 
-pub gathered-none : (n : ℕ) → Gathered n 21 0 (replicate 20 0)
+pub gathered-none : {n : ℕ} → Gathered n 21 0 (replicate 20 0)
 unfolding rootsAbove
-gathered-none n = record { low = omega arith; list = refl; many = refl }
+gathered-none = record { low = omega arith; list = refl; many = refl }
 
 -- one bit more
 seen : (n d : ℕ) → 0 < d → d ≤ 21 → rootsAbove (21 - (d - 1)) (d - 1) n ≡ rootsAbove (21 - d) d n ++ rootOf (d - 1) n
@@ -28,8 +28,8 @@ seen n d p l =
     ∙ above-snoc (21 - d) (d - 1) n
     ∙ ap (λ (x : ℕ). rootsAbove (21 - d) x n ++ rootOf (d - 1) n) next
 
-pub gathered-skip : (n d count : ℕ) (found : List ℕ) → Gathered n d count found → 0 < d → n / 2 ^ (d - 1) % 2 ≡ 0 → Gathered n (d - 1) count found
-gathered-skip n d count found g p e =
+pub gathered-skip : {n d count : ℕ} {found : List ℕ} → Gathered n d count found → 0 < d → n / 2 ^ (d - 1) % 2 ≡ 0 → Gathered n (d - 1) count found
+gathered-skip {n} {d} {count} g p e =
     let same : rootsAbove (21 - (d - 1)) (d - 1) n ≡ rootsAbove (21 - d) d n =
     seen n d p (g .low) ∙ ap (λ (l : List ℕ). rootsAbove (21 - d) d n ++ l) (no-root (d - 1) n e) ∙ append-nil (rootsAbove (21 - d) d n)
     in
@@ -40,9 +40,9 @@ gathered-skip n d count found g p e =
     }
 
 -- a root that is still to come has room
-pub gathered-room : (n d count : ℕ) (found : List ℕ) → Gathered n d count found → n ≤ 2 ^ 20 → 0 < d → n / 2 ^ (d - 1) % 2 ≡ 1 → count < 20
+pub gathered-room : {n d count : ℕ} {found : List ℕ} → Gathered n d count found → n ≤ 2 ^ 20 → 0 < d → n / 2 ^ (d - 1) % 2 ≡ 1 → count < 20
 unfolding roots rootsBelow
-gathered-room n d count found g h p e =
+gathered-room {n} {d} g h p e =
     let next : d ≡ suc (d - 1) = omega arith in
     let all : (21 - d) + d ≡ 21 = omega (arith, g .low) in
     let first : rootsBelow d n ≡ rootOf (d - 1) n ++ rootsBelow (d - 1) n = ap (λ (x : ℕ). rootsBelow x n) next in
@@ -56,16 +56,16 @@ gathered-room n d count found g h p e =
     in
     omega (arith, length-roots-le n h, g .many)
 
-pub gathered-root : (n d count v : ℕ) (found : List ℕ) → Gathered n d count found → n ≤ 2 ^ 20 → 0 < d → n / 2 ^ (d - 1) % 2 ≡ 1
+pub gathered-root : {n d count v : ℕ} {found : List ℕ} → Gathered n d count found → n ≤ 2 ^ 20 → 0 < d → n / 2 ^ (d - 1) % 2 ≡ 1
     → v ≡ index (d - 1) (n / 2 ^ (d - 1) - 1) → Gathered n (d - 1) (count + 1) (set found count v)
-gathered-root n d count v found g h p e q =
+gathered-root {n} {d} {count} {v} g h p e q =
     let done : List ℕ = rootsAbove (21 - d) d n in
     let rest : List ℕ = replicate (20 - (count + 1)) 0 in
     let more : rootsAbove (21 - (d - 1)) (d - 1) n ≡ rootsAbove (21 - d) d n ++ (v ∷ []) =
     seen n d p (g .low)
     ∙ ap (λ (l : List ℕ). rootsAbove (21 - d) d n ++ l) (one-root (d - 1) n e ∙ ap (λ (x : ℕ). x ∷ []) (sym q))
     in
-    let room : 20 - count ≡ suc (20 - (count + 1)) = omega (arith, gathered-room n d count found g h p e) in
+    let room : 20 - count ≡ suc (20 - (count + 1)) = omega (arith, gathered-room g h p e) in
     record {
       low = omega (arith, g .low);
       list =
@@ -76,9 +76,9 @@ gathered-root n d count v found g h p e q =
           ap (λ (x : ℕ). x + 1) (g .many) ∙ sym (ap length more ∙ length-append done (v ∷ []));
     }
 
-pub gathered-all : (n d count : ℕ) (found : List ℕ) → Gathered n d count found → d ≤ 0 → found ≡ roots n ++ replicate (20 - length (roots n)) 0
+pub gathered-all : {n d count : ℕ} {found : List ℕ} → Gathered n d count found → d ≤ 0 → found ≡ roots n ++ replicate (20 - length (roots n)) 0
 unfolding roots rootsBelow
-gathered-all n zero count found g h =
+gathered-all {n} {d = zero} g h =
     let whole : rootsAbove 21 0 n ≡ rootsBelow 21 n = sym (roots-split 21 0 n ∙ append-nil (rootsAbove 21 0 n)) in
     g .list ∙ ap₂ (λ (l : List ℕ) (x : ℕ). l ++ replicate (20 - x) 0) whole (g .many ∙ ap length whole)
-gathered-all n (suc d) count found g h = absurd (omega arith)
+gathered-all {d = suc d} g h = absurd (omega arith)

@@ -1,8 +1,8 @@
 -- The tree in 64-bit words, with indexes below 2^22: sizes, and shifts that lose no bit.
 -- Assumes nothing.
 use Prim.Native.Nat.{ℕ, zero, suc, _+_, _-_, _*_, _/_, _%_, _^_, _≤_, _<_}
-use mathlib.Core.Path.{_≡_, sym, ap, ap₂, _∙_, subst}
-use native.Mathlib.Nat.{mul-comm, mul-assoc, add-mul, pow-succ', mod-eq-of-lt, lt-of-le-of-lt, le-of-suc-le-suc}
+use mathlib.Core.Path.{_≡_, sym, ap, _∙_, subst}
+use native.Mathlib.Nat.{mul-comm, mul-assoc, add-mul, pow-succ', le-of-suc-le-suc}
 use native.Mathlib.Omega.{arith}
 use lib.Dec.{leb}
 use lib.Pow.{shl-exact, shr-le}
@@ -31,12 +31,6 @@ node-word d k h l = shl-exact 24 d 64 (omega arith) (omega arith) ∙ mul-comm (
 -- a block ends no later than its index
 pub end-below : (i : ℕ) → (block i + 1) * 2 ^ depth i ≤ i + 1
 end-below i = omega (arith, block-end (depth i) (block i), index-sum (depth i) (block i), index-of i)
-
-pub filled-word : (n i d k : ℕ) → i < 4194304 → d ≡ depth i → k ≡ block i → leb ((k + 1) * 2 ^ d % 2 ^ 64) n ≡ filled n i
-unfolding filled
-filled-word n i d k h e f =
-    ap₂ (λ (x y : ℕ). leb ((y + 1) * 2 ^ x % 2 ^ 64) n) e f
-    ∙ ap (λ (x : ℕ). leb x n) (mod-eq-of-lt (lt-of-le-of-lt (end-below i) (omega arith)))
 
 -- the definitions, from the coordinates that were computed
 pub block-word : (i d : ℕ) → d ≡ depth i → i / 2 ^ (d + 1) ≡ block i
@@ -71,9 +65,26 @@ children-beside = by-coordinates (λ i. 0 < depth i → Beside i) go
         )
 
 -- the same in words, from the depth that was computed
+power-exact : (d : ℕ) → d ≤ 22 → 1 * 2 ^ d % 2 ^ 64 ≡ 2 ^ d
+power-exact d h = shl-exact 1 d 64 (omega arith) (omega arith) ∙ omega arith
+
 half-exact : (i d : ℕ) → i < 4194304 → d ≡ depth i → 1 * 2 ^ (d - 1) % 2 ^ 64 ≡ 2 ^ (depth i - 1)
-half-exact i d h e =
-    shl-exact 1 (d - 1) 64 (omega arith) (omega (arith, depth-small i h)) ∙ omega arith ∙ ap (λ (x : ℕ). 2 ^ (x - 1)) e
+half-exact i d h e = power-exact (d - 1) (omega (arith, depth-small i h)) ∙ ap (λ (x : ℕ). 2 ^ (x - 1)) e
+
+size-exact : (i d : ℕ) → i < 4194304 → d ≡ depth i → 1 * 2 ^ d % 2 ^ 64 ≡ 2 ^ depth i
+size-exact i d h e = power-exact d (omega (arith, depth-small i h)) ∙ ap (λ (x : ℕ). 2 ^ x) e
+
+-- a block ends as far behind its index as it begins before it
+pub filled-word : (n i d : ℕ) → i < 4194304 → d ≡ depth i → leb ((i + 1 + 1 * 2 ^ d % 2 ^ 64) / 2) n ≡ filled n i
+unfolding filled
+filled-word n i d h e =
+    let end : (i + 1 + 1 * 2 ^ d % 2 ^ 64) / 2 ≡ (block i + 1) * 2 ^ depth i =
+    omega (arith, size-exact i d h e, block-end (depth i) (block i), index-sum (depth i) (block i), index-of i)
+    in
+    ap (λ (x : ℕ). leb x n) end
+
+pub size-small : (i d : ℕ) → i < 4194304 → d ≡ depth i → 1 * 2 ^ d % 2 ^ 64 ≤ i + 1
+size-small i d h e = omega (arith, size-exact i d h e, index-sum (depth i) (block i), index-of i)
 
 pub left-word : (i d : ℕ) → i < 4194304 → 0 < depth i → d ≡ depth i → leftChild i + 1 * 2 ^ (d - 1) % 2 ^ 64 ≡ i
 left-word i d h p e = ap (λ (x : ℕ). leftChild i + x) (half-exact i d h e) ∙ children-beside i p .0

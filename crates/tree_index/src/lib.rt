@@ -83,10 +83,8 @@ pub fn is_filled(n: u64, i: TreeIndex) -> bool
     requires { ⌜ i .0 < 4194304 ⌝ }
     ensures { λ r. ⌜ r ≡ tree.filled n (i .0) ⌝ }
 {
-    let d = depth(i);
-    let k = block(i);
-    let end = (k + 1) << d;
-    end <= n
+    let size: u64 = 1 << depth(i);
+    (i.0 + 1 + size) / 2 <= n
 }
 
 // Whether all chunks of an index's block stand before a chunk. Inner.

@@ -33,21 +33,21 @@ use Rattle.writing.proofs.Verdicts.{append-passed, sign-passed}
 -- ---- an append
 
 -- what 4 gives to 14
-pub data-inside : (r : Register) (a : Answer) → a ≡ Done → said a ≡ judged (laterChecks r) done → r .size ≤ length (r .content)
+pub data-inside : (r : Register) {a : Answer} → a ≡ Done → said a ≡ judged (laterChecks r) done → r .size ≤ length (r .content)
 unfolding laterChecks
-data-inside r a p e = leb-true _ _ (judged-done (laterChecks r) done (sym e ∙ ap said p) .0 .1 .1 .1 .1 .0)
+data-inside r p e = leb-true _ _ (judged-done (laterChecks r) done (sym e ∙ ap said p) .0 .1 .1 .1 .1 .0)
 
 -- what is left to the part that writes
-pub store-fits : (r : Register) (chunk : List ℕ) (a : Answer) → a ≡ Done → said a ≡ appendVerdict r chunk
+pub store-fits : (r : Register) (chunk : List ℕ) {a : Answer} → a ≡ Done → said a ≡ appendVerdict r chunk
     → StoreFits (r .tree) (r .bitfield) (r .content) (r .n) (r .size) chunk
-store-fits r chunk a p e =
+store-fits r chunk p e =
     let w = append-passed r chunk (sym e ∙ ap said p) in
     record { few = w .1 .fewer; tree = w .1 .tree; bitfield = w .1 .bitfield; content = w .1 .content; sum = w .0 .adds }
 
-pub append-not : (r : Register) (chunk : List ℕ) (a : Answer) (x : Refusal) → a ≡ Refused x → said a ≡ appendVerdict r chunk
+pub append-not : {r : Register} {chunk : List ℕ} {a : Answer} {x : Refusal} → a ≡ Refused x → said a ≡ appendVerdict r chunk
     → AppendPost r chunk (said (Refused x)) (zeros 32) (buffersOf r)
 unfolding appendRoot afterAppend
-append-not r chunk a x p e =
+append-not {r} {chunk} {x = x} p e =
     let w : said (Refused x) ≡ appendVerdict r chunk = sym (ap said p) ∙ e in
     record {
       answer = w;
@@ -55,10 +55,10 @@ append-not r chunk a x p e =
       buffers = rw (← w);
     }
 
-pub append-done : (r : Register) (chunk h t b c : List ℕ) (a : Answer) → a ≡ Done → said a ≡ appendVerdict r chunk
+pub append-done : {r : Register} {chunk h t b c : List ℕ} {a : Answer} → a ≡ Done → said a ≡ appendVerdict r chunk
     → StorePost (r .tree) (r .bitfield) (r .content) (r .n) (r .size) chunk h t b c → AppendPost r chunk done h (lent t (r .signatures) b c)
 unfolding appendRoot afterAppend appendedRegister
-append-done r chunk h t b c a p e w =
+append-done {r} {chunk} {c = c} p e w =
     let v : done ≡ appendVerdict r chunk = sym (ap said p) ∙ e in
     record {
       answer = v;
@@ -72,26 +72,26 @@ append-done r chunk h t b c a p e w =
 -- ---- a stored signature
 
 -- what 2 and 3 give to 8 and 14
-pub counts-right : (r : Register) (a : Answer) → a ≡ Done → said a ≡ judged (registerChecks r) done → (r .n ≤ 1048576) × (r .s ≤ r .n)
-counts-right r a p e = let w = passed r done (sym e ∙ ap said p) .0 in (w .count, signed-le (r .n) (r .s) (w .signed))
+pub counts-right : (r : Register) {a : Answer} → a ≡ Done → said a ≡ judged (registerChecks r) done → (r .n ≤ 1048576) × (r .s ≤ r .n)
+counts-right r p e = let w = passed r done (sym e ∙ ap said p) .0 in (w .count, signed-le (r .n) (r .s) (w .signed))
 
 -- what is left to the part that writes
-pub sign-fits : (r : Register) (a : Answer) → a ≡ Done → said a ≡ signVerdict r → (r .s ≤ 1048576) × (usedSignatures (r .s) + 64 ≤ length (r .signatures))
+pub sign-fits : (r : Register) {a : Answer} → a ≡ Done → said a ≡ signVerdict r → (r .s ≤ 1048576) × (usedSignatures (r .s) + 64 ≤ length (r .signatures))
 unfolding usedSignatures
-sign-fits r a p e =
+sign-fits r p e =
     let w = sign-passed r (sym e ∙ ap said p) in (omega (arith, w .0 .count, w .1 .owed), omega (arith, w .1 .room))
 
-pub sign-not : (r : Register) (signature : List ℕ) (a : Answer) (x : Refusal) → a ≡ Refused x → said a ≡ signVerdict r
+pub sign-not : {r : Register} {signature : List ℕ} {a : Answer} {x : Refusal} → a ≡ Refused x → said a ≡ signVerdict r
     → SignPost r signature (said (Refused x)) (buffersOf r)
 unfolding afterSign
-sign-not r signature a x p e =
+sign-not {r} {signature} {x = x} p e =
     let w : said (Refused x) ≡ signVerdict r = sym (ap said p) ∙ e in
     record { answer = w; buffers = ap (λ (v : Verdict). unlessRefused v (buffersOf (signedRegister r signature)) (buffersOf r)) w }
 
-pub sign-done : (r : Register) (signature g : List ℕ) (at : ℕ) (a : Answer) → a ≡ Done → said a ≡ signVerdict r → at ≡ usedSignatures (r .s)
+pub sign-done : {r : Register} {signature g : List ℕ} {at : ℕ} {a : Answer} → a ≡ Done → said a ≡ signVerdict r → at ≡ usedSignatures (r .s)
     → g ≡ put (r .signatures) at signature → SignPost r signature done (lent (r .tree) g (r .bitfield) (r .content))
 unfolding afterSign signedRegister
-sign-done r signature g at a p e q w =
+sign-done {r} {signature} p e q w =
     let v : done ≡ signVerdict r = sym (ap said p) ∙ e in
     record {
       answer = v;
@@ -102,9 +102,9 @@ sign-done r signature g at a p e q w =
 
 -- ---- a start
 
-pub start-not : (b : Buffers) (v : Verdict) → (StartFits b → ⊥) → v ≡ refused 14 none → StartPost b v b
+pub start-not : (b : Buffers) {v : Verdict} → (StartFits b → ⊥) → v ≡ refused 14 none → StartPost b v b
 unfolding afterStart
-start-not b v h e =
+start-not b h e =
     let w : refused 14 none ≡ startVerdict b = sym (start-refused b h) in
     record { answer = e ∙ w; buffers = ap (λ (v : Verdict). unlessRefused v (started b) b) w }
 
@@ -122,19 +122,19 @@ start-done t g f c t' g' f' h p =
 
 -- ---- the root hash
 
-pub root-fits : (r : Register) (a : Answer) → a ≡ Done → said a ≡ judged (registerChecks r) done → RootsIn (r .tree) (r .n)
-root-fits r a p e = let w = passed r done (sym e ∙ ap said p) .0 in record { count = w .count; inside = w .tree }
+pub root-fits : (r : Register) {a : Answer} → a ≡ Done → said a ≡ judged (registerChecks r) done → RootsIn (r .tree) (r .n)
+root-fits r p e = let w = passed r done (sym e ∙ ap said p) .0 in record { count = w .count; inside = w .tree }
 
-pub root-not : (r : Register) (a : Answer) (x : Refusal) → a ≡ Refused x → said a ≡ judged (registerChecks r) done
+pub root-not : {r : Register} {a : Answer} {x : Refusal} → a ≡ Refused x → said a ≡ judged (registerChecks r) done
     → RootPost r (said (Refused x)) (zeros 32)
 unfolding rootAnswer rootVerdict
-root-not r a x p e =
+root-not {r} {x = x} p e =
     let w : said (Refused x) ≡ judged (registerChecks r) done = sym (ap said p) ∙ e in
     record { answer = w; root = ap (λ (v : Verdict). rootUnlessRefused nodeHash v r) w }
 
-pub root-done : (r : Register) (h : List ℕ) (a : Answer) → a ≡ Done → said a ≡ judged (registerChecks r) done
+pub root-done : {r : Register} {h : List ℕ} {a : Answer} → a ≡ Done → said a ≡ judged (registerChecks r) done
     → h ≡ nodeHash (storedRootMessage (r .tree) (r .n)) → RootPost r done h
 unfolding rootAnswer rootVerdict
-root-done r h a p e w =
+root-done {r} p e w =
     let v : done ≡ judged (registerChecks r) done = sym (ap said p) ∙ e in
     record { answer = v; root = w ∙ ap (λ (v : Verdict). rootUnlessRefused nodeHash v r) v }

@@ -150,9 +150,9 @@ pub record Going (t : List ℕ) (n : ℕ) (e : Entry) (d : ℕ) (u : List ℕ) :
   pub size : (i : ℕ) → filled n i ≡ true → storedSize u i ≡ storedSize t i
   pub long : length u ≡ length t
 
-pub going-none : (t : List ℕ) (n : ℕ) (e : Entry) → Going t n e 0 t
+pub going-none : {t : List ℕ} {n : ℕ} {e : Entry} → Going t n e 0 t
 unfolding filledBy made place
-going-none t n e =
+going-none {t} {n} {e} =
     let all : completed n + 1 - 0 ≡ completed n + 1 = omega arith in
     record {
       rest =
@@ -164,10 +164,10 @@ going-none t n e =
       long = refl;
     }
 
-pub going-next : (t : List ℕ) (n : ℕ) (e : Entry) (d : ℕ) (u v : List ℕ) → n < mostChunks → d ≤ completed n → usedTree (n + 1) ≤ length t
-    → length (e .hash) ≡ 32 → Going t n e d u → v ≡ put u (entryPlace (place n d)) (entryBytes (made nodeHash t n e d)) → Going t n e (d + 1) v
+pub going-next : {t : List ℕ} {n : ℕ} {e : Entry} {d : ℕ} {u v : List ℕ} → Going t n e d u → n < mostChunks → d ≤ completed n → usedTree (n + 1) ≤ length t
+    → length (e .hash) ≡ 32 → v ≡ put u (entryPlace (place n d)) (entryBytes (made nodeHash t n e d)) → Going t n e (d + 1) v
 unfolding withEntries run
-going-next t n e d u v few h room l g q =
+going-next {t} {n} {e} {d} {u} {v} g few h room l q =
     let long : length (entryBytes (made nodeHash t n e d)) ≡ 40 = made-long t n e l d in
     let inside : entryPlace (place n d) + 40 ≤ length u =
     filled-in u n (place n d) few (omega (arith, g .long)) (place-new n d few h) .inside
@@ -189,18 +189,18 @@ going-next t n e d u v few h room l g q =
       long = ap length q ∙ entry-length u (place n d) (entryBytes (made nodeHash t n e d)) long inside ∙ g .long;
     }
 
-pub going-all : (t : List ℕ) (n : ℕ) (e : Entry) (d : ℕ) (u : List ℕ) → d ≡ completed n → Going t n e (d + 1) u
+pub going-all : {t : List ℕ} {n : ℕ} {e : Entry} (d : ℕ) {u : List ℕ} → d ≡ completed n → Going t n e (d + 1) u
     → u ≡ withEntries t (filledBy n) (climb nodeHash t n 0 (completed n) e)
 unfolding withEntries run
-going-all t n e d u h g =
+going-all {t} {n} {e} d {u} h g =
     let none : completed n + 1 - (d + 1) ≡ 0 = omega arith in
     sym (ap (λ (c : ℕ). withEntries u (run (place n) (d + 1) c) (run (made nodeHash t n e) (d + 1) c)) none) ∙ g .rest
 
 -- the entry above, read out of the file on the way
-pub above-made : (t : List ℕ) (n : ℕ) (e : Entry) (d : ℕ) (u : List ℕ) (x y : Entry) → n < mostChunks → d < completed n → Going t n e (d + 1) u
+pub above-made : {t : List ℕ} {n : ℕ} {e : Entry} (d : ℕ) {u : List ℕ} {x y : Entry} → n < mostChunks → d < completed n → Going t n e (d + 1) u
     → x ≡ made nodeHash t n e d → y ≡ parentOf nodeHash (storedEntry u (sibling n d)) x → y ≡ made nodeHash t n e (d + 1)
 unfolding storedEntry made
-above-made t n e d u x y few h g p q =
+above-made {t} {n} {e} d few h g p q =
     let f : filled n (sibling n d) ≡ true = sibling-filled n d few h in
     q
     ∙ ap₂ (parentOf nodeHash)
@@ -208,14 +208,14 @@ above-made t n e d u x y few h g p q =
     ∙ ap (made nodeHash t n e) (sym (add-one d))
 
 -- and its length fits
-pub above-fits : (t : List ℕ) (n : ℕ) (e : Entry) (d : ℕ) (u : List ℕ) (x : Entry) → n < mostChunks → d < completed n
+pub above-fits : {t : List ℕ} {n : ℕ} {e : Entry} (d : ℕ) {u : List ℕ} {x : Entry} → n < mostChunks → d < completed n
     → total (storedRootSizes t n) + e .size < 2 ^ 64 → Going t n e (d + 1) u → x ≡ made nodeHash t n e d → storedSize u (sibling n d) + x .size < 2 ^ 64
-above-fits t n e d u x few h m g p =
+above-fits {t} {n} {e} d {x = x} few h m g p =
     let s : x .size ≡ made nodeHash t n e d .size = ap (λ (y : Entry). y .size) p in
     omega (arith, sum-le nodeHash t n e d few h, g .size (sibling n d) (sibling-filled n d few h), s)
 
 -- one entry more, of the value x
-pub going-step : (t : List ℕ) (n : ℕ) (e : Entry) (d : ℕ) (u v : List ℕ) (x : Entry) → n < mostChunks → d ≤ completed n → usedTree (n + 1) ≤ length t
-    → length (e .hash) ≡ 32 → Going t n e d u → x ≡ made nodeHash t n e d → v ≡ put u (entryPlace (place n d)) (entryBytes x) → Going t n e (d + 1) v
-going-step t n e d u v x few h room l g p q =
-    going-next t n e d u v few h room l g (q ∙ ap (λ (y : Entry). put u (entryPlace (place n d)) (entryBytes y)) p)
+pub going-step : {t : List ℕ} {n : ℕ} {e : Entry} {d : ℕ} {u v : List ℕ} {x : Entry} → Going t n e d u → n < mostChunks → d ≤ completed n
+    → usedTree (n + 1) ≤ length t → length (e .hash) ≡ 32 → x ≡ made nodeHash t n e d → v ≡ put u (entryPlace (place n d)) (entryBytes x) → Going t n e (d + 1) v
+going-step {n = n} {d = d} {u = u} g few h room l p q =
+    going-next g few h room l (q ∙ ap (λ (y : Entry). put u (entryPlace (place n d)) (entryBytes y)) p)

@@ -22,13 +22,13 @@ use Rattle.writing.specs.Sign.{ownSignChecks, signChecks, signVerdict}
 -- ---- checks behind checks
 
 -- a refusal of the first is the refusal of all
-pub refused-before : (cs : List Check) (next : Verdict) (a : Answer) (x : Refusal) → a ≡ Refused x → said a ≡ judged cs done
+pub refused-before : (cs : List Check) (next : Verdict) {a : Answer} {x : Refusal} → a ≡ Refused x → said a ≡ judged cs done
     → said (Refused x) ≡ judged cs next
-refused-before cs next a x p e = sym (judged-refused cs next (x .number) (spotOf (x .place)) (sym e ∙ ap said p))
+refused-before cs next {x = x} p e = sym (judged-refused cs next (x .number) (spotOf (x .place)) (sym e ∙ ap said p))
 
 -- where the first are passed, the others decide
-pub passed-before : (cs : List Check) (v next : Verdict) (a : Answer) → a ≡ Done → said a ≡ judged cs done → v ≡ next → v ≡ judged cs next
-passed-before cs v next a p e q = q ∙ sym (judged-right cs next (judged-done cs done (sym e ∙ ap said p) .0))
+pub passed-before : (cs : List Check) {v next : Verdict} {a : Answer} → a ≡ Done → said a ≡ judged cs done → v ≡ next → v ≡ judged cs next
+passed-before cs {next = next} p e q = q ∙ sym (judged-right cs next (judged-done cs done (sym e ∙ ap said p) .0))
 
 -- all checks of two lists, one behind the other, are right
 pub both-right : (xs ys : List Check) → AllRight xs → AllRight ys → AllRight (xs ++ ys)
@@ -55,16 +55,16 @@ append-order r chunk =
     ap (λ (v : Verdict). cond (ltb (r .n) mostChunks) v (refused 2 none)) (judged-append (laterChecks r) (ownChecks r chunk) done)
 
 -- 2, with n at 1,048,576 too
-pub append-over : (r : Register) (chunk : List ℕ) (v : Verdict) → mostChunks ≤ r .n → v ≡ refused 2 none → v ≡ appendVerdict r chunk
-append-over r chunk v h e =
+pub append-over : (r : Register) (chunk : List ℕ) {v : Verdict} → mostChunks ≤ r .n → v ≡ refused 2 none → v ≡ appendVerdict r chunk
+append-over r chunk h e =
     e
     ∙ sym
     (append-order r chunk
     ∙ ap (λ (b : Bool). cond b (judged (laterChecks r) (judged (ownChecks r chunk) done)) (refused 2 none)) (le-ltb (r .n) mostChunks h))
 
-pub append-within : (r : Register) (chunk : List ℕ) (v : Verdict) → r .n < mostChunks → v ≡ judged (laterChecks r) (judged (ownChecks r chunk) done)
+pub append-within : (r : Register) (chunk : List ℕ) {v : Verdict} → r .n < mostChunks → v ≡ judged (laterChecks r) (judged (ownChecks r chunk) done)
     → v ≡ appendVerdict r chunk
-append-within r chunk v h e =
+append-within r chunk h e =
     e
     ∙ sym
     (append-order r chunk
@@ -75,11 +75,11 @@ abbrev pub ownLadder : Bool → Bool → Bool → Bool → Bool → Verdict
 ownLadder a b c d e =
     cond a (cond b (cond c (cond d (cond e done (refused 14 none)) (refused 14 none)) (refused 14 none)) (refused 8 none)) (refused 7 none)
 
-pub own-answered : (r : Register) (chunk : List ℕ) (v : Verdict) (a b c d e : Bool) → leb (length chunk) longestChunk ≡ a
+pub own-answered : (r : Register) (chunk : List ℕ) {v : Verdict} {a b c d e : Bool} → leb (length chunk) longestChunk ≡ a
     → eqb (r .s) (r .n) ≡ b → holds (r .tree) (usedTree (r .n + 1)) ≡ c → holds (r .bitfield) (usedBitfield (r .n + 1)) ≡ d
     → holds (r .content) (r .size + length chunk) ≡ e → v ≡ ownLadder a b c d e → v ≡ judged (ownChecks r chunk) done
 unfolding ownChecks judged
-own-answered r chunk v a b c d e p q s t u w = rw (p, q, s, t, u) w
+own-answered r chunk p q s t u w = rw (p, q, s, t, u) w
 
 -- ---- a stored signature
 
@@ -87,10 +87,10 @@ pub sign-order : (r : Register) → signVerdict r ≡ judged (registerChecks r) 
 unfolding signVerdict signChecks
 sign-order r = judged-append (registerChecks r) (ownSignChecks (r .signatures) (r .n) (r .s)) done
 
-pub sign-by : (r : Register) (v : Verdict) → v ≡ judged (registerChecks r) (judged (ownSignChecks (r .signatures) (r .n) (r .s)) done) → v ≡ signVerdict r
-sign-by r v e = e ∙ sym (sign-order r)
+pub sign-by : (r : Register) {v : Verdict} → v ≡ judged (registerChecks r) (judged (ownSignChecks (r .signatures) (r .n) (r .s)) done) → v ≡ signVerdict r
+sign-by r e = e ∙ sym (sign-order r)
 
-pub own-sign-answered : (signatures : List ℕ) (n s : ℕ) (v : Verdict) (a b : Bool) → eqb s n ≡ a → holds signatures (usedSignatures (s + 1)) ≡ b
+pub own-sign-answered : (signatures : List ℕ) (n s : ℕ) {v : Verdict} {a b : Bool} → eqb s n ≡ a → holds signatures (usedSignatures (s + 1)) ≡ b
     → v ≡ cond (not a) (cond b done (refused 14 none)) (refused 8 none) → v ≡ judged (ownSignChecks signatures n s) done
 unfolding ownSignChecks judged
-own-sign-answered signatures n s v a b p q w = rw (p, q) w
+own-sign-answered signatures n s p q w = rw (p, q) w

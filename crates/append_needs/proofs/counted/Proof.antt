@@ -7,18 +7,14 @@ use Rattle.append_needs.proofs.counted.Tie as tie
 
 returns : tie.Need-returns
 returns c =
-    let at-used-bitfield = c .before in
-    let at-used-signatures = at-used-bitfield .before in
-    let sizes = at-used-signatures .before in
+    let sizes = c .before .before .before in
     let runs = sizes .before in
-    let at-parent-runs = runs .before in
-    let at-leaf-runs = at-parent-runs .before in
-    let start = at-leaf-runs .before .before in
+    let start = runs .before .before .before .before in
     record {
       answer = refl;
       numbers = all-numbers (start .args .n) (start .args .size) (start .args .lengths .now) _ _ _ _ _ _ _ (sizes .used-tree .ensures)
-          (at-used-signatures .used-signatures .ensures) (at-used-bitfield .used-bitfield .ensures) (c .new-bytes .ensures .0)
-          (at-leaf-runs .leaf-runs .ensures .0) (at-parent-runs .parent-runs .ensures .0) (runs .root-runs .ensures .0);
+          (c .before .before .used-signatures .ensures) (c .before .used-bitfield .ensures) (c .new-bytes .ensures .0)
+          (runs .before .before .leaf-runs .ensures .0) (runs .before .parent-runs .ensures .0) (runs .root-runs .ensures .0);
       runs = refl;
     }
 

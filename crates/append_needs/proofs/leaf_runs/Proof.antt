@@ -22,15 +22,13 @@ loop-holds c = summed-none _ _ _
 
 add-runs-of : tie.Need-add-runs-of Inv-loop μ-loop
 add-runs-of c =
-    let at-loop = c .before .before in
-    let start = at-loop .before .before in
-    omega (arith, short-at (start .args .lengths .now) (at-loop .loop .i) (start .pre .short))
+    let start = c .before .before .before .before in
+    omega (arith, short-at (start .args .lengths .now) (c .before .before .loop .i) (start .pre .short))
 
 runs-of-requires : tie.Need-runs-of-requires Inv-loop μ-loop
 runs-of-requires c κs =
-    let at-loop = c .before .before in
-    let start = at-loop .before .before in
-    omega (arith, short-at (start .args .lengths .now) (at-loop .loop .i) (start .pre .short))
+    let start = c .before .before .before .before in
+    omega (arith, short-at (start .args .lengths .now) (c .before .before .loop .i) (start .pre .short))
 
 add-sum : tie.Need-add-sum Inv-loop μ-loop
 add-sum c =
@@ -50,10 +48,8 @@ loop-again c =
 
 returns : tie.Need-returns Inv-loop μ-loop
 returns c =
-    let at-loop = c .before in (
-      summed-all _ _ (at-loop .before .before .args .lengths .now) (at-loop .loop .i) (at-loop .loop .sum) (at-loop .loop .inv) (c .loop-test .left),
-      omega arith,
-    )
+    let at-loop = c .before in
+    (summed-all _ _ (at-loop .before .before .args .lengths .now) (at-loop .loop .i) (at-loop .loop .sum) (at-loop .loop .inv) (c .loop-test .left), omega arith)
 
 pub leaf-runs-spec : {M : Type 1} → statement M
 leaf-runs-spec =

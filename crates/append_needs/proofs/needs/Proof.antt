@@ -7,27 +7,21 @@ use Rattle.append_needs.proofs.needs.Tie as tie
 counted-requires : tie.Need-counted-requires
 counted-requires c κs =
     let judged = c .before .before in
-    let start = judged .before .before in
-    let a = start .args in
+    let a = judged .before .before .args in
     asked-of (a .n) (a .size) (a .lengths .now) (judged .judge .result) (judged .judge .ensures) (c .enum-told .given .1)
 
 returns : tie.Need-returns
 returns c =
-    let at-refusal = c .before in
-    let judged = at-refusal .before .before in
-    let start = judged .before .before in
-    let a = start .args in
-    let k = at-refusal .refusal .given in
+    let judged = c .before .before .before in
+    let a = judged .before .before .args in
+    let k = c .before .refusal .given in
     need-not (a .n) (a .size) (a .lengths .now) (judged .judge .result) (judged .judge .ensures) (k .0 .0) (k .1)
 
 returns-2 : tie.Need-returns-2
 returns-2 c =
-    let at-enum-told = c .before in
-    let judged = at-enum-told .before .before in
-    let start = judged .before .before in
-    let a = start .args in
-    need-done (a .n) (a .size) (a .lengths .now) (judged .judge .result) (judged .judge .ensures) (c .counted .result) (at-enum-told .enum-told .given .1) (c .counted .ensures)
+    let judged = c .before .before .before in
+    let a = judged .before .before .args in
+    need-done (a .n) (a .size) (a .lengths .now) (judged .judge .result) (judged .judge .ensures) (c .counted .result) (c .before .enum-told .given .1) (c .counted .ensures)
 
 pub needs-spec : {M : Type 1} → statement M
-needs-spec =
-    tie.close (tie.spec (λ c κs. search needs) (λ c. search needs) (λ c. search needs) counted-requires returns returns-2)
+needs-spec = tie.close (tie.spec (λ c κs. search needs) (λ c. search needs) (λ c. search needs) counted-requires returns returns-2)

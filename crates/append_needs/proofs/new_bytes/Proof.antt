@@ -21,9 +21,8 @@ loop-holds c = summed-none _ _ _
 
 add-sum : tie.Need-add-sum Inv-loop μ-loop
 add-sum c =
-    let at-loop = c .before .before in
-    let start = at-loop .before in
-    omega (arith, short-at (start .args .lengths .now) (at-loop .loop .i) (start .pre .short))
+    let start = c .before .before .before in
+    omega (arith, short-at (start .args .lengths .now) (c .before .before .loop .i) (start .pre .short))
 
 loop-again : tie.Need-loop-again Inv-loop μ-loop
 loop-again c =
@@ -34,11 +33,8 @@ loop-again c =
 
 returns : tie.Need-returns Inv-loop μ-loop
 returns c =
-    let at-loop = c .before in
-    let ls = at-loop .before .args .lengths .now in (
-      summed-all _ _ ls (at-loop .loop .i) (at-loop .loop .sum) (at-loop .loop .inv) (c .loop-test .left) ∙ ap total (map-same ls),
-      omega arith,
-    )
+    let ls = c .before .before .args .lengths .now in
+    (summed-all _ _ ls (c .before .loop .i) (c .before .loop .sum) (c .before .loop .inv) (c .loop-test .left) ∙ ap total (map-same ls), omega arith)
 
 pub new-bytes-spec : {M : Type 1} → statement M
 new-bytes-spec =

@@ -10,10 +10,8 @@ counted : (c : tie.After-parents2)
     → New (c .before .before .before .args .n) (c .before .before .before .args .count) (c .before .before .runs-of .result) (c .parents2 .result)
     (c .before .parents .result)
 counted c =
-    let at-parents = c .before in
-    let at-runs-of = at-parents .before in
-    let entered = at-runs-of .before in
-    new-parents _ _ _ _ _ (entered .pre) (at-runs-of .runs-of .ensures) (c .parents2 .ensures) (at-parents .parents .ensures)
+    let entered = c .before .before .before in
+    new-parents _ _ _ _ _ (entered .pre) (c .before .before .runs-of .ensures) (c .parents2 .ensures) (c .before .parents .ensures)
 
 mul-result : tie.Need-mul-result
 mul-result c = omega (arith, counted c .small)
@@ -22,6 +20,4 @@ returns : tie.Need-returns
 returns c = (counted c .sum, counted c .small)
 
 pub parent-runs-spec : {M : Type 1} → statement M
-parent-runs-spec =
-    tie.close
-    (tie.spec (λ c κs. search needs) (λ c. search needs) (λ c κs. search needs) (λ c κs. search needs) (λ c. counted c .more) mul-result returns)
+parent-runs-spec = tie.close (tie.spec (λ c κs. search needs) (λ c. search needs) (λ c κs. search needs) (λ c κs. search needs) (λ c. counted c .more) mul-result returns)

@@ -10,27 +10,20 @@ use Rattle.append_needs.proofs.root_runs.Statement.{statement}
 use Rattle.append_needs.proofs.root_runs.Tie as tie
 
 mul-runs-of : tie.Need-mul-runs-of
-mul-runs-of c =
-    let start = c .before in
-    omega (arith, length-roots-le (start .args .n) (start .pre), c .root-count .ensures)
+mul-runs-of c = omega (arith, length-roots-le (c .before .args .n) (c .before .pre), c .root-count .ensures)
 
 add-runs-of : tie.Need-add-runs-of
-add-runs-of c =
-    let start = c .before in
-    omega (arith, length-roots-le (start .args .n) (start .pre), c .root-count .ensures)
+add-runs-of c = omega (arith, length-roots-le (c .before .args .n) (c .before .pre), c .root-count .ensures)
 
 runs-of-requires : tie.Need-runs-of-requires
-runs-of-requires c κs =
-    let start = c .before in
-    omega (arith, length-roots-le (start .args .n) (start .pre), c .root-count .ensures)
+runs-of-requires c κs = omega (arith, length-roots-le (c .before .args .n) (c .before .pre), c .root-count .ensures)
 
 returns : tie.Need-returns
 unfolding blocks
 returns c =
-    let at-root-count = c .before in
-    let start = at-root-count .before in (
-      c .runs-of .ensures ∙ ap (λ (k : ℕ). blocks (1 + 48 * k)) (at-root-count .root-count .ensures) ∙ sym (rootRuns-blocks (start .args .n)),
-      omega (arith, length-roots-le (start .args .n) (start .pre), at-root-count .root-count .ensures, c .runs-of .ensures),
+    let start = c .before .before in (
+      c .runs-of .ensures ∙ ap (λ (k : ℕ). blocks (1 + 48 * k)) (c .before .root-count .ensures) ∙ sym (rootRuns-blocks (start .args .n)),
+      omega (arith, length-roots-le (start .args .n) (start .pre), c .before .root-count .ensures, c .runs-of .ensures),
     )
 
 pub root-runs-spec : {M : Type 1} → statement M

@@ -23,36 +23,31 @@ completed-requires c κs = omega (arith, c .chunk-behind .ensures, c .before .be
 loop-holds : tie.Need-loop-holds Inv-loop μ-loop
 loop-holds c =
     let start = c .before .before .before in
-    let a = start .args in (made-first (a .tree .now) (a .n) (entryOf (a .leaf)), search needs)
+    let a = start .args in
+    (made-first (a .tree .now) (a .n) (entryOf (a .leaf)), search needs)
 
 above-requires : tie.Need-above-requires Inv-loop μ-loop
 above-requires c κs =
-    let looped = c .before in
-    let at-completed = looped .before in
-    let at-chunk-behind = at-completed .before in
+    let at-chunk-behind = c .before .before .before in
     let s = at-chunk-behind .before .before in
-    let l = looped .loop in
+    let l = c .before .loop in
     above-fits (s .args .tree .now) (s .args .n) (entryOf (s .args .leaf)) (l .d) (entryOf (l .node)) (s .pre)
-    (omega (arith, c .loop-test .taken, at-completed .completed .ensures ∙ ap completed (at-chunk-behind .chunk-behind .ensures))) (l .inv .0)
+    (omega (arith, c .loop-test .taken, c .before .before .completed .ensures ∙ ap completed (at-chunk-behind .chunk-behind .ensures))) (l .inv .0)
 
 loop-again : tie.Need-loop-again Inv-loop μ-loop
 loop-again c =
-    let looped = c .before .before in
-    let start = looped .before .before .before .before in
+    let start = c .before .before .before .before .before .before in
     let a = start .args in
-    let l = looped .loop in
+    let l = c .before .before .loop in
     (above-made (a .tree .now) (a .n) (entryOf (a .leaf)) (l .d) (entryOf (l .node)) (entryOf (c .above .result)) (l .inv .0) (c .above .ensures), search needs)
 
 returns : tie.Need-returns Inv-loop μ-loop
 returns c =
-    let looped = c .before in
-    let at-completed = looped .before in
-    let at-chunk-behind = at-completed .before in
-    let start = at-chunk-behind .before .before in
-    let a = start .args in
-    let l = looped .loop in
+    let at-chunk-behind = c .before .before .before in
+    let a = at-chunk-behind .before .before .args in
+    let l = c .before .loop in
     let last : l .d ≡ completed (a .n) =
-    omega (arith, l .inv .1, c .loop-test .left, at-completed .completed .ensures ∙ ap completed (at-chunk-behind .chunk-behind .ensures)) in
+    omega (arith, l .inv .1, c .loop-test .left, c .before .before .completed .ensures ∙ ap completed (at-chunk-behind .chunk-behind .ensures)) in
     l .inv .0 ∙ ap (made nodeHash (a .tree .now) (a .n) (entryOf (a .leaf))) last
 
 pub climbed-spec : {M : Type 1} → statement M

@@ -11,9 +11,8 @@ use Rattle.append_preview.proofs.hash_with.Tie as tie
 
 sub-kept : tie.Need-sub-kept
 sub-kept c =
-    let at-root-count = c .before in
-    let start = at-root-count .before .before in
-    some-roots (start .args .n) (at-root-count .root-count .result) (start .pre .0) (at-root-count .root-count .ensures) .0
+    let start = c .before .before .before in
+    some-roots (start .args .n) (c .before .root-count .result) (start .pre .0) (c .before .root-count .ensures) .0
 
 mul-sizes : tie.Need-mul-sizes
 mul-sizes c =
@@ -48,11 +47,10 @@ root-hash-requires c κs =
 returns : tie.Need-returns
 returns c =
     let at-stored-root-hashes = c .before .before in
-    let at-stored-roots = at-stored-root-hashes .before .before in
-    let at-root-indexes = at-stored-roots .before in
+    let at-root-indexes = at-stored-root-hashes .before .before .before in
     let at-root-count = at-root-indexes .before in
     let s = at-root-count .before .before in
-    let r = at-stored-roots .stored-roots in
+    let r = at-stored-root-hashes .before .before .stored-roots in
     c .root-hash .ensures
     ∙ ap nodeHash
     (message-with (s .args .tree .now) (s .args .n) (entryOf (s .args .top)) (s .pre .0) (at-stored-root-hashes .stored-root-hashes .result)

@@ -7,16 +7,15 @@ use Rattle.append_preview.proofs.new_root.Tie as tie
 
 hash-with-requires : tie.Need-hash-with-requires
 hash-with-requires c κs =
-    let start = c .before .before .before .before in
-    let s = start in (s .pre .few, room-before (s .args .tree .now) (s .args .n) (s .pre .room))
+    let s = c .before .before .before .before in
+    (s .pre .few, room-before (s .args .tree .now) (s .args .n) (s .pre .room))
 
 returns : tie.Need-returns
 returns c =
-    let at-climbed = c .before in
-    let at-leaf-hash = at-climbed .before in
+    let at-leaf-hash = c .before .before in
     let s = at-leaf-hash .before .before .before in
-    root-after (s .args .tree .now) (s .args .n) (s .args .chunk .now) (at-leaf-hash .leaf-hash .result) (c .hash-with .result) (entryOf (at-climbed .climbed .result)) (s .pre)
-    (at-leaf-hash .leaf-hash .ensures) (at-climbed .climbed .ensures) (c .hash-with .ensures)
+    root-after (s .args .tree .now) (s .args .n) (s .args .chunk .now) (at-leaf-hash .leaf-hash .result) (c .hash-with .result) (entryOf (c .before .climbed .result)) (s .pre)
+    (at-leaf-hash .leaf-hash .ensures) (c .before .climbed .ensures) (c .hash-with .ensures)
 
 pub new-root-spec : {M : Type 1} → statement M
 new-root-spec = tie.close (tie.spec (λ c κs. search needs) (λ c κs. search needs) hash-with-requires returns)

@@ -9,8 +9,7 @@ use Rattle.append_preview.proofs.preview.Tie as tie
 
 abbrev given : (c : tie.Start) → Register
 given c =
-    registerOf (c .args .tree .now) (c .args .signatures .now) (c .args .bitfield .now) (c .args .content .now) (c .args .n) (c .args .s)
-    (c .args .size)
+    registerOf (c .args .tree .now) (c .args .signatures .now) (c .args .bitfield .now) (c .args .content .now) (c .args .n) (c .args .s) (c .args .size)
 
 new-root-requires : tie.Need-new-root-requires
 new-root-requires c κs =
@@ -20,19 +19,15 @@ new-root-requires c κs =
 
 returns : tie.Need-returns
 returns c =
-    let at-found = c .before in
-    let at-judge = at-found .before .before in
+    let at-judge = c .before .before .before in
     let s = at-judge .before .before .before .before .before .before in
-    preview-not (given s) (s .args .chunk .now) (at-judge .judge .result) (at-judge .judge .ensures) (at-found .found .given .0 .0) (at-found .found .given .1)
+    preview-not (given s) (s .args .chunk .now) (at-judge .judge .result) (at-judge .judge .ensures) (c .before .found .given .0 .0) (c .before .found .given .1)
 
 returns-2 : tie.Need-returns-2
 returns-2 c =
-    let at-enum-told = c .before in
-    let at-judge = at-enum-told .before .before in
+    let at-judge = c .before .before .before in
     let s = at-judge .before .before .before .before .before .before in
-    preview-done (given s) (s .args .chunk .now) (at-judge .judge .result) (at-judge .judge .ensures) (c .new-root .result) (at-enum-told .enum-told .given .1) (c .new-root .ensures)
+    preview-done (given s) (s .args .chunk .now) (at-judge .judge .result) (at-judge .judge .ensures) (c .new-root .result) (c .before .enum-told .given .1) (c .new-root .ensures)
 
 pub preview-spec : {M : Type 1} → statement M
-preview-spec =
-    tie.close
-    (tie.spec (λ c κs. search needs) (λ c. search needs) (λ c. search needs) new-root-requires returns returns-2)
+preview-spec = tie.close (tie.spec (λ c κs. search needs) (λ c. search needs) (λ c. search needs) new-root-requires returns returns-2)

@@ -19,7 +19,8 @@ returns : tie.Need-returns
 returns c =
     let at-wrong-entry = c .before .before in
     let start = at-wrong-entry .before .before .before .before in
-    let a = start .args in tree-refuses nodeHash (registerOf (a .tree .now) [] (a .bitfield .now) (a .content .now) (a .n) 0 (a .size)) (at-wrong-entry .wrong-entry .result)
+    let a = start .args in
+    tree-refuses nodeHash (registerOf (a .tree .now) [] (a .bitfield .now) (a .content .now) (a .n) 0 (a .size)) (at-wrong-entry .wrong-entry .result)
     (at-wrong-entry .wrong-entry .ensures) _ (c .enum-told2 .given .1)
 
 wrong-byte-requires : tie.Need-wrong-byte-requires
@@ -29,11 +30,11 @@ wrong-byte-requires c κs =
 
 returns-2 : tie.Need-returns-2
 returns-2 c =
-    let at-enum-told = c .before in
-    let at-wrong-entry = at-enum-told .before .before in
+    let at-wrong-entry = c .before .before .before in
     let start = at-wrong-entry .before .before .before .before in
-    let a = start .args in bitfield-says nodeHash (registerOf (a .tree .now) [] (a .bitfield .now) (a .content .now) (a .n) 0 (a .size)) (at-wrong-entry .wrong-entry .result)
-    (at-wrong-entry .wrong-entry .ensures) (ap said (at-enum-told .enum-told .given .1)) (said (c .wrong-byte .result))
+    let a = start .args in
+    bitfield-says nodeHash (registerOf (a .tree .now) [] (a .bitfield .now) (a .content .now) (a .n) 0 (a .size)) (at-wrong-entry .wrong-entry .result)
+    (at-wrong-entry .wrong-entry .ensures) (ap said (c .before .enum-told .given .1)) (said (c .wrong-byte .result))
     (c .wrong-byte .ensures ∙ ap (λ (right : ℕ → Bool). refusedAt 11 bitfield (lowest right 32 (usedBitfield (a .n) - 32)) done) (whole-right (a .bitfield .now) (a .n)))
 
 pub images-spec : {M : Type 1} → statement M

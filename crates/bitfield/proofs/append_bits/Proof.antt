@@ -13,9 +13,8 @@ steps xs a b n p q = q ∙ ap (λ (l : List ℕ). regenerated l (n / 8192)) p
 
 returns : tie.Need-returns
 returns c =
-    let at-make-index = c .before .before in
-    let at-set-bits = at-make-index .before .before .before .before in
-    steps _ _ _ _ (at-set-bits .set-bits .ensures) (at-make-index .make-index .ensures)
+    let at-set-bits = c .before .before .before .before .before .before in
+    steps _ _ _ _ (at-set-bits .set-bits .ensures) (c .before .before .make-index .ensures)
 
 pub append-bits-spec : {M : Type 1} → statement M
 append-bits-spec = tie.close (tie.spec (λ c κs. search needs) (λ c κs. search needs) (λ c. search needs) returns)

@@ -11,26 +11,24 @@ use Rattle.bitfield.proofs.clear_bit.Tie as tie
 
 mul-xs : tie.Need-mul-xs
 mul-xs c =
-    let at-bit-value = c .before in
-    let start = at-bit-value .before .before in
+    let start = c .before .before .before in
     let a = start .args in
     let x : ℕ = getD (a .xs .now) (a .p + a .b / 8) 0 in
-    omega (arith, digit-le x (at-bit-value .bit-value .result), c .slice-known2 .given (a .p + a .b / 8))
+    omega (arith, digit-le x (c .before .bit-value .result), c .slice-known2 .given (a .p + a .b / 8))
 
 sub-xs : tie.Need-sub-xs
 sub-xs c =
-    let at-bit-value = c .before in
-    let start = at-bit-value .before .before in
-    let a = start .args in digit-le (getD (a .xs .now) (a .p + a .b / 8) 0) (at-bit-value .bit-value .result)
+    let start = c .before .before .before in
+    let a = start .args in
+    digit-le (getD (a .xs .now) (a .p + a .b / 8) 0) (c .before .bit-value .result)
 
 returns : tie.Need-returns
 unfolding changeBit digit
 returns c =
-    let at-bit-value = c .before in
-    let start = at-bit-value .before .before in
+    let start = c .before .before .before in
     let a = start .args in
     let x : ℕ = getD (a .xs .now) (a .p + a .b / 8) 0 in
-    ap (λ (m : ℕ). set (a .xs .now) (a .p + a .b / 8) (x - m * (x / m % 2))) (at-bit-value .bit-value .ensures .0)
+    ap (λ (m : ℕ). set (a .xs .now) (a .p + a .b / 8) (x - m * (x / m % 2))) (c .before .bit-value .ensures .0)
 
 pub clear-bit-spec : {M : Type 1} → statement M
 clear-bit-spec =

@@ -19,14 +19,10 @@ clear-bit-requires c κs = omega arith
 returns : tie.Need-returns
 unfolding clearDataBit
 returns c =
-    let at-clear-bit = c .before .before in
-    let b = at-clear-bit .before in
-    let p = b .before .before in
-    let at-entry-of-chunk = p .before in
-    let start = at-entry-of-chunk .before .before in
-    at-clear-bit .clear-bit .ensures
-    ∙ ap₂ (clearBit (start .args .xs .now)) (p .entry-place .ensures ∙ ap bitsPlace (at-entry-of-chunk .entry-of-chunk .ensures)) (b .data-bit .ensures)
+    let b = c .before .before .before in
+    let at-entry-of-chunk = b .before .before .before in
+    c .before .before .clear-bit .ensures
+    ∙ ap₂ (clearBit (at-entry-of-chunk .before .before .args .xs .now)) (b .before .before .entry-place .ensures ∙ ap bitsPlace (at-entry-of-chunk .entry-of-chunk .ensures)) (b .data-bit .ensures)
 
 pub clear-data-bit-spec : {M : Type 1} → statement M
-clear-data-bit-spec =
-    tie.close (tie.spec (λ c κs. search needs) entry-place-requires (λ c κs. search needs) clear-bit-requires (λ c. search needs) returns)
+clear-data-bit-spec = tie.close (tie.spec (λ c κs. search needs) entry-place-requires (λ c κs. search needs) clear-bit-requires (λ c. search needs) returns)

@@ -27,22 +27,18 @@ is-held-requires c κs = omega arith
 
 returns : tie.Need-returns Inv-loop μ-loop
 returns c =
-    let at-is-held = c .before in
-    let t = at-is-held .before in
-    let l = t .before .before in
+    let l = c .before .before .before .before in
     let start = l .before .before in
-    sym (l .loop .inv ∙ lowest-off (storedHeld (start .args .xs .now)) (l .loop .c .0) (start .args .n) (t .if1 .taken)
-    (sym (at-is-held .is-held .ensures) ∙ not-true _ (c .if2 .taken)))
+    sym (l .loop .inv ∙ lowest-off (storedHeld (start .args .xs .now)) (l .loop .c .0) (start .args .n) (c .before .before .if1 .taken)
+    (sym (c .before .is-held .ensures) ∙ not-true _ (c .if2 .taken)))
 
 loop-again : tie.Need-loop-again Inv-loop μ-loop
 loop-again c =
-    let branch2 = c .before in
-    let h = branch2 .before in
-    let t = h .before in
+    let t = c .before .before .before in
     let l = t .before .before in
     let start = l .before .before in
     l .loop .inv ∙ lowest-on (storedHeld (start .args .xs .now)) (l .loop .c .0) (start .args .n) (t .if1 .taken)
-    (sym (h .is-held .ensures) ∙ not-false _ (branch2 .if2 .left))
+    (sym (c .before .before .is-held .ensures) ∙ not-false _ (c .before .if2 .left))
 
 returns-2 : tie.Need-returns-2 Inv-loop μ-loop
 returns-2 c =
@@ -51,6 +47,4 @@ returns-2 c =
     sym (l .loop .inv ∙ lowest-end (storedHeld (start .args .xs .now)) (l .loop .c .0) (start .args .n) (c .if1 .left))
 
 pub first-missing-spec : {M : Type 1} → statement M
-first-missing-spec =
-    tie.close
-    (tie.spec Inv-loop μ-loop loop-holds is-held-requires returns (λ c. search needs) (λ c. search needs) loop-again returns-2)
+first-missing-spec = tie.close (tie.spec Inv-loop μ-loop loop-holds is-held-requires returns (λ c. search needs) (λ c. search needs) loop-again returns-2)

@@ -14,9 +14,8 @@ steps xs a b k p q = q ∙ ap (λ (l : List ℕ). regenerated l (k / 8192)) p
 
 returns : tie.Need-returns
 returns c =
-    let at-make-index = c .before .before in
-    let at-set-data-bit = at-make-index .before .before .before .before in
-    steps _ _ _ _ (at-set-data-bit .set-data-bit .ensures) (at-make-index .make-index .ensures)
+    let at-set-data-bit = c .before .before .before .before .before .before in
+    steps _ _ _ _ (at-set-data-bit .set-data-bit .ensures) (c .before .before .make-index .ensures)
 
 pub hold-bits-spec : {M : Type 1} → statement M
 hold-bits-spec = tie.close (tie.spec (λ c κs. search needs) (λ c κs. search needs) (λ c. search needs) returns)

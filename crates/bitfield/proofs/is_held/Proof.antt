@@ -19,12 +19,10 @@ bit-is-set-requires c κs = omega arith
 returns : tie.Need-returns
 unfolding storedHeld
 returns c =
-    let b = c .before in
-    let p = b .before in
-    let at-entry-of-chunk = p .before in
+    let at-entry-of-chunk = c .before .before .before in
     let start = at-entry-of-chunk .before .before in
     c .bit-is-set .ensures
-    ∙ ap₂ (bitAt (start .args .xs .now)) (p .entry-place .ensures ∙ ap bitsPlace (at-entry-of-chunk .entry-of-chunk .ensures)) (b .data-bit .ensures)
+    ∙ ap₂ (bitAt (start .args .xs .now)) (c .before .before .entry-place .ensures ∙ ap bitsPlace (at-entry-of-chunk .entry-of-chunk .ensures)) (c .before .data-bit .ensures)
 
 pub is-held-spec : {M : Type 1} → statement M
 is-held-spec = tie.close (tie.spec (λ c κs. search needs) entry-place-requires (λ c κs. search needs) bit-is-set-requires returns)

@@ -24,12 +24,10 @@ bit-is-set-requires c κs = omega arith
 returns : tie.Need-returns
 unfolding storedKnown
 returns c =
-    let b = c .before in
-    let p = b .before in
-    let at-entry-of-index = p .before in
+    let at-entry-of-index = c .before .before .before in
     let start = at-entry-of-index .before .before in
     c .bit-is-set .ensures
-    ∙ ap₂ (λ (e k : ℕ). bitAt (start .args .xs .now) (e + 1024) k) (p .entry-place .ensures ∙ ap bitsPlace (at-entry-of-index .entry-of-index .ensures)) (b .tree-bit .ensures)
+    ∙ ap₂ (λ (e k : ℕ). bitAt (start .args .xs .now) (e + 1024) k) (c .before .before .entry-place .ensures ∙ ap bitsPlace (at-entry-of-index .entry-of-index .ensures)) (c .before .tree-bit .ensures)
 
 pub is-known-spec : {M : Type 1} → statement M
 is-known-spec = tie.close (tie.spec (λ c κs. search needs) entry-place-requires add-at (λ c κs. search needs) bit-is-set-requires returns)

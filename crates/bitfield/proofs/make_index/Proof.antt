@@ -12,10 +12,9 @@ regenerate-requires c κs = omega arith
 
 returns : tie.Need-returns
 returns c =
-    let at-regenerate = c .before .before in
-    let at-entry-of-chunk = at-regenerate .before in
+    let at-entry-of-chunk = c .before .before .before in
     let start = at-entry-of-chunk .before .before .before in
-    at-regenerate .regenerate .ensures ∙ ap (regenerated (start .args .xs .now)) (at-entry-of-chunk .entry-of-chunk .ensures)
+    c .before .before .regenerate .ensures ∙ ap (regenerated (start .args .xs .now)) (at-entry-of-chunk .entry-of-chunk .ensures)
 
 pub make-index-spec : {M : Type 1} → statement M
 make-index-spec = tie.close (tie.spec (λ c κs. search needs) regenerate-requires (λ c. search needs) returns)

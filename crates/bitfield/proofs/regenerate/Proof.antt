@@ -42,11 +42,9 @@ together xs zs bs e at f p q =
 
 returns : tie.Need-returns
 returns c =
-    let at-copy-to = c .before .before in
-    let at-index-of = at-copy-to .before .before .before in
+    let at-index-of = c .before .before .before .before .before in
     let at-entry-place = at-index-of .before .before .before in
-    together _ _ _ _ _ (at-entry-place .entry-place .ensures) (at-copy-to .copy-to .ensures)
-    (at-index-of .index-of .ensures)
+    together _ _ _ _ _ (at-entry-place .entry-place .ensures) (c .before .before .copy-to .ensures) (at-index-of .index-of .ensures)
 
 pub regenerate-spec : {M : Type 1} → statement M
 regenerate-spec =

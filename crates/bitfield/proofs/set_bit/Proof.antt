@@ -16,5 +16,4 @@ returns c =
     ap (λ (m : ℕ). set (a .xs .now) (a .p + a .b / 8) (bitOr (getD (a .xs .now) (a .p + a .b / 8) 0) m)) (c .bit-value .ensures .0)
 
 pub set-bit-spec : {M : Type 1} → statement M
-set-bit-spec =
-    tie.close (tie.spec (λ c. search needs) (λ c. search needs) (λ c κs. search needs) (λ c. search needs) (λ c. search needs) returns)
+set-bit-spec = tie.close (tie.spec (λ c. search needs) (λ c. search needs) (λ c κs. search needs) (λ c. search needs) (λ c. search needs) returns)

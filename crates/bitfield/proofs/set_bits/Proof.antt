@@ -14,12 +14,9 @@ steps xs a b c n p q r = r ∙ ap (λ (l : List ℕ). setTreeBits l (filledBy n)
 
 returns : tie.Need-returns
 returns c =
-    let at-set-filled = c .before .before in
-    let at-set-data-bit = at-set-filled .before .before .before .before in
+    let at-set-data-bit = c .before .before .before .before .before .before in
     let at-zero-if-new = at-set-data-bit .before .before .before .before in
-    steps _ _ _ _ _ (at-zero-if-new .zero-if-new .ensures)
-    (at-set-data-bit .set-data-bit .ensures) (at-set-filled .set-filled .ensures)
+    steps _ _ _ _ _ (at-zero-if-new .zero-if-new .ensures) (at-set-data-bit .set-data-bit .ensures) (c .before .before .set-filled .ensures)
 
 pub set-bits-spec : {M : Type 1} → statement M
-set-bits-spec =
-    tie.close (tie.spec (λ c κs. search needs) (λ c κs. search needs) (λ c κs. search needs) (λ c. search needs) returns)
+set-bits-spec = tie.close (tie.spec (λ c κs. search needs) (λ c κs. search needs) (λ c κs. search needs) (λ c. search needs) returns)

@@ -18,14 +18,10 @@ set-bit-requires c κs = omega arith
 returns : tie.Need-returns
 unfolding setDataBit
 returns c =
-    let at-set-bit = c .before .before in
-    let b = at-set-bit .before in
-    let p = b .before .before in
-    let at-entry-of-chunk = p .before in
-    let start = at-entry-of-chunk .before .before in
-    at-set-bit .set-bit .ensures
-    ∙ ap₂ (setBit (start .args .xs .now)) (p .entry-place .ensures ∙ ap bitsPlace (at-entry-of-chunk .entry-of-chunk .ensures)) (b .data-bit .ensures)
+    let b = c .before .before .before in
+    let at-entry-of-chunk = b .before .before .before in
+    c .before .before .set-bit .ensures
+    ∙ ap₂ (setBit (at-entry-of-chunk .before .before .args .xs .now)) (b .before .before .entry-place .ensures ∙ ap bitsPlace (at-entry-of-chunk .entry-of-chunk .ensures)) (b .data-bit .ensures)
 
 pub set-data-bit-spec : {M : Type 1} → statement M
-set-data-bit-spec =
-    tie.close (tie.spec (λ c κs. search needs) entry-place-requires (λ c κs. search needs) set-bit-requires (λ c. search needs) returns)
+set-data-bit-spec = tie.close (tie.spec (λ c κs. search needs) entry-place-requires (λ c κs. search needs) set-bit-requires (λ c. search needs) returns)

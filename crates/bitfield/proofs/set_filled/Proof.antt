@@ -29,62 +29,52 @@ inside n d i k few h e room b f = omega (arith, filled-place n d (omega arith) h
 end : (xs : List ℕ) (n d : ℕ) → d ≡ completed n + 1 → setTreeBits xs (filledFirst n d) ≡ setTreeBits xs (filledBy n)
 end xs n d e = ap (λ (t : ℕ). setTreeBits xs (filledFirst n t)) e ∙ ap (setTreeBits xs) (all-bits n)
 
+abbrev begins : tie.In-loop Inv-loop μ-loop → tie.Start Inv-loop μ-loop
+begins c =
+    let start = c .before .before .before .before in
+    start
+
 -- the test of the loop, on the chunk's own count
-below : (c : tie.In-loop Inv-loop μ-loop) → c .before .loop .d ≤ completed (c .before .before .before .before .args .c .0)
+below : (c : tie.In-loop Inv-loop μ-loop) → c .before .loop .d ≤ completed (begins c .args .c .0)
 below c = omega (arith, c .loop-test .taken, c .before .before .completed .ensures)
 
 loop-holds : tie.Need-loop-holds Inv-loop μ-loop
-loop-holds c =
-    let start = c .before .before in
-    (search needs, no-bits (start .args .xs .now) (start .args .c .0), refl)
+loop-holds c = let a = c .before .before .args in (search needs, no-bits (a .xs .now) (a .c .0), refl)
 
 node-ending-requires : tie.Need-node-ending-requires Inv-loop μ-loop
-node-ending-requires c κs =
-    let entered = c .before .before .before .before in
-    (entered .pre .0, below c)
+node-ending-requires c κs = (begins c .pre .0, below c)
 
 set-tree-bit-requires : tie.Need-set-tree-bit-requires Inv-loop μ-loop
 set-tree-bit-requires c κs =
-    let at-node-ending = c .before .before in
-    let in-loop = at-node-ending .before in
-    let looped = in-loop .before in
-    let start-2 = looped .before .before .before in
-    let start = start-2 in (
-      c .entry-of-index .ensures,
-      inside (start .args .c .0) (looped .loop .d) _ _ (start .pre .0) (below in-loop) (at-node-ending .node-ending .ensures)
-          (omega (arith, start .pre .1, looped .loop .inv .2)) _ (c .entry-of-index .ensures),
-    )
+    let tested = c .before .before .before in
+    let start = begins tested in
+    let l = tested .before .loop in
+    let at = c .entry-of-index .ensures in
+    (at, inside (start .args .c .0) (l .d) _ _ (start .pre .0) (below tested) (c .before .before .node-ending .ensures) (omega (arith, start .pre .1, l .inv .2)) _ at)
 
 add-d : tie.Need-add-d Inv-loop μ-loop
 add-d c =
-    let in-loop = c .before .before .before .before .before .before in
-    let looped = in-loop .before in
-    let start = looped .before .before .before in
-    omega (arith, completed-few (start .args .c .0) (looped .loop .d) (start .pre .0) (below in-loop))
+    let tested = c .before .before .before .before .before .before in
+    let start = begins tested in
+    omega (arith, completed-few (start .args .c .0) (tested .before .loop .d) (start .pre .0) (below tested))
 
 loop-again : tie.Need-loop-again Inv-loop μ-loop
 loop-again c =
-    let at-set-tree-bit = c .before .before in
-    let at-node-ending = at-set-tree-bit .before .before .before in
-    let looped = at-node-ending .before .before in
-    let start = looped .before .before .before in
-    let l = looped .loop in
-    let xs = start .args .xs .now in
+    let at-node-ending = c .before .before .before .before .before in
+    let start = at-node-ending .before .before .before .before .before in
+    let l = at-node-ending .before .before .loop in
     let n = start .args .c .0 in (
       search needs,
-      at-set-tree-bit .set-tree-bit .ensures ∙ ap (setTreeBit (l .xs)) (at-node-ending .node-ending .ensures)
-          ∙ ap (λ (y : List ℕ). setTreeBit y (index (l .d) ((n + 1) / 2 ^ l .d - 1))) (l .inv .1) ∙ next-bit xs n (l .d),
+      c .before .before .set-tree-bit .ensures ∙ ap (setTreeBit (l .xs)) (at-node-ending .node-ending .ensures)
+          ∙ ap (λ (y : List ℕ). setTreeBit y (index (l .d) ((n + 1) / 2 ^ l .d - 1))) (l .inv .1) ∙ next-bit (start .args .xs .now) n (l .d),
       search needs,
     )
 
 returns : tie.Need-returns Inv-loop μ-loop
 returns c =
-    let looped = c .before in
-    let at-completed = looped .before in
-    let start = at-completed .before .before in
-    let l = looped .loop in
-    l .inv .1
-    ∙ end (start .args .xs .now) (start .args .c .0) (l .d) (omega (arith, l .inv .0, c .loop-test .left, at-completed .completed .ensures))
+    let start = c .before .before .before .before in
+    let l = c .before .loop in
+    l .inv .1 ∙ end (start .args .xs .now) (start .args .c .0) (l .d) (omega (arith, l .inv .0, c .loop-test .left, c .before .before .completed .ensures))
 
 pub set-filled-spec : {M : Type 1} → statement M
 set-filled-spec =

@@ -23,13 +23,10 @@ set-bit-requires c κs = omega arith
 returns : tie.Need-returns
 unfolding setTreeBit
 returns c =
-    let at-set-bit = c .before .before in
-    let b = at-set-bit .before in
-    let p = b .before .before in
-    let start = p .before .before in
-    at-set-bit .set-bit .ensures
-    ∙ ap₂ (λ (e k : ℕ). setBit (start .args .xs .now) (e + 1024) k) (p .entry-place .ensures ∙ ap bitsPlace (start .pre .0)) (b .tree-bit .ensures)
+    let b = c .before .before .before in
+    let start = b .before .before .before .before in
+    c .before .before .set-bit .ensures
+    ∙ ap₂ (λ (e k : ℕ). setBit (start .args .xs .now) (e + 1024) k) (b .before .before .entry-place .ensures ∙ ap bitsPlace (start .pre .0)) (b .tree-bit .ensures)
 
 pub set-tree-bit-spec : {M : Type 1} → statement M
-set-tree-bit-spec =
-    tie.close (tie.spec entry-place-requires add-at (λ c κs. search needs) set-bit-requires (λ c. search needs) returns)
+set-tree-bit-spec = tie.close (tie.spec entry-place-requires add-at (λ c κs. search needs) set-bit-requires (λ c. search needs) returns)

@@ -19,25 +19,17 @@ clear-requires c κs = omega arith
 
 returns : tie.Need-returns
 returns c =
-    let at-clear = c .before .before in
-    let p = at-clear .before .before in
-    let at-entry-of-chunk = p .before in
-    let branch1 = at-entry-of-chunk .before in
-    let b = branch1 .before in
-    let start = b .before .before in
-    let a = start .args in
-    at-clear .clear .ensures
-    ∙ ap (λ (at : ℕ). put (a .xs .now) at (zeros 3328)) (p .entry-place .ensures ∙ ap bitsPlace (at-entry-of-chunk .entry-of-chunk .ensures))
-    ∙ sym (zeroed-new (a .xs .now) (a .c .0) (sym (b .data-bit .ensures) ∙ branch1 .if1 .taken))
+    let p = c .before .before .before .before in
+    let b = p .before .before .before in
+    let a = b .before .before .args in
+    c .before .before .clear .ensures
+    ∙ ap (λ (at : ℕ). put (a .xs .now) at (zeros 3328)) (p .entry-place .ensures ∙ ap bitsPlace (p .before .entry-of-chunk .ensures))
+    ∙ sym (zeroed-new (a .xs .now) (a .c .0) (sym (b .data-bit .ensures) ∙ p .before .before .if1 .taken))
 
 returns-2 : tie.Need-returns-2
 returns-2 c =
-    let at-data-bit = c .before in
-    let start = at-data-bit .before .before in
-    let a = start .args in
-    sym (zeroed-old (a .xs .now) (a .c .0) (λ e. c .if1 .left (at-data-bit .data-bit .ensures ∙ e)))
+    let start = c .before .before .before in
+    sym (zeroed-old (start .args .xs .now) (start .args .c .0) (λ e. c .if1 .left (c .before .data-bit .ensures ∙ e)))
 
 pub zero-if-new-spec : {M : Type 1} → statement M
-zero-if-new-spec =
-    tie.close
-    (tie.spec (λ c κs. search needs) (λ c κs. search needs) entry-place-requires clear-requires (λ c. search needs) returns returns-2)
+zero-if-new-spec = tie.close (tie.spec (λ c κs. search needs) (λ c κs. search needs) entry-place-requires clear-requires (λ c. search needs) returns returns-2)

@@ -11,8 +11,7 @@ returns c = let a = c .before .before .args in no-key (a .h .now) (a .key .now) 
 returns-2 : tie.Need-returns-2
 returns-2 c =
     let f = c .before .before in
-    let start = f .before .before in
-    let a = start .args in
+    let a = f .before .before .args in
     some-key (a .h .now) (a .key .now) _ (omega (arith, f .if1 .left)) (c .compress-key .ensures)
 
 pub absorb-key-spec : {M : Type 1} → statement M

@@ -23,10 +23,4 @@ returns c =
     of-block _ _ _ _ _ (c .compress-at .ensures) (block-piece (a .prefix .now ++ a .body .now) (a .p) _ (g .gather .ensures))
 
 pub compress-gathered-spec : {M : Type 1} → statement M
-compress-gathered-spec =
-    tie.close
-    (tie.spec
-    gather-requires
-    (λ c. search needs)
-    compress-at-requires
-    returns)
+compress-gathered-spec = tie.close (tie.spec gather-requires (λ c. search needs) compress-at-requires returns)

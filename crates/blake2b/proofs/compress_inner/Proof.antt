@@ -21,9 +21,4 @@ returns-2 c =
     of-count _ _ _ _ _ (c .compress-gathered .ensures) (at-counter .counter .ensures)
 
 pub compress-inner-spec : {M : Type 1} → statement M
-compress-inner-spec =
-    tie.close
-    (tie.spec
-    (λ c. search needs) (λ c κs. search needs) (λ c κs. search needs)
-    returns
-    (λ c κs. search needs) returns-2)
+compress-inner-spec = tie.close (tie.spec (λ c. search needs) (λ c κs. search needs) (λ c κs. search needs) returns (λ c κs. search needs) returns-2)

@@ -11,6 +11,4 @@ returns c =
     of-count _ _ _ _ _ (c .compress-gathered .ensures) (at-counter .counter .ensures)
 
 pub compress-key-spec : {M : Type 1} → statement M
-compress-key-spec =
-    tie.close
-    (tie.spec (λ c κs. search needs) (λ c. search needs) (λ c. search needs) (λ c. search needs) (λ c κs. search needs) returns)
+compress-key-spec = tie.close (tie.spec (λ c κs. search needs) (λ c. search needs) (λ c. search needs) (λ c. search needs) (λ c κs. search needs) returns)

@@ -34,10 +34,4 @@ returns-2 c =
     (k .absorb-key .ensures .0) (k .absorb-key .ensures .1) (c .absorb .ensures)
 
 pub final-state-spec : {M : Type 1} → statement M
-final-state-spec =
-    tie.close
-    (tie.spec
-    (λ c κs. search needs) (λ c. search needs) (λ c κs. search needs)
-    returns
-    (λ c κs. search needs) (λ c κs. search needs)
-    returns-2)
+final-state-spec = tie.close (tie.spec (λ c κs. search needs) (λ c. search needs) (λ c κs. search needs) returns (λ c κs. search needs) (λ c κs. search needs) returns-2)

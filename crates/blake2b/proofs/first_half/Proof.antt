@@ -33,12 +33,4 @@ returns c =
     looped .loop .inv .1 ∙ ap (λ (k : ℕ). over 32 d k) e ∙ over-all 32 d
 
 pub first-half-spec : {M : Type 1} → statement M
-first-half-spec =
-    tie.close
-    (tie.spec
-    Inv-loop
-    μ-loop
-    loop-holds
-    (λ c. search needs) (λ c. search needs) (λ c. search needs) (λ c. search needs)
-    loop-again
-    returns)
+first-half-spec = tie.close (tie.spec Inv-loop μ-loop loop-holds (λ c. search needs) (λ c. search needs) (λ c. search needs) (λ c. search needs) loop-again returns)

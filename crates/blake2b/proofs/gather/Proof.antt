@@ -32,11 +32,4 @@ returns-2 c =
     piece-body (a .prefix .now) (a .body .now) (a .p) _ _ (branch1 .if1 .left) (c .fill3 .ensures)
 
 pub gather-spec : {M : Type 1} → statement M
-gather-spec =
-    tie.close
-    (tie.spec
-    (λ c κs. search needs) (λ c. search needs) (λ c κs. search needs)
-    fill-requires-2
-    returns
-    (λ c κs. search needs)
-    returns-2)
+gather-spec = tie.close (tie.spec (λ c κs. search needs) (λ c. search needs) (λ c κs. search needs) fill-requires-2 returns (λ c κs. search needs) returns-2)

@@ -15,8 +15,4 @@ returns c =
     half-from (a .key .now) (a .prefix .now ++ a .body .now) _ _ _ (at-final-state .final-state .ensures) (at-state-bytes .state-bytes .ensures) (c .first-half .ensures)
 
 pub hash-parts-spec : {M : Type 1} → statement M
-hash-parts-spec =
-    tie.close
-    (tie.spec
-    (λ c κs. search needs) (λ c κs. search needs) (λ c κs. search needs)
-    returns)
+hash-parts-spec = tie.close (tie.spec (λ c κs. search needs) (λ c κs. search needs) (λ c κs. search needs) returns)

@@ -8,9 +8,8 @@ use Rattle.blake2b_compression.proofs.compress.Tie as tie
 returns : tie.Need-returns
 returns c =
     let at-twelve-rounds = c .before .before in
-    let at-start-vector = at-twelve-rounds .before in
     c .fold .ensures
-    ∙ compressed _ _ _ _ (at-start-vector .start-vector .ensures) (at-twelve-rounds .twelve-rounds .ensures)
+    ∙ compressed _ _ _ _ (at-twelve-rounds .before .start-vector .ensures) (at-twelve-rounds .twelve-rounds .ensures)
 
 pub compress-spec : {M : Type 1} → statement M
 compress-spec = tie.close (tie.spec (λ c κs. search needs) (λ c κs. search needs) (λ c κs. search needs) returns)

@@ -20,27 +20,21 @@ abbrev μ-loop : tie.MeasureT-loop
 loop-holds : tie.Need-loop-holds Inv-loop μ-loop
 loop-holds c = (search needs, sym (put-nil _ _), search needs)
 
-slice-write-dst : tie.Need-slice-write-dst Inv-loop μ-loop
-slice-write-dst c = omega arith
-
 loop-again : tie.Need-loop-again Inv-loop μ-loop
 loop-again c =
-    let at-loop = c .before in
-    let start = at-loop .before in (
+    let start = c .before .before in (
       search needs,
-      ap (λ (l : List ℕ). set l (start .args .at + at-loop .loop .i) 0) (at-loop .loop .inv .1)
-          ∙ put-zeros (start .args .dst .now) (start .args .at) (at-loop .loop .i) (omega arith),
-      length-set (at-loop .loop .dst) (start .args .at + at-loop .loop .i) 0 ∙ at-loop .loop .inv .2,
+      ap (λ (l : List ℕ). set l (start .args .at + c .before .loop .i) 0) (c .before .loop .inv .1)
+          ∙ put-zeros (start .args .dst .now) (start .args .at) (c .before .loop .i) (omega arith),
+      length-set (c .before .loop .dst) (start .args .at + c .before .loop .i) 0 ∙ c .before .loop .inv .2,
     )
 
 returns : tie.Need-returns Inv-loop μ-loop
 returns c =
-    let at-loop = c .before in
-    let start = at-loop .before in
-    at-loop .loop .inv .1
-    ∙ ap (λ (k : ℕ). put (start .args .dst .now) (start .args .at) (zeros k)) (le-antisymm (at-loop .loop .inv .0) (c .loop-test .left))
+    let start = c .before .before in
+    c .before .loop .inv .1 ∙ ap (λ (k : ℕ). put (start .args .dst .now) (start .args .at) (zeros k)) (le-antisymm (c .before .loop .inv .0) (c .loop-test .left))
 
 pub clear-spec : {M : Type 1} → statement M
 clear-spec =
-    tie.close (tie.spec Inv-loop μ-loop loop-holds (λ c. search needs) slice-write-dst
+    tie.close (tie.spec Inv-loop μ-loop loop-holds (λ c. search needs) (λ c. omega arith)
     (λ c. search needs) (λ c. search needs) loop-again (λ c. search needs) returns)

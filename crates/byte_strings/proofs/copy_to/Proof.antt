@@ -20,29 +20,22 @@ abbrev μ-loop : tie.MeasureT-loop
 loop-holds : tie.Need-loop-holds Inv-loop μ-loop
 loop-holds c = (search needs, sym (put-nil _ _), search needs)
 
-slice-write-dst : tie.Need-slice-write-dst Inv-loop μ-loop
-slice-write-dst c = omega arith
-
 loop-again : tie.Need-loop-again Inv-loop μ-loop
 loop-again c =
-    let tested = c .before in
-    let at-loop = tested .before in
-    let start-2 = at-loop .before in
-    let start = start-2 in (
+    let at-loop = c .before .before in
+    let start = at-loop .before in (
       search needs,
       ap (λ (l : List ℕ). set l (start .args .at + at-loop .loop .i) (getD (start .args .src .now) (at-loop .loop .i) 0)) (at-loop .loop .inv .1)
-          ∙ put-take (start .args .dst .now) (start .args .at) (start .args .src .now) (at-loop .loop .i) 0 (start .pre) (tested .loop-test .taken),
+          ∙ put-take (start .args .dst .now) (start .args .at) (start .args .src .now) (at-loop .loop .i) 0 (start .pre) (c .before .loop-test .taken),
       length-set (at-loop .loop .dst) (start .args .at + at-loop .loop .i) (getD (start .args .src .now) (at-loop .loop .i) 0) ∙ at-loop .loop .inv .2,
     )
 
 returns : tie.Need-returns Inv-loop μ-loop
 returns c =
-    let at-loop = c .before in
-    let start = at-loop .before in
-    at-loop .loop .inv .1
-    ∙ ap (put (start .args .dst .now) (start .args .at)) (take-all (at-loop .loop .i) (start .args .src .now) (c .loop-test .left))
+    let start = c .before .before in
+    c .before .loop .inv .1 ∙ ap (put (start .args .dst .now) (start .args .at)) (take-all (c .before .loop .i) (start .args .src .now) (c .loop-test .left))
 
 pub copy-to-spec : {M : Type 1} → statement M
 copy-to-spec =
-    tie.close (tie.spec Inv-loop μ-loop loop-holds (λ c. search needs) (λ c. search needs) slice-write-dst
+    tie.close (tie.spec Inv-loop μ-loop loop-holds (λ c. search needs) (λ c. search needs) (λ c. omega arith)
     (λ c. search needs) (λ c. search needs) loop-again (λ c. search needs) returns)

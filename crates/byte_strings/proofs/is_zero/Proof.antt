@@ -21,23 +21,15 @@ loop-holds c = (search needs, refl)
 returns : tie.Need-returns Inv-loop μ-loop
 returns c =
     let at-loop = c .before .before .before in
-    let start = at-loop .before in
-    sym (at-loop .loop .inv .1 ∙ zero-off (start .args .s .now) (at-loop .loop .i) (omega arith) (c .if1 .taken))
+    sym (at-loop .loop .inv .1 ∙ zero-off (at-loop .before .args .s .now) (at-loop .loop .i) (omega arith) (c .if1 .taken))
 
 loop-again : tie.Need-loop-again Inv-loop μ-loop
 loop-again c =
-    let start = c .before .before .before in
-    let at-loop = start in (
-      search needs,
-      at-loop .loop .inv .1 ∙ zero-on (at-loop .before .args .s .now) (at-loop .loop .i) (omega arith) (c .if1 .left),
-    )
+    let at-loop = c .before .before .before in
+    (search needs, at-loop .loop .inv .1 ∙ zero-on (at-loop .before .args .s .now) (at-loop .loop .i) (omega arith) (c .if1 .left))
 
 returns-2 : tie.Need-returns-2 Inv-loop μ-loop
-returns-2 c =
-    let at-loop = c .before in
-    sym (at-loop .loop .inv .1 ∙ zero-end (at-loop .before .args .s .now) (at-loop .loop .i) (c .loop-test .left))
+returns-2 c = sym (c .before .loop .inv .1 ∙ zero-end (c .before .before .args .s .now) (c .before .loop .i) (c .loop-test .left))
 
 pub is-zero-spec : {M : Type 1} → statement M
-is-zero-spec =
-    tie.close (tie.spec Inv-loop μ-loop loop-holds (λ c. search needs) returns (λ c. search needs)
-    (λ c. search needs) loop-again returns-2)
+is-zero-spec = tie.close (tie.spec Inv-loop μ-loop loop-holds (λ c. search needs) returns (λ c. search needs) (λ c. search needs) loop-again returns-2)

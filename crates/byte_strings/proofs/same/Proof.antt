@@ -25,26 +25,18 @@ returns-2 : tie.Need-returns-2 Inv-loop μ-loop
 returns-2 c =
     let at-loop = c .before .before .before .before in
     let start = at-loop .before .before in
-    sym (at-loop .loop .inv .1
-    ∙ same-off (start .args .a .now) (start .args .b .now) (at-loop .loop .i) (omega arith) (omega arith) (c .if2 .taken))
+    sym (at-loop .loop .inv .1 ∙ same-off (start .args .a .now) (start .args .b .now) (at-loop .loop .i) (omega arith) (omega arith) (c .if2 .taken))
 
 loop-again : tie.Need-loop-again Inv-loop μ-loop
 loop-again c =
     let at-loop = c .before .before .before .before in
-    let start-2 = at-loop .before .before in
-    let start = start-2 in (
-      search needs,
-      at-loop .loop .inv .1
-          ∙ same-on (start .args .a .now) (start .args .b .now) (at-loop .loop .i) (omega arith) (omega arith) (c .if2 .left),
-    )
+    let start = at-loop .before .before in
+    (search needs, at-loop .loop .inv .1 ∙ same-on (start .args .a .now) (start .args .b .now) (at-loop .loop .i) (omega arith) (omega arith) (c .if2 .left))
 
 returns-3 : tie.Need-returns-3 Inv-loop μ-loop
 returns-3 c =
-    let at-loop = c .before in
-    let branch1 = at-loop .before in
-    let start = branch1 .before in
-    sym (at-loop .loop .inv .1
-    ∙ same-end (start .args .a .now) (start .args .b .now) (at-loop .loop .i) (c .loop-test .left) (branch1 .if1 .left))
+    let start = c .before .before .before in
+    sym (c .before .loop .inv .1 ∙ same-end (start .args .a .now) (start .args .b .now) (c .before .loop .i) (c .loop-test .left) (c .before .before .if1 .left))
 
 pub same-spec : {M : Type 1} → statement M
 same-spec =

@@ -74,26 +74,5 @@ returns-11 c = search needs
 pub encode-spec : {M : Type 1} → statement M
 encode-spec =
     tie.close
-    (tie.spec
-    enum-known-said
-    enum-told
-    enum-told-2
-    enum-told-3
-    enum-known-said-2
-    enum-known-said-3
-    enum-known-said-4
-    enum-told-4
-    enum-known-said-5
-    enum-known-said-6
-    enum-told-5
-    returns
-    returns-2
-    returns-3
-    returns-4
-    returns-5
-    returns-6
-    returns-7
-    returns-8
-    returns-9
-    returns-10
-    returns-11)
+    (tie.spec enum-known-said enum-told enum-told-2 enum-told-3 enum-known-said-2 enum-known-said-3 enum-known-said-4 enum-told-4 enum-known-said-5 enum-known-said-6
+    enum-told-5 returns returns-2 returns-3 returns-4 returns-5 returns-6 returns-7 returns-8 returns-9 returns-10 returns-11)

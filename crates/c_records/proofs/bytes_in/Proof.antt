@@ -7,13 +7,8 @@ use borrow.Author.Needs.{needs}
 use Rattle.c_records.proofs.bytes_in.Statement.{statement}
 use Rattle.c_records.proofs.bytes_in.Tie as tie
 
-returns : tie.Need-returns
-returns c = simp (eq-eqb _ _ (c .if1 .taken))
-
-returns-2 : tie.Need-returns-2
-returns-2 c = ap (λ (p : Part). Given p) (c .part-in .ensures) ∙ simp (ne-eqb _ _ (c .before .if1 .left))
-
 pub bytes-in-spec : {M : Type 1} → statement M
 bytes-in-spec =
     tie.close
-    (tie.spec returns (λ c κs. search needs) returns-2)
+    (tie.spec (λ c. simp (eq-eqb _ _ (c .if1 .taken))) (λ c κs. search needs)
+    (λ c. ap (λ (p : Part). Given p) (c .part-in .ensures) ∙ simp (ne-eqb _ _ (c .before .if1 .left))))

@@ -6,13 +6,8 @@ use borrow.Author.Needs.{needs}
 use Rattle.c_records.proofs.flat_bytes.Statement.{statement}
 use Rattle.c_records.proofs.flat_bytes.Tie as tie
 
-returns : tie.Need-returns
-returns c = sym (ap flatBytes (c .enum-told .given .1))
-
-returns-2 : tie.Need-returns-2
-returns-2 c = given-part _ _ (c .flat-part .ensures) ∙ sym (ap flatBytes (c .before .before .field .given .1))
-
 pub flat-bytes-spec : {M : Type 1} → statement M
 flat-bytes-spec =
     tie.close
-    (tie.spec (λ c. search needs) (λ c. search needs) (λ c κs. search needs) returns returns-2)
+    (tie.spec (λ c. search needs) (λ c. search needs) (λ c κs. search needs) (λ c. sym (ap flatBytes (c .enum-told .given .1)))
+    (λ c. given-part _ _ (c .flat-part .ensures) ∙ sym (ap flatBytes (c .before .before .field .given .1))))

@@ -5,13 +5,7 @@ use borrow.Author.Needs.{needs}
 use Rattle.c_records.proofs.flat_number.Statement.{statement}
 use Rattle.c_records.proofs.flat_number.Tie as tie
 
-returns : tie.Need-returns
-returns c = sym (ap flatNumber (c .enum-told .given .1))
-
-returns-2 : tie.Need-returns-2
-returns-2 c = sym (ap flatNumber (c .before .field .given .1))
-
 pub flat-number-spec : {M : Type 1} → statement M
 flat-number-spec =
     tie.close
-    (tie.spec (λ c. search needs) (λ c. search needs) returns returns-2)
+    (tie.spec (λ c. search needs) (λ c. search needs) (λ c. sym (ap flatNumber (c .enum-told .given .1))) (λ c. sym (ap flatNumber (c .before .field .given .1))))

@@ -5,13 +5,9 @@ use borrow.Author.Needs.{needs}
 use Rattle.c_records.proofs.flat_value.Statement.{statement}
 use Rattle.c_records.proofs.flat_value.Tie as tie
 
-returns : tie.Need-returns
-returns c = c .no-stat .ensures ∙ sym (ap flatValue (c .before .enum-told .given .1))
-
-returns-2 : tie.Need-returns-2
-returns-2 c = c .flat-stat .ensures ∙ sym (ap flatValue (c .before .before .value .given .1))
-
 pub flat-value-spec : {M : Type 1} → statement M
 flat-value-spec =
     tie.close
-    (tie.spec (λ c. search needs) (λ c κs. search needs) (λ c. search needs) (λ c κs. search needs) returns returns-2)
+    (tie.spec (λ c. search needs) (λ c κs. search needs) (λ c. search needs) (λ c κs. search needs)
+    (λ c. c .no-stat .ensures ∙ sym (ap flatValue (c .before .enum-told .given .1)))
+    (λ c. c .flat-stat .ensures ∙ sym (ap flatValue (c .before .before .value .given .1))))

@@ -17,9 +17,7 @@ returns c =
     let at-flat-writer3 = at-flat-writer4 .before .before in
     let at-flat-writer2 = at-flat-writer3 .before .before in
     let at-flat-writer = at-flat-writer2 .before .before in
-    let start = at-flat-writer .before .before in
-    let list = start .args .t1 in
-    eight (λ j. flatWriter (getD list j noWriter))
+    eight (λ j. flatWriter (getD (at-flat-writer .before .before .args .t1) j noWriter))
     (at-flat-writer .flat-writer .ensures)
     (at-flat-writer2 .flat-writer2 .ensures)
     (at-flat-writer3 .flat-writer3 .ensures)

@@ -7,13 +7,8 @@ use borrow.Author.Needs.{needs}
 use Rattle.c_records.proofs.value_in.Statement.{statement}
 use Rattle.c_records.proofs.value_in.Tie as tie
 
-returns : tie.Need-returns
-returns c = simp (eq-eqb _ _ (c .if1 .taken))
-
-returns-2 : tie.Need-returns-2
-returns-2 c = ap (λ (s : Stat). Given s) (c .stat-in .ensures) ∙ simp (ne-eqb _ _ (c .before .if1 .left))
-
 pub value-in-spec : {M : Type 1} → statement M
 value-in-spec =
     tie.close
-    (tie.spec returns (λ c κs. search needs) returns-2)
+    (tie.spec (λ c. simp (eq-eqb _ _ (c .if1 .taken))) (λ c κs. search needs)
+    (λ c. ap (λ (s : Stat). Given s) (c .stat-in .ensures) ∙ simp (ne-eqb _ _ (c .before .if1 .left))))

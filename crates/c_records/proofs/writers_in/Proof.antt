@@ -16,9 +16,7 @@ returns c =
     let at-writer-in3 = at-writer-in4 .before .before in
     let at-writer-in2 = at-writer-in3 .before .before in
     let at-writer-in = at-writer-in2 .before .before in
-    let start = at-writer-in .before .before in
-    let list = start .args .t1 in
-    eight (λ j. writerIn (getD list j noFlat))
+    eight (λ j. writerIn (getD (at-writer-in .before .before .args .t1) j noFlat))
     (at-writer-in .writer-in .ensures)
     (at-writer-in2 .writer-in2 .ensures)
     (at-writer-in3 .writer-in3 .ensures)

@@ -6,9 +6,6 @@ use borrow.Author.Needs.{needs}
 use Rattle.checks.proofs.add_capped.Statement.{statement}
 use Rattle.checks.proofs.add_capped.Tie as tie
 
-sub-if1 : tie.Need-sub-if1
-sub-if1 c = search needs
-
 returns : tie.Need-returns
 returns c = let l = c .if1 .taken in sym (capped-high _ (omega arith))
 
@@ -19,4 +16,4 @@ returns-2 : tie.Need-returns-2
 returns-2 c = let l = c .before .if1 .left in sym (capped-low _ (omega arith))
 
 pub add-capped-spec : {M : Type 1} → statement M
-add-capped-spec = tie.close (tie.spec sub-if1 returns add-t3 returns-2)
+add-capped-spec = tie.close (tie.spec (λ c. search needs) returns add-t3 returns-2)

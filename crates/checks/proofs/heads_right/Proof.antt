@@ -10,50 +10,39 @@ use Rattle.checks.proofs.heads_right.Tie as tie
 returns : tie.Need-returns
 unfolding headsRight
 returns c =
-    let at-has-header = c .before in
-    let at-tree-header = at-has-header .before .before in
+    let at-tree-header = c .before .before .before in
     let start = at-tree-header .before .before .before .before in
-    and-stop _ _
-    (head-is (start .args .tree .now) (at-tree-header .tree-header .ensures)
-    (at-has-header .has-header .ensures) (not-true _ (c .if1 .taken)))
+    and-stop _ _ (head-is (start .args .tree .now) (at-tree-header .tree-header .ensures) (c .before .has-header .ensures) (not-true _ (c .if1 .taken)))
 
 returns-2 : tie.Need-returns-2
 unfolding headsRight
 returns-2 c =
-    let at-has-header2 = c .before in
-    let at-signatures-header = at-has-header2 .before .before in
-    let branch1 = at-signatures-header .before in
-    let at-has-header = branch1 .before in
-    let at-tree-header = at-has-header .before .before in
+    let at-signatures-header = c .before .before .before in
+    let at-tree-header = at-signatures-header .before .before .before .before in
     let start = at-tree-header .before .before .before .before in
-    let a = start .args in
     and-pass _ _ _
-    (head-is (a .tree .now) (at-tree-header .tree-header .ensures)
-    (at-has-header .has-header .ensures) (not-false _ (branch1 .if1 .left)))
+    (head-is (start .args .tree .now) (at-tree-header .tree-header .ensures)
+    (at-signatures-header .before .before .has-header .ensures) (not-false _ (at-signatures-header .before .if1 .left)))
     (and-stop _ _
-    (head-is (a .signatures .now) (at-signatures-header .signatures-header .ensures) (at-has-header2 .has-header2 .ensures)
+    (head-is (start .args .signatures .now) (at-signatures-header .signatures-header .ensures) (c .before .has-header2 .ensures)
     (not-true _ (c .if2 .taken))))
 
 returns-3 : tie.Need-returns-3
 unfolding headsRight
 returns-3 c =
-    let at-bitfield-header = c .before .before in
-    let branch2 = at-bitfield-header .before in
-    let at-has-header2 = branch2 .before in
-    let at-signatures-header = at-has-header2 .before .before in
-    let branch1 = at-signatures-header .before in
-    let at-has-header = branch1 .before in
-    let at-tree-header = at-has-header .before .before in
+    let branch2 = c .before .before .before in
+    let at-signatures-header = branch2 .before .before .before in
+    let at-tree-header = at-signatures-header .before .before .before .before in
     let start = at-tree-header .before .before .before .before in
     let a = start .args in
     and-pass _ _ _
     (head-is (a .tree .now) (at-tree-header .tree-header .ensures)
-    (at-has-header .has-header .ensures)
-    (not-false _ (branch1 .if1 .left)))
+    (at-signatures-header .before .before .has-header .ensures)
+    (not-false _ (at-signatures-header .before .if1 .left)))
     (and-pass _ _ _
     (head-is (a .signatures .now) (at-signatures-header .signatures-header .ensures)
-    (at-has-header2 .has-header2 .ensures) (not-false _ (branch2 .if2 .left)))
-    (sym (head-is (a .bitfield .now) (at-bitfield-header .bitfield-header .ensures) (c .has-header3 .ensures) (refl))))
+    (branch2 .before .has-header2 .ensures) (not-false _ (branch2 .if2 .left)))
+    (sym (head-is (a .bitfield .now) (c .before .before .bitfield-header .ensures) (c .has-header3 .ensures) (refl))))
 
 pub heads-right-spec : {M : Type 1} → statement M
 heads-right-spec =

@@ -8,21 +8,17 @@ use Rattle.checks.proofs.judge.Tie as tie
 
 returns : tie.Need-returns
 returns c =
-    let branch1 = c .before in
-    let start = branch1 .before .before .before .before .before in
+    let start = c .before .before .before .before .before .before in
     let a = start .args in
     over (registerOf (a .tree .now) (a .signatures .now) (a .bitfield .now) (a .content .now) (a .n) (a .s) (a .size))
-    (said (c .refuse .result)) (branch1 .if1 .taken) (c .refuse .ensures)
+    (said (c .refuse .result)) (c .before .if1 .taken) (c .refuse .ensures)
 
 returns-2 : tie.Need-returns-2
 returns-2 c =
-    let branch1 = c .before in
-    let start = branch1 .before .before .before .before .before in
+    let start = c .before .before .before .before .before .before in
     let a = start .args in
     not-over (registerOf (a .tree .now) (a .signatures .now) (a .bitfield .now) (a .content .now) (a .n) (a .s) (a .size))
-    (said (c .judge-later .result)) (branch1 .if1 .left) (c .judge-later .ensures)
+    (said (c .judge-later .result)) (c .before .if1 .left) (c .judge-later .ensures)
 
 pub judge-spec : {M : Type 1} → statement M
-judge-spec =
-    tie.close
-    (tie.spec (λ c κs. search needs) returns (λ c κs. search needs) returns-2)
+judge-spec = tie.close (tie.spec (λ c κs. search needs) returns (λ c κs. search needs) returns-2)

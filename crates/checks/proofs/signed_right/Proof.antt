@@ -12,10 +12,8 @@ returns-2 c = let a = c .before .before .args in signed-above (a .n) (a .s) (c .
 
 returns-3 : tie.Need-returns-3
 returns-3 c =
-    let branch1 = c .before in
-    let a = branch1 .before .args in signed-next (a .n) (a .s) (branch1 .if1 .left)
+    let a = c .before .before .args in
+    signed-next (a .n) (a .s) (c .before .if1 .left)
 
 pub signed-right-spec : {M : Type 1} → statement M
-signed-right-spec =
-    tie.close
-    (tie.spec returns returns-2 (λ c. search needs) returns-3)
+signed-right-spec = tie.close (tie.spec returns returns-2 (λ c. search needs) returns-3)

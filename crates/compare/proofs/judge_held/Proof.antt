@@ -15,61 +15,42 @@ given c =
 
 returns : tie.Need-returns
 returns c =
-    let at-judge = c .before .before in
-    let s = at-judge .before .before .before .before .before in
-    let judge = at-judge .judge in
-    let enum-told2 = c .enum-told2 in
-    held-checks (given s) (judge .result) (judge .ensures) _ (enum-told2 .given .1)
+    let s = c .before .before .before .before .before .before .before in
+    held-checks (given s) (c .before .before .judge .result) (c .before .before .judge .ensures) _ (c .enum-told2 .given .1)
 
 first-missing-requires : tie.Need-first-missing-requires
 first-missing-requires c κs =
-    let at-judge = c .before .before in
-    let s = at-judge .before .before .before .before .before in
-    let judge = at-judge .judge in
-    let enum-told = c .enum-told in
-    held-bits (given s) (judge .result) (judge .ensures) (ap said (enum-told .given .1))
+    let s = c .before .before .before .before .before .before .before in
+    held-bits (given s) (c .before .before .judge .result) (c .before .before .judge .ensures) (ap said (c .enum-told .given .1))
 
 leaf-index-requires : tie.Need-leaf-index-requires
 leaf-index-requires c κs =
-    let at-missing = c .before in
-    let at-first-missing = at-missing .before .before in
-    let at-enum-told = at-first-missing .before in
-    let at-judge = at-enum-told .before .before in
+    let at-first-missing = c .before .before .before in
+    let at-judge = at-first-missing .before .before .before in
     let s = at-judge .before .before .before .before .before in
-    let judge = at-judge .judge in
-    let enum-told = at-enum-told .enum-told in
     let first-missing = at-first-missing .first-missing in
-    let missing = at-missing .missing in
-    missing-below (given s) (judge .result) (judge .ensures) (ap said (enum-told .given .1)) (foundAt (first-missing .result)) (first-missing .ensures) _ (ap foundAt (missing .given .1))
+    let missing = c .before .missing in
+    missing-below (given s) (at-judge .judge .result) (at-judge .judge .ensures) (ap said (at-first-missing .before .enum-told .given .1)) (first-missing .ensures) (ap foundAt (missing .given .1))
 
 returns-2 : tie.Need-returns-2
 returns-2 c =
-    let at-leaf-index = c .before in
-    let at-missing = at-leaf-index .before .before in
-    let at-first-missing = at-missing .before .before in
-    let at-enum-told = at-first-missing .before in
-    let at-judge = at-enum-told .before .before in
-    let s = at-judge .before .before .before .before .before in
-    let judge = at-judge .judge in
+    let at-missing = c .before .before .before in
+    let at-enum-told = at-missing .before .before .before in
+    let s = at-enum-told .before .before .before .before .before .before .before in
+    let judge = at-enum-told .before .before .judge in
     let enum-told = at-enum-told .enum-told in
-    let first-missing = at-first-missing .first-missing in
-    let leaf-index = at-leaf-index .leaf-index in
+    let first-missing = at-missing .before .before .first-missing in
+    let leaf-index = c .before .leaf-index in
     let refuse-entry = c .refuse-entry in
     let missing = at-missing .missing in
-    missing-refuses (given s) (judge .result) (judge .ensures) (ap said (enum-told .given .1)) (foundAt (first-missing .result)) (first-missing .ensures) _ (leaf-index .result .0)
-    (said (refuse-entry .result)) (ap foundAt (missing .given .1)) (leaf-index .ensures) (refuse-entry .ensures)
+    missing-refuses (given s) (judge .result) (judge .ensures) (ap said (enum-told .given .1)) (first-missing .ensures) (ap foundAt (missing .given .1)) (leaf-index .ensures) (refuse-entry .ensures)
 
 returns-3 : tie.Need-returns-3
 returns-3 c =
-    let at-first-missing = c .before .before in
-    let at-enum-told = at-first-missing .before in
-    let at-judge = at-enum-told .before .before in
-    let s = at-judge .before .before .before .before .before in
-    let judge = at-judge .judge in
-    let enum-told = at-enum-told .enum-told in
-    let first-missing = at-first-missing .first-missing in
-    let enum-told3 = c .enum-told3 in
-    missing-none (given s) (judge .result) (judge .ensures) (ap said (enum-told .given .1)) (foundAt (first-missing .result)) (first-missing .ensures) (ap foundAt (enum-told3 .given .1))
+    let at-enum-told = c .before .before .before in
+    let s = at-enum-told .before .before .before .before .before .before .before in
+    let judge = at-enum-told .before .before .judge in
+    missing-none (given s) (judge .result) (judge .ensures) (ap said (at-enum-told .enum-told .given .1)) (c .before .before .first-missing .ensures) (ap foundAt (c .enum-told3 .given .1))
 
 pub judge-held-spec : {M : Type 1} → statement M
 judge-held-spec =

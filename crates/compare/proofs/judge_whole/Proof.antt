@@ -15,29 +15,19 @@ given c =
 
 returns : tie.Need-returns
 returns c =
-    let at-judge-held = c .before .before in
-    let s = at-judge-held .before .before .before .before .before in
-    let judge-held = at-judge-held .judge-held in
-    let enum-told2 = c .enum-told2 in
-    whole-refuses nodeHash (given s) (judge-held .result) (judge-held .ensures) _ (enum-told2 .given .1)
+    let s = c .before .before .before .before .before .before .before in
+    whole-refuses nodeHash (given s) (c .before .before .judge-held .result) (c .before .before .judge-held .ensures) _ (c .enum-told2 .given .1)
 
 images-requires : tie.Need-images-requires
 images-requires c κs =
-    let at-judge-held = c .before .before in
-    let s = at-judge-held .before .before .before .before .before in
-    let judge-held = at-judge-held .judge-held in
-    let enum-told = c .enum-told in
-    whole-files nodeHash (given s) (judge-held .result) (judge-held .ensures) (ap said (enum-told .given .1))
+    let s = c .before .before .before .before .before .before .before in
+    whole-files nodeHash (given s) (c .before .before .judge-held .result) (c .before .before .judge-held .ensures) (ap said (c .enum-told .given .1))
 
 returns-2 : tie.Need-returns-2
 returns-2 c =
-    let at-enum-told = c .before in
-    let at-judge-held = at-enum-told .before .before in
+    let at-judge-held = c .before .before .before in
     let s = at-judge-held .before .before .before .before .before in
-    let judge-held = at-judge-held .judge-held in
-    let enum-told = at-enum-told .enum-told in
-    let images = c .images in
-    images-say nodeHash (given s) (judge-held .result) (judge-held .ensures) (ap said (enum-told .given .1)) (said (images .result)) (images .ensures)
+    images-say nodeHash (given s) (at-judge-held .judge-held .result) (at-judge-held .judge-held .ensures) (ap said (c .before .enum-told .given .1)) (c .images .ensures)
 
 pub judge-whole-spec : {M : Type 1} → statement M
 judge-whole-spec = tie.close (tie.spec (λ c κs. search needs) (λ c. search needs) (λ c. search needs) returns images-requires returns-2)

@@ -17,112 +17,57 @@ abbrev μ-loop : tie.MeasureT-loop
 returns : tie.Need-returns Inv-loop μ-loop
 returns c =
     let s = c .before .before .before .before .before .before .before in
-    let if1 = c .if1 in
     let a = s .args in
-    meeting-none (a .tree .now) (a .content .now) (a .tree2 .now) (a .content2 .now) (a .n) (a .from .0) (a .end .0) (if1 .taken)
+    meeting-none (a .tree .now) (a .content .now) (a .tree2 .now) (a .content2 .now) (a .n) (a .from .0) (a .end .0) (c .if1 .taken)
 
 start-at-requires : tie.Need-start-at-requires Inv-loop μ-loop
 start-at-requires c κs =
     let s = c .before .before .before .before .before .before .before in
-    let if1 = c .if1 in
-    (s .pre .0, omega (arith, if1 .left, s .pre .2))
+    (s .pre .0, omega (arith, c .if1 .left, s .pre .2))
 
 start-at-requires-2 : tie.Need-start-at-requires-2 Inv-loop μ-loop
 start-at-requires-2 c κs =
-    let branch1 = c .before in
-    let s = branch1 .before .before .before .before .before .before .before in
-    let if1 = branch1 .if1 in
-    (s .pre .1, omega (arith, if1 .left, s .pre .2))
+    let s = c .before .before .before .before .before .before .before .before in
+    (s .pre .1, omega (arith, c .before .if1 .left, s .pre .2))
 
 loop-holds : tie.Need-loop-holds Inv-loop μ-loop
-loop-holds c =
-    let at-start-at = c .before in
-    let s = at-start-at .before .before .before .before .before .before .before .before in
-    let start-at = at-start-at .start-at in
-    let start-at2 = c .start-at2 in
-    let a = s .args in
-    meeting-start (a .tree .now) (a .content .now) (a .tree2 .now) (a .content2 .now) (a .n) (a .from .0) (a .end .0) (start-at .result .0) (start-at2 .result .0) (start-at .ensures)
-    (start-at2 .ensures)
+loop-holds c = meeting-start (c .before .start-at .ensures) (c .start-at2 .ensures)
 
 collides-at-requires : tie.Need-collides-at-requires Inv-loop μ-loop
 collides-at-requires c κs =
     let looped = c .before .before .before in
     let s = looped .before .before .before .before .before .before .before .before .before .before in
-    let loop = looped .loop in
-    let if2 = c .if2 in
-    let a = s .args in (
-      meeting-first (a .tree .now) (a .content .now) (a .tree2 .now) (a .content2 .now) (a .n) (a .from .0) (a .end .0) (loop .i .0) (loop .start .0) (loop .start2 .0) (loop .inv)
-          (if2 .taken) (s .pre .0) (s .pre .2),
-      meeting-second (a .tree .now) (a .content .now) (a .tree2 .now) (a .content2 .now) (a .n) (a .from .0) (a .end .0) (loop .i .0) (loop .start .0) (loop .start2 .0) (loop .inv)
-          (if2 .taken) (s .pre .1) (s .pre .2),
-    )
+    (meeting-first (looped .loop .inv) (c .if2 .taken) (s .pre .0) (s .pre .2), meeting-second (looped .loop .inv) (c .if2 .taken) (s .pre .1) (s .pre .2))
 
 returns-2 : tie.Need-returns-2 Inv-loop μ-loop
 returns-2 c =
-    let at-collides-at = c .before in
-    let branch2 = at-collides-at .before in
-    let looped = branch2 .before .before .before in
-    let s = looped .before .before .before .before .before .before .before .before .before .before in
-    let loop = looped .loop in
-    let if2 = branch2 .if2 in
-    let collides-at = at-collides-at .collides-at in
-    let if3 = c .if3 in
-    let a = s .args in
-    meeting-found (a .tree .now) (a .content .now) (a .tree2 .now) (a .content2 .now) (a .n) (a .from .0) (a .end .0) (loop .i .0) (loop .start .0) (loop .start2 .0) (loop .inv)
-    (if2 .taken) (collides-at .result) (collides-at .ensures) (if3 .taken)
+    let looped = c .before .before .before .before .before in
+    meeting-found (looped .loop .inv) (c .before .before .if2 .taken) (c .before .collides-at .ensures) (c .if3 .taken)
 
 start-behind-requires : tie.Need-start-behind-requires Inv-loop μ-loop
 start-behind-requires c κs =
-    let branch2 = c .before .before in
-    let looped = branch2 .before .before .before in
+    let looped = c .before .before .before .before .before in
     let s = looped .before .before .before .before .before .before .before .before .before .before in
-    let loop = looped .loop in
-    let if2 = branch2 .if2 in
-    let a = s .args in
-    read-started (a .tree .now) (a .n) (loop .i .0) (loop .start .0)
-    (meeting-first (a .tree .now) (a .content .now) (a .tree2 .now) (a .content2 .now) (a .n) (a .from .0) (a .end .0) (loop .i .0) (loop .start .0) (loop .start2 .0) (loop .inv)
-    (if2 .taken) (s .pre .0) (s .pre .2))
+    read-started (meeting-first (looped .loop .inv) (c .before .before .if2 .taken) (s .pre .0) (s .pre .2))
 
 start-behind-requires-2 : tie.Need-start-behind-requires-2 Inv-loop μ-loop
 start-behind-requires-2 c κs =
     let branch2 = c .before .before .before in
     let looped = branch2 .before .before .before in
     let s = looped .before .before .before .before .before .before .before .before .before .before in
-    let loop = looped .loop in
-    let if2 = branch2 .if2 in
-    let a = s .args in
-    read-started (a .tree2 .now) (a .n) (loop .i .0) (loop .start2 .0)
-    (meeting-second (a .tree .now) (a .content .now) (a .tree2 .now) (a .content2 .now) (a .n) (a .from .0) (a .end .0) (loop .i .0) (loop .start .0) (loop .start2 .0) (loop .inv)
-    (if2 .taken) (s .pre .1) (s .pre .2))
+    read-started (meeting-second (looped .loop .inv) (branch2 .if2 .taken) (s .pre .1) (s .pre .2))
 
 loop-again : tie.Need-loop-again Inv-loop μ-loop
 loop-again c =
-    let at-start-behind2 = c .before in
-    let at-start-behind = at-start-behind2 .before in
-    let branch3 = at-start-behind .before in
-    let at-collides-at = branch3 .before in
-    let branch2 = at-collides-at .before in
-    let looped = branch2 .before .before .before in
-    let s = looped .before .before .before .before .before .before .before .before .before .before in
-    let loop = looped .loop in
-    let if2 = branch2 .if2 in
-    let start-behind = at-start-behind .start-behind in
-    let start-behind2 = at-start-behind2 .start-behind2 in
-    let collides-at = at-collides-at .collides-at in
-    let if3 = branch3 .if3 in
-    let a = s .args in
-    meeting-next (a .tree .now) (a .content .now) (a .tree2 .now) (a .content2 .now) (a .n) (a .from .0) (a .end .0) (loop .i .0) (loop .start .0) (loop .start2 .0) (loop .inv)
-    (if2 .taken) (start-behind .result .0) (start-behind2 .result .0) (collides-at .result) (collides-at .ensures) (if3 .left) (start-behind .ensures) (start-behind2 .ensures)
+    let branch3 = c .before .before .before in
+    let looped = branch3 .before .before .before .before .before in
+    meeting-next (looped .loop .inv)
+    (branch3 .before .before .if2 .taken) (branch3 .before .collides-at .ensures) (branch3 .if3 .left) (c .before .before .start-behind .ensures) (c .before .start-behind2 .ensures)
 
 returns-3 : tie.Need-returns-3 Inv-loop μ-loop
 returns-3 c =
     let looped = c .before .before .before in
-    let s = looped .before .before .before .before .before .before .before .before .before .before in
-    let loop = looped .loop in
-    let if2 = c .if2 in
-    let a = s .args in
-    meeting-done (a .tree .now) (a .content .now) (a .tree2 .now) (a .content2 .now) (a .n) (a .from .0) (a .end .0) (loop .i .0) (loop .start .0) (loop .start2 .0) (loop .inv)
-    (if2 .left)
+    meeting-done (looped .loop .inv) (c .if2 .left)
 
 pub lowest-collision-spec : {M : Type 1} → statement M
 lowest-collision-spec =

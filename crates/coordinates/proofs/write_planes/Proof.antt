@@ -72,7 +72,6 @@ loop-again c =
     let start = at-shared-slice-known .before in
     let d = start .args .bytes .now in
     let i = at-loop .loop .i in
-    let n = start .args .n in
     let bytes : Bytes d = λ j. at-shared-slice-known .shared-slice-known .given j .fits in
     let read : at-read-be32 .read-be32 .result ≡ word d i = word-is d i _ (at-read-be32 .read-be32 .ensures) in
     let e : at-wrapping-sub-u32 .wrapping-sub-u32 .result ≡ difference d i =
@@ -83,7 +82,7 @@ loop-again c =
     λ k. ap (λ (l : List ℕ). getD l k 0) (c .be32 .ensures ∙ ap (be 4) e) in (
       search needs,
       read ∙ sym (prior-next (word d) i),
-      filled-turn (λ k j. getD (be 4 (difference d j)) k 0) n (start .args .out .now) (start .pre .1) (at-loop .loop .out) i _ _ _ _ _ _ _ _ (tested .loop-test .taken)
+      filled-turn (λ k j. getD (be 4 (difference d j)) k 0) (start .args .n) (start .args .out .now) (start .pre .1) (at-loop .loop .out) i _ _ _ _ _ _ _ _ (tested .loop-test .taken)
           refl refl refl refl (v 0) (v 1) (v 2) (v 3) (at-loop .loop .inv .2),
     )
 

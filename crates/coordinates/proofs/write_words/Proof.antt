@@ -37,8 +37,7 @@ mul-copy-to c = omega arith
 copy-to-requires : tie.Need-copy-to-requires Inv-loop μ-loop
 copy-to-requires c κs =
     let at-be32 = c .before .before in
-    let at-wrapping-add-u32 = at-be32 .before in
-    omega (arith, ap length (at-be32 .be32 .ensures), length-be 4 (at-wrapping-add-u32 .wrapping-add-u32 .result))
+    omega (arith, ap length (at-be32 .be32 .ensures), length-be 4 (at-be32 .before .wrapping-add-u32 .result))
 
 add-i : tie.Need-add-i Inv-loop μ-loop
 add-i c = omega arith

@@ -1,10 +1,12 @@
 -- `copy_checks::judge` meets its contract. Assumes nothing.
-use mathlib.Core.Path.{sym, ap, _∙_}
+use mathlib.Core.Path.{_≡_, sym, ap, _∙_}
+use Rattle.answer_types.specs.Verdict.{done}
 use Rattle.answer_types.specs.Meaning.{said, spotOf}
+use Rattle.checks.specs.Checks.{judged}
 use Rattle.copy_checks.specs.Copy.{Copy, copyOf}
-use Rattle.copy_checks.specs.Checks.{unknownRoot}
+use Rattle.copy_checks.specs.Checks.{lentChecks, unknownRoot}
 use Rattle.lookup.specs.Unknown.{firstEntry}
-use Rattle.copy_checks.proofs.Steps.{lent-passed, bits-in, roots-in, judge-refused, judge-unknown, judge-known}
+use Rattle.copy_checks.proofs.Steps.{Lent, lent-passed, bits-in, roots-in, judge-refused, judge-unknown, judge-known}
 use borrow.Author.Needs.{needs}
 use Rattle.copy_checks.proofs.judge.Statement.{statement}
 use Rattle.copy_checks.proofs.judge.Tie as tie
@@ -12,49 +14,48 @@ use Rattle.copy_checks.proofs.judge.Tie as tie
 abbrev given : (c : tie.Start) → Copy
 given c = copyOf (c .args .tree .now) (c .args .bitfield .now) (c .args .content .now) (c .args .n) (c .args .size)
 
+abbrev begins : tie.After-enum-told → tie.Start
+begins c =
+    let start = c .before .before .before .before .before .before in
+    start
+
+-- 2, 4 and 5 are passed
+passed : (c : tie.After-enum-told) → done ≡ judged (lentChecks (given (begins c))) done
+passed c = sym (ap said (c .enum-told .given .1)) ∙ c .before .before .judge-lent .ensures
+
+lent : (c : tie.After-enum-told) → Lent (given (begins c))
+lent c = lent-passed (given (begins c)) _ (sym (passed c)) .0
+
 unknown-root-requires : tie.Need-unknown-root-requires
-unknown-root-requires c κs =
-    let at-judge-lent = c .before .before in
-    let start = at-judge-lent .before .before .before .before in
-    let e = sym (ap said (c .enum-told .given .1)) ∙ at-judge-lent .judge-lent .ensures in bits-in (given start) (lent-passed (given start) _ (sym e) .0)
+unknown-root-requires c κs = bits-in (given (begins c)) (lent c)
 
 judge-size-requires : tie.Need-judge-size-requires
 judge-size-requires c κs =
-    let at-enum-told = c .before .before .before in
-    let at-judge-lent = at-enum-told .before .before in
-    let start = at-judge-lent .before .before .before .before in
-    let e = sym (ap said (at-enum-told .enum-told .given .1)) ∙ at-judge-lent .judge-lent .ensures in roots-in (given start) (lent-passed (given start) _ (sym e) .0)
+    let told = c .before .before .before in
+    roots-in (given (begins told)) (lent told)
 
 returns : tie.Need-returns
 returns c =
-    let at-refusal = c .before in
-    let at-judge-lent = at-refusal .before .before in
+    let at-judge-lent = c .before .before .before in
     let start = at-judge-lent .before .before .before .before in
-    let q = at-refusal .refusal .given in
+    let q = c .before .refusal .given in
     judge-refused (given start) (q .0 .0 .number) (spotOf (q .0 .0 .place)) (sym (ap said (q .1)) ∙ at-judge-lent .judge-lent .ensures)
 
 returns-2 : tie.Need-returns-2
 unfolding unknownRoot
 returns-2 c =
-    let at-i = c .before .before in
-    let at-unknown-root = at-i .before .before in
-    let at-enum-told = at-unknown-root .before in
-    let at-judge-lent = at-enum-told .before .before in
-    let start = at-judge-lent .before .before .before .before in
-    let q = at-i .i .given in
-    let e = sym (ap said (at-enum-told .enum-told .given .1)) ∙ at-judge-lent .judge-lent .ensures in
-    c .refuse-entry .ensures ∙ judge-unknown (given start) e (q .0 .0 .0) (sym (ap firstEntry (q .1)) ∙ at-unknown-root .unknown-root .ensures)
+    let at-unknown-root = c .before .before .before .before in
+    let q = c .before .before .i .given in
+    let told = at-unknown-root .before in
+    c .refuse-entry .ensures ∙ judge-unknown (given (begins told)) (passed told) (q .0 .0 .0) (sym (ap firstEntry (q .1)) ∙ at-unknown-root .unknown-root .ensures)
 
 returns-3 : tie.Need-returns-3
 unfolding unknownRoot
 returns-3 c =
-    let at-enum-told2 = c .before in
-    let at-unknown-root = at-enum-told2 .before .before in
-    let at-enum-told = at-unknown-root .before in
-    let at-judge-lent = at-enum-told .before .before in
-    let start = at-judge-lent .before .before .before .before in
-    let e = sym (ap said (at-enum-told .enum-told .given .1)) ∙ at-judge-lent .judge-lent .ensures in
-    judge-known (given start) e (said (c .judge-size .result)) (sym (ap firstEntry (at-enum-told2 .enum-told2 .given .1)) ∙ at-unknown-root .unknown-root .ensures) (c .judge-size .ensures)
+    let at-unknown-root = c .before .before .before in
+    let told = at-unknown-root .before in
+    judge-known (given (begins told)) (passed told) (said (c .judge-size .result))
+    (sym (ap firstEntry (c .before .enum-told2 .given .1)) ∙ at-unknown-root .unknown-root .ensures) (c .judge-size .ensures)
 
 pub judge-spec : {M : Type 1} → statement M
 judge-spec =

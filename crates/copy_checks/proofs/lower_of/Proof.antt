@@ -38,5 +38,4 @@ returns-4 c =
     sym (ap₂ lowerOf (ap firstEntry (at-a .a .given .1)) (ap firstEntry (at-b .b .given .1)) ∙ ap (λ (x : Bool). cond x (first i) (first j)) (le-ltb i j (c .if1 .left)))
 
 pub lower-of-spec : {M : Type 1} → statement M
-lower-of-spec =
-    tie.close (tie.spec (λ c. search needs) (λ c. search needs) (λ c. search needs) (λ c. search needs) returns returns-2 returns-3 returns-4)
+lower-of-spec = tie.close (tie.spec (λ c. search needs) (λ c. search needs) (λ c. search needs) (λ c. search needs) returns returns-2 returns-3 returns-4)

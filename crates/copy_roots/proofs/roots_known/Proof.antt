@@ -12,9 +12,7 @@ returns : tie.Need-returns
 unfolding refusedAt
 returns c =
     let at-i = c .before .before in
-    let at-unknown-root = at-i .before .before in
-    let q = at-i .i .given in
-    c .refuse-entry .ensures ∙ ap (λ (l : Lowest). refusedAt 20 tree l done) (sym (ap firstEntry (q .1)) ∙ at-unknown-root .unknown-root .ensures)
+    c .refuse-entry .ensures ∙ ap (λ (l : Lowest). refusedAt 20 tree l done) (sym (ap firstEntry (at-i .i .given .1)) ∙ at-i .before .before .unknown-root .ensures)
 
 returns-2 : tie.Need-returns-2
 unfolding refusedAt
@@ -22,5 +20,4 @@ returns-2 c =
     ap (λ (l : Lowest). refusedAt 20 tree l done) (sym (ap firstEntry (c .enum-told .given .1)) ∙ c .before .before .unknown-root .ensures)
 
 pub roots-known-spec : {M : Type 1} → statement M
-roots-known-spec =
-    tie.close (tie.spec (λ c κs. search needs) (λ c. search needs) (λ c κs. search needs) (λ c. search needs) returns returns-2)
+roots-known-spec = tie.close (tie.spec (λ c κs. search needs) (λ c. search needs) (λ c κs. search needs) (λ c. search needs) returns returns-2)

@@ -1,15 +1,22 @@
 -- `copy_take_in::bytes_contradiction` meets its contract. Assumes nothing.
-use mathlib.Core.Path.{sym, ap, _∙_}
-use mathlib.Core.Bool.{Bool, cond}
+use mathlib.Core.Path.{_≡_, sym, ap, _∙_}
+use mathlib.Core.List.{List}
+use Prim.Native.Nat.{ℕ}
 use lib.ListN.{length}
 use borrow.Author.Tests.{not-true, not-false}
-use Rattle.byte_strings.specs.Lowest.{nowhere, first}
+use Rattle.byte_strings.specs.Lists.{part, sameList}
+use Rattle.byte_strings.specs.Lowest.{first}
 use Rattle.byte_strings.proofs.Lists.{as-part}
-use Rattle.tree_index.specs.Tree.{index}
-use Rattle.copy_take_in.proofs.HeldBytes.{not-held, held-compared}
+use Rattle.copy_take_in.specs.TakeIn.{bytesContradicted}
 use borrow.Author.Needs.{needs}
 use Rattle.copy_take_in.proofs.bytes_contradiction.Statement.{statement}
 use Rattle.copy_take_in.proofs.bytes_contradiction.Tie as tie
+
+-- where the call began
+abbrev begun : tie.After-same → tie.Start
+begun c =
+    let start = c .before .before .before .before .before .before .before in
+    start
 
 is-held-requires : tie.Need-is-held-requires
 is-held-requires c κs =
@@ -17,39 +24,32 @@ is-held-requires c κs =
     entered .pre .bit
 
 returns : tie.Need-returns
-returns c =
-    let at-is-held = c .before in
-    let start = at-is-held .before .before .before .before in
-    not-held (start .args .bitfield .now) (start .args .content .now) (start .args .chunk .0) (start .args .start) (start .args .bytes .now)
-    (sym (at-is-held .is-held .ensures) ∙ not-true _ (c .if1 .taken))
+unfolding bytesContradicted
+returns c = rw (sym (c .before .is-held .ensures) ∙ not-true _ (c .if1 .taken))
+
+-- the bytes at the start, compared
+compared : (c : tie.After-same)
+    → sameList (part (begun c .args .content .now) (begun c .args .start) (length (begun c .args .bytes .now))) (begun c .args .bytes .now) ≡ c .same .result
+compared c =
+    let s = begun c in
+    sym (c .same .ensures ∙ ap (λ (x : List ℕ). sameList x (s .args .bytes .now)) (as-part (s .args .content .now) (s .args .start) (length (s .args .bytes .now))))
 
 returns-2 : tie.Need-returns-2
+unfolding bytesContradicted
 returns-2 c =
-    let at-same = c .before in
-    let branch1 = at-same .before .before in
-    let at-is-held = branch1 .before in
-    let start = at-is-held .before .before .before .before in
-    ap (λ (b : Bool). cond b nowhere (first (index 0 (start .args .chunk .0)))) (sym (c .if2 .taken))
-    ∙ held-compared (start .args .bitfield .now) (start .args .content .now) (start .args .chunk .0) (start .args .start) (start .args .bytes .now)
-    (sym (at-is-held .is-held .ensures) ∙ not-false _ (branch1 .if1 .left)) _ _
-    (as-part (start .args .content .now) (start .args .start) (length (start .args .bytes .now))) (at-same .same .ensures)
+    let branch1 = c .before .before .before in
+    rw (sym (branch1 .before .is-held .ensures) ∙ not-false _ (branch1 .if1 .left), compared (c .before) ∙ c .if2 .taken)
 
 leaf-index-requires : tie.Need-leaf-index-requires
 leaf-index-requires c κs =
-    let entered = c .before .before .before .before .before .before .before .before in
-    entered .pre .small
+    begun (c .before) .pre .small
 
 returns-3 : tie.Need-returns-3
+unfolding bytesContradicted
 returns-3 c =
     let branch2 = c .before in
-    let at-same = branch2 .before in
-    let branch1 = at-same .before .before in
-    let at-is-held = branch1 .before in
-    let start = at-is-held .before .before .before .before in
-    ap first (c .leaf-index .ensures) ∙ ap (λ (b : Bool). cond b nowhere (first (index 0 (start .args .chunk .0)))) (sym (branch2 .if2 .left))
-    ∙ held-compared (start .args .bitfield .now) (start .args .content .now) (start .args .chunk .0) (start .args .start) (start .args .bytes .now)
-    (sym (at-is-held .is-held .ensures) ∙ not-false _ (branch1 .if1 .left)) _ _
-    (as-part (start .args .content .now) (start .args .start) (length (start .args .bytes .now))) (at-same .same .ensures)
+    let branch1 = branch2 .before .before .before in
+    rw (sym (branch1 .before .is-held .ensures) ∙ not-false _ (branch1 .if1 .left), compared (branch2 .before) ∙ branch2 .if2 .left) (ap first (c .leaf-index .ensures))
 
 pub bytes-contradiction-spec : {M : Type 1} → statement M
 bytes-contradiction-spec =

@@ -34,6 +34,4 @@ returns-2 c =
     (c .judge-packet .ensures .0 ∙ e, handed-by nodeHash (a .packet .now) (a .n) (a .chunk .0) e (c .judge-packet .ensures .1))
 
 pub judge-spec : {M : Type 1} → statement M
-judge-spec =
-    tie.close
-    (tie.spec (λ c κs. search needs) (λ c. search needs) (λ c κs. search needs) (λ c. search needs) (λ c κs. search needs) returns returns-2)
+judge-spec = tie.close (tie.spec (λ c κs. search needs) (λ c. search needs) (λ c κs. search needs) (λ c. search needs) (λ c κs. search needs) returns returns-2)

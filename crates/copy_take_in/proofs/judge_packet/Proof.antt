@@ -13,17 +13,15 @@ use Rattle.copy_take_in.proofs.judge_packet.Tie as tie
 total-right-requires : tie.Need-total-right-requires
 total-right-requires c κs =
     let at-check = c .before .before in
-    let start = at-check .before .before in
-    let a = start .args in
+    let a = at-check .before .before .args in
     packet-fits nodeHash (a .packet .now) (a .n) (a .size) (a .chunk .0) (a .root .now) (sym (ap said (c .enum-told .given .1)) ∙ at-check .check-hashing .ensures .0)
 
 returns : tie.Need-returns
 returns c =
     let at-answer = c .before .before in
     let at-check = at-answer .before .before in
-    let start = at-check .before .before in
     let q = at-answer .answer .given in
-    let a = start .args in
+    let a = at-check .before .before .args in
     let e = packet-refused nodeHash (a .packet .now) (a .n) (a .size) (a .chunk .0) (a .root .now) (q .0 .0 .number) (spotOf (q .0 .0 .place))
     (sym (ap said (q .1)) ∙ at-check .check-hashing .ensures .0) in
     (ap said (c .unhashed .ensures .0) ∙ e, handed-by nodeHash (a .packet .now) (a .n) (a .chunk .0) e (c .unhashed .ensures .1))
@@ -33,8 +31,7 @@ returns-2 c =
     let at-total-right = c .before in
     let at-told = at-total-right .before in
     let at-check = at-told .before .before in
-    let start = at-check .before .before in
-    let a = start .args in
+    let a = at-check .before .before .args in
     let told = ap said (at-told .enum-told .given .1) in
     let e = sym told ∙ at-check .check-hashing .ensures .0 in
     let w = packet-total nodeHash (a .packet .now) (a .n) (a .size) (a .chunk .0) (a .root .now) e done (at-total-right .total-right .result) (at-total-right .total-right .ensures)
@@ -48,8 +45,7 @@ returns-3 c =
     let at-total = branch1 .before in
     let at-told = at-total .before in
     let at-check = at-told .before .before in
-    let start = at-check .before .before in
-    let a = start .args in
+    let a = at-check .before .before .args in
     let w = packet-total nodeHash (a .packet .now) (a .n) (a .size) (a .chunk .0) (a .root .now)
     (sym (ap said (at-told .enum-told .given .1)) ∙ at-check .check-hashing .ensures .0) (refused 6 none) (at-total .total-right .result)
     (at-total .total-right .ensures) (sym (ap (λ (b : Bool). cond b done (refused 6 none)) (branch1 .if1 .left))) in (

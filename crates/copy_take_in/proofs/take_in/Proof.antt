@@ -18,9 +18,8 @@ take-checked-requires c κs =
     let at-enum-told = c .before .before .before .before in
     let at-judge = at-enum-told .before .before .before .before in
     let start = at-judge .before .before .before .before .before .before .before .before in
-    let done-is = at-enum-told .enum-told .given .1 in
     let a = start .args in
-    let e = sym (ap said done-is) ∙ at-judge .judge .ensures .0 in (
+    let e = sym (ap said (at-enum-told .enum-told .given .1)) ∙ at-judge .judge .ensures .0 in (
       room nodeHash (given start) (a .packet .now) (a .chunk .0) (a .root .now) e,
       handed-by nodeHash (a .packet .now) (a .n) (a .chunk .0) (sym e) (at-judge .judge .ensures .1),
     )
@@ -41,9 +40,8 @@ returns-2 c =
     let at-judge = at-enum-told .before .before .before .before in
     let start = at-judge .before .before .before .before .before .before .before .before in
     let taken = at-take-checked .take-checked in
-    let done-is = at-enum-told .enum-told .given .1 in
     let a = start .args in
-    take-done nodeHash (given start) (a .packet .now) (a .chunk .0) (a .root .now) (said (taken .result)) _ (sym (ap said done-is) ∙ at-judge .judge .ensures .0)
+    take-done nodeHash (given start) (a .packet .now) (a .chunk .0) (a .root .now) (said (taken .result)) _ (sym (ap said (at-enum-told .enum-told .given .1)) ∙ at-judge .judge .ensures .0)
     (sizeless nodeHash (a .tree .now) (a .bitfield .now) (a .content .now) (a .packet .now) (a .n) (a .size) (a .chunk .0) _ _ (taken .ensures))
 
 pub take-in-spec : {M : Type 1} → statement M

@@ -23,7 +23,7 @@ length-is c = c .read-be32 .ensures
 read-be32-requires : tie.Need-read-be32-requires
 read-be32-requires c κs =
     let start = c .before .before .before in
-    front (start .args .packet .now) (start .args .n) (start .args .chunk .0) (start .pre .shaped)
+    front (start .pre .shaped)
 
 add-first : tie.Need-add-first
 add-first c =
@@ -55,8 +55,7 @@ add-lengths-requires c κs =
     let at-sibling-count = c .before .before in
     let start = at-sibling-count .before .before in
     let z = placed (start .args .packet .now) (start .args .n) (start .args .chunk .0) (start .pre .shaped) in (
-      beside-in (start .args .packet .now) (start .args .n) (start .args .chunk .0) (start .pre .shaped) _ (first-is (c)) (at-sibling-count .sibling-count .result)
-          (at-sibling-count .sibling-count .ensures .0),
+      beside-in (start .pre .shaped) (first-is c) (at-sibling-count .sibling-count .ensures .0),
       omega (arith, length-is (c)),
     )
 
@@ -64,12 +63,8 @@ add-lengths-requires-2 : tie.Need-add-lengths-requires-2
 add-lengths-requires-2 c κs =
     let earlier = c .before in
     let at-other-count = earlier .before in
-    let at-sibling-count = at-other-count .before in
-    let start-2 = at-sibling-count .before .before in
-    let start = start-2 in (
-      roots-in (start .args .packet .now) (start .args .n) (start .args .chunk .0) (start .pre .shaped) _ (first-is earlier) (at-sibling-count .sibling-count .result)
-          (at-other-count .other-count .result) (at-sibling-count .sibling-count .ensures .0)
-          (at-other-count .other-count .ensures .0),
+    let at-sibling-count = at-other-count .before in (
+      roots-in (at-sibling-count .before .before .pre .shaped) (first-is earlier) (at-sibling-count .sibling-count .ensures .0) (at-other-count .other-count .ensures .0),
       c .add-lengths .ensures .small,
     )
 
@@ -84,8 +79,7 @@ returns c =
     (total-summed (start .args .packet .now) (start .args .n) (start .args .chunk .0) (at-read-be32 .read-be32 .result) _ _ (at-sibling-count .sibling-count .result)
     (at-other-count .other-count .result) (at-add-lengths .add-lengths .result) (c .add-lengths2 .result)
     (length-is at-read-be32) (first-is at-read-be32)
-    (second-is (start .args .packet .now) (start .args .n) (start .args .chunk .0) (start .pre .shaped) _ (first-is at-read-be32) (at-sibling-count .sibling-count .result)
-    (at-sibling-count .sibling-count .ensures .0)) (at-sibling-count .sibling-count .ensures .0)
+    (second-is (start .pre .shaped) (first-is at-read-be32) (at-sibling-count .sibling-count .ensures .0)) (at-sibling-count .sibling-count .ensures .0)
     (at-other-count .other-count .ensures .0) (start .pre .small) (at-add-lengths .add-lengths .ensures) (c .add-lengths2 .ensures))
 
 pub total-right-spec : {M : Type 1} → statement M

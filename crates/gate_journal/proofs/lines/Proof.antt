@@ -77,27 +77,5 @@ returns-2 c = search needs
 pub lines-spec : {M : Type 1} → statement M
 lines-spec =
     tie.close
-    (tie.spec
-    Inv-loop
-    μ-loop
-    loop-holds
-    sub-if1
-    sub-hex
-    part-hex-start
-    part-hex-end
-    hex-requires
-    slice-aggregate-text
-    text-requires
-    returns
-    add-stop
-    sub-hex-2
-    part-hex-start-2
-    part-hex-end-2
-    hex-requires-2
-    slice-aggregate-text-2
-    text-requires-2
-    loop-less
-    loop-again
-    slice-aggregate-text-3
-    text-requires-3
-    returns-2)
+    (tie.spec Inv-loop μ-loop loop-holds sub-if1 sub-hex part-hex-start part-hex-end hex-requires slice-aggregate-text text-requires returns add-stop sub-hex-2
+    part-hex-start-2 part-hex-end-2 hex-requires-2 slice-aggregate-text-2 text-requires-2 loop-less loop-again slice-aggregate-text-3 text-requires-3 returns-2)

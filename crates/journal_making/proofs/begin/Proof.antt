@@ -45,13 +45,4 @@ returns-2 c =
     )
 
 pub begin-spec : {M : Type 1} → statement M
-begin-spec =
-    tie.close
-    (tie.spec
-    returns
-    slice-aggregate-copy-to
-    copy-to-requires
-    clear-requires
-    write-words-requires
-    same-length
-    returns-2)
+begin-spec = tie.close (tie.spec returns slice-aggregate-copy-to copy-to-requires clear-requires write-words-requires same-length returns-2)

@@ -108,22 +108,6 @@ is-done-requires c κs = search needs
 pub end-spec : {M : Type 1} → statement M
 end-spec =
     tie.close
-    (tie.spec
-    judge-end-requires
-    is-done-requires
-    same-length
-    returns
-    add-be64
-    be64-requires
-    slice-aggregate-copy-to
-    copy-to-requires
-    slice-aggregate-hash-parts
-    slice-aggregate-hash-parts-2
-    sub-hash-parts
-    part-hash-parts-start
-    part-hash-parts-end
-    hash-parts-requires
-    slice-aggregate-copy-to-2
-    copy-to-requires-2
-    same-length-2
+    (tie.spec judge-end-requires is-done-requires same-length returns add-be64 be64-requires slice-aggregate-copy-to copy-to-requires slice-aggregate-hash-parts
+    slice-aggregate-hash-parts-2 sub-hash-parts part-hash-parts-start part-hash-parts-end hash-parts-requires slice-aggregate-copy-to-2 copy-to-requires-2 same-length-2
     returns-2)

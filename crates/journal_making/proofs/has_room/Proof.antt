@@ -27,5 +27,4 @@ returns-4 : tie.Need-returns-4
 returns-4 c = room-left _ _ _ _ (omega arith)
 
 pub has-room-spec : {M : Type 1} → statement M
-has-room-spec =
-    tie.close (tie.spec returns returns-2 sub-if3 returns-3 sub-result sub-result-2 returns-4)
+has-room-spec = tie.close (tie.spec returns returns-2 sub-if3 returns-3 sub-result sub-result-2 returns-4)

@@ -32,15 +32,4 @@ returns-9 : tie.Need-returns-9
 returns-9 c = four-yes _ _ _ _ (omega arith) (omega arith) (omega arith) (omega arith) (omega arith)
 
 pub is-fitting-spec : {M : Type 1} → statement M
-is-fitting-spec =
-    tie.close
-    (tie.spec
-    returns
-    returns-2
-    returns-3
-    returns-4
-    returns-5
-    returns-6
-    returns-7
-    returns-8
-    returns-9)
+is-fitting-spec = tie.close (tie.spec returns returns-2 returns-3 returns-4 returns-5 returns-6 returns-7 returns-8 returns-9)

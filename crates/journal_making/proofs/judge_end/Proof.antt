@@ -33,14 +33,12 @@ returns-4 : tie.Need-returns-4
 returns-4 c =
     let at-begins = c .before in
     let branch3 = at-begins .before in
-    let at-length-right = branch3 .before in
-    end-first _ _ (omega arith) (sym (at-length-right .length-right .ensures) ∙ not-false _ (branch3 .if3 .left)) (sym (at-begins .begins .ensures) ∙ not-true _ (c .if4 .taken))
+    end-first _ _ (omega arith) (sym (branch3 .before .length-right .ensures) ∙ not-false _ (branch3 .if3 .left)) (sym (at-begins .begins .ensures) ∙ not-true _ (c .if4 .taken))
 
 judge-table-requires : tie.Need-judge-table-requires
 judge-table-requires c κs =
     let branch3 = c .before .before in
-    let at-length-right = branch3 .before in
-    let h = right-least _ (sym (at-length-right .length-right .ensures) ∙ not-false _ (branch3 .if3 .left)) in search needs
+    let h = right-least _ (sym (branch3 .before .length-right .ensures) ∙ not-false _ (branch3 .if3 .left)) in search needs
 
 returns-5 : tie.Need-returns-5
 returns-5 c =
@@ -49,8 +47,7 @@ returns-5 c =
     let branch4 = at-judge-table .before in
     let at-begins = branch4 .before in
     let branch3 = at-begins .before in
-    let at-length-right = branch3 .before in
-    end-table _ _ (omega arith) (sym (at-length-right .length-right .ensures) ∙ not-false _ (branch3 .if3 .left))
+    end-table _ _ (omega arith) (sym (branch3 .before .length-right .ensures) ∙ not-false _ (branch3 .if3 .left))
     (sym (at-begins .begins .ensures) ∙ not-false _ (branch4 .if4 .left)) _ (at-judge-table .judge-table .ensures) (sym (at-is-done .is-done .ensures) ∙ not-true _ (c .if5 .taken))
 
 add-t6 : tie.Need-add-t6
@@ -63,8 +60,7 @@ returns-6 c =
     let branch4 = at-judge-table .before in
     let at-begins = branch4 .before in
     let branch3 = at-begins .before in
-    let at-length-right = branch3 .before in
-    end-done _ _ (omega arith) (sym (at-length-right .length-right .ensures) ∙ not-false _ (branch3 .if3 .left))
+    end-done _ _ (omega arith) (sym (branch3 .before .length-right .ensures) ∙ not-false _ (branch3 .if3 .left))
     (sym (at-begins .begins .ensures) ∙ not-false _ (branch4 .if4 .left)) _ (at-judge-table .judge-table .ensures) (sym (at-is-done .is-done .ensures) ∙ not-false _ (c .if5 .left))
 
 is-done-requires : tie.Need-is-done-requires
@@ -73,17 +69,5 @@ is-done-requires c κs = search needs
 pub judge-end-spec : {M : Type 1} → statement M
 judge-end-spec =
     tie.close
-    (tie.spec
-    returns
-    sub-if2
-    returns-2
-    add-length-right
-    length-right-requires
-    returns-3
-    begins-requires
-    returns-4
-    judge-table-requires
-    is-done-requires
-    returns-5
-    add-t6
+    (tie.spec returns sub-if2 returns-2 add-length-right length-right-requires returns-3 begins-requires returns-4 judge-table-requires is-done-requires returns-5 add-t6
     returns-6)

@@ -51,8 +51,7 @@ cast-write-range c = search needs
 cast-write-range-2 : tie.Need-cast-write-range-2
 cast-write-range-2 c =
     let branch2 = c .before .before .before in
-    let at-is-fitting = branch2 .before in
-    let h = small-kind _ _ _ _ (sym (at-is-fitting .is-fitting .ensures) ∙ not-false _ (branch2 .if2 .left)) in search needs
+    let h = small-kind _ _ _ _ (sym (branch2 .before .is-fitting .ensures) ∙ not-false _ (branch2 .if2 .left)) in search needs
 
 write-range-requires : tie.Need-write-range-requires
 write-range-requires c κs =
@@ -62,8 +61,7 @@ write-range-requires c κs =
 add-t10 : tie.Need-add-t10
 add-t10 c =
     let branch3 = c .before .before .before .before in
-    let at-has-room = branch3 .before in
-    let h = has-room _ _ _ _ (sym (at-has-room .has-room .ensures) ∙ not-false _ (branch3 .if3 .left)) in search needs
+    let h = has-room _ _ _ _ (sym (branch3 .before .has-room .ensures) ∙ not-false _ (branch3 .if3 .left)) in search needs
 
 add-t21 : tie.Need-add-t21
 add-t21 c = search needs
@@ -71,8 +69,7 @@ add-t21 c = search needs
 add-t22 : tie.Need-add-t22
 add-t22 c =
     let branch3 = c .before .before .before .before in
-    let at-has-room = branch3 .before in
-    let h = has-room _ _ _ _ (sym (at-has-room .has-room .ensures) ∙ not-false _ (branch3 .if3 .left)) in search needs
+    let h = has-room _ _ _ _ (sym (branch3 .before .has-room .ensures) ∙ not-false _ (branch3 .if3 .left)) in search needs
 
 same-length : tie.Need-same-length
 same-length c = search needs
@@ -94,17 +91,5 @@ returns-4 c =
 pub put-spec : {M : Type 1} → statement M
 put-spec =
     tie.close
-    (tie.spec
-    returns
-    is-fitting-requires
-    returns-2
-    has-room-requires
-    returns-3
-    cast-write-range
-    cast-write-range-2
-    write-range-requires
-    add-t10
-    add-t21
-    add-t22
-    same-length
-    returns-4)
+    (tie.spec returns is-fitting-requires returns-2 has-room-requires returns-3 cast-write-range cast-write-range-2 write-range-requires add-t10 add-t21 add-t22
+    same-length returns-4)

@@ -70,21 +70,5 @@ returns c =
 pub write-range-spec : {M : Type 1} → statement M
 write-range-spec =
     tie.close
-    (tie.spec
-    be64-requires
-    be64-requires-2
-    slice-aggregate-copy-to
-    copy-to-requires
-    add-copy-to
-    slice-aggregate-copy-to-2
-    copy-to-requires-2
-    add-copy-to-2
-    slice-aggregate-copy-to-3
-    copy-to-requires-3
-    add-copy-to-3
-    copy-to-requires-4
-    add-copy-to-4
-    add-copy-to-5
-    copy-to-requires-5
-    same-length
-    returns)
+    (tie.spec be64-requires be64-requires-2 slice-aggregate-copy-to copy-to-requires add-copy-to slice-aggregate-copy-to-2 copy-to-requires-2 add-copy-to-2
+    slice-aggregate-copy-to-3 copy-to-requires-3 add-copy-to-3 copy-to-requires-4 add-copy-to-4 add-copy-to-5 copy-to-requires-5 same-length returns)

@@ -68,19 +68,5 @@ returns c =
 pub write-words-spec : {M : Type 1} → statement M
 write-words-spec =
     tie.close
-    (tie.spec
-    Inv-loop
-    μ-loop
-    loop-holds
-    mul-be64
-    shared-slice-read-be64
-    be64-requires
-    mul-copy-to
-    add-copy-to
-    slice-aggregate-copy-to
-    copy-to-requires
-    add-i
-    loop-less
-    loop-again
-    same-length
-    returns)
+    (tie.spec Inv-loop μ-loop loop-holds mul-be64 shared-slice-read-be64 be64-requires mul-copy-to add-copy-to slice-aggregate-copy-to copy-to-requires add-i loop-less
+    loop-again same-length returns)

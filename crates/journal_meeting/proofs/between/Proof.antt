@@ -28,14 +28,12 @@ returns-3 : tie.Need-returns-3
 returns-3 c =
     let at-state-met = c .before in
     let branch1 = at-state-met .before .before in
-    let at-length-right = branch1 .before in
-    between-state _ _ _ _ _ (sym (at-length-right .length-right .ensures) ∙ not-false _ (branch1 .if1 .left)) (omega arith) (sym (at-state-met .state-met .ensures) ∙ not-true _ (c .if3 .taken))
+    between-state _ _ _ _ _ (sym (branch1 .before .length-right .ensures) ∙ not-false _ (branch1 .if1 .left)) (omega arith) (sym (at-state-met .state-met .ensures) ∙ not-true _ (c .if3 .taken))
 
 sub-met : tie.Need-sub-met
 sub-met c =
     let branch1 = c .before .before .before in
-    let at-length-right = branch1 .before in
-    let h = right-least _ (sym (at-length-right .length-right .ensures) ∙ not-false _ (branch1 .if1 .left)) in search needs
+    let h = right-least _ (sym (branch1 .before .length-right .ensures) ∙ not-false _ (branch1 .if1 .left)) in search needs
 
 met-requires : tie.Need-met-requires
 met-requires c κs = search needs
@@ -45,8 +43,7 @@ returns-4 c =
     let branch3 = c .before in
     let at-state-met = branch3 .before in
     let branch1 = at-state-met .before .before in
-    let at-length-right = branch1 .before in
-    between-on _ _ _ _ _ (sym (at-length-right .length-right .ensures) ∙ not-false _ (branch1 .if1 .left)) (omega arith)
+    between-on _ _ _ _ _ (sym (branch1 .before .length-right .ensures) ∙ not-false _ (branch1 .if1 .left)) (omega arith)
     (sym (at-state-met .state-met .ensures) ∙ not-false _ (branch3 .if3 .left)) _ (c .met .ensures)
 
 pub between-spec : {M : Type 1} → statement M

@@ -81,18 +81,5 @@ returns-2 c =
 pub first-strange-spec : {M : Type 1} → statement M
 first-strange-spec =
     tie.close
-    (tie.spec
-    Inv-loop
-    μ-loop
-    loop-holds
-    add-either
-    shared-slice-read-either
-    shared-slice-read-either-2
-    shared-slice-read-either-3
-    either-requires
-    add-t15
-    returns
-    add-i
-    loop-less
-    loop-again
-    returns-2)
+    (tie.spec Inv-loop μ-loop loop-holds add-either shared-slice-read-either shared-slice-read-either-2 shared-slice-read-either-3 either-requires add-t15 returns add-i
+    loop-less loop-again returns-2)

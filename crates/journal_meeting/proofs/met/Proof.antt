@@ -120,19 +120,5 @@ returns-4 c =
 pub met-spec : {M : Type 1} → statement M
 met-spec =
     tie.close
-    (tie.spec
-    Inv-loop
-    μ-loop
-    loop-holds
-    place-behind-requires
-    returns
-    shared-slice-read-wide
-    wide-requires
-    returns-2
-    met-range-requires
-    enum-known-found
-    returns-3
-    enum-told
-    loop-less
-    loop-again
-    returns-4)
+    (tie.spec Inv-loop μ-loop loop-holds place-behind-requires returns shared-slice-read-wide wide-requires returns-2 met-range-requires enum-known-found returns-3
+    enum-told loop-less loop-again returns-4)

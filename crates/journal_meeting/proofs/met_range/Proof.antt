@@ -181,34 +181,7 @@ returns-6 c =
 pub met-range-spec : {M : Type 1} → statement M
 met-range-spec =
     tie.close
-    (tie.spec
-    add-wide
-    shared-slice-read-wide
-    wide-requires
-    returns
-    returns-2
-    add-read-be64
-    read-be64-requires
-    add-read-be64-2
-    read-be64-requires-2
-    returns-3
-    sub-if4
-    returns-4
-    add-from
-    add-middle
-    sub-first-strange
-    part-first-strange-start
-    part-first-strange-end
-    sub-first-strange-2
-    part-first-strange-start-2
-    part-first-strange-end-2
-    first-strange-requires
-    returns-5
-    sub-first-strange-3
-    part-first-strange-start-3
-    part-first-strange-end-3
-    sub-first-strange-4
-    part-first-strange-start-4
-    part-first-strange-end-4
-    first-strange-requires-2
-    returns-6)
+    (tie.spec add-wide shared-slice-read-wide wide-requires returns returns-2 add-read-be64 read-be64-requires add-read-be64-2 read-be64-requires-2 returns-3 sub-if4
+    returns-4 add-from add-middle sub-first-strange part-first-strange-start part-first-strange-end sub-first-strange-2 part-first-strange-start-2
+    part-first-strange-end-2 first-strange-requires returns-5 sub-first-strange-3 part-first-strange-start-3 part-first-strange-end-3 sub-first-strange-4
+    part-first-strange-start-4 part-first-strange-end-4 first-strange-requires-2 returns-6)

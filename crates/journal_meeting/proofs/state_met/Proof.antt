@@ -27,15 +27,13 @@ returns : tie.Need-returns
 returns c =
     let branch1 = c .before in
     let at-read-be642 = branch1 .before in
-    let at-read-be64 = at-read-be642 .before in
-    met-over _ _ _ _ _ _ (at-read-be64 .read-be64 .ensures) (at-read-be642 .read-be642 .ensures) (branch1 .if1 .taken) (omega arith)
+    met-over _ _ _ _ _ _ (at-read-be642 .before .read-be64 .ensures) (at-read-be642 .read-be642 .ensures) (branch1 .if1 .taken) (omega arith)
 
 returns-2 : tie.Need-returns-2
 returns-2 c =
     let branch1 = c .before .before in
     let at-read-be642 = branch1 .before in
-    let at-read-be64 = at-read-be642 .before in
-    met-new _ _ _ _ _ _ (at-read-be64 .read-be64 .ensures) (at-read-be642 .read-be642 .ensures) (branch1 .if1 .taken) (omega arith) (omega arith)
+    met-new _ _ _ _ _ _ (at-read-be642 .before .read-be64 .ensures) (at-read-be642 .read-be642 .ensures) (branch1 .if1 .taken) (omega arith) (omega arith)
 
 sub-result : tie.Need-sub-result
 sub-result c = search needs
@@ -44,8 +42,7 @@ returns-3 : tie.Need-returns-3
 returns-3 c =
     let branch1 = c .before .before in
     let at-read-be642 = branch1 .before in
-    let at-read-be64 = at-read-be642 .before in
-    met-old _ _ _ _ _ _ (at-read-be64 .read-be64 .ensures) (at-read-be642 .read-be642 .ensures) (branch1 .if1 .taken) (omega arith) (omega arith)
+    met-old _ _ _ _ _ _ (at-read-be642 .before .read-be64 .ensures) (at-read-be642 .read-be642 .ensures) (branch1 .if1 .taken) (omega arith) (omega arith)
 
 returns-4 : tie.Need-returns-4
 returns-4 c =
@@ -55,15 +52,4 @@ returns-4 c =
 pub state-met-spec : {M : Type 1} → statement M
 state-met-spec =
     tie.close
-    (tie.spec
-    mul-read-be64
-    add-read-be64
-    read-be64-requires
-    mul-read-be64-2
-    add-read-be64-2
-    read-be64-requires-2
-    returns
-    returns-2
-    sub-result
-    returns-3
-    returns-4)
+    (tie.spec mul-read-be64 add-read-be64 read-be64-requires mul-read-be64-2 add-read-be64-2 read-be64-requires-2 returns returns-2 sub-result returns-3 returns-4)

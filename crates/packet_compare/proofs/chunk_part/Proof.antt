@@ -20,17 +20,9 @@ returns : tie.Need-returns
 unfolding chunkLength packetChunk part
 returns c =
     let at-read-be32 = c .before in
-    let start = at-read-be32 .before .before in
     let l = at-read-be32 .read-be32 .result in
     let q : 4 + l - 4 ≡ l = omega arith in
-    ap (part (start .args .lent .now) 4) (q ∙ at-read-be32 .read-be32 .ensures)
+    ap (part (at-read-be32 .before .before .args .lent .now) 4) (q ∙ at-read-be32 .read-be32 .ensures)
 
 pub chunk-part-spec : {M : Type 1} → statement M
-chunk-part-spec =
-    tie.close
-    (tie.spec
-    (λ c κs. search needs)
-    add-end
-    (λ c. search needs) (λ c. search needs)
-    part-result-end
-    returns)
+chunk-part-spec = tie.close (tie.spec (λ c κs. search needs) add-end (λ c. search needs) (λ c. search needs) part-result-end returns)

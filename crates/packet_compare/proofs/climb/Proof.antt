@@ -96,9 +96,7 @@ node-index-requires c κs =
     let tested = c .before .before .before .before .before .before .before .before in
     let looped = tested .before in
     let entered = looped .before .before .before .before in
-    let few = entered .pre .first .row .few in
-    let l = looped .loop in
-    (omega (arith, few, tested .loop-test .taken), omega (arith, l .inv .small))
+    (omega (arith, (entered .pre .first .row .few), tested .loop-test .taken), omega (arith, looped .loop .inv .small))
 
 returns : tie.Need-returns Inv-loop μ-loop
 returns c =
@@ -150,21 +148,5 @@ returns-2 c =
 pub climb-spec : {M : Type 1} → statement M
 climb-spec =
     tie.close
-    (tie.spec
-    Inv-loop
-    μ-loop
-    (λ c κs. search needs)
-    loop-holds
-    mul-above
-    add-above
-    above-requires
-    mul-above-2
-    add-above-2
-    above-requires-2
-    (λ c. search needs) (λ c. search needs) (λ c. search needs) (λ c κs. search needs)
-    cast-node-index
-    node-index-requires
-    returns
-    (λ c. search needs)
-    loop-again
-    returns-2)
+    (tie.spec Inv-loop μ-loop (λ c κs. search needs) loop-holds mul-above add-above above-requires mul-above-2 add-above-2 above-requires-2 (λ c. search needs)
+    (λ c. search needs) (λ c. search needs) (λ c κs. search needs) cast-node-index node-index-requires returns (λ c. search needs) loop-again returns-2)

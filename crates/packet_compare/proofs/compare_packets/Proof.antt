@@ -61,9 +61,5 @@ returns-3 c =
 pub compare-packets-spec : {M : Type 1} → statement M
 compare-packets-spec =
     tie.close
-    (tie.spec
-    (λ c κs. search needs) (λ c. search needs) (λ c. search needs) (λ c κs. search needs) (λ c. search needs) (λ c. search needs)
-    walk-requires
-    returns
-    returns-2
-    returns-3)
+    (tie.spec (λ c κs. search needs) (λ c. search needs) (λ c. search needs) (λ c κs. search needs) (λ c. search needs) (λ c. search needs) walk-requires returns
+    returns-2 returns-3)

@@ -58,8 +58,8 @@ chunk-part-requires c κs =
 
 chunk-part-requires-2 : tie.Need-chunk-part-requires-2
 chunk-part-requires-2 c κs =
-    let start = c .before .before .before in
-    let s = start in framed (s .args .second .now) (s .args .n) (s .args .chunk .0) (s .pre .root) (second s)
+    let s = c .before .before .before in
+    framed (s .args .second .now) (s .args .n) (s .args .chunk .0) (s .pre .root) (second s)
 
 returns : tie.Need-returns
 returns c =
@@ -146,16 +146,6 @@ returns-3 c =
 pub walk-spec : {M : Type 1} → statement M
 walk-spec =
     tie.close
-    (tie.spec
-    chunk-part-requires
-    chunk-part-requires-2
-    (λ c κs. search needs)
-    returns
-    (λ c κs. search needs) (λ c κs. search needs) (λ c. search needs) (λ c. search needs) (λ c κs. search needs)
-    leaf-index-requires
-    returns-2
-    (λ c. search needs) (λ c. search needs) (λ c. search needs) (λ c. search needs)
-    sibling-count-requires
-    (λ c. search needs)
-    climb-requires
-    returns-3)
+    (tie.spec chunk-part-requires chunk-part-requires-2 (λ c κs. search needs) returns (λ c κs. search needs) (λ c κs. search needs) (λ c. search needs)
+    (λ c. search needs) (λ c κs. search needs) leaf-index-requires returns-2 (λ c. search needs) (λ c. search needs) (λ c. search needs) (λ c. search needs)
+    sibling-count-requires (λ c. search needs) climb-requires returns-3)

@@ -19,16 +19,14 @@ returns c =
     let at-judge = c .before .before in
     let s = at-judge .before .before .before .before .before in
     let judge = at-judge .judge in
-    let enum-told2 = c .enum-told2 in
-    bitfield-refused (given s) (s .args .from) (s .args .to) (judge .result) (judge .ensures) _ (enum-told2 .given .1)
+    bitfield-refused (given s) (s .args .from) (s .args .to) (judge .result) (judge .ensures) _ (c .enum-told2 .given .1)
 
 row-count-requires : tie.Need-row-count-requires
 row-count-requires c κs =
     let at-judge = c .before .before in
     let s = at-judge .before .before .before .before .before in
     let judge = at-judge .judge in
-    let enum-told = c .enum-told in
-    files-in (given s) done (judge .result) (judge .ensures) (ap said (enum-told .given .1)) .nodes .count
+    files-in (given s) done (judge .result) (judge .ensures) (ap said (c .enum-told .given .1)) .nodes .count
 
 wrong-in-entries-requires : tie.Need-wrong-in-entries-requires
 wrong-in-entries-requires c κs =
@@ -37,10 +35,9 @@ wrong-in-entries-requires c κs =
     let at-judge = at-enum-told .before .before in
     let s = at-judge .before .before .before .before .before in
     let judge = at-judge .judge in
-    let enum-told = at-enum-told .enum-told in
     let lesser = c .lesser in
     let row-count = at-row-count .row-count in (
-      files-in (given s) done (judge .result) (judge .ensures) (ap said (enum-told .given .1)) .field,
+      files-in (given s) done (judge .result) (judge .ensures) (ap said (at-enum-told .enum-told .given .1)) .field,
       end-most (lesser .result) (s .args .to) (row-count .result) _ (lesser .ensures) (row-count .ensures),
     )
 
@@ -52,15 +49,13 @@ returns-2 c =
     let at-judge = at-enum-told .before .before in
     let s = at-judge .before .before .before .before .before in
     let judge = at-judge .judge in
-    let enum-told = at-enum-told .enum-told in
     let wrong-in-entries = c .wrong-in-entries in
     let lesser = at-lesser .lesser in
     let row-count = at-row-count .row-count in
-    bitfield-says (given s) (s .args .from) (s .args .to) (judge .result) (judge .ensures) (ap said (enum-told .given .1)) (said (wrong-in-entries .result))
+    bitfield-says (given s) (s .args .from) (s .args .to) (judge .result) (judge .ensures) (ap said (at-enum-told .enum-told .given .1)) (said (wrong-in-entries .result))
     (lesser .result) (row-count .result) (row-count .ensures) (lesser .ensures) (wrong-in-entries .ensures)
 
 pub bitfield-part-spec : {M : Type 1} → statement M
 bitfield-part-spec =
     tie.close
-    (tie.spec (λ c κs. search needs) (λ c. search needs) (λ c. search needs) returns row-count-requires (λ c κs. search needs) wrong-in-entries-requires
-    returns-2)
+    (tie.spec (λ c κs. search needs) (λ c. search needs) (λ c. search needs) returns row-count-requires (λ c κs. search needs) wrong-in-entries-requires returns-2)

@@ -20,16 +20,14 @@ returns c =
     let at-judge = c .before .before in
     let s = at-judge .before .before .before .before .before in
     let judge = at-judge .judge in
-    let enum-told2 = c .enum-told2 in
-    tree-refused nodeHash (given s) (s .args .from .0) (s .args .to .0) (judge .result) (judge .ensures) _ (enum-told2 .given .1)
+    tree-refused nodeHash (given s) (s .args .from .0) (s .args .to .0) (judge .result) (judge .ensures) _ (c .enum-told2 .given .1)
 
 entry-count-requires : tie.Need-entry-count-requires
 entry-count-requires c κs =
     let at-judge = c .before .before in
     let s = at-judge .before .before .before .before .before in
     let judge = at-judge .judge in
-    let enum-told = c .enum-told in
-    files-in (given s) done (judge .result) (judge .ensures) (ap said (enum-told .given .1)) .nodes .count
+    files-in (given s) done (judge .result) (judge .ensures) (ap said (c .enum-told .given .1)) .nodes .count
 
 wrong-between-requires : tie.Need-wrong-between-requires
 wrong-between-requires c κs =
@@ -38,10 +36,9 @@ wrong-between-requires c κs =
     let at-judge = at-enum-told .before .before in
     let s = at-judge .before .before .before .before .before in
     let judge = at-judge .judge in
-    let enum-told = at-enum-told .enum-told in
     let lesser = c .lesser in
     let entry-count = at-entry-count .entry-count in (
-      files-in (given s) done (judge .result) (judge .ensures) (ap said (enum-told .given .1)),
+      files-in (given s) done (judge .result) (judge .ensures) (ap said (at-enum-told .enum-told .given .1)),
       end-most (lesser .result) (s .args .to .0) (entry-count .result) _ (lesser .ensures) (entry-count .ensures),
     )
 
@@ -53,15 +50,13 @@ returns-2 c =
     let at-judge = at-enum-told .before .before in
     let s = at-judge .before .before .before .before .before in
     let judge = at-judge .judge in
-    let enum-told = at-enum-told .enum-told in
     let wrong-between = c .wrong-between in
     let lesser = at-lesser .lesser in
     let entry-count = at-entry-count .entry-count in
-    tree-says nodeHash (given s) (s .args .from .0) (s .args .to .0) (judge .result) (judge .ensures) (ap said (enum-told .given .1)) (said (wrong-between .result))
+    tree-says nodeHash (given s) (s .args .from .0) (s .args .to .0) (judge .result) (judge .ensures) (ap said (at-enum-told .enum-told .given .1)) (said (wrong-between .result))
     (lesser .result) (entry-count .result) (entry-count .ensures) (lesser .ensures) (wrong-between .ensures)
 
 pub tree-part-spec : {M : Type 1} → statement M
 tree-part-spec =
     tie.close
-    (tie.spec (λ c κs. search needs) (λ c. search needs) (λ c. search needs) returns entry-count-requires (λ c κs. search needs) wrong-between-requires
-    returns-2)
+    (tie.spec (λ c κs. search needs) (λ c. search needs) (λ c. search needs) returns entry-count-requires (λ c κs. search needs) wrong-between-requires returns-2)

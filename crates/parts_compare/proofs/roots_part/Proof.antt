@@ -24,8 +24,7 @@ returns c =
     let at-judge = at-first .before .before in
     let s = at-judge .before .before .before .before .before .before .before .before .before in
     let judge = at-judge .judge in
-    let first = at-first .first in
-    roots-first nodeHash (fst s) (snd s) (judge .result) (judge .ensures) _ (first .given .1)
+    roots-first nodeHash (fst s) (snd s) (judge .result) (judge .ensures) _ (at-first .first .given .1)
 
 returns-2 : tie.Need-returns-2
 returns-2 c =
@@ -35,10 +34,8 @@ returns-2 c =
     let at-judge = at-enum-told .before .before in
     let s = at-judge .before .before .before .before .before .before .before .before .before in
     let judge = at-judge .judge in
-    let enum-told = at-enum-told .enum-told in
     let judge2 = at-judge2 .judge2 in
-    let second = at-second .second in
-    roots-second nodeHash (fst s) (snd s) (judge .result) (judge .ensures) (enum-told .given .1) (judge2 .result) (judge2 .ensures) _ (second .given .1)
+    roots-second nodeHash (fst s) (snd s) (judge .result) (judge .ensures) (at-enum-told .enum-told .given .1) (judge2 .result) (judge2 .ensures) _ (at-second .second .given .1)
 
 compare-roots-requires : tie.Need-compare-roots-requires
 compare-roots-requires c κs =
@@ -47,10 +44,8 @@ compare-roots-requires c κs =
     let at-judge = at-enum-told .before .before in
     let s = at-judge .before .before .before .before .before .before .before .before .before in
     let judge = at-judge .judge in
-    let enum-told = at-enum-told .enum-told in
     let judge2 = at-judge2 .judge2 in
-    let enum-told2 = c .enum-told2 in
-    roots-room nodeHash (fst s) (snd s) (judge .result) (judge .ensures) (enum-told .given .1) (judge2 .result) (judge2 .ensures) (enum-told2 .given .1)
+    roots-room nodeHash (fst s) (snd s) (judge .result) (judge .ensures) (at-enum-told .enum-told .given .1) (judge2 .result) (judge2 .ensures) (c .enum-told2 .given .1)
 
 returns-3 : tie.Need-returns-3
 returns-3 c =
@@ -61,13 +56,10 @@ returns-3 c =
     let at-judge = at-enum-told .before .before in
     let s = at-judge .before .before .before .before .before .before .before .before .before in
     let judge = at-judge .judge in
-    let enum-told = at-enum-told .enum-told in
     let judge2 = at-judge2 .judge2 in
-    let enum-told2 = at-enum-told2 .enum-told2 in
     let compare-roots = at-compare-roots .compare-roots in
-    let enum-told3 = c .enum-told3 in
-    roots-told nodeHash (fst s) (snd s) (judge .result) (judge .ensures) (enum-told .given .1) (judge2 .result) (judge2 .ensures) (enum-told2 .given .1) rootsDiffer
-    (rootsTold (compare-roots .result)) (sym (ap rootsTold (enum-told3 .given .1))) (compare-roots .ensures)
+    roots-told nodeHash (fst s) (snd s) (judge .result) (judge .ensures) (at-enum-told .enum-told .given .1) (judge2 .result) (judge2 .ensures) (at-enum-told2 .enum-told2 .given .1) rootsDiffer
+    (rootsTold (compare-roots .result)) (sym (ap rootsTold (c .enum-told3 .given .1))) (compare-roots .ensures)
 
 returns-4 : tie.Need-returns-4
 returns-4 c =
@@ -78,13 +70,10 @@ returns-4 c =
     let at-judge = at-enum-told .before .before in
     let s = at-judge .before .before .before .before .before .before .before .before .before in
     let judge = at-judge .judge in
-    let enum-told = at-enum-told .enum-told in
     let judge2 = at-judge2 .judge2 in
-    let enum-told2 = at-enum-told2 .enum-told2 in
     let compare-roots = at-compare-roots .compare-roots in
-    let enum-told4 = c .enum-told4 in
-    roots-told nodeHash (fst s) (snd s) (judge .result) (judge .ensures) (enum-told .given .1) (judge2 .result) (judge2 .ensures) (enum-told2 .given .1) atRoots
-    (rootsTold (compare-roots .result)) (sym (ap rootsTold (enum-told4 .given .1))) (compare-roots .ensures)
+    roots-told nodeHash (fst s) (snd s) (judge .result) (judge .ensures) (at-enum-told .enum-told .given .1) (judge2 .result) (judge2 .ensures) (at-enum-told2 .enum-told2 .given .1) atRoots
+    (rootsTold (compare-roots .result)) (sym (ap rootsTold (c .enum-told4 .given .1))) (compare-roots .ensures)
 
 returns-5 : tie.Need-returns-5
 returns-5 c =
@@ -95,13 +84,10 @@ returns-5 c =
     let at-judge = at-enum-told .before .before in
     let s = at-judge .before .before .before .before .before .before .before .before .before in
     let judge = at-judge .judge in
-    let enum-told = at-enum-told .enum-told in
     let judge2 = at-judge2 .judge2 in
-    let enum-told2 = at-enum-told2 .enum-told2 in
     let compare-roots = at-compare-roots .compare-roots in
-    let enum-told5 = c .enum-told5 in
-    roots-told nodeHash (fst s) (snd s) (judge .result) (judge .ensures) (enum-told .given .1) (judge2 .result) (judge2 .ensures) (enum-told2 .given .1) equal
-    (rootsTold (compare-roots .result)) (sym (ap rootsTold (enum-told5 .given .1))) (compare-roots .ensures)
+    roots-told nodeHash (fst s) (snd s) (judge .result) (judge .ensures) (at-enum-told .enum-told .given .1) (judge2 .result) (judge2 .ensures) (at-enum-told2 .enum-told2 .given .1) equal
+    (rootsTold (compare-roots .result)) (sym (ap rootsTold (c .enum-told5 .given .1))) (compare-roots .ensures)
 
 pub roots-part-spec : {M : Type 1} → statement M
 roots-part-spec =

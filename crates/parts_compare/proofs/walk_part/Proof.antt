@@ -24,8 +24,7 @@ returns c =
     let at-judge = at-first .before .before in
     let s = at-judge .before .before .before .before .before .before .before .before .before in
     let judge = at-judge .judge in
-    let first = at-first .first in
-    walk-first (fst s) (snd s) (s .args .from .0) (s .args .to .0) (judge .result) (judge .ensures) _ (first .given .1)
+    walk-first (fst s) (snd s) (s .args .from .0) (s .args .to .0) (judge .result) (judge .ensures) _ (at-first .first .given .1)
 
 returns-2 : tie.Need-returns-2
 returns-2 c =
@@ -35,10 +34,9 @@ returns-2 c =
     let at-judge = at-enum-told .before .before in
     let s = at-judge .before .before .before .before .before .before .before .before .before in
     let judge = at-judge .judge in
-    let enum-told = at-enum-told .enum-told in
     let judge2 = at-judge2 .judge2 in
     let second = at-second .second in
-    walk-second (fst s) (snd s) (s .args .from .0) (s .args .to .0) (judge .result) (judge .ensures) (enum-told .given .1) (judge2 .result) (judge2 .ensures) _ (second .given .1)
+    walk-second (fst s) (snd s) (s .args .from .0) (s .args .to .0) (judge .result) (judge .ensures) (at-enum-told .enum-told .given .1) (judge2 .result) (judge2 .ensures) _ (second .given .1)
 
 returns-3 : tie.Need-returns-3
 returns-3 c =
@@ -48,12 +46,10 @@ returns-3 c =
     let at-judge = at-enum-told .before .before in
     let s = at-judge .before .before .before .before .before .before .before .before .before in
     let judge = at-judge .judge in
-    let enum-told = at-enum-told .enum-told in
     let judge2 = at-judge2 .judge2 in
     let enum-told2 = at-enum-told2 .enum-told2 in
-    let if1 = c .if1 in
-    walk-none (fst s) (snd s) (s .args .from .0) (s .args .to .0) (judge .result) (judge .ensures) (enum-told .given .1) (judge2 .result) (judge2 .ensures) (enum-told2 .given .1)
-    (if1 .taken)
+    walk-none (fst s) (snd s) (s .args .from .0) (s .args .to .0) (judge .result) (judge .ensures) (at-enum-told .enum-told .given .1) (judge2 .result) (judge2 .ensures) (enum-told2 .given .1)
+    (c .if1 .taken)
 
 entry-count-requires : tie.Need-entry-count-requires
 entry-count-requires c κs =
@@ -63,12 +59,10 @@ entry-count-requires c κs =
     let at-judge = at-enum-told .before .before in
     let s = at-judge .before .before .before .before .before .before .before .before .before in
     let judge = at-judge .judge in
-    let enum-told = at-enum-told .enum-told in
     let judge2 = at-judge2 .judge2 in
     let enum-told2 = at-enum-told2 .enum-told2 in
-    let if1 = c .if1 in
-    walk-room (fst s) (snd s) (s .args .from .0) (s .args .to .0) (judge .result) (judge .ensures) (enum-told .given .1) (judge2 .result) (judge2 .ensures) (enum-told2 .given .1)
-    (if1 .left) .0 .count
+    walk-room (fst s) (snd s) (s .args .from .0) (s .args .to .0) (judge .result) (judge .ensures) (at-enum-told .enum-told .given .1) (judge2 .result) (judge2 .ensures) (enum-told2 .given .1)
+    (c .if1 .left) .0 .count
 
 part-lowest-collision-end : tie.Need-part-lowest-collision-end
 part-lowest-collision-end c =
@@ -78,12 +72,10 @@ part-lowest-collision-end c =
     let at-judge = at-enum-told .before .before in
     let s = at-judge .before .before .before .before .before .before .before .before .before in
     let judge = at-judge .judge in
-    let enum-told = at-enum-told .enum-told in
     let judge2 = at-judge2 .judge2 in
-    let enum-told2 = at-enum-told2 .enum-told2 in
     let d =
-    walk-data (fst s) (snd s) (s .args .from .0) (s .args .to .0) (judge .result) (judge .ensures) (enum-told .given .1) (judge2 .result) (judge2 .ensures)
-    (enum-told2 .given .1) in
+    walk-data (fst s) (snd s) (s .args .from .0) (s .args .to .0) (judge .result) (judge .ensures) (at-enum-told .enum-told .given .1) (judge2 .result) (judge2 .ensures)
+    (at-enum-told2 .enum-told2 .given .1) in
     omega (arith, d .0)
 
 part-lowest-collision-end-2 : tie.Need-part-lowest-collision-end-2
@@ -94,12 +86,10 @@ part-lowest-collision-end-2 c =
     let at-judge = at-enum-told .before .before in
     let s = at-judge .before .before .before .before .before .before .before .before .before in
     let judge = at-judge .judge in
-    let enum-told = at-enum-told .enum-told in
     let judge2 = at-judge2 .judge2 in
-    let enum-told2 = at-enum-told2 .enum-told2 in
     let d =
-    walk-data (fst s) (snd s) (s .args .from .0) (s .args .to .0) (judge .result) (judge .ensures) (enum-told .given .1) (judge2 .result) (judge2 .ensures)
-    (enum-told2 .given .1) in
+    walk-data (fst s) (snd s) (s .args .from .0) (s .args .to .0) (judge .result) (judge .ensures) (at-enum-told .enum-told .given .1) (judge2 .result) (judge2 .ensures)
+    (at-enum-told2 .enum-told2 .given .1) in
     omega (arith, d .1)
 
 lowest-collision-requires : tie.Need-lowest-collision-requires
@@ -113,15 +103,13 @@ lowest-collision-requires c κs =
     let at-judge = at-enum-told .before .before in
     let s = at-judge .before .before .before .before .before .before .before .before .before in
     let judge = at-judge .judge in
-    let enum-told = at-enum-told .enum-told in
     let judge2 = at-judge2 .judge2 in
     let enum-told2 = at-enum-told2 .enum-told2 in
-    let if1 = branch1 .if1 in
     let lesser = at-lesser .lesser in
     let entry-count = at-entry-count .entry-count in
     let room =
-    walk-room (fst s) (snd s) (s .args .from .0) (s .args .to .0) (judge .result) (judge .ensures) (enum-told .given .1) (judge2 .result) (judge2 .ensures) (enum-told2 .given .1)
-    (if1 .left) in
+    walk-room (fst s) (snd s) (s .args .from .0) (s .args .to .0) (judge .result) (judge .ensures) (at-enum-told .enum-told .given .1) (judge2 .result) (judge2 .ensures) (enum-told2 .given .1)
+    (branch1 .if1 .left) in
     (room .0, room .1, end-most (lesser .result) (s .args .to .0) (entry-count .result) _ (lesser .ensures) (entry-count .ensures))
 
 returns-4 : tie.Need-returns-4
@@ -135,16 +123,14 @@ returns-4 c =
     let at-judge = at-enum-told .before .before in
     let s = at-judge .before .before .before .before .before .before .before .before .before in
     let judge = at-judge .judge in
-    let enum-told = at-enum-told .enum-told in
     let judge2 = at-judge2 .judge2 in
     let enum-told2 = at-enum-told2 .enum-told2 in
-    let if1 = branch1 .if1 in
     let lowest-collision = c .lowest-collision in
     let lesser = at-lesser .lesser in
     let entry-count = at-entry-count .entry-count in
     let a = s .args in
-    walk-says (fst s) (snd s) (a .from .0) (a .to .0) (judge .result) (judge .ensures) (enum-told .given .1) (judge2 .result) (judge2 .ensures) (enum-told2 .given .1)
-    (if1 .left) (compared (lowest-collision .result)) (lesser .result) (entry-count .result) (a .size - 0) (a .size2 - 0) (entry-count .ensures) (lesser .ensures) (omega arith)
+    walk-says (fst s) (snd s) (a .from .0) (a .to .0) (judge .result) (judge .ensures) (at-enum-told .enum-told .given .1) (judge2 .result) (judge2 .ensures) (enum-told2 .given .1)
+    (branch1 .if1 .left) (compared (lowest-collision .result)) (lesser .result) (entry-count .result) (a .size - 0) (a .size2 - 0) (entry-count .ensures) (lesser .ensures) (omega arith)
     (omega arith) (lowest-collision .ensures)
 
 pub walk-part-spec : {M : Type 1} → statement M

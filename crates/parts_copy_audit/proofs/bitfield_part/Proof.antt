@@ -18,16 +18,13 @@ returns c =
     let at-judge-partly = c .before .before in
     let s = at-judge-partly .before .before .before .before in
     let judge-partly = at-judge-partly .judge-partly in
-    let enum-told2 = c .enum-told2 in
-    bits-refused (given s) (judge-partly .result) (judge-partly .ensures) (s .args .from) (s .args .to) _ (enum-told2 .given .1)
+    bits-refused (given s) (judge-partly .result) (judge-partly .ensures) (s .args .from) (s .args .to) _ (c .enum-told2 .given .1)
 
 row-count-requires : tie.Need-row-count-requires
 row-count-requires c κs =
     let at-judge-partly = c .before .before in
     let s = at-judge-partly .before .before .before .before in
-    let enum-told = c .enum-told in
-    let judge-partly = at-judge-partly .judge-partly in
-    files-in nodeHash (given s) (sym (ap said (enum-told .given .1)) ∙ judge-partly .ensures) .nodes .count
+    files-in nodeHash (given s) (sym (ap said (c .enum-told .given .1)) ∙ at-judge-partly .judge-partly .ensures) .nodes .count
 
 wrong-in-entries-requires : tie.Need-wrong-in-entries-requires
 wrong-in-entries-requires c κs =
@@ -35,11 +32,9 @@ wrong-in-entries-requires c κs =
     let at-enum-told = at-row-count .before in
     let at-judge-partly = at-enum-told .before .before in
     let s = at-judge-partly .before .before .before .before in
-    let enum-told = at-enum-told .enum-told in
-    let judge-partly = at-judge-partly .judge-partly in
     let lesser = c .lesser in
     let row-count = at-row-count .row-count in (
-      files-in nodeHash (given s) (sym (ap said (enum-told .given .1)) ∙ judge-partly .ensures) .field,
+      files-in nodeHash (given s) (sym (ap said (at-enum-told .enum-told .given .1)) ∙ at-judge-partly .judge-partly .ensures) .field,
       end-most (lesser .result) (s .args .to) (row-count .result) _ (lesser .ensures) (row-count .ensures),
     )
 
@@ -51,15 +46,13 @@ returns-2 c =
     let at-judge-partly = at-enum-told .before .before in
     let s = at-judge-partly .before .before .before .before in
     let judge-partly = at-judge-partly .judge-partly in
-    let enum-told = at-enum-told .enum-told in
     let wrong-in-entries = c .wrong-in-entries in
     let lesser = at-lesser .lesser in
     let row-count = at-row-count .row-count in
-    bits-say (given s) (judge-partly .result) (judge-partly .ensures) (s .args .from) (s .args .to) (ap said (enum-told .given .1)) (said (wrong-in-entries .result))
+    bits-say (given s) (judge-partly .result) (judge-partly .ensures) (s .args .from) (s .args .to) (ap said (at-enum-told .enum-told .given .1)) (said (wrong-in-entries .result))
     (lesser .result) (row-count .result) (row-count .ensures) (lesser .ensures) (wrong-in-entries .ensures)
 
 pub bitfield-part-spec : {M : Type 1} → statement M
 bitfield-part-spec =
     tie.close
-    (tie.spec (λ c κs. search needs) (λ c. search needs) (λ c. search needs) returns row-count-requires (λ c κs. search needs) wrong-in-entries-requires
-    returns-2)
+    (tie.spec (λ c κs. search needs) (λ c. search needs) (λ c. search needs) returns row-count-requires (λ c κs. search needs) wrong-in-entries-requires returns-2)

@@ -19,16 +19,13 @@ returns c =
     let at-judge-partly = c .before .before in
     let s = at-judge-partly .before .before .before .before in
     let judge-partly = at-judge-partly .judge-partly in
-    let enum-told2 = c .enum-told2 in
-    entries-refused (given s) (judge-partly .result) (judge-partly .ensures) nodeHash (s .args .from .0) (s .args .to .0) _ (enum-told2 .given .1)
+    entries-refused (given s) (judge-partly .result) (judge-partly .ensures) nodeHash (s .args .from .0) (s .args .to .0) _ (c .enum-told2 .given .1)
 
 entry-count-requires : tie.Need-entry-count-requires
 entry-count-requires c κs =
     let at-judge-partly = c .before .before in
     let s = at-judge-partly .before .before .before .before in
-    let enum-told = c .enum-told in
-    let judge-partly = at-judge-partly .judge-partly in
-    files-in nodeHash (given s) (sym (ap said (enum-told .given .1)) ∙ judge-partly .ensures) .nodes .count
+    files-in nodeHash (given s) (sym (ap said (c .enum-told .given .1)) ∙ at-judge-partly .judge-partly .ensures) .nodes .count
 
 wrong-between-requires : tie.Need-wrong-between-requires
 wrong-between-requires c κs =
@@ -36,11 +33,9 @@ wrong-between-requires c κs =
     let at-enum-told = at-entry-count .before in
     let at-judge-partly = at-enum-told .before .before in
     let s = at-judge-partly .before .before .before .before in
-    let enum-told = at-enum-told .enum-told in
-    let judge-partly = at-judge-partly .judge-partly in
     let lesser = c .lesser in
     let entry-count = at-entry-count .entry-count in (
-      files-in nodeHash (given s) (sym (ap said (enum-told .given .1)) ∙ judge-partly .ensures),
+      files-in nodeHash (given s) (sym (ap said (at-enum-told .enum-told .given .1)) ∙ at-judge-partly .judge-partly .ensures),
       end-most (lesser .result) (s .args .to .0) (entry-count .result) _ (lesser .ensures) (entry-count .ensures),
     )
 
@@ -53,16 +48,13 @@ returns-2 c =
     let at-enum-told = at-entry-count .before in
     let at-judge-partly = at-enum-told .before .before in
     let s = at-judge-partly .before .before .before .before in
-    let refuse-entry = c .refuse-entry in
     let judge-partly = at-judge-partly .judge-partly in
-    let enum-told = at-enum-told .enum-told in
     let wrong-between = at-wrong-between .wrong-between in
     let lesser = at-lesser .lesser in
     let entry-count = at-entry-count .entry-count in
-    let i = at-i .i in
-    refuse-entry .ensures
-    ∙ entries-at (given s) (judge-partly .result) (judge-partly .ensures) nodeHash (s .args .from .0) (s .args .to .0) (ap said (enum-told .given .1))
-    (firstEntry (wrong-between .result)) (lesser .result) (entry-count .result) (entry-count .ensures) (lesser .ensures) (wrong-between .ensures) _ (ap firstEntry (i .given .1))
+    c .refuse-entry .ensures
+    ∙ entries-at (given s) (judge-partly .result) (judge-partly .ensures) nodeHash (s .args .from .0) (s .args .to .0) (ap said (at-enum-told .enum-told .given .1))
+    (firstEntry (wrong-between .result)) (lesser .result) (entry-count .result) (entry-count .ensures) (lesser .ensures) (wrong-between .ensures) _ (ap firstEntry (at-i .i .given .1))
 
 returns-3 : tie.Need-returns-3
 returns-3 c =
@@ -73,13 +65,11 @@ returns-3 c =
     let at-judge-partly = at-enum-told .before .before in
     let s = at-judge-partly .before .before .before .before in
     let judge-partly = at-judge-partly .judge-partly in
-    let enum-told = at-enum-told .enum-told in
     let wrong-between = at-wrong-between .wrong-between in
     let lesser = at-lesser .lesser in
     let entry-count = at-entry-count .entry-count in
-    let enum-told3 = c .enum-told3 in
-    entries-none (given s) (judge-partly .result) (judge-partly .ensures) nodeHash (s .args .from .0) (s .args .to .0) (ap said (enum-told .given .1))
-    (firstEntry (wrong-between .result)) (lesser .result) (entry-count .result) (entry-count .ensures) (lesser .ensures) (wrong-between .ensures) (ap firstEntry (enum-told3 .given .1))
+    entries-none (given s) (judge-partly .result) (judge-partly .ensures) nodeHash (s .args .from .0) (s .args .to .0) (ap said (at-enum-told .enum-told .given .1))
+    (firstEntry (wrong-between .result)) (lesser .result) (entry-count .result) (entry-count .ensures) (lesser .ensures) (wrong-between .ensures) (ap firstEntry (c .enum-told3 .given .1))
 
 pub tree-part-spec : {M : Type 1} → statement M
 tree-part-spec =

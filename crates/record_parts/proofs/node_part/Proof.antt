@@ -7,18 +7,16 @@ use Rattle.record_parts.proofs.node_part.Tie as tie
 taken-requires : tie.Need-taken-requires
 taken-requires c κs =
     let at-read-node = c .before .before in
-    let start = at-read-node .before .before in
     let read = at-read-node .read-node in
-    let a = start .args in
+    let a = at-read-node .before .before .args in
     chosen-inside (a .bytes .now) (read .result .answer) (read .result .node) (read .ensures) (a .field) (c .chosen .result) (c .chosen .ensures)
 
 returns : tie.Need-returns
 returns c =
     let at-chosen = c .before in
     let at-read-node = at-chosen .before .before in
-    let start = at-read-node .before .before in
     let read = at-read-node .read-node in
-    let a = start .args in
+    let a = at-read-node .before .before .args in
     node-handed (a .bytes .now) (read .result .answer) (read .result .node) (read .ensures) (a .field) (at-chosen .chosen .result) (at-chosen .chosen .ensures) _
     (c .taken .ensures)
 

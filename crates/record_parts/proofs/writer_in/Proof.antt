@@ -8,14 +8,14 @@ returns : tie.Need-returns
 returns c =
     let branch2 = c .before in
     let branch1 = branch2 .before in
-    let start = branch1 .before .before in
-    let a = start .args in writer-there (a .writers) (a .place) (branch1 .if1 .taken) (branch2 .if2 .taken)
+    let a = branch1 .before .before .args in
+    writer-there (a .writers) (a .place) (branch1 .if1 .taken) (branch2 .if2 .taken)
 
 returns-2 : tie.Need-returns-2
 returns-2 c =
     let branch1 = c .before in
-    let start = branch1 .before .before in
-    let a = start .args in writer-beyond (a .writers) (a .place) (branch1 .if1 .taken) (c .if2 .left)
+    let a = branch1 .before .before .args in
+    writer-beyond (a .writers) (a .place) (branch1 .if1 .taken) (c .if2 .left)
 
 returns-3 : tie.Need-returns-3
 returns-3 c = let a = c .before .before .args in writer-none (a .writers) (a .place) (c .if1 .left)

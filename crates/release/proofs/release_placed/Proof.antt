@@ -1,8 +1,10 @@
 -- `release::release_placed` meets its contract: a refusal is handed on, or the place that was found is cleared. Assumes nothing.
 use mathlib.Core.Path.{sym, ap, _∙_, subst}
 use borrow.Author.Needs.{needs}
-use Rattle.lookup.specs.Meaning.{placedOf, verdictFound}
-use Rattle.release.specs.Post.{ClearsAt, bitsCleared, bytesCleared}
+use Rattle.lookup.specs.Read.{verdictFound}
+use Rattle.lookup.specs.Meaning.{placedOf}
+use Rattle.release.specs.Release.{bytesCleared}
+use Rattle.release.specs.Post.{ClearsAt, bitsCleared}
 use Rattle.release.proofs.release_placed.Statement.{statement}
 use Rattle.release.proofs.release_placed.Tie as tie
 
@@ -37,5 +39,4 @@ returns-2 c =
     }
 
 pub release-placed-spec : {M : Type 1} → statement M
-release-placed-spec =
-    tie.close (tie.spec (λ c. search needs) (λ c. search needs) clear-chunk-requires returns (λ c. search needs) (λ c. search needs) returns-2)
+release-placed-spec = tie.close (tie.spec (λ c. search needs) (λ c. search needs) clear-chunk-requires returns (λ c. search needs) (λ c. search needs) returns-2)

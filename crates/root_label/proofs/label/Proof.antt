@@ -20,8 +20,7 @@ returns : tie.Need-returns
 unfolding labelVerdict
 returns c =
     let branch1 = c .before in
-    let start = branch1 .before .before in
-    let a = start .args in
+    let a = branch1 .before .before .args in
     let e = key-too-long 32 (length (a .key .now)) (omega arith) (omega arith) (omega (arith, branch1 .if1 .taken)) in
     record { answers = c .refuse .ensures ∙ sym e; bytes = bytes-of (a .key .now) (a .root .now) _ e }
 
@@ -29,8 +28,7 @@ returns-2 : tie.Need-returns-2
 unfolding labelVerdict labelOf
 returns-2 c =
     let f = c .before .before .before in
-    let start = f .before .before in
-    let a = start .args in
+    let a = f .before .before .args in
     let e = all-right 32 (length (a .key .now)) (omega arith) (omega arith) (omega (arith, f .if1 .left)) in
     record { answers = sym e; bytes = c .hash-parts .ensures ∙ bytes-of (a .key .now) (a .root .now) _ e }
 

@@ -42,5 +42,4 @@ returns-3 c =
     ∙ sym (ap (behind start) (ap said (at-enum-told .enum-told .given .1)))
 
 pub search-behind-spec : {M : Type 1} → statement M
-search-behind-spec =
-    tie.close (tie.spec (λ c. search needs) (λ c. search needs) by-runs-requires (λ c. search needs) (λ c. search needs) returns returns-2 returns-3)
+search-behind-spec = tie.close (tie.spec (λ c. search needs) (λ c. search needs) by-runs-requires (λ c. search needs) (λ c. search needs) returns returns-2 returns-3)

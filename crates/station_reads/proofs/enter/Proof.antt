@@ -9,8 +9,7 @@ use Rattle.station_reads.proofs.enter.Tie as tie
 returns : tie.Need-returns
 returns c =
     let at-number-of = c .before in
-    let start = at-number-of .before .before in
-    let a = start .args in
+    let a = at-number-of .before .before .args in
     subst (λ (g : ℕ). Entered (a .station) (record { register = g; chunk = a .chunk .0 }) (a .table .now) (c .enter .result) (c .enter .last .0))
     (at-number-of .number-of .ensures) (c .enter .ensures)
 

@@ -36,6 +36,4 @@ returns-2 c =
     (c .read-answer .ensures)
 
 pub serve-answer-spec : {M : Type 1} → statement M
-serve-answer-spec =
-    tie.close
-    (tie.spec (λ c κs. search needs) (λ c. search needs) (λ c. search needs) (λ c κs. search needs) (λ c κs. search needs) returns returns-2)
+serve-answer-spec = tie.close (tie.spec (λ c κs. search needs) (λ c. search needs) (λ c. search needs) (λ c κs. search needs) (λ c κs. search needs) returns returns-2)

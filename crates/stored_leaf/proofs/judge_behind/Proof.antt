@@ -29,5 +29,4 @@ returns-2 c =
     c .judge-leaf .ensures ∙ sym (ap (λ (v : Verdict). andThen v (next s)) (ap said (at-enum-told .enum-told .given .1)))
 
 pub judge-behind-spec : {M : Type 1} → statement M
-judge-behind-spec =
-    tie.close (tie.spec (λ c. search needs) (λ c. search needs) judge-leaf-requires returns returns-2)
+judge-behind-spec = tie.close (tie.spec (λ c. search needs) (λ c. search needs) judge-leaf-requires returns returns-2)

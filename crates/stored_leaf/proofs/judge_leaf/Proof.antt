@@ -67,6 +67,4 @@ returns-4 c =
     (known-by s true false (not-false _ (branch2 .if2 .left)) bit))
 
 pub judge-leaf-spec : {M : Type 1} → statement M
-judge-leaf-spec =
-    tie.close
-    (tie.spec (λ c κs. search needs) returns returns-2 (λ c κs. search needs) is-known-requires returns-3 (λ c κs. search needs) returns-4)
+judge-leaf-spec = tie.close (tie.spec (λ c κs. search needs) returns returns-2 (λ c κs. search needs) is-known-requires returns-3 (λ c κs. search needs) returns-4)

@@ -6,9 +6,7 @@ use Rattle.tree_index.proofs.block.Statement.{statement}
 use Rattle.tree_index.proofs.block.Tie as tie
 
 add-result : tie.Need-add-result
-add-result c =
-    let start = c .before in
-    omega (arith, depth-small (start .args .i .0) (start .pre))
+add-result c = omega (arith, depth-small (c .before .args .i .0) (c .before .pre))
 
 shr-result : tie.Need-shr-result
 shr-result c =
@@ -16,9 +14,7 @@ shr-result c =
     omega (arith, depth-small (start .args .i .0) (start .pre))
 
 returns : tie.Need-returns
-returns c =
-    let at-depth = c .before in
-    block-word (at-depth .before .args .i .0) (at-depth .depth .result) (at-depth .depth .ensures)
+returns c = block-word (c .before .before .args .i .0) (c .before .depth .result) (c .before .depth .ensures)
 
 pub block-spec : {M : Type 1} → statement M
 block-spec = tie.close (tie.spec (λ c κs. search needs) add-result (λ c. search needs) shr-result returns)

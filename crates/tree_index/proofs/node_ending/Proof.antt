@@ -14,11 +14,7 @@ sub-node-index c = let s = c .before in completed-block (s .args .c .0) (s .args
 node-index-requires : tie.Need-node-index-requires
 node-index-requires c κs =
     let s = c .before in
-    omega (
-      arith,
-      completed-few (s .args .c .0) (s .args .d) (s .pre .0) (s .pre .1),
-      completed-block (s .args .c .0) (s .args .d) (s .pre .0) (s .pre .1) .1,
-    )
+    omega (arith, completed-few (s .args .c .0) (s .args .d) (s .pre .0) (s .pre .1), completed-block (s .args .c .0) (s .args .d) (s .pre .0) (s .pre .1) .1)
 
 pub node-ending-spec : {M : Type 1} → statement M
 node-ending-spec = tie.close (tie.spec (λ c. search needs) shr-blocks sub-node-index node-index-requires (λ c. search needs))

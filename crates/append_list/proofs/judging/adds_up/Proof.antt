@@ -25,27 +25,20 @@ loop-holds c = omega arith
 returns : tie.Need-returns Inv-loop μ-loop
 returns c =
     let tested = c .before .before in
-    let looped = tested .before in
-    let start = looped .before in
-    let a = start .args in
-    let l = looped .loop in
+    let a = tested .before .before .args in
+    let l = tested .before .loop in
     too-much (a .lengths .now) (l .j) (length (a .lengths .now)) (l .left) (a .whole) (tested .loop-test .taken) (tested .loop-test .taken) (l .inv .1) (c .if1 .taken)
     ∙ ap (λ (xs : List ℕ). eqb (total xs) (a .whole)) (take-length (a .lengths .now))
 
 loop-again : tie.Need-loop-again Inv-loop μ-loop
 loop-again c =
-    let tested = c .before .before in
-    let looped = tested .before in
-    let start = looped .before in
-    let a = start .args in
-    let l = looped .loop in
-    (search needs, omega (arith, total-next (a .lengths .now) (l .j) (tested .loop-test .taken), l .inv .1, c .if1 .left))
+    let looped = c .before .before .before in
+    (search needs, omega (arith, total-next (looped .before .args .lengths .now) (looped .loop .j) (c .before .before .loop-test .taken), looped .loop .inv .1, c .if1 .left))
 
 returns-2 : tie.Need-returns-2 Inv-loop μ-loop
 returns-2 c =
-    let looped = c .before in
-    let a = looped .before .args in
-    let l = looped .loop in
+    let a = c .before .before .args in
+    let l = c .before .loop in
     none-left (total (a .lengths .now)) (l .left) (a .whole)
     (ap (λ (xs : List ℕ). total xs + l .left) (sym (take-all (l .j) (a .lengths .now) (c .loop-test .left))) ∙ l .inv .1)
 

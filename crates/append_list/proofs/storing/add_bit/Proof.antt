@@ -15,13 +15,12 @@ make-index-requires c κs = search needs
 
 returns : tie.Need-returns
 returns c =
-    let at-make-index = c .before .before in
-    let branch1 = at-make-index .before .before in
+    let branch1 = c .before .before .before .before in
     let at-set-bits = branch1 .before .before .before in
-    let at-chunk-behind = at-set-bits .before .before in
-    let start = at-chunk-behind .before .before in
-    let a = start .args in last-listed (a .bitfield .now) _ (a .n) _ (a .last) (at-chunk-behind .chunk-behind .ensures) (at-set-bits .set-bits .ensures) _
-    (at-make-index .make-index .ensures) (branch1 .if1 .taken)
+    let start = at-set-bits .before .before .before .before in
+    let a = start .args in
+    last-listed (a .bitfield .now) _ (a .n) _ (a .last) (at-set-bits .before .before .chunk-behind .ensures) (at-set-bits .set-bits .ensures) _
+    (c .before .before .make-index .ensures) (branch1 .if1 .taken)
 
 make-index-requires-2 : tie.Need-make-index-requires-2
 unfolding bitsPlace
@@ -29,21 +28,19 @@ make-index-requires-2 c κs = search needs
 
 returns-2 : tie.Need-returns-2
 returns-2 c =
-    let at-make-index2 = c .before .before in
-    let branch2 = at-make-index2 .before .before in
+    let branch2 = c .before .before .before .before in
     let at-set-bits = branch2 .before .before .before .before in
-    let at-chunk-behind = at-set-bits .before .before in
-    let start = at-chunk-behind .before .before in
-    let a = start .args in last-held (a .bitfield .now) _ (a .n) _ (a .last) (at-chunk-behind .chunk-behind .ensures) (at-set-bits .set-bits .ensures) _
-    (at-make-index2 .make-index2 .ensures) (branch2 .if2 .taken)
+    let start = at-set-bits .before .before .before .before in
+    let a = start .args in
+    last-held (a .bitfield .now) _ (a .n) _ (a .last) (at-set-bits .before .before .chunk-behind .ensures) (at-set-bits .set-bits .ensures) _
+    (c .before .before .make-index2 .ensures) (branch2 .if2 .taken)
 
 returns-3 : tie.Need-returns-3
 returns-3 c =
-    let branch1 = c .before in
-    let at-set-bits = branch1 .before .before .before in
-    let at-chunk-behind = at-set-bits .before .before in
-    let start = at-chunk-behind .before .before in
-    let a = start .args in not-last (a .bitfield .now) _ (a .n) _ (a .last) (at-chunk-behind .chunk-behind .ensures) (at-set-bits .set-bits .ensures) (branch1 .if1 .left) (c .if2 .left)
+    let at-set-bits = c .before .before .before .before in
+    let start = at-set-bits .before .before .before .before in
+    let a = start .args in
+    not-last (a .bitfield .now) _ (a .n) _ (a .last) (at-set-bits .before .before .chunk-behind .ensures) (at-set-bits .set-bits .ensures) (c .before .if1 .left) (c .if2 .left)
 
 pub add-bit-spec : {M : Type 1} → statement M
 add-bit-spec =

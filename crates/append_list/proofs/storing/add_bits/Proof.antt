@@ -23,28 +23,24 @@ loop-holds c = let a = c .before .args in (omega arith, refl, once-first (a .bit
 
 add-bit-requires : tie.Need-add-bit-requires Inv-loop μ-loop
 add-bit-requires c κs =
-    let tested = c .before in
-    let looped = tested .before in
+    let looped = c .before .before in
     let s = looped .before .before in
-    bit-room (s .args .bitfield .now) (s .args .n) (s .args .k) (looped .loop .bitfield) (looped .loop .i) (s .pre) (tested .loop-test .taken)
+    bit-room (s .args .bitfield .now) (s .args .n) (s .args .k) (looped .loop .bitfield) (looped .loop .i) (s .pre) (c .before .loop-test .taken)
     (looped .loop .inv .1)
 
 loop-again : tie.Need-loop-again Inv-loop μ-loop
 loop-again c =
-    let at-add-bit = c .before .before in
-    let tested = at-add-bit .before .before in
-    let looped = tested .before in
-    let start = looped .before .before in
+    let tested = c .before .before .before .before in
+    let start = tested .before .before .before in
     let a = start .args in
-    let l = looped .loop in
+    let l = tested .before .loop in
     let t = tested .loop-test .taken in
-    (omega (arith, t), search needs, once-next (a .bitfield .now) (a .n) (a .k) (l .bitfield) _ (l .i) (a .n + a .k) t (at-add-bit .add-bit .ensures) (l .inv .2))
+    (omega (arith, t), search needs, once-next (a .bitfield .now) (a .n) (a .k) (l .bitfield) _ (l .i) (a .n + a .k) t (c .before .before .add-bit .ensures) (l .inv .2))
 
 returns : tie.Need-returns Inv-loop μ-loop
 returns c =
-    let looped = c .before in
-    let s = looped .before .before in
-    let l = looped .loop in
+    let s = c .before .before .before in
+    let l = c .before .loop in
     once-all (s .args .bitfield .now) (s .args .n) (s .args .k) (l .bitfield) (l .i) (s .args .n + s .args .k) (s .pre) (c .loop-test .left) (l .inv .2)
 
 pub add-bits-spec : {M : Type 1} → statement M

@@ -6,11 +6,10 @@ use Rattle.append_list.proofs.storing.add_chunk.Tie as tie
 
 returns : tie.Need-returns
 returns c =
-    let at-add-leaf = c .before .before in
-    let at-leaf-hash = at-add-leaf .before .before in
+    let at-leaf-hash = c .before .before .before .before in
     let s = at-leaf-hash .before .before .before .before in
     chunk-added (s .args .tree .now) (s .args .content .now) _ _ (s .args .n) (s .args .at) (s .args .end) (s .pre .order) (s .pre .content) (at-leaf-hash .leaf-hash .ensures)
-    (at-add-leaf .add-leaf .ensures)
+    (c .before .before .add-leaf .ensures)
 
 pub add-chunk-spec : {M : Type 1} → statement M
 add-chunk-spec =

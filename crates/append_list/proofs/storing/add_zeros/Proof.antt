@@ -14,11 +14,9 @@ clear-requires c κs = omega (arith, c .before .used-signatures .ensures)
 
 returns : tie.Need-returns
 returns c =
-    let at-clear = c .before .before in
-    let at-used-signatures = at-clear .before .before in
-    let start = at-used-signatures .before .before in
-    let a = start .args in
-    at-clear .clear .ensures ∙ ap (λ (p : ℕ). put (a .signatures .now) p (zeros (64 * (a .k - 1)))) (at-used-signatures .used-signatures .ensures)
+    let at-used-signatures = c .before .before .before .before in
+    let a = at-used-signatures .before .before .args in
+    c .before .before .clear .ensures ∙ ap (λ (p : ℕ). put (a .signatures .now) p (zeros (64 * (a .k - 1)))) (at-used-signatures .used-signatures .ensures)
 
 pub add-zeros-spec : {M : Type 1} → statement M
 add-zeros-spec = tie.close (tie.spec (λ c κs. search needs) (λ c. search needs) (λ c. search needs) clear-requires (λ c. search needs) returns)

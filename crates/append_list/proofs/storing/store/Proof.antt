@@ -7,9 +7,8 @@ use Rattle.append_list.proofs.storing.store.Tie as tie
 add-leaves-requires : tie.Need-add-leaves-requires
 add-leaves-requires c κs =
     let at-copy-to = c .before .before .before .before in
-    let start = at-copy-to .before .before .before .before .before .before .before .before in
-    let s = start in store-leaves (s .args .tree .now) (s .args .signatures .now) (s .args .bitfield .now) (s .args .content .now) _ (s .args .n) (s .args .size)
-    (s .args .lengths .now) (s .args .bytes .now) (s .pre) (at-copy-to .copy-to .ensures)
+    let s = at-copy-to .before .before .before .before .before .before .before .before in
+    store-leaves (s .pre) (at-copy-to .copy-to .ensures)
 
 returns : tie.Need-returns
 returns c =
@@ -18,9 +17,7 @@ returns c =
     let at-add-leaves = at-add-zeros .before .before .before .before in
     let at-copy-to = at-add-leaves .before .before .before .before .before in
     let s = at-copy-to .before .before .before .before .before .before .before .before in
-    store-post (s .args .tree .now) (s .args .signatures .now) (s .args .bitfield .now) (s .args .content .now) _ _ _ _ (s .args .n) (s .args .size) (s .args .lengths .now)
-    (s .args .bytes .now) _ (s .pre)
-    (at-copy-to .copy-to .ensures) (at-add-leaves .add-leaves .ensures) (at-add-zeros .add-zeros .ensures) (at-add-bits .add-bits .ensures) (c .stored-root-hash .ensures)
+    store-post (s .pre) (at-copy-to .copy-to .ensures) (at-add-leaves .add-leaves .ensures) (at-add-zeros .add-zeros .ensures) (at-add-bits .add-bits .ensures) (c .stored-root-hash .ensures)
 
 pub store-spec : {M : Type 1} → statement M
 store-spec =

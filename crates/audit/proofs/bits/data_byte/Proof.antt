@@ -11,20 +11,14 @@ use Rattle.audit.proofs.bits.data_byte.Tie as tie
 returns : tie.Need-returns
 unfolding byteOf
 returns c =
-    let at-held-behind8 = c .before in
-    let at-held-behind7 = at-held-behind8 .before in
-    let at-held-behind6 = at-held-behind7 .before in
-    let at-held-behind5 = at-held-behind6 .before in
-    let at-held-behind4 = at-held-behind5 .before in
-    let at-held-behind3 = at-held-behind4 .before in
-    let at-held-behind2 = at-held-behind3 .before in
-    let f = at-held-behind2 .before in
-    let start = f .before .before in
-    let a = start .args in
+    let at-held-behind6 = c .before .before .before in
+    let at-held-behind3 = at-held-behind6 .before .before .before in
+    let f = at-held-behind3 .before .before in
+    let a = f .before .before .args in
     c .byte-of .ensures
-    ∙ (λ j. eight ((f .held-behind .ensures ∙ ap (heldBits (a .xs .now) (a .n)) (add-zero (a .c .0))) j) (at-held-behind2 .held-behind2 .ensures j)
-    (at-held-behind3 .held-behind3 .ensures j) (at-held-behind4 .held-behind4 .ensures j) (at-held-behind5 .held-behind5 .ensures j) (at-held-behind6 .held-behind6 .ensures j)
-    (at-held-behind7 .held-behind7 .ensures j) (at-held-behind8 .held-behind8 .ensures j))
+    ∙ (λ j. eight ((f .held-behind .ensures ∙ ap (heldBits (a .xs .now) (a .n)) (add-zero (a .c .0))) j) (at-held-behind3 .before .held-behind2 .ensures j)
+    (at-held-behind3 .held-behind3 .ensures j) (at-held-behind6 .before .before .held-behind4 .ensures j) (at-held-behind6 .before .held-behind5 .ensures j) (at-held-behind6 .held-behind6 .ensures j)
+    (c .before .before .held-behind7 .ensures j) (c .before .held-behind8 .ensures j))
 
 pub data-byte-spec : {M : Type 1} → statement M
 data-byte-spec =

@@ -7,8 +7,7 @@ use Rattle.audit.proofs.bits.row_count.Tie as tie
 
 returns : tie.Need-returns
 unfolding entryCount
-returns c =
-    refl
+returns c = refl
 
 pub row-count-spec : {M : Type 1} → statement M
 row-count-spec = tie.close (tie.spec (λ c. search needs) returns)

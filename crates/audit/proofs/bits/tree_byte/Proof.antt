@@ -10,20 +10,14 @@ use Rattle.audit.proofs.bits.tree_byte.Tie as tie
 returns : tie.Need-returns
 unfolding byteOf
 returns c =
-    let at-tree-behind8 = c .before in
-    let at-tree-behind7 = at-tree-behind8 .before in
-    let at-tree-behind6 = at-tree-behind7 .before in
-    let at-tree-behind5 = at-tree-behind6 .before in
-    let at-tree-behind4 = at-tree-behind5 .before in
-    let at-tree-behind3 = at-tree-behind4 .before in
-    let at-tree-behind2 = at-tree-behind3 .before in
-    let f = at-tree-behind2 .before in
-    let start = f .before .before in
-    let a = start .args in
+    let at-tree-behind6 = c .before .before .before in
+    let at-tree-behind3 = at-tree-behind6 .before .before .before in
+    let f = at-tree-behind3 .before .before in
+    let a = f .before .before .args in
     c .byte-of .ensures
-    ∙ (λ j. eight ((f .tree-behind .ensures ∙ ap (treeBits (a .partly) (a .xs .now) (a .n)) (add-zero (a .i .0))) j) (at-tree-behind2 .tree-behind2 .ensures j)
-    (at-tree-behind3 .tree-behind3 .ensures j) (at-tree-behind4 .tree-behind4 .ensures j) (at-tree-behind5 .tree-behind5 .ensures j) (at-tree-behind6 .tree-behind6 .ensures j)
-    (at-tree-behind7 .tree-behind7 .ensures j) (at-tree-behind8 .tree-behind8 .ensures j))
+    ∙ (λ j. eight ((f .tree-behind .ensures ∙ ap (treeBits (a .partly) (a .xs .now) (a .n)) (add-zero (a .i .0))) j) (at-tree-behind3 .before .tree-behind2 .ensures j)
+    (at-tree-behind3 .tree-behind3 .ensures j) (at-tree-behind6 .before .before .tree-behind4 .ensures j) (at-tree-behind6 .before .tree-behind5 .ensures j) (at-tree-behind6 .tree-behind6 .ensures j)
+    (c .before .before .tree-behind7 .ensures j) (c .before .tree-behind8 .ensures j))
 
 pub tree-byte-spec : {M : Type 1} → statement M
 tree-byte-spec =

@@ -16,55 +16,25 @@ abbrev μ-loop : tie.MeasureT-loop
 μ-loop xs n partly from end e₀ e = end - e
 
 loop-holds : tie.Need-loop-holds Inv-loop μ-loop
-loop-holds c =
-    let s = c .before in
-    let a = s .args in entering-start (treeBits (a .partly) (a .xs .now) (a .n)) (a .xs .now) (a .n) (a .from) (a .end)
+loop-holds c = entering-start
 
 wrong-in-entry-requires : tie.Need-wrong-in-entry-requires Inv-loop μ-loop
 wrong-in-entry-requires c κs =
-    let looped = c .before in
-    let s = looped .before .before in
-    let loop = looped .loop in
-    let loop-test = c .loop-test in
-    let a = s .args in
-    entering-entry (treeBits (a .partly) (a .xs .now) (a .n)) (a .xs .now) (a .n) (a .from) (a .end) (loop .e) (loop .inv) (s .pre .0) (s .pre .1) (loop-test .taken)
+    let s = c .before .before .before in
+    entering-entry (c .before .loop .inv) (s .pre .0) (s .pre .1) (c .loop-test .taken)
 
 returns : tie.Need-returns Inv-loop μ-loop
 returns c =
-    let at-wrong-in-entry = c .before .before in
-    let tested = at-wrong-in-entry .before in
-    let looped = tested .before in
-    let s = looped .before .before in
-    let loop = looped .loop in
-    let wrong-in-entry = at-wrong-in-entry .wrong-in-entry in
-    let loop-test = tested .loop-test in
-    let enum-told2 = c .enum-told2 in
-    let a = s .args in
-    entering-found (treeBits (a .partly) (a .xs .now) (a .n)) (a .xs .now) (a .n) (a .from) (a .end) (loop .e) (loop .inv) (said (wrong-in-entry .result))
-    (loop-test .taken) (wrong-in-entry .ensures) (stops _ _ (enum-told2 .given .1))
+    let tested = c .before .before .before in
+    entering-found (tested .before .loop .inv) (tested .loop-test .taken) (c .before .before .wrong-in-entry .ensures) (stops _ _ (c .enum-told2 .given .1))
 
 loop-again : tie.Need-loop-again Inv-loop μ-loop
 loop-again c =
-    let at-wrong-in-entry = c .before .before in
-    let tested = at-wrong-in-entry .before in
-    let looped = tested .before in
-    let s = looped .before .before in
-    let loop = looped .loop in
-    let wrong-in-entry = at-wrong-in-entry .wrong-in-entry in
-    let loop-test = tested .loop-test in
-    let enum-told = c .enum-told in
-    let a = s .args in
-    entering-next (treeBits (a .partly) (a .xs .now) (a .n)) (a .xs .now) (a .n) (a .from) (a .end) (loop .e) (loop .inv) (said (wrong-in-entry .result))
-    (loop-test .taken) (wrong-in-entry .ensures) (ap said (enum-told .given .1))
+    let tested = c .before .before .before in
+    entering-next (tested .before .loop .inv) (tested .loop-test .taken) (c .before .before .wrong-in-entry .ensures) (ap said (c .enum-told .given .1))
 
 returns-2 : tie.Need-returns-2 Inv-loop μ-loop
-returns-2 c =
-    let looped = c .before in
-    let s = looped .before .before in
-    let loop = looped .loop in
-    let loop-test = c .loop-test in
-    let a = s .args in
-    entering-done (treeBits (a .partly) (a .xs .now) (a .n)) (a .xs .now) (a .n) (a .from) (a .end) (loop .e) (loop .inv) (loop-test .left)
+returns-2 c = entering-done (c .before .loop .inv) (c .loop-test .left)
 
 pub wrong-in-entries-spec : {M : Type 1} → statement M
 wrong-in-entries-spec =

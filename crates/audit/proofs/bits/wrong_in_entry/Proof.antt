@@ -1,8 +1,8 @@
 -- `audit::bits::wrong_in_entry` meets its contract. The invariant: what is left from byte j on decides. Assumes nothing.
-use Prim.Native.Nat.{_+_, _-_}
+use Prim.Native.Nat.{_+_, _-_, _≤_, _<_}
+use lib.ListN.{length}
 use Rattle.audit.proofs.Bytes.{Passing, entry-room, part-long, index-by, passing-start, passing-next, passing-found, passing-done}
 use Rattle.audit.specs.BitfieldEntries.{treeBits}
-use Rattle.answer_types.specs.Meaning.{said}
 use borrow.Author.Needs.{needs}
 use mathlib.Core.Path.{_∙_, sym}
 use native.Mathlib.Omega.{arith}
@@ -16,117 +16,71 @@ abbrev μ-loop : tie.MeasureT-loop
 μ-loop xs n e partly at from end index j₀ j = 3328 - j
 
 entry-offset-requires : tie.Need-entry-offset-requires Inv-loop μ-loop
-entry-offset-requires c κs =
-    let start = c .before in
-    let a = start .args in
-    entry-room (a .xs .now) (a .n) (a .e) (start .pre) .0
+entry-offset-requires c κs = entry-room (c .before .pre) .0
+
+-- the entry is one of few, and lies within the file
+room : (c : tie.After-entry-offset Inv-loop μ-loop)
+    → (c .entry-offset .result .0 < 1048576) × (c .entry-offset .result .0 + 3328 ≤ length (c .before .before .args .xs .now))
+room c =
+    let w = entry-room (c .before .before .pre) in
+    (omega (arith, w .0, c .entry-offset .ensures), omega (arith, w .1, c .entry-offset .ensures))
 
 add-end : tie.Need-add-end Inv-loop μ-loop
-add-end c =
-    let start = c .before .before in
-    let a = start .args in
-    let o = c .entry-offset in
-    let w = entry-room (a .xs .now) (a .n) (a .e) (start .pre) in
-    omega (arith, w .0, w .1, o .ensures)
+add-end c = omega (arith, room c .0)
 
 part-index-of-end : tie.Need-part-index-of-end Inv-loop μ-loop
-part-index-of-end c =
-    let start = c .before .before in
-    let a = start .args in
-    let o = c .entry-offset in
-    let w = entry-room (a .xs .now) (a .n) (a .e) (start .pre) in
-    omega (arith, w .0, w .1, o .ensures)
+part-index-of-end c = omega (arith, room c .1)
 
 index-of-requires : tie.Need-index-of-requires Inv-loop μ-loop
 index-of-requires c κs =
-    let at-entry-offset = c .before in
-    let start = at-entry-offset .before .before in
-    let a = start .args in
-    let o = at-entry-offset .entry-offset in
-    let w = entry-room (a .xs .now) (a .n) (a .e) (start .pre) in
-    part-long (a .xs .now) (o .result .0) (o .result .0 + 1024 - (o .result .0)) (omega (arith, w .1, o .ensures)) (omega arith)
+    let start = c .before .before .before in
+    let o = c .before .entry-offset in
+    part-long (start .args .xs .now) (o .result .0) (o .result .0 + 1024 - (o .result .0)) (omega (arith, room (c .before) .1)) (omega arith)
 
 loop-holds : tie.Need-loop-holds Inv-loop μ-loop
 loop-holds c =
-    let at-entry-offset = c .before .before in
-    let start = at-entry-offset .before .before in
-    let a = start .args in
-    let o = at-entry-offset .entry-offset in
-    passing-start (treeBits (a .partly) (a .xs .now) (a .n)) (a .xs .now) (a .n) (a .e) (o .result .0) (c .index-of .result) (o .ensures)
-    (index-by (a .xs .now) (a .e) (o .result .0) (o .result .0 + 1024 - o .result .0) (c .index-of .result) (o .ensures) (omega arith) (c .index-of .ensures))
+    let start = c .before .before .before .before in
+    let o = c .before .before .entry-offset in
+    passing-start (o .ensures) (index-by (start .args .xs .now) (start .args .e) (o .result .0 + 1024 - o .result .0) (o .ensures) (c .index-of .ensures) (omega arith))
 
 add-place : tie.Need-add-place Inv-loop μ-loop
 add-place c =
-    let at-entry-offset = c .before .before .before .before .before in
-    let start = at-entry-offset .before .before in
-    let a = start .args in
-    let o = at-entry-offset .entry-offset in
-    let w = entry-room (a .xs .now) (a .n) (a .e) (start .pre) in
-    omega (arith, w .0, w .1, o .ensures)
+    let offset = c .before .before .before .before .before in
+    omega (arith, room offset .0, room offset .1)
 
 shared-slice-read-if1 : tie.Need-shared-slice-read-if1 Inv-loop μ-loop
 shared-slice-read-if1 c =
-    let at-entry-offset = c .before .before .before .before .before .before in
-    let start = at-entry-offset .before .before in
-    let a = start .args in
-    let o = at-entry-offset .entry-offset in
-    let w = entry-room (a .xs .now) (a .n) (a .e) (start .pre) in
-    omega (arith, w .0, w .1, o .ensures)
+    let offset = c .before .before .before .before .before .before in
+    omega (arith, room offset .0, room offset .1)
 
 expected-byte-requires : tie.Need-expected-byte-requires Inv-loop μ-loop
 expected-byte-requires c κs =
     let tested = c .before .before .before in
     let start = tested .before .before .before .before .before .before in
-    let a = start .args in
-    (entry-room (a .xs .now) (a .n) (a .e) (start .pre) .0, omega (arith, tested .loop-test .taken), start .pre .file)
+    (entry-room (start .pre) .0, omega (arith, tested .loop-test .taken), start .pre .file)
 
 add-t22 : tie.Need-add-t22 Inv-loop μ-loop
 add-t22 c =
-    let at-entry-offset = c .before .before .before .before .before .before .before .before .before .before in
-    let start = at-entry-offset .before .before in
-    let a = start .args in
-    let o = at-entry-offset .entry-offset in
-    let w = entry-room (a .xs .now) (a .n) (a .e) (start .pre) in
-    omega (arith, w .0, w .1, o .ensures)
+    let offset = c .before .before .before .before .before .before .before .before .before .before in
+    omega (arith, room offset .0, room offset .1)
 
 returns : tie.Need-returns Inv-loop μ-loop
 returns c =
-    let branch1 = c .before .before in
-    let at-expected-byte = branch1 .before in
+    let at-expected-byte = c .before .before .before in
     let tested = at-expected-byte .before .before .before .before in
-    let looped = tested .before in
-    let at-index-of = looped .before in
-    let at-entry-offset = at-index-of .before .before in
-    let start = at-entry-offset .before .before in
-    let a = start .args in
-    let o = at-entry-offset .entry-offset in
-    passing-found (treeBits (a .partly) (a .xs .now) (a .n)) (a .xs .now) (a .n) (a .e) (o .result .0) (at-index-of .index-of .result) (looped .loop .j) (looped .loop .inv)
-    (start .pre) (said (c .refuse-byte .result)) (omega (arith, tested .loop-test .taken))
-    (λ z. branch1 .if1 .taken (z ∙ sym (at-expected-byte .expected-byte .ensures))) (c .refuse-byte .ensures)
+    let at-entry-offset = tested .before .before .before .before in
+    passing-found (tested .before .loop .inv) (at-entry-offset .before .before .pre) (omega (arith, tested .loop-test .taken))
+    (λ z. c .before .before .if1 .taken (z ∙ sym (at-expected-byte .expected-byte .ensures))) (c .refuse-byte .ensures)
 
 loop-again : tie.Need-loop-again Inv-loop μ-loop
 loop-again c =
-    let at-expected-byte = c .before in
-    let tested = at-expected-byte .before .before .before .before in
-    let looped = tested .before in
-    let at-index-of = looped .before in
-    let at-entry-offset = at-index-of .before .before in
-    let start = at-entry-offset .before .before in
-    let a = start .args in
-    let o = at-entry-offset .entry-offset in
-    passing-next (treeBits (a .partly) (a .xs .now) (a .n)) (a .xs .now) (a .n) (a .e) (o .result .0) (at-index-of .index-of .result) (looped .loop .j) (looped .loop .inv)
-    (omega (arith, tested .loop-test .taken)) (c .if1 .left ∙ at-expected-byte .expected-byte .ensures)
+    let tested = c .before .before .before .before .before in
+    passing-next (tested .before .loop .inv) (omega (arith, tested .loop-test .taken)) (c .if1 .left ∙ c .before .expected-byte .ensures)
 
 returns-2 : tie.Need-returns-2 Inv-loop μ-loop
 returns-2 c =
-    let looped = c .before in
-    let at-index-of = looped .before in
-    let at-entry-offset = at-index-of .before .before in
-    let start = at-entry-offset .before .before in
-    let a = start .args in
-    let o = at-entry-offset .entry-offset in
-    passing-done (treeBits (a .partly) (a .xs .now) (a .n)) (a .xs .now) (a .n) (a .e) (o .result .0) (at-index-of .index-of .result) (looped .loop .j)
-    (looped .loop .inv) (start .pre) (omega (arith, c .loop-test .left))
+    let at-entry-offset = c .before .before .before .before in
+    passing-done (c .before .loop .inv) (at-entry-offset .before .before .pre) (omega (arith, c .loop-test .left))
 
 pub wrong-in-entry-spec : {M : Type 1} → statement M
 wrong-in-entry-spec =

@@ -4,75 +4,62 @@ use Rattle.blake2b.specs.Hash.{nodeHash}
 use borrow.Author.Needs.{needs}
 use native.Mathlib.Omega.{arith}
 use borrow.Author.Tests.{not-true, not-false}
-use mathlib.Core.Path.{_∙_, sym}
+use mathlib.Core.Path.{_≡_, _∙_, sym}
+use mathlib.Core.Bool.{true}
+use Rattle.tree_index.specs.Tree.{filled}
 use Rattle.audit.proofs.tree.entry_right.Statement.{statement}
 use Rattle.audit.proofs.tree.entry_right.Tie as tie
+
+abbrev begins : tie.Else1 → tie.Start
+begins c =
+    let start = c .before .before .before .before .before in
+    start
+
+-- the entry is filled
+filled-here : (c : tie.Else1) → filled (begins c .args .n) (begins c .args .i .0) ≡ true
+filled-here c = sym (c .before .is-filled .ensures) ∙ not-false _ (c .if1 .left)
 
 is-filled-requires : tie.Need-is-filled-requires
 is-filled-requires c κs =
     let start = c .before .before .before in
-    let a = start .args in at-entry nodeHash (a .tree .now) (a .bitfield .now) (a .content .now) (a .n) (a .size) (a .i .0) (a .start .0) (start .pre) .small
+    at-entry (start .pre) .small
 
 hole-right-requires : tie.Need-hole-right-requires
 hole-right-requires c κs =
     let start = c .before .before .before .before .before in
-    let a = start .args in at-entry nodeHash (a .tree .now) (a .bitfield .now) (a .content .now) (a .n) (a .size) (a .i .0) (a .start .0) (start .pre)
+    at-entry (start .pre)
 
 returns : tie.Need-returns
 returns c =
-    let branch1 = c .before in
-    let at-is-filled = branch1 .before in
-    let start = at-is-filled .before .before .before .before in
-    let a = start .args in hole-entry nodeHash (a .tree .now) (a .bitfield .now) (a .content .now) (a .n) (a .size) (a .i .0) (a .start .0) (start .pre) (c .hole-right .result)
-    (sym (at-is-filled .is-filled .ensures) ∙ not-true _ (branch1 .if1 .taken)) (c .hole-right .ensures)
+    let start = c .before .before .before .before .before .before in
+    hole-entry (start .pre) nodeHash (sym (c .before .before .is-filled .ensures) ∙ not-true _ (c .before .if1 .taken)) (c .hole-right .ensures)
 
 is-held-requires : tie.Need-is-held-requires
 is-held-requires c κs =
-    let branch2 = c .before in
-    let start = branch2 .before .before .before .before .before .before .before in
-    let a = start .args in at-bit nodeHash (a .tree .now) (a .bitfield .now) (a .content .now) (a .n) (a .size) (a .i .0) (a .start .0) (start .pre) (c .chunk-of-leaf .result .0)
-    (branch2 .if2 .taken) (c .chunk-of-leaf .ensures)
+    let branch1 = c .before .before .before in
+    at-bit (begins branch1 .pre) (c .before .if2 .taken) (c .chunk-of-leaf .ensures)
 
 leaf-right-requires : tie.Need-leaf-right-requires
 leaf-right-requires c κs =
-    let at-chunk-of-leaf = c .before in
-    let branch2 = at-chunk-of-leaf .before in
-    let start = branch2 .before .before .before .before .before .before .before in
-    let a = start .args in at-leaf nodeHash (a .tree .now) (a .bitfield .now) (a .content .now) (a .n) (a .size) (a .i .0) (a .start .0) (start .pre)
-    (at-chunk-of-leaf .chunk-of-leaf .result .0) (branch2 .if2 .taken) (at-chunk-of-leaf .chunk-of-leaf .ensures)
+    let branch1 = c .before .before .before .before in
+    at-leaf (begins branch1 .pre) (c .before .before .if2 .taken) (c .before .chunk-of-leaf .ensures)
 
 returns-2 : tie.Need-returns-2
 returns-2 c =
-    let at-is-held = c .before in
-    let at-chunk-of-leaf = at-is-held .before in
-    let branch2 = at-chunk-of-leaf .before in
-    let branch1 = branch2 .before .before in
-    let at-is-filled = branch1 .before in
-    let start = at-is-filled .before .before .before .before in
-    let a = start .args in leaf-entry nodeHash (a .tree .now) (a .bitfield .now) (a .content .now) (a .n) (a .size) (a .i .0) (a .start .0) (start .pre)
-    (omega (arith, start .good .1 .1 .0 .1, start .pre .files .bytes)) (at-chunk-of-leaf .chunk-of-leaf .result .0) (at-is-held .is-held .result) (c .leaf-right .result)
-    (branch2 .if2 .taken) (sym (at-is-filled .is-filled .ensures) ∙ not-false _ (branch1 .if1 .left)) (at-chunk-of-leaf .chunk-of-leaf .ensures) (at-is-held .is-held .ensures)
-    (c .leaf-right .ensures)
+    let branch2 = c .before .before .before in
+    let start = begins (branch2 .before .before) in
+    leaf-entry (start .pre) nodeHash (omega (arith, start .good .1 .1 .0 .1, start .pre .files .bytes)) (branch2 .if2 .taken) (filled-here (branch2 .before .before))
+    (c .before .before .chunk-of-leaf .ensures) (c .before .is-held .ensures) (c .leaf-right .ensures)
 
 parent-right-requires : tie.Need-parent-right-requires
-parent-right-requires c κs =
-    let branch1 = c .before .before in
-    let at-is-filled = branch1 .before in
-    let start = at-is-filled .before .before .before .before in
-    let a = start .args in at-parent nodeHash (a .tree .now) (a .bitfield .now) (a .content .now) (a .n) (a .size) (a .i .0) (a .start .0) (start .pre) (c .if2 .left)
-    (sym (at-is-filled .is-filled .ensures) ∙ not-false _ (branch1 .if1 .left))
+parent-right-requires c κs = at-parent (begins (c .before .before) .pre) (c .if2 .left) (filled-here (c .before .before))
 
 returns-3 : tie.Need-returns-3
 returns-3 c =
-    let branch2 = c .before in
-    let branch1 = branch2 .before .before in
-    let at-is-filled = branch1 .before in
-    let start = at-is-filled .before .before .before .before in
-    let a = start .args in parent-entry nodeHash (a .tree .now) (a .bitfield .now) (a .content .now) (a .n) (a .size) (a .i .0) (a .start .0) (start .pre) (c .parent-right .result)
-    (branch2 .if2 .left) (sym (at-is-filled .is-filled .ensures) ∙ not-false _ (branch1 .if1 .left)) (c .parent-right .ensures)
+    let branch1 = c .before .before .before in
+    parent-entry (begins branch1 .pre) nodeHash (c .before .if2 .left) (filled-here branch1) (c .parent-right .ensures)
 
 pub entry-right-spec : {M : Type 1} → statement M
 entry-right-spec =
     tie.close
-    (tie.spec is-filled-requires hole-right-requires returns (λ c κs. search needs) is-held-requires leaf-right-requires returns-2 parent-right-requires
-    returns-3)
+    (tie.spec is-filled-requires hole-right-requires returns (λ c κs. search needs) is-held-requires leaf-right-requires returns-2 parent-right-requires returns-3)

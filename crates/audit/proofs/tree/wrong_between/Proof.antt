@@ -3,7 +3,6 @@ use Prim.Native.Nat.{_-_}
 use Rattle.audit.proofs.Entries.{Walking, at-entry, walking-start, walking-none, walking-entry, walking-next, walking-found, walking-done}
 use Rattle.audit.specs.TreeWalk.{AtEntry}
 use Rattle.blake2b.specs.Hash.{nodeHash}
-use Rattle.answer_types.specs.Meaning.{said}
 use borrow.Author.Needs.{needs}
 use borrow.Author.Tests.{not-true, not-false}
 use mathlib.Core.Path.{_∙_, sym}
@@ -20,87 +19,48 @@ abbrev μ-loop : tie.MeasureT-loop
 returns : tie.Need-returns Inv-loop μ-loop
 returns c =
     let s = c .before .before .before .before .before .before in
-    let if1 = c .if1 in
     let a = s .args in
-    walking-none nodeHash (a .tree .now) (a .bitfield .now) (a .content .now) (a .n) (a .size) (a .from .0) (a .end .0) (if1 .taken)
+    walking-none nodeHash (a .tree .now) (a .bitfield .now) (a .content .now) (a .n) (a .size) (a .from .0) (a .end .0) (c .if1 .taken)
 
 start-at-requires : tie.Need-start-at-requires Inv-loop μ-loop
 start-at-requires c κs =
     let s = c .before .before .before .before .before .before in
-    let if1 = c .if1 in
-    (s .pre .0 .nodes, omega (arith, if1 .left, s .pre .1))
+    (s .pre .0 .nodes, omega (arith, c .if1 .left, s .pre .1))
 
 loop-holds : tie.Need-loop-holds Inv-loop μ-loop
-loop-holds c =
-    let s = c .before .before .before .before .before .before .before in
-    let start-at = c .start-at in
-    let a = s .args in
-    walking-start nodeHash (a .tree .now) (a .bitfield .now) (a .content .now) (a .n) (a .size) (a .from .0) (a .end .0) (start-at .result .0) (start-at .ensures)
+loop-holds c = walking-start (c .start-at .ensures)
 
 entry-right-requires : tie.Need-entry-right-requires Inv-loop μ-loop
 entry-right-requires c κs =
     let looped = c .before .before .before in
     let s = looped .before .before .before .before .before .before .before .before in
-    let loop = looped .loop in
-    let if2 = c .if2 in
-    let a = s .args in
-    walking-entry nodeHash (a .tree .now) (a .bitfield .now) (a .content .now) (a .n) (a .size) (a .from .0) (a .end .0) (loop .i .0) (loop .start .0) (loop .inv) (s .pre .0) (s .pre .1)
-    (if2 .taken)
+    walking-entry (looped .loop .inv) (s .pre .0) (s .pre .1) (c .if2 .taken)
 
 returns-2 : tie.Need-returns-2 Inv-loop μ-loop
 returns-2 c =
-    let branch3 = c .before in
-    let at-entry-right = branch3 .before in
-    let branch2 = at-entry-right .before in
+    let branch2 = c .before .before .before in
     let looped = branch2 .before .before .before in
-    let s = looped .before .before .before .before .before .before .before .before in
-    let loop = looped .loop in
-    let refuse-entry = c .refuse-entry in
-    let if2 = branch2 .if2 in
-    let entry-right = at-entry-right .entry-right in
-    let if3 = branch3 .if3 in
-    let a = s .args in
-    walking-found nodeHash (a .tree .now) (a .bitfield .now) (a .content .now) (a .n) (a .size) (a .from .0) (a .end .0) (loop .i .0) (loop .start .0) (loop .inv)
-    (said (refuse-entry .result)) (if2 .taken) (sym (entry-right .ensures) ∙ not-true _ (if3 .taken)) (refuse-entry .ensures)
+    walking-found (looped .loop .inv) (branch2 .if2 .taken) (sym (c .before .before .entry-right .ensures) ∙ not-true _ (c .before .if3 .taken)) (c .refuse-entry .ensures)
 
 start-behind-requires : tie.Need-start-behind-requires Inv-loop μ-loop
 start-behind-requires c κs =
-    let branch2 = c .before .before in
-    let looped = branch2 .before .before .before in
+    let looped = c .before .before .before .before .before in
     let s = looped .before .before .before .before .before .before .before .before in
-    let loop = looped .loop in
-    let if2 = branch2 .if2 in
     let a = s .args in
-    let at : AtEntry (a .tree .now) (a .bitfield .now) (a .content .now) (a .n) (a .size) (loop .i .0) (loop .start .0) =
-    walking-entry nodeHash (a .tree .now) (a .bitfield .now) (a .content .now) (a .n) (a .size) (a .from .0) (a .end .0) (loop .i .0) (loop .start .0) (loop .inv) (s .pre .0) (s .pre .1)
-    (if2 .taken) in
-    record { entry = at-entry nodeHash (a .tree .now) (a .bitfield .now) (a .content .now) (a .n) (a .size) (loop .i .0) (loop .start .0) at; here = at .here }
+    let at : AtEntry (a .tree .now) (a .bitfield .now) (a .content .now) (a .n) (a .size) (looped .loop .i .0) (looped .loop .start .0) =
+    walking-entry (looped .loop .inv) (s .pre .0) (s .pre .1) (c .before .before .if2 .taken) in
+    record { entry = at-entry at; here = at .here }
 
 loop-again : tie.Need-loop-again Inv-loop μ-loop
 loop-again c =
-    let at-start-behind = c .before in
-    let branch3 = at-start-behind .before in
-    let at-entry-right = branch3 .before in
-    let branch2 = at-entry-right .before in
-    let looped = branch2 .before .before .before in
-    let s = looped .before .before .before .before .before .before .before .before in
-    let loop = looped .loop in
-    let start-behind = at-start-behind .start-behind in
-    let if2 = branch2 .if2 in
-    let entry-right = at-entry-right .entry-right in
-    let if3 = branch3 .if3 in
-    let a = s .args in
-    walking-next nodeHash (a .tree .now) (a .bitfield .now) (a .content .now) (a .n) (a .size) (a .from .0) (a .end .0) (loop .i .0) (loop .start .0) (loop .inv)
-    (start-behind .result .0) (if2 .taken) (sym (entry-right .ensures) ∙ not-false _ (if3 .left)) (start-behind .ensures)
+    let at-entry-right = c .before .before .before in
+    let looped = at-entry-right .before .before .before .before in
+    walking-next (looped .loop .inv) (at-entry-right .before .if2 .taken) (sym (at-entry-right .entry-right .ensures) ∙ not-false _ (c .before .before .if3 .left)) (c .before .start-behind .ensures)
 
 returns-3 : tie.Need-returns-3 Inv-loop μ-loop
 returns-3 c =
     let looped = c .before .before .before in
-    let s = looped .before .before .before .before .before .before .before .before in
-    let loop = looped .loop in
-    let if2 = c .if2 in
-    let a = s .args in
-    walking-done nodeHash (a .tree .now) (a .bitfield .now) (a .content .now) (a .n) (a .size) (a .from .0) (a .end .0) (loop .i .0) (loop .start .0) (loop .inv) (if2 .left)
+    walking-done (looped .loop .inv) (c .if2 .left)
 
 pub wrong-between-spec : {M : Type 1} → statement M
 wrong-between-spec =

@@ -9,15 +9,10 @@ use Rattle.bitfield.proofs.index.combined_of.Tie as tie
 returns : tie.Need-returns
 unfolding combined combine
 returns c =
-    let at-uniform-of4 = c .before in
-    let at-uniform-of3 = at-uniform-of4 .before in
-    let at-uniform-of2 = at-uniform-of3 .before in
-    let at-uniform-of = at-uniform-of2 .before in
+    let at-uniform-of2 = c .before .before .before in
     c .four-of .ensures
-    ∙ four-cong (at-uniform-of .uniform-of .ensures .0) (at-uniform-of2 .uniform-of2 .ensures .0)
-    (at-uniform-of3 .uniform-of3 .ensures .0) (at-uniform-of4 .uniform-of4 .ensures .0)
+    ∙ four-cong (at-uniform-of2 .before .uniform-of .ensures .0) (at-uniform-of2 .uniform-of2 .ensures .0)
+    (c .before .before .uniform-of3 .ensures .0) (c .before .uniform-of4 .ensures .0)
 
 pub combined-of-spec : {M : Type 1} → statement M
-combined-of-spec =
-    tie.close (tie.spec (λ c κs. search needs) (λ c κs. search needs) (λ c κs. search needs) (λ c κs. search needs)
-    (λ c κs. search needs) returns)
+combined-of-spec = tie.close (tie.spec (λ c κs. search needs) (λ c κs. search needs) (λ c κs. search needs) (λ c κs. search needs) (λ c κs. search needs) returns)

@@ -20,15 +20,12 @@ chain d a b c e f g h i p q r s t u v w =
 
 returns : tie.Need-returns
 returns c =
-    let at-make-level6 = c .before .before in
-    let at-make-level5 = at-make-level6 .before .before in
-    let at-make-level4 = at-make-level5 .before .before in
-    let at-make-level3 = at-make-level4 .before .before in
-    let at-make-level2 = at-make-level3 .before .before in
-    let at-make-level = at-make-level2 .before .before in
+    let at-make-level5 = c .before .before .before .before in
+    let at-make-level3 = at-make-level5 .before .before .before .before in
+    let at-make-level = at-make-level3 .before .before .before .before in
     let at-leaves-of = at-make-level .before .before in
-    chain _ _ _ _ _ _ _ _ _ (at-leaves-of .leaves-of .ensures) (at-make-level .make-level .ensures) (at-make-level2 .make-level2 .ensures) (at-make-level3 .make-level3 .ensures)
-    (at-make-level4 .make-level4 .ensures) (at-make-level5 .make-level5 .ensures) (at-make-level6 .make-level6 .ensures) (c .make-level7 .ensures)
+    chain _ _ _ _ _ _ _ _ _ (at-leaves-of .leaves-of .ensures) (at-make-level .make-level .ensures) (at-make-level3 .before .before .make-level2 .ensures) (at-make-level3 .make-level3 .ensures)
+    (at-make-level5 .before .before .make-level4 .ensures) (at-make-level5 .make-level5 .ensures) (c .before .before .make-level6 .ensures) (c .make-level7 .ensures)
 
 -- what the level before left is 256 bytes long
 long : (xs l : List ℕ) (half k : ℕ) → l ≡ level xs half k → length l ≡ 256
@@ -36,12 +33,8 @@ long xs l half k e = ap length e ∙ length-level xs half k
 
 pub index-of-spec : {M : Type 1} → statement M
 index-of-spec =
-    tie.close (tie.spec (λ c κs. search needs)
-    (λ c κs. (lit< tt, refl, ap length (c .before .leaves-of .ensures) ∙ length-leaves _ 128))
-    (λ c κs. (lit< tt, refl, long _ _ _ _ (c .before .make-level .ensures)))
-    (λ c κs. (lit< tt, refl, long _ _ _ _ (c .before .make-level2 .ensures)))
-    (λ c κs. (lit< tt, refl, long _ _ _ _ (c .before .make-level3 .ensures)))
-    (λ c κs. (lit< tt, refl, long _ _ _ _ (c .before .make-level4 .ensures)))
-    (λ c κs. (lit< tt, refl, long _ _ _ _ (c .before .make-level5 .ensures)))
-    (λ c κs. (lit< tt, refl, long _ _ _ _ (c .before .make-level6 .ensures)))
-    returns)
+    tie.close
+    (tie.spec (λ c κs. search needs) (λ c κs. (lit< tt, refl, ap length (c .before .leaves-of .ensures) ∙ length-leaves _ 128))
+    (λ c κs. (lit< tt, refl, long _ _ _ _ (c .before .make-level .ensures))) (λ c κs. (lit< tt, refl, long _ _ _ _ (c .before .make-level2 .ensures)))
+    (λ c κs. (lit< tt, refl, long _ _ _ _ (c .before .make-level3 .ensures))) (λ c κs. (lit< tt, refl, long _ _ _ _ (c .before .make-level4 .ensures)))
+    (λ c κs. (lit< tt, refl, long _ _ _ _ (c .before .make-level5 .ensures))) (λ c κs. (lit< tt, refl, long _ _ _ _ (c .before .make-level6 .ensures))) returns)

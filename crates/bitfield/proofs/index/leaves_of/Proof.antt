@@ -23,22 +23,18 @@ loop-holds c = (search needs, leaves-zero (c .before .args .s .now))
 
 loop-again : tie.Need-loop-again Inv-loop μ-loop
 loop-again c =
-    let tested = c .before in
-    let at-loop = tested .before in
-    let start = at-loop .before .before in
-    let s = start .args .s .now in (
+    let at-loop = c .before .before in
+    let s = at-loop .before .before .args .s .now in (
       search needs,
       ap (λ (v : ℕ). set (at-loop .loop .out) (2 * at-loop .loop .k) v) (c .tuples-of .ensures)
           ∙ ap (λ (l : List ℕ). set l (2 * at-loop .loop .k) (tuples s (at-loop .loop .k))) (at-loop .loop .inv .1)
-          ∙ leaves-step s (at-loop .loop .k) (tested .loop-test .taken),
+          ∙ leaves-step s (at-loop .loop .k) (c .before .loop-test .taken),
     )
 
 returns : tie.Need-returns Inv-loop μ-loop
 returns c =
-    let at-loop = c .before in
-    let start = at-loop .before .before in
-    at-loop .loop .inv .1
-    ∙ leaves-end (start .args .s .now) (at-loop .loop .k) (le-antisymm (at-loop .loop .inv .0) (c .loop-test .left))
+    let start = c .before .before .before in
+    c .before .loop .inv .1 ∙ leaves-end (start .args .s .now) (c .before .loop .k) (le-antisymm (c .before .loop .inv .0) (c .loop-test .left))
 
 pub leaves-of-spec : {M : Type 1} → statement M
 leaves-of-spec =

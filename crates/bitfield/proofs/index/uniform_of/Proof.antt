@@ -10,19 +10,13 @@ returns c = (simp (eq-eqb _ _ (c .before .if1 .taken), eq-eqb _ _ (c .if2 .taken
 
 returns-2 : tie.Need-returns-2
 returns-2 c =
-    let branch1 = c .before in
-    let start = branch1 .before in
-    (simp (eq-eqb _ _ (branch1 .if1 .taken), ne-eqb _ _ (c .if2 .left), ne-eqb (start .args .a) 0 (λ e. omega (arith, branch1 .if1 .taken))), search needs)
+    (simp (eq-eqb _ _ (c .before .if1 .taken), ne-eqb _ _ (c .if2 .left), ne-eqb (c .before .before .args .a) 0 (λ e. omega (arith, c .before .if1 .taken))), search needs)
 
 returns-3 : tie.Need-returns-3
-returns-3 c =
-    let branch3 = c .before in
-    (simp (ne-eqb _ _ (branch3 .before .if1 .left), eq-eqb _ _ (branch3 .if3 .taken), eq-eqb _ _ (c .if4 .taken)), search needs)
+returns-3 c = (simp (ne-eqb _ _ (c .before .before .if1 .left), eq-eqb _ _ (c .before .if3 .taken), eq-eqb _ _ (c .if4 .taken)), search needs)
 
 returns-4 : tie.Need-returns-4
-returns-4 c =
-    let branch3 = c .before in
-    (simp (ne-eqb _ _ (branch3 .before .if1 .left), eq-eqb _ _ (branch3 .if3 .taken), ne-eqb _ _ (c .if4 .left)), search needs)
+returns-4 c = (simp (ne-eqb _ _ (c .before .before .if1 .left), eq-eqb _ _ (c .before .if3 .taken), ne-eqb _ _ (c .if4 .left)), search needs)
 
 returns-5 : tie.Need-returns-5
 returns-5 c = (simp (ne-eqb _ _ (c .before .if1 .left), ne-eqb _ _ (c .if3 .left)), search needs)

@@ -8,9 +8,7 @@ returns : tie.Need-returns
 returns c =
     let at-sum23 = c .before in
     let at-sum22 = at-sum23 .before in
-    let at-sum2 = at-sum22 .before in
-    rowed (at-sum2 .sum2 .ensures) (at-sum22 .sum22 .ensures) (at-sum23 .sum23 .ensures) (c .sum24 .ensures)
+    rowed (at-sum22 .before .sum2 .ensures) (at-sum22 .sum22 .ensures) (at-sum23 .sum23 .ensures) (c .sum24 .ensures)
 
 pub wrapping-add-spec : {M : Type 1} → statement M
-wrapping-add-spec =
-    tie.close (tie.spec (λ c κs. search needs) (λ c κs. search needs) (λ c κs. search needs) (λ c κs. search needs) returns)
+wrapping-add-spec = tie.close (tie.spec (λ c κs. search needs) (λ c κs. search needs) (λ c κs. search needs) (λ c κs. search needs) returns)

@@ -8,9 +8,7 @@ returns : tie.Need-returns
 returns c =
     let at-sum33 = c .before in
     let at-sum32 = at-sum33 .before in
-    let at-sum3 = at-sum32 .before in
-    rowed (at-sum3 .sum3 .ensures) (at-sum32 .sum32 .ensures) (at-sum33 .sum33 .ensures) (c .sum34 .ensures)
+    rowed (at-sum32 .before .sum3 .ensures) (at-sum32 .sum32 .ensures) (at-sum33 .sum33 .ensures) (c .sum34 .ensures)
 
 pub wrapping-add3-spec : {M : Type 1} → statement M
-wrapping-add3-spec =
-    tie.close (tie.spec (λ c κs. search needs) (λ c κs. search needs) (λ c κs. search needs) (λ c κs. search needs) returns)
+wrapping-add3-spec = tie.close (tie.spec (λ c κs. search needs) (λ c κs. search needs) (λ c κs. search needs) (λ c κs. search needs) returns)

@@ -13,5 +13,4 @@ returns c₄ =
     rowed (c₁ .rotate .ensures) (c₂ .rotate2 .ensures) (c₃ .rotate3 .ensures) (c₄ .rotate4 .ensures)
 
 pub xor-rotate-spec : {M : Type 1} → statement M
-xor-rotate-spec =
-    tie.close (tie.spec (λ c κs. search needs) (λ c κs. search needs) (λ c κs. search needs) (λ c κs. search needs) returns)
+xor-rotate-spec = tie.close (tie.spec (λ c κs. search needs) (λ c κs. search needs) (λ c κs. search needs) (λ c κs. search needs) returns)

@@ -5,25 +5,13 @@ use Rattle.c_api.proofs.Laws.{compared-as}
 use Rattle.c_api.proofs.comparing.encode_comparison.Statement.{statement}
 use Rattle.c_api.proofs.comparing.encode_comparison.Tie as tie
 
-returns : tie.Need-returns
-returns c = c .with-outcome .ensures ∙ compared-as _ _ (c .before .enum-told .given .1)
-
-returns-2 : tie.Need-returns-2
-returns-2 c = c .with-outcome2 .ensures ∙ compared-as _ _ (c .before .enum-told2 .given .1)
-
-returns-3 : tie.Need-returns-3
-returns-3 c = c .with-outcome3 .ensures ∙ compared-as _ _ (c .before .enum-told3 .given .1)
-
-returns-4 : tie.Need-returns-4
-returns-4 c = compared-as _ _ (c .before .compared .given .1)
-
-returns-5 : tie.Need-returns-5
-returns-5 c = c .with-outcome4 .ensures ∙ compared-as _ _ (c .before .before .compared2 .given .1)
-
-returns-6 : tie.Need-returns-6
-returns-6 c = c .with-outcome5 .ensures ∙ compared-as _ _ (c .before .before .compared3 .given .1)
-
 pub encode-comparison-spec : {M : Type 1} → statement M
 encode-comparison-spec =
-    tie.close (tie.spec (λ c. search needs) (λ c κs. search needs) (λ c. search needs) (λ c κs. search needs) (λ c. search needs) (λ c κs. search needs) (λ c. search needs)
-    (λ c. search needs) (λ c κs. search needs) (λ c. search needs) (λ c κs. search needs) returns returns-2 returns-3 returns-4 returns-5 returns-6)
+    tie.close
+    (tie.spec (λ c. search needs) (λ c κs. search needs) (λ c. search needs) (λ c κs. search needs) (λ c. search needs) (λ c κs. search needs) (λ c. search needs)
+    (λ c. search needs) (λ c κs. search needs) (λ c. search needs) (λ c κs. search needs)
+    (λ c. c .with-outcome .ensures ∙ compared-as _ _ (c .before .enum-told .given .1))
+    (λ c. c .with-outcome2 .ensures ∙ compared-as _ _ (c .before .enum-told2 .given .1))
+    (λ c. c .with-outcome3 .ensures ∙ compared-as _ _ (c .before .enum-told3 .given .1)) (λ c. compared-as _ _ (c .before .compared .given .1))
+    (λ c. c .with-outcome4 .ensures ∙ compared-as _ _ (c .before .before .compared2 .given .1))
+    (λ c. c .with-outcome5 .ensures ∙ compared-as _ _ (c .before .before .compared3 .given .1)))

@@ -5,8 +5,7 @@ use Rattle.c_api.specs.Encoding.{encodedWalk}
 use Rattle.c_api.proofs.comparing.sleep_flat_compare_packets.Statement.{statement}
 use Rattle.c_api.proofs.comparing.sleep_flat_compare_packets.Tie as tie
 
-returns : tie.Need-returns
-returns c = c .encode-walk .ensures ∙ ap encodedWalk (c .before .compare-packets .ensures)
-
 pub sleep-flat-compare-packets-spec : {M : Type 1} → statement M
-sleep-flat-compare-packets-spec = tie.close (tie.spec (λ c κs. search needs) (λ c κs. search needs) returns)
+sleep-flat-compare-packets-spec =
+    tie.close
+    (tie.spec (λ c κs. search needs) (λ c κs. search needs) (λ c. c .encode-walk .ensures ∙ ap encodedWalk (c .before .compare-packets .ensures)))

@@ -4,19 +4,10 @@ use borrow.Author.Needs.{needs}
 use Rattle.c_api.proofs.journals.sleep_flat_journal_put.Statement.{statement}
 use Rattle.c_api.proofs.journals.sleep_flat_journal_put.Tie as tie
 
-put-requires : tie.Need-put-requires
-put-requires c κs = search needs
-
-encode-requires : tie.Need-encode-requires
-encode-requires c κs = search needs
-
-same-length : tie.Need-same-length
-same-length c = search needs
-
 returns : tie.Need-returns
 returns c =
     let at-put = c .before .before .before in
     let e = at-put .put .ensures in (coded _ _ _ (c .encode .ensures) (e .0), e .1)
 
 pub sleep-flat-journal-put-spec : {M : Type 1} → statement M
-sleep-flat-journal-put-spec = tie.close (tie.spec put-requires encode-requires same-length returns)
+sleep-flat-journal-put-spec = tie.close (tie.spec (λ c κs. search needs) (λ c κs. search needs) (λ c. search needs) returns)

@@ -4,14 +4,7 @@ use borrow.Author.Needs.{needs}
 use Rattle.c_api.proofs.journals.sleep_flat_journal_states.Statement.{statement}
 use Rattle.c_api.proofs.journals.sleep_flat_journal_states.Tie as tie
 
-states-requires : tie.Need-states-requires
-states-requires c κs = search needs
-
-encode-requires : tie.Need-encode-requires
-encode-requires c κs = search needs
-
-returns : tie.Need-returns
-returns c = let e = c .before .states .ensures in (coded _ _ _ (c .encode .ensures) (e .0), e .1)
-
 pub sleep-flat-journal-states-spec : {M : Type 1} → statement M
-sleep-flat-journal-states-spec = tie.close (tie.spec states-requires encode-requires returns)
+sleep-flat-journal-states-spec =
+    tie.close
+    (tie.spec (λ c κs. search needs) (λ c κs. search needs) (λ c. let e = c .before .states .ensures in (coded _ _ _ (c .encode .ensures) (e .0), e .1)))

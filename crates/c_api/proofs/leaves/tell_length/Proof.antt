@@ -4,12 +4,9 @@ use Rattle.c_api.proofs.StoredLeaves.{tells-refused, tells-length}
 use Rattle.c_api.proofs.leaves.tell_length.Statement.{statement}
 use Rattle.c_api.proofs.leaves.tell_length.Tie as tie
 
-returns : tie.Need-returns
-returns c = let k = c .before .before .found .given in tells-refused _ _ _ (k .0 .0) (k .1) (c .refused .ensures)
-
-returns-2 : tie.Need-returns-2
-returns-2 c = let k = c .before .before .found2 .given in tells-length _ _ _ (k .0 .0) (k .1) (c .encode .ensures)
-
 pub tell-length-spec : {M : Type 1} → statement M
 tell-length-spec =
-    tie.close (tie.spec (λ c. search needs) (λ c κs. search needs) (λ c. search needs) (λ c κs. search needs) returns returns-2)
+    tie.close
+    (tie.spec (λ c. search needs) (λ c κs. search needs) (λ c. search needs) (λ c κs. search needs)
+    (λ c. let k = c .before .before .found .given in tells-refused _ _ _ (k .0 .0) (k .1) (c .refused .ensures))
+    (λ c. let k = c .before .before .found2 .given in tells-length _ _ _ (k .0 .0) (k .1) (c .encode .ensures)))

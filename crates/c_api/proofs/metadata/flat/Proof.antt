@@ -8,8 +8,7 @@ returns : tie.Need-returns
 returns c =
     let at-flat-node = c .before in
     let at-encode = at-flat-node .before in
-    let start = at-encode .before .before in
-    let read = start .args .read in
+    let read = at-encode .before .before .args .read in
     node-told _ _ (read .answer) _ (read .node) (c .answered .ensures) (at-encode .encode .ensures) (at-flat-node .flat-node .ensures)
 
 pub flat-spec : {M : Type 1} → statement M

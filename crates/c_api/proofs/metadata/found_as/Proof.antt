@@ -4,16 +4,9 @@ use borrow.Author.Needs.{needs}
 use Rattle.c_api.proofs.metadata.found_as.Statement.{statement}
 use Rattle.c_api.proofs.metadata.found_as.Tie as tie
 
-returns : tie.Need-returns
-returns c = found-by _ _ _ (c .before .before .found .given .1) (c .with-found .ensures)
-
-returns-2 : tie.Need-returns-2
-returns-2 c = found-by _ _ _ (c .before .before .found2 .given .1) (c .with-found2 .ensures)
-
-returns-3 : tie.Need-returns-3
-returns-3 c = found-by _ _ _ (c .before .enum-told .given .1) (c .with-found3 .ensures)
-
 pub found-as-spec : {M : Type 1} → statement M
 found-as-spec =
     tie.close
-    (tie.spec (λ c. search needs) (λ c κs. search needs) (λ c. search needs) (λ c κs. search needs) (λ c. search needs) (λ c κs. search needs) returns returns-2 returns-3)
+    (tie.spec (λ c. search needs) (λ c κs. search needs) (λ c. search needs) (λ c κs. search needs) (λ c. search needs) (λ c κs. search needs)
+    (λ c. found-by _ _ _ (c .before .before .found .given .1) (c .with-found .ensures))
+    (λ c. found-by _ _ _ (c .before .before .found2 .given .1) (c .with-found2 .ensures)) (λ c. found-by _ _ _ (c .before .enum-told .given .1) (c .with-found3 .ensures)))

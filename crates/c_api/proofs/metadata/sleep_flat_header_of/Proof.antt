@@ -4,8 +4,7 @@ use borrow.Author.Needs.{needs}
 use Rattle.c_api.proofs.metadata.sleep_flat_header_of.Statement.{statement}
 use Rattle.c_api.proofs.metadata.sleep_flat_header_of.Tie as tie
 
-returns : tie.Need-returns
-returns c = header-same _ _ _ _ _ (c .before .before .header-of .ensures) (c .give-header .ensures)
-
 pub sleep-flat-header-of-spec : {M : Type 1} → statement M
-sleep-flat-header-of-spec = tie.close (tie.spec (λ c κs. search needs) (λ c κs. search needs) returns)
+sleep-flat-header-of-spec =
+    tie.close
+    (tie.spec (λ c κs. search needs) (λ c κs. search needs) (λ c. header-same _ _ _ _ _ (c .before .before .header-of .ensures) (c .give-header .ensures)))

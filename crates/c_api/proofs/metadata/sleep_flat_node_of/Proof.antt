@@ -5,8 +5,5 @@ use borrow.Author.Needs.{needs}
 use Rattle.c_api.proofs.metadata.sleep_flat_node_of.Statement.{statement}
 use Rattle.c_api.proofs.metadata.sleep_flat_node_of.Tie as tie
 
-returns : tie.Need-returns
-returns c = c .flat .ensures ∙ ap encodedNode (c .before .node-of .ensures)
-
 pub sleep-flat-node-of-spec : {M : Type 1} → statement M
-sleep-flat-node-of-spec = tie.close (tie.spec (λ c κs. search needs) (λ c κs. search needs) returns)
+sleep-flat-node-of-spec = tie.close (tie.spec (λ c κs. search needs) (λ c κs. search needs) (λ c. c .flat .ensures ∙ ap encodedNode (c .before .node-of .ensures)))

@@ -5,8 +5,5 @@ use borrow.Author.Needs.{needs}
 use Rattle.c_api.proofs.metadata.sleep_flat_read_node.Statement.{statement}
 use Rattle.c_api.proofs.metadata.sleep_flat_read_node.Tie as tie
 
-returns : tie.Need-returns
-returns c = c .flat .ensures ∙ ap encodedNode (c .before .read-node .ensures)
-
 pub sleep-flat-read-node-spec : {M : Type 1} → statement M
-sleep-flat-read-node-spec = tie.close (tie.spec (λ c κs. search needs) (λ c κs. search needs) returns)
+sleep-flat-read-node-spec = tie.close (tie.spec (λ c κs. search needs) (λ c κs. search needs) (λ c. c .flat .ensures ∙ ap encodedNode (c .before .read-node .ensures)))

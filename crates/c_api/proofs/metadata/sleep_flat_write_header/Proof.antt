@@ -10,6 +10,4 @@ returns c =
     writes _ _ _ _ _ (at-write-header .write-header .ensures) _ _ _ (c .give-length .ensures)
 
 pub sleep-flat-write-header-spec : {M : Type 1} → statement M
-sleep-flat-write-header-spec =
-    tie.close
-    (tie.spec (λ c κs. search needs) (λ c κs. search needs) (λ c. search needs) returns)
+sleep-flat-write-header-spec = tie.close (tie.spec (λ c κs. search needs) (λ c κs. search needs) (λ c. search needs) returns)

@@ -15,6 +15,4 @@ returns c =
     (c .give-length .ensures)
 
 pub sleep-flat-write-node-spec : {M : Type 1} → statement M
-sleep-flat-write-node-spec =
-    tie.close
-    (tie.spec (λ c κs. search needs) (λ c κs. search needs) (λ c κs. search needs) (λ c κs. search needs) (λ c. search needs) returns)
+sleep-flat-write-node-spec = tie.close (tie.spec (λ c κs. search needs) (λ c κs. search needs) (λ c κs. search needs) (λ c κs. search needs) (λ c. search needs) returns)

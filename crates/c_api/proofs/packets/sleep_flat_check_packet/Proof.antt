@@ -13,8 +13,7 @@ use Rattle.c_api.proofs.packets.sleep_flat_check_packet.Tie as tie
 read-be32-requires : tie.Need-read-be32-requires
 read-be32-requires c κs =
     let at-check-answer = c .before .before in
-    let start = at-check-answer .before .before in
-    let a = start .args in
+    let a = at-check-answer .before .before .args in
     passed-shape nodeHash (a .packet .now) (a .n) (a .chunk) (a .root .now)
     (sym (ap said (c .enum-told .given .1)) ∙ at-check-answer .check-answer .ensures) .front
 
@@ -22,9 +21,8 @@ returns : tie.Need-returns
 returns c =
     let at-said = c .before .before in
     let at-check-answer = at-said .before .before in
-    let start = at-check-answer .before .before in
     let k = at-said .said .given in
-    let a = start .args in
+    let a = at-check-answer .before .before .args in
     gives-refused _ (k .0 .0) _ _ (c .refused .ensures)
     (packet-refused (a .packet .now) (a .n) (a .chunk) (a .root .now) (k .0 .0)
     (sym (ap said (k .1)) ∙ at-check-answer .check-answer .ensures))
@@ -35,8 +33,7 @@ returns-2 c =
     let at-read-be32 = c .before .before in
     let at-enum-told = at-read-be32 .before in
     let at-check-answer = at-enum-told .before .before in
-    let start = at-check-answer .before .before in
-    let a = start .args in
+    let a = at-check-answer .before .before .args in
     gives-found _ _ _ _ _ (c .encode .ensures)
     (packet-found (a .packet .now) (a .n) (a .chunk) (a .root .now) _ (at-read-be32 .read-be32 .ensures)
     (sym (ap said (at-enum-told .enum-told .given .1)) ∙ at-check-answer .check-answer .ensures))

@@ -11,5 +11,4 @@ returns c =
     makes _ _ _ _ _ _ _ _ (at-make .make .ensures) (told .0) (told .1)
 
 pub sleep-flat-make-packet-spec : {M : Type 1} → statement M
-sleep-flat-make-packet-spec =
-    tie.close (tie.spec (λ c κs. search needs) (λ c κs. search needs) (λ c. search needs) returns)
+sleep-flat-make-packet-spec = tie.close (tie.spec (λ c κs. search needs) (λ c κs. search needs) (λ c. search needs) returns)

@@ -17,8 +17,7 @@ give-part-requires c κs from end e =
     copy-lying nodeHash (copyOf (a .tree .now) (a .bitfield .now) (a .content .now) (a .n) (a .size)) (a .chunk) from end
     (sym e ∙ called .verify .ensures) .ordered
 
-returns : tie.Need-returns
-returns c = gives-same _ _ _ _ _ (ap asPart (c .before .before .verify .ensures)) (c .give-part .ensures)
-
 pub sleep-flat-copy-read-spec : {M : Type 1} → statement M
-sleep-flat-copy-read-spec = tie.close (tie.spec (λ c κs. search needs) give-part-requires returns)
+sleep-flat-copy-read-spec =
+    tie.close
+    (tie.spec (λ c κs. search needs) give-part-requires (λ c. gives-same _ _ _ _ _ (ap asPart (c .before .before .verify .ensures)) (c .give-part .ensures)))

@@ -4,8 +4,7 @@ use Rattle.c_encoding.proofs.Laws.{gives-same}
 use Rattle.c_api.proofs.partial_lookups.sleep_flat_copy_short_place.Statement.{statement}
 use Rattle.c_api.proofs.partial_lookups.sleep_flat_copy_short_place.Tie as tie
 
-returns : tie.Need-returns
-returns c = gives-same _ _ _ _ _ (c .before .before .place .ensures) (c .give-place .ensures)
-
 pub sleep-flat-copy-short-place-spec : {M : Type 1} → statement M
-sleep-flat-copy-short-place-spec = tie.close (tie.spec (λ c κs. search needs) (λ c κs. search needs) returns)
+sleep-flat-copy-short-place-spec =
+    tie.close
+    (tie.spec (λ c κs. search needs) (λ c κs. search needs) (λ c. gives-same _ _ _ _ _ (c .before .before .place .ensures) (c .give-place .ensures)))

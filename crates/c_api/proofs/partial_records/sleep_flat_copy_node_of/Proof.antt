@@ -5,8 +5,5 @@ use borrow.Author.Needs.{needs}
 use Rattle.c_api.proofs.partial_records.sleep_flat_copy_node_of.Statement.{statement}
 use Rattle.c_api.proofs.partial_records.sleep_flat_copy_node_of.Tie as tie
 
-returns : tie.Need-returns
-returns c = c .flat .ensures ∙ ap encodedNode (c .before .node-of .ensures)
-
 pub sleep-flat-copy-node-of-spec : {M : Type 1} → statement M
-sleep-flat-copy-node-of-spec = tie.close (tie.spec (λ c κs. search needs) (λ c κs. search needs) returns)
+sleep-flat-copy-node-of-spec = tie.close (tie.spec (λ c κs. search needs) (λ c κs. search needs) (λ c. c .flat .ensures ∙ ap encodedNode (c .before .node-of .ensures)))

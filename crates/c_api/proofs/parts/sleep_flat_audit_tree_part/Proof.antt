@@ -4,8 +4,7 @@ use Rattle.c_encoding.proofs.Laws.{coded}
 use Rattle.c_api.proofs.parts.sleep_flat_audit_tree_part.Statement.{statement}
 use Rattle.c_api.proofs.parts.sleep_flat_audit_tree_part.Tie as tie
 
-returns : tie.Need-returns
-returns c = coded _ _ _ (c .encode .ensures) (c .before .tree-part .ensures)
-
 pub sleep-flat-audit-tree-part-spec : {M : Type 1} → statement M
-sleep-flat-audit-tree-part-spec = tie.close (tie.spec (λ c κs. search needs) (λ c κs. search needs) returns)
+sleep-flat-audit-tree-part-spec =
+    tie.close
+    (tie.spec (λ c κs. search needs) (λ c κs. search needs) (λ c. coded _ _ _ (c .encode .ensures) (c .before .tree-part .ensures)))

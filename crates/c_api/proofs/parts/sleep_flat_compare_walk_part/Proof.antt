@@ -5,8 +5,7 @@ use Rattle.c_api.specs.Encoding.{encodedComparison}
 use Rattle.c_api.proofs.parts.sleep_flat_compare_walk_part.Statement.{statement}
 use Rattle.c_api.proofs.parts.sleep_flat_compare_walk_part.Tie as tie
 
-returns : tie.Need-returns
-returns c = c .encode-comparison .ensures ∙ ap encodedComparison (c .before .walk-part .ensures)
-
 pub sleep-flat-compare-walk-part-spec : {M : Type 1} → statement M
-sleep-flat-compare-walk-part-spec = tie.close (tie.spec (λ c κs. search needs) (λ c κs. search needs) returns)
+sleep-flat-compare-walk-part-spec =
+    tie.close
+    (tie.spec (λ c κs. search needs) (λ c κs. search needs) (λ c. c .encode-comparison .ensures ∙ ap encodedComparison (c .before .walk-part .ensures)))

@@ -13,5 +13,4 @@ returns c =
     )
 
 pub sleep-flat-append-spec : {M : Type 1} → statement M
-sleep-flat-append-spec =
-    tie.close (tie.spec (λ c κs. search needs) (λ c κs. search needs) (λ c. search needs) (λ c. search needs) (λ c. search needs) returns)
+sleep-flat-append-spec = tie.close (tie.spec (λ c κs. search needs) (λ c κs. search needs) (λ c. search needs) (λ c. search needs) (λ c. search needs) returns)

@@ -11,5 +11,4 @@ returns c =
     (coded _ _ _ (c .encode .ensures) (made .answer), made .buffers)
 
 pub sleep-flat-release-spec : {M : Type 1} → statement M
-sleep-flat-release-spec =
-    tie.close (tie.spec (λ c κs. search needs) (λ c κs. search needs) (λ c. search needs) (λ c. search needs) returns)
+sleep-flat-release-spec = tie.close (tie.spec (λ c κs. search needs) (λ c κs. search needs) (λ c. search needs) (λ c. search needs) returns)

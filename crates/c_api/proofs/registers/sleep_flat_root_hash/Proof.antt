@@ -13,5 +13,4 @@ returns c =
     )
 
 pub sleep-flat-root-hash-spec : {M : Type 1} → statement M
-sleep-flat-root-hash-spec =
-    tie.close (tie.spec (λ c κs. search needs) (λ c κs. search needs) returns)
+sleep-flat-root-hash-spec = tie.close (tie.spec (λ c κs. search needs) (λ c κs. search needs) returns)

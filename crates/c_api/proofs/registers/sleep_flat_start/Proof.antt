@@ -10,5 +10,4 @@ returns c =
     (coded _ _ _ (c .encode .ensures) (at-start .start .ensures .answer), at-start .start .ensures .buffers)
 
 pub sleep-flat-start-spec : {M : Type 1} → statement M
-sleep-flat-start-spec =
-    tie.close (tie.spec (λ c κs. search needs) (λ c κs. search needs) (λ c. search needs) (λ c. search needs) (λ c. search needs) returns)
+sleep-flat-start-spec = tie.close (tie.spec (λ c κs. search needs) (λ c κs. search needs) (λ c. search needs) (λ c. search needs) (λ c. search needs) returns)

@@ -10,5 +10,4 @@ returns c =
     (coded _ _ _ (c .encode .ensures) (at-store-signature .store-signature .ensures .answer), at-store-signature .store-signature .ensures .buffers)
 
 pub sleep-flat-store-signature-spec : {M : Type 1} → statement M
-sleep-flat-store-signature-spec =
-    tie.close (tie.spec (λ c κs. search needs) (λ c κs. search needs) (λ c. search needs) returns)
+sleep-flat-store-signature-spec = tie.close (tie.spec (λ c κs. search needs) (λ c κs. search needs) (λ c. search needs) returns)

@@ -15,5 +15,4 @@ returns-2 c =
     gives-named _ _ _ _ _ _ _ _ (at-enum-told2 .enum-told2 .given .1) (c .sleep-flat-read2 .ensures)
 
 pub read-named-spec : {M : Type 1} → statement M
-read-named-spec =
-    tie.close (tie.spec (λ c. search needs) (λ c κs. search needs) (λ c. search needs) (λ c κs. search needs) returns returns-2)
+read-named-spec = tie.close (tie.spec (λ c. search needs) (λ c κs. search needs) (λ c. search needs) (λ c κs. search needs) returns returns-2)

@@ -11,8 +11,7 @@ returns : tie.Need-returns
 returns c =
     let told = c .before in
     let left = told .before .before in
-    let at-next = left .before .before in
-    hands-nobody _ _ _ _ _ (left .leave .ensures) (sym (ap turnOf (told .enum-told .given .1)) ∙ at-next .next .ensures)
+    hands-nobody _ _ _ _ _ (left .leave .ensures) (sym (ap turnOf (told .enum-told .given .1)) ∙ left .before .before .next .ensures)
 
 returns-2 : tie.Need-returns-2
 returns-2 c =
@@ -21,14 +20,12 @@ returns-2 c =
     let name = read .before .before .before in
     let known = name .before .before in
     let left = known .before .before in
-    let at-next = left .before .before in
     let k = known .turn .given in
     hands-turn _ _ _ _ _ (left .leave .ensures) (k .0 .0) (record { register = k .0 .1 .0; chunk = k .0 .1 .1 .0 .0 }) (nameOf (name .named-by .result)) _ _ _
-    (sym (ap turnOf (k .1)) ∙ at-next .next .ensures) (name .named-by .ensures) (number .number-of .ensures) (read .read-named .ensures)
+    (sym (ap turnOf (k .1)) ∙ left .before .before .next .ensures) (name .named-by .ensures) (number .number-of .ensures) (read .read-named .ensures)
 
 pub sleep-flat-serve-spec : {M : Type 1} → statement M
 sleep-flat-serve-spec =
     tie.close
-    (tie.spec
-    (λ c κs. search needs) (λ c κs. search needs) (λ c. search needs) (λ c. search needs) (λ c κs. search needs) (λ c κs. search needs)
-    (λ c κs. search needs) (λ c. search needs) (λ c. search needs) (λ c. search needs) returns returns-2)
+    (tie.spec (λ c κs. search needs) (λ c κs. search needs) (λ c. search needs) (λ c. search needs) (λ c κs. search needs) (λ c κs. search needs) (λ c κs. search needs)
+    (λ c. search needs) (λ c. search needs) (λ c. search needs) returns returns-2)

@@ -12,5 +12,4 @@ returns-2 : tie.Need-returns-2
 returns-2 c = c .refused .ensures ∙ said-as _ _ (c .before .before .answer .given .1)
 
 pub encode-spec : {M : Type 1} → statement M
-encode-spec =
-    tie.close (tie.spec (λ c. search needs) (λ c. search needs) (λ c κs. search needs) returns returns-2)
+encode-spec = tie.close (tie.spec (λ c. search needs) (λ c. search needs) (λ c κs. search needs) returns returns-2)

@@ -14,5 +14,4 @@ returns-2 c =
     on-refused _ _ refl _ _ (at-answer .answer .given .0 .0) (at-answer .answer .given .1)
 
 pub give-digest-spec : {M : Type 1} → statement M
-give-digest-spec =
-    tie.close (tie.spec (λ c. search needs) (λ c. search needs) returns returns-2)
+give-digest-spec = tie.close (tie.spec (λ c. search needs) (λ c. search needs) returns returns-2)

@@ -10,5 +10,4 @@ returns-2 c =
     kept _ _ (at-answer .answer .given .0 .0) _ _ (at-answer .answer .given .1) (c .refused .ensures)
 
 pub give-hash-spec : {M : Type 1} → statement M
-give-hash-spec =
-    tie.close (tie.spec (λ c. search needs) (λ c κs. search needs) (λ c. search needs) (λ c κs. search needs) (λ c. search needs) returns-2)
+give-hash-spec = tie.close (tie.spec (λ c. search needs) (λ c κs. search needs) (λ c. search needs) (λ c κs. search needs) (λ c. search needs) returns-2)

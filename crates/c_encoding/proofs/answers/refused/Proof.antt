@@ -10,15 +10,12 @@ returns c = placed (c .before .before .args .refusal .number) _ _ (c .enum-told 
 returns-2 : tie.Need-returns-2
 returns-2 c =
     let at-place = c .before in
-    let start = at-place .before .before in
-    placed (start .args .refusal .number) _ _ (at-place .place .given .1)
+    placed (at-place .before .before .args .refusal .number) _ _ (at-place .place .given .1)
 
 returns-3 : tie.Need-returns-3
 returns-3 c =
     let at-place2 = c .before in
-    let start = at-place2 .before .before in
-    placed (start .args .refusal .number) _ _ (at-place2 .place2 .given .1)
+    placed (at-place2 .before .before .args .refusal .number) _ _ (at-place2 .place2 .given .1)
 
 pub refused-spec : {M : Type 1} → statement M
-refused-spec =
-    tie.close (tie.spec (λ c. search needs) (λ c. search needs) (λ c. search needs) returns returns-2 returns-3)
+refused-spec = tie.close (tie.spec (λ c. search needs) (λ c. search needs) (λ c. search needs) returns returns-2 returns-3)

@@ -10,8 +10,7 @@ use Rattle.c_encoding.proofs.lookups.give_part.Tie as tie
 sub-t7 : tie.Need-sub-t7
 sub-t7 c =
     let told = c .before .before .before in
-    let entered = told .before .before in
-    entered .pre _ _ (ap verifiedOf (told .found2 .given .1))
+    told .before .before .pre _ _ (ap verifiedOf (told .found2 .given .1))
 
 returns : tie.Need-returns
 returns c =
@@ -21,9 +20,7 @@ returns c =
 returns-2 : tie.Need-returns-2
 returns-2 c =
     let at-found2 = c .before .before .before .before .before in
-    let k = at-found2 .found2 .given in
-    gives-found _ _ _ _ _ (c .encode .ensures) (ap asPart (sym (ap verifiedOf (k .1))))
+    gives-found _ _ _ _ _ (c .encode .ensures) (ap asPart (sym (ap verifiedOf (at-found2 .found2 .given .1))))
 
 pub give-part-spec : {M : Type 1} → statement M
-give-part-spec =
-    tie.close (tie.spec (λ c. search needs) (λ c κs. search needs) (λ c. search needs) sub-t7 (λ c κs. search needs) returns returns-2)
+give-part-spec = tie.close (tie.spec (λ c. search needs) (λ c κs. search needs) (λ c. search needs) sub-t7 (λ c κs. search needs) returns returns-2)

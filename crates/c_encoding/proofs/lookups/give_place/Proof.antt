@@ -18,5 +18,4 @@ returns-2 c =
     gives-found _ (k .0 .0 .0) (k .0 .1 .0) _ _ (c .encode .ensures) (sym (ap placedOf (k .1)))
 
 pub give-place-spec : {M : Type 1} → statement M
-give-place-spec =
-    tie.close (tie.spec (λ c. search needs) (λ c κs. search needs) (λ c. search needs) (λ c κs. search needs) returns returns-2)
+give-place-spec = tie.close (tie.spec (λ c. search needs) (λ c κs. search needs) (λ c. search needs) (λ c κs. search needs) returns returns-2)

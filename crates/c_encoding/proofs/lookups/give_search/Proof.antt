@@ -19,9 +19,7 @@ returns-2 c =
     gives-found _ 1 (k .0 .0 .0) _ _ (c .encode .ensures) (ap asFound (sym (ap searchedOf (k .1))))
 
 returns-3 : tie.Need-returns-3
-returns-3 c =
-    let k = c .before .before .enum-told .given in
-    gives-found _ 0 0 _ _ (c .encode2 .ensures) (ap asFound (sym (ap searchedOf (k .1))))
+returns-3 c = gives-found _ 0 0 _ _ (c .encode2 .ensures) (ap asFound (sym (ap searchedOf (c .before .before .enum-told .given .1))))
 
 pub give-search-spec : {M : Type 1} → statement M
 give-search-spec =

@@ -11,5 +11,4 @@ returns-2 : tie.Need-returns-2
 returns-2 c = let k = c .before .before .made2 .given in made-length _ (k .0 .0) _ _ (k .1) (c .encode .ensures)
 
 pub give-length-spec : {M : Type 1} → statement M
-give-length-spec =
-    tie.close (tie.spec (λ c. search needs) (λ c κs. search needs) (λ c. search needs) (λ c κs. search needs) returns returns-2)
+give-length-spec = tie.close (tie.spec (λ c. search needs) (λ c κs. search needs) (λ c. search needs) (λ c κs. search needs) returns returns-2)

@@ -3,8 +3,7 @@ use borrow.Author.Needs.{needs}
 use Rattle.c_records.proofs.numbers.flat_at.Statement.{statement}
 use Rattle.c_records.proofs.numbers.flat_at.Tie as tie
 
-returns : tie.Need-returns
-returns c = cc
-
 pub flat-at-spec : {M : Type 1} → statement M
-flat-at-spec = tie.close (tie.spec (λ c κs. search needs) (λ c κs. search needs) (λ c κs. search needs) (λ c κs. search needs) (λ c κs. search needs) (λ c. search needs) returns)
+flat-at-spec =
+    tie.close
+    (tie.spec (λ c κs. search needs) (λ c κs. search needs) (λ c κs. search needs) (λ c κs. search needs) (λ c κs. search needs) (λ c. search needs) (λ c. cc))

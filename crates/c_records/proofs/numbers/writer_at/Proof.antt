@@ -3,8 +3,5 @@ use borrow.Author.Needs.{needs}
 use Rattle.c_records.proofs.numbers.writer_at.Statement.{statement}
 use Rattle.c_records.proofs.numbers.writer_at.Tie as tie
 
-returns : tie.Need-returns
-returns c = cc
-
 pub writer-at-spec : {M : Type 1} → statement M
-writer-at-spec = tie.close (tie.spec (λ c κs. search needs) (λ c. search needs) (λ c κs. search needs) returns)
+writer-at-spec = tie.close (tie.spec (λ c κs. search needs) (λ c. search needs) (λ c κs. search needs) (λ c. cc))

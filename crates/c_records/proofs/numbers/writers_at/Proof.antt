@@ -16,8 +16,7 @@ returns c =
     let at-writer-at3 = b .before in
     let at-writer-at2 = at-writer-at3 .before in
     let at-writer-at = at-writer-at2 .before in
-    let start = at-writer-at .before in
-    eight (λ j. writerAt (start .args .d .now) (25 + 5 * j))
+    eight (λ j. writerAt (at-writer-at .before .args .d .now) (25 + 5 * j))
     (at-writer-at .writer-at .ensures) (at-writer-at2 .writer-at2 .ensures) (at-writer-at3 .writer-at3 .ensures) (b .writer-at4 .ensures)
     (at-writer-at5 .writer-at5 .ensures) (at-writer-at6 .writer-at6 .ensures) (at-writer-at7 .writer-at7 .ensures) (c .writer-at8 .ensures)
 

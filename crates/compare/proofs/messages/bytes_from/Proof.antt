@@ -8,17 +8,13 @@ use Rattle.compare.proofs.messages.bytes_from.Tie as tie
 
 returns : tie.Need-returns
 returns c =
-    let branch1 = c .before in
-    let s = branch1 .before .before in
-    let if1 = branch1 .if1 in
-    cut-none (s .args .content .now) (s .args .start .0) (s .args .size) (if1 .taken)
+    let s = c .before .before .before in
+    cut-none (s .args .content .now) (s .args .start .0) (s .args .size) (c .before .if1 .taken)
 
 returns-2 : tie.Need-returns-2
 returns-2 c =
-    let branch2 = c .before in
-    let s = branch2 .before .before .before .before in
-    let if2 = branch2 .if2 in
-    cut-short (s .args .content .now) (s .args .start .0) (s .args .size) (if2 .taken)
+    let s = c .before .before .before .before .before in
+    cut-short (s .args .content .now) (s .args .start .0) (s .args .size) (c .before .if2 .taken)
 
 returns-3 : tie.Need-returns-3
 returns-3 c =

@@ -7,20 +7,12 @@ use Rattle.compare.proofs.messages.same_chunk.Tie as tie
 
 returns : tie.Need-returns
 returns c =
-    let at-bytes-from2 = c .before in
-    let at-bytes-from = at-bytes-from2 .before in
-    let at-stored-size2 = at-bytes-from .before in
-    let at-stored-size = at-stored-size2 .before in
-    let s = at-stored-size .before .before .before .before .before in
-    let same = c .same in
-    let bytes-from = at-bytes-from .bytes-from in
-    let stored-size = at-stored-size .stored-size in
-    let bytes-from2 = at-bytes-from2 .bytes-from2 in
-    let stored-size2 = at-stored-size2 .stored-size2 in
+    let at-stored-size2 = c .before .before .before in
+    let s = at-stored-size2 .before .before .before .before .before .before in
     let a = s .args in
-    same .ensures
-    ∙ ap₂ sameList (bytes-from .ensures ∙ ap (part (a .content .now) (a .start .0)) (stored-size .ensures))
-    (bytes-from2 .ensures ∙ ap (part (a .content2 .now) (a .start2 .0)) (stored-size2 .ensures))
+    c .same .ensures
+    ∙ ap₂ sameList (c .before .before .bytes-from .ensures ∙ ap (part (a .content .now) (a .start .0)) (at-stored-size2 .before .stored-size .ensures))
+    (c .before .bytes-from2 .ensures ∙ ap (part (a .content2 .now) (a .start2 .0)) (at-stored-size2 .stored-size2 .ensures))
 
 pub same-chunk-spec : {M : Type 1} → statement M
 same-chunk-spec = tie.close (tie.spec (λ c κs. search needs) (λ c κs. search needs) (λ c κs. search needs) (λ c κs. search needs) (λ c κs. search needs) returns)

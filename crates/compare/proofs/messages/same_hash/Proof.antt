@@ -8,8 +8,7 @@ use Rattle.compare.proofs.messages.same_hash.Tie as tie
 returns : tie.Need-returns
 returns c =
     let at-stored-hash2 = c .before .before .before in
-    let at-stored-hash = at-stored-hash2 .before in
-    c .same .ensures ∙ ap₂ sameList (at-stored-hash .stored-hash .ensures) (at-stored-hash2 .stored-hash2 .ensures)
+    c .same .ensures ∙ ap₂ sameList (at-stored-hash2 .before .stored-hash .ensures) (at-stored-hash2 .stored-hash2 .ensures)
 
 pub same-hash-spec : {M : Type 1} → statement M
 same-hash-spec = tie.close (tie.spec (λ c κs. search needs) (λ c κs. search needs) (λ c. search needs) (λ c. search needs) (λ c κs. search needs) returns)

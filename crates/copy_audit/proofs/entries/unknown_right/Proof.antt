@@ -12,8 +12,7 @@ returns c = and-stop _ _ (sym (c .before .hole-right .ensures) ∙ not-true _ (c
 
 returns-2 : tie.Need-returns-2
 returns-2 c =
-    let branch1 = c .before in
-    and-pass _ _ (not (c .held-leaf .result)) (sym (branch1 .before .hole-right .ensures) ∙ not-false _ (branch1 .if1 .left)) (ap not (c .held-leaf .ensures))
+    and-pass _ _ (not (c .held-leaf .result)) (sym (c .before .before .hole-right .ensures) ∙ not-false _ (c .before .if1 .left)) (ap not (c .held-leaf .ensures))
 
 pub unknown-right-spec : {M : Type 1} → statement M
 unknown-right-spec = tie.close (tie.spec (λ c κs. search needs) returns (λ c κs. search needs) returns-2)

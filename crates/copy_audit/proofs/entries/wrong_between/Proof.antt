@@ -19,37 +19,23 @@ abbrev given : (c : tie.Start Inv-loop μ-loop) → Copy
 given c = copyOf (c .args .tree .now) (c .args .bitfield .now) (c .args .content .now) (c .args .n) (c .args .size)
 
 loop-holds : tie.Need-loop-holds Inv-loop μ-loop
-loop-holds c =
-    let s = c .before .before .before in
-    seeking-none nodeHash (given s) (s .args .from .0) (s .args .end .0)
+loop-holds c = seeking-none
 
 wrong-by-requires : tie.Need-wrong-by-requires Inv-loop μ-loop
 wrong-by-requires c κs =
     let s = c .before .before .before .before .before .before .before in
-    let if1 = c .if1 in
-    (s .pre .0, omega (arith, if1 .taken, s .pre .1))
+    (s .pre .0, omega (arith, c .if1 .taken, s .pre .1))
 
 loop-again : tie.Need-loop-again Inv-loop μ-loop
 loop-again c =
-    let at-lower-of = c .before in
-    let at-wrong-by = at-lower-of .before in
-    let branch1 = at-wrong-by .before in
+    let branch1 = c .before .before .before in
     let looped = branch1 .before .before .before in
-    let s = looped .before .before .before .before in
-    let loop = looped .loop in
-    let wrong-by = at-wrong-by .wrong-by in
-    let lower-of = at-lower-of .lower-of in
-    let if1 = branch1 .if1 in
-    seeking-next nodeHash (given s) (s .args .from .0) (s .args .end .0) (loop .i .0) (firstEntry (loop .found)) (loop .inv) (firstEntry (wrong-by .result))
-    (firstEntry (lower-of .result)) (if1 .taken) (wrong-by .ensures) (lower-of .ensures)
+    seeking-next (looped .loop .inv) (branch1 .if1 .taken) (c .before .before .wrong-by .ensures) (c .before .lower-of .ensures)
 
 returns : tie.Need-returns Inv-loop μ-loop
 returns c =
     let looped = c .before .before .before in
-    let s = looped .before .before .before .before in
-    let loop = looped .loop in
-    let if1 = c .if1 in
-    seeking-all nodeHash (given s) (s .args .from .0) (s .args .end .0) (loop .i .0) (firstEntry (loop .found)) (loop .inv) (if1 .left)
+    seeking-all (looped .loop .inv) (c .if1 .left)
 
 pub wrong-between-spec : {M : Type 1} → statement M
 wrong-between-spec = tie.close (tie.spec Inv-loop μ-loop loop-holds wrong-by-requires (λ c κs. search needs) (λ c. search needs) (λ c. search needs) loop-again returns)

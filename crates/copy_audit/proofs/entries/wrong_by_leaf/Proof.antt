@@ -32,37 +32,28 @@ leaf-right-requires c κs =
 returns : tie.Need-returns
 unfolding copyToChunk
 returns c =
-    let at-i = c .before in
-    let at-from-roots = at-i .before .before in
+    let at-from-roots = c .before .before .before in
     let s = at-from-roots .before .before .before .before .before in
-    let q = at-i .i .given in
-    leaf-stopped nodeHash (given s) (s .args .c .0) (omega (arith, s .good .1 .1 .0 .1, s .pre .files .bytes)) (q .0 .0 .0)
-    (sym (ap endingOf (q .1)) ∙ at-from-roots .from-roots .ensures)
+    leaf-stopped nodeHash (given s) (s .args .c .0) (omega (arith, s .good .1 .1 .0 .1, s .pre .files .bytes))
+    (sym (ap endingOf (c .before .i .given .1)) ∙ at-from-roots .from-roots .ensures)
 
 returns-2 : tie.Need-returns-2
 unfolding copyToChunk
 returns-2 c =
-    let at-from-roots = c .before .before in
-    let at-leaf-index = at-from-roots .before in
+    let at-leaf-index = c .before .before .before in
     let s = at-leaf-index .before .before .before .before in
-    let q = c .enum-told .given in
-    let l = at-leaf-index .leaf-index in
-    leaf-unknown nodeHash (given s) (s .args .c .0) (omega (arith, s .good .1 .1 .0 .1, s .pre .files .bytes)) (q .0 .0 .0) (l .result .0)
-    (sym (ap endingOf (q .1)) ∙ at-from-roots .from-roots .ensures) (l .ensures)
+    leaf-unknown nodeHash (given s) (s .args .c .0) (omega (arith, s .good .1 .1 .0 .1, s .pre .files .bytes))
+    (sym (ap endingOf (c .enum-told .given .1)) ∙ c .before .before .from-roots .ensures) (at-leaf-index .leaf-index .ensures)
 
 returns-3 : tie.Need-returns-3
 unfolding copyToChunk
 returns-3 c =
-    let at-leaf-right = c .before in
-    let at-start = at-leaf-right .before .before in
-    let at-from-roots = at-start .before .before in
-    let at-leaf-index = at-from-roots .before in
+    let at-start = c .before .before .before in
+    let at-leaf-index = at-start .before .before .before in
     let s = at-leaf-index .before .before .before .before in
-    let q = at-start .start .given in
-    let l = at-leaf-index .leaf-index in
     c .wrong-unless .ensures
-    ∙ leaf-reached nodeHash (given s) (s .args .c .0) (omega (arith, s .good .1 .1 .0 .1, s .pre .files .bytes)) (q .0 .0 .0) (q .0 .1 .0 .0) (l .result .0)
-    (at-leaf-right .leaf-right .result) (sym (ap endingOf (q .1)) ∙ at-from-roots .from-roots .ensures) (l .ensures) (at-leaf-right .leaf-right .ensures)
+    ∙ leaf-reached nodeHash (given s) (s .args .c .0) (omega (arith, s .good .1 .1 .0 .1, s .pre .files .bytes))
+    (sym (ap endingOf (at-start .start .given .1)) ∙ at-start .before .before .from-roots .ensures) (at-leaf-index .leaf-index .ensures) (c .before .leaf-right .ensures)
 
 pub wrong-by-leaf-spec : {M : Type 1} → statement M
 wrong-by-leaf-spec =

@@ -1,85 +1,29 @@
--- The read's own refusal, or what is said of the bytes read.
-use mathlib.Core.Path.{sym, ap, _∙_}
-use Rattle.answer_types.specs.Verdict.{tree}
-use Rattle.answer_types.specs.Meaning.{spotOf}
-use Rattle.tree_index.specs.Tree.{index}
+-- The read, and what is told behind it.
+use mathlib.Core.Path.{ap₂, _∙_}
 use Rattle.blake2b.specs.Hash.{nodeHash}
-use Rattle.lookup.specs.Meaning.{verifiedOf}
-use Rattle.record_format.specs.Post.{noPart, headerTold, readHeader}
-use Rattle.copy_checks.specs.Copy.{copyOf}
-use Rattle.copy_lookup.proofs.Calls.{copy-lying, copy-nothing}
-use Rattle.record_find.proofs.Chunk.{read-refused, read-done}
-use Rattle.copy_lookup.specs.Reading.{copyReadVerdict, copyReadPart}
-use Rattle.copy_records.proofs.Chunk.{copy-small}
+use Rattle.record_find.specs.ChunkRecords.{headerAfter}
+use Rattle.copy_checks.specs.Copy.{Copy, copyOf}
+use Rattle.copy_lookup.proofs.Calls.{read-says, read-bytes}
+use Rattle.copy_records.proofs.Chunk.{copy-read-in}
 use borrow.Author.Needs.{needs}
 use Rattle.copy_records.proofs.chunks.header_of.Statement.{statement}
 use Rattle.copy_records.proofs.chunks.header_of.Tie as tie
 
-sub-header-at : tie.Need-sub-header-at
-sub-header-at c =
-    let at-start = c .before in
-    let at-verify = at-start .before .before in
-    let start = at-verify .before .before .before .before in
-    let a = start .args in
-    let k = at-start .start .given in
-    copy-lying nodeHash (copyOf (a .tree .now) (a .bitfield .now) (a .content .now) (a .n) (a .size)) (a .chunk .0) (k .0 .0 .0) (k .0 .1 .0 .0)
-    (sym (ap verifiedOf (k .1)) ∙ at-verify .verify .ensures) .ordered
+abbrev given : (c : tie.Start) → Copy
+given c = copyOf (c .args .tree .now) (c .args .bitfield .now) (c .args .content .now) (c .args .n) (c .args .size)
 
-part-header-at-start : tie.Need-part-header-at-start
-part-header-at-start c =
-    let at-start = c .before in
-    let at-verify = at-start .before .before in
-    let start = at-verify .before .before .before .before in
-    let a = start .args in
-    let k = at-start .start .given in
-    copy-lying nodeHash (copyOf (a .tree .now) (a .bitfield .now) (a .content .now) (a .n) (a .size)) (a .chunk .0) (k .0 .0 .0) (k .0 .1 .0 .0)
-    (sym (ap verifiedOf (k .1)) ∙ at-verify .verify .ensures) .ordered
-
-part-header-at-end : tie.Need-part-header-at-end
-part-header-at-end c =
-    let at-start = c .before in
-    let at-verify = at-start .before .before in
-    let start = at-verify .before .before .before .before in
-    let a = start .args in
-    let k = at-start .start .given in
-    copy-lying nodeHash (copyOf (a .tree .now) (a .bitfield .now) (a .content .now) (a .n) (a .size)) (a .chunk .0) (k .0 .0 .0) (k .0 .1 .0 .0)
-    (sym (ap verifiedOf (k .1)) ∙ at-verify .verify .ensures) .inside
-
-header-at-requires : tie.Need-header-at-requires
-header-at-requires c κs =
-    let at-start = c .before .before in
-    let at-verify = at-start .before .before in
-    let start = at-verify .before .before .before .before in
-    let a = start .args in
-    let k = at-start .start .given in
-    copy-small nodeHash (copyOf (a .tree .now) (a .bitfield .now) (a .content .now) (a .n) (a .size)) (a .chunk .0) (k .0 .0 .0) (k .0 .1 .0 .0)
-    (sym (ap verifiedOf (k .1)) ∙ at-verify .verify .ensures)
+header-behind-requires : tie.Need-header-behind-requires
+header-behind-requires c κs =
+    let start = c .before .before .before .before in
+    copy-read-in nodeHash (given start) (start .args .chunk .0) (c .verify .ensures)
 
 returns : tie.Need-returns
 returns c =
-    let at-refusal = c .before in
-    let at-verify = at-refusal .before .before in
+    let at-verify = c .before in
     let start = at-verify .before .before .before .before in
-    let a = start .args in
-    let d = copyOf (a .tree .now) (a .bitfield .now) (a .content .now) (a .n) (a .size) in
-    let k = at-refusal .refusal .given in
-    let e = sym (ap verifiedOf (k .1)) ∙ at-verify .verify .ensures in
-    read-refused (copyReadVerdict nodeHash d (a .chunk .0)) noPart (readHeader (tree (index 0 (a .chunk .0))) (copyReadPart nodeHash d (a .chunk .0))) (k .0 .0 .number) (spotOf (k .0 .0 .place))
-    (copy-nothing nodeHash d (a .chunk .0) (k .0 .0 .number) (spotOf (k .0 .0 .place)) e .0)
-
-returns-2 : tie.Need-returns-2
-returns-2 c =
-    let at-start = c .before .before .before in
-    let at-verify = at-start .before .before in
-    let start = at-verify .before .before .before .before in
-    let a = start .args in
-    let d = copyOf (a .tree .now) (a .bitfield .now) (a .content .now) (a .n) (a .size) in
-    let k = at-start .start .given in
-    let l = copy-lying nodeHash d (a .chunk .0) (k .0 .0 .0) (k .0 .1 .0 .0) (sym (ap verifiedOf (k .1)) ∙ at-verify .verify .ensures) in
-    read-done (copyReadVerdict nodeHash d (a .chunk .0)) noPart (headerTold (c .header-at .result)) (readHeader (tree (index 0 (a .chunk .0))) (copyReadPart nodeHash d (a .chunk .0))) (l .verdict)
-    (c .header-at .ensures ∙ ap (readHeader (tree (index 0 (a .chunk .0)))) (l .same))
+    let i = start .args .chunk .0 in
+    c .header-behind .ensures
+    ∙ ap₂ (λ v d. headerAfter v d i) (read-says nodeHash (given start) i _ (at-verify .verify .ensures)) (read-bytes nodeHash (given start) i _ (at-verify .verify .ensures))
 
 pub header-of-spec : {M : Type 1} → statement M
-header-of-spec =
-    tie.close
-    (tie.spec (λ c κs. search needs) (λ c. search needs) (λ c. search needs) sub-header-at part-header-at-start part-header-at-end header-at-requires returns returns-2)
+header-of-spec = tie.close (tie.spec (λ c κs. search needs) header-behind-requires returns)

@@ -1,91 +1,29 @@
--- The read's own refusal, or what is said of the bytes read.
-use mathlib.Core.Path.{sym, ap, _∙_}
-use Rattle.answer_types.specs.Verdict.{Verdict, tree}
-use Rattle.answer_types.specs.Meaning.{spotOf}
-use Rattle.answer_types.specs.declared.Answer.the-variants.{Refused}
-use Rattle.record_node.specs.declared.reading.Node.{Node}
-use Rattle.tree_index.specs.Tree.{index}
+-- The read, and what is told behind it.
+use mathlib.Core.Path.{ap₂, _∙_}
 use Rattle.blake2b.specs.Hash.{nodeHash}
-use Rattle.lookup.specs.Meaning.{verifiedOf}
-use Rattle.record_node.specs.Post.{noNode, nodeTold, readNode}
-use Rattle.copy_checks.specs.Copy.{copyOf}
-use Rattle.copy_lookup.proofs.Calls.{copy-lying, copy-nothing}
-use Rattle.record_find.proofs.Chunk.{read-refused, read-done}
-use Rattle.copy_lookup.specs.Reading.{copyReadVerdict, copyReadPart}
-use Rattle.copy_records.proofs.Chunk.{copy-small}
+use Rattle.record_find.specs.ChunkRecords.{nodeAfter}
+use Rattle.copy_checks.specs.Copy.{Copy, copyOf}
+use Rattle.copy_lookup.proofs.Calls.{read-says, read-bytes}
+use Rattle.copy_records.proofs.Chunk.{copy-read-in}
 use borrow.Author.Needs.{needs}
 use Rattle.copy_records.proofs.chunks.node_of.Statement.{statement}
 use Rattle.copy_records.proofs.chunks.node_of.Tie as tie
 
-sub-node-at : tie.Need-sub-node-at
-sub-node-at c =
-    let at-start = c .before in
-    let at-verify = at-start .before .before in
-    let start = at-verify .before .before .before .before in
-    let a = start .args in
-    let k = at-start .start .given in
-    copy-lying nodeHash (copyOf (a .tree .now) (a .bitfield .now) (a .content .now) (a .n) (a .size)) (a .chunk .0) (k .0 .0 .0) (k .0 .1 .0 .0)
-    (sym (ap verifiedOf (k .1)) ∙ at-verify .verify .ensures) .ordered
+abbrev given : (c : tie.Start) → Copy
+given c = copyOf (c .args .tree .now) (c .args .bitfield .now) (c .args .content .now) (c .args .n) (c .args .size)
 
-part-node-at-start : tie.Need-part-node-at-start
-part-node-at-start c =
-    let at-start = c .before in
-    let at-verify = at-start .before .before in
-    let start = at-verify .before .before .before .before in
-    let a = start .args in
-    let k = at-start .start .given in
-    copy-lying nodeHash (copyOf (a .tree .now) (a .bitfield .now) (a .content .now) (a .n) (a .size)) (a .chunk .0) (k .0 .0 .0) (k .0 .1 .0 .0)
-    (sym (ap verifiedOf (k .1)) ∙ at-verify .verify .ensures) .ordered
-
-part-node-at-end : tie.Need-part-node-at-end
-part-node-at-end c =
-    let at-start = c .before in
-    let at-verify = at-start .before .before in
-    let start = at-verify .before .before .before .before in
-    let a = start .args in
-    let k = at-start .start .given in
-    copy-lying nodeHash (copyOf (a .tree .now) (a .bitfield .now) (a .content .now) (a .n) (a .size)) (a .chunk .0) (k .0 .0 .0) (k .0 .1 .0 .0)
-    (sym (ap verifiedOf (k .1)) ∙ at-verify .verify .ensures) .inside
-
-node-at-requires : tie.Need-node-at-requires
-node-at-requires c κs =
-    let at-start = c .before .before in
-    let at-verify = at-start .before .before in
-    let start = at-verify .before .before .before .before in
-    let a = start .args in
-    let k = at-start .start .given in
-    copy-small nodeHash (copyOf (a .tree .now) (a .bitfield .now) (a .content .now) (a .n) (a .size)) (a .chunk .0) (k .0 .0 .0) (k .0 .1 .0 .0)
-    (sym (ap verifiedOf (k .1)) ∙ at-verify .verify .ensures)
+node-behind-requires : tie.Need-node-behind-requires
+node-behind-requires c κs =
+    let start = c .before .before .before .before in
+    copy-read-in nodeHash (given start) (start .args .chunk .0) (c .verify .ensures)
 
 returns : tie.Need-returns
 returns c =
-    let at-no-node = c .before in
-    let at-refusal = at-no-node .before .before in
-    let at-verify = at-refusal .before .before in
+    let at-verify = c .before in
     let start = at-verify .before .before .before .before in
-    let a = start .args in
-    let d = copyOf (a .tree .now) (a .bitfield .now) (a .content .now) (a .n) (a .size) in
-    let k = at-refusal .refusal .given in
-    let e = sym (ap verifiedOf (k .1)) ∙ at-verify .verify .ensures in
-    ap (nodeTold (Refused (k .0 .0))) (ap (λ (x : Verdict × Node). x .1) (at-no-node .no-node .ensures))
-    ∙ read-refused (copyReadVerdict nodeHash d (a .chunk .0)) noNode (readNode (tree (index 0 (a .chunk .0))) (copyReadPart nodeHash d (a .chunk .0))) (k .0 .0 .number) (spotOf (k .0 .0 .place))
-    (copy-nothing nodeHash d (a .chunk .0) (k .0 .0 .number) (spotOf (k .0 .0 .place)) e .0)
-
-returns-2 : tie.Need-returns-2
-returns-2 c =
-    let at-start = c .before .before .before in
-    let at-verify = at-start .before .before in
-    let start = at-verify .before .before .before .before in
-    let a = start .args in
-    let d = copyOf (a .tree .now) (a .bitfield .now) (a .content .now) (a .n) (a .size) in
-    let k = at-start .start .given in
-    let l = copy-lying nodeHash d (a .chunk .0) (k .0 .0 .0) (k .0 .1 .0 .0) (sym (ap verifiedOf (k .1)) ∙ at-verify .verify .ensures) in
-    read-done (copyReadVerdict nodeHash d (a .chunk .0)) noNode (nodeTold (c .node-at .result .answer) (c .node-at .result .node))
-    (readNode (tree (index 0 (a .chunk .0))) (copyReadPart nodeHash d (a .chunk .0))) (l .verdict)
-    (c .node-at .ensures ∙ ap (readNode (tree (index 0 (a .chunk .0)))) (l .same))
+    let i = start .args .chunk .0 in
+    c .node-behind .ensures
+    ∙ ap₂ (λ v d. nodeAfter v d i) (read-says nodeHash (given start) i _ (at-verify .verify .ensures)) (read-bytes nodeHash (given start) i _ (at-verify .verify .ensures))
 
 pub node-of-spec : {M : Type 1} → statement M
-node-of-spec =
-    tie.close
-    (tie.spec (λ c κs. search needs) (λ c. search needs) (λ c κs. search needs) (λ c. search needs) sub-node-at part-node-at-start part-node-at-end node-at-requires returns
-    returns-2)
+node-of-spec = tie.close (tie.spec (λ c κs. search needs) node-behind-requires returns)

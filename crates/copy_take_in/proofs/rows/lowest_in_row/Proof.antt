@@ -53,8 +53,7 @@ contradiction-at-requires : tie.Need-contradiction-at-requires Inv-loop μ-loop
 contradiction-at-requires c κs =
     let tested = c .before in
     let looped = tested .before in
-    let start-2 = looped .before .before .before .before in
-    let start = start-2 in (
+    let start = looped .before .before .before .before in (
       subst (KnowableIn (start .args .tree .now) (start .args .bitfield .now)) (number-at (start .args .t5) (looped .loop .j))
           (start .pre .each (looped .loop .j) (tested .loop-test .taken)),
       omega (arith, start .pre .inside .inside, tested .loop-test .taken),

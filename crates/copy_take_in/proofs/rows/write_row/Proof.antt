@@ -46,8 +46,7 @@ write-one-requires : tie.Need-write-one-requires Inv-loop μ-loop
 write-one-requires c κs =
     let tested = c .before .before .before in
     let looped = tested .before in
-    let start-2 = looped .before .before .before .before in
-    let start = start-2 in (
+    let start = looped .before .before .before .before in (
       still (start .args .tree .now) (start .args .bitfield .now) _ _ _ (looped .loop .inv .treeLong) (looped .loop .inv .bitsLong)
           (subst (KnowableIn (start .args .tree .now) (start .args .bitfield .now)) (number-at (start .args .t5) (looped .loop .j)) (start .pre .each (looped .loop .j) (tested .loop-test .taken))),
       omega (arith, start .pre .inside .inside, tested .loop-test .taken),

@@ -53,8 +53,7 @@ loop-again : tie.Need-loop-again Inv-loop μ-loop
 loop-again c =
     let at-block-over = c .before in
     let tested = at-block-over .before in
-    let looped = tested .before in
-    let l = looped .loop in
+    let l = tested .before .loop in
     let i = c .node-index in
     filling-next _ _ _ (l .h) (numbers (l .found)) (l .inv) _ (i .result .0) (tested .loop-test .taken)
     (i .ensures ∙ ap (index (l .h + 1)) (at-block-over .block-over .ensures)) (numbers-set (l .found) (l .h) (i .result))

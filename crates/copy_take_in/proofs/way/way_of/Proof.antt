@@ -28,8 +28,7 @@ root-place-requires c κs =
 
 other-indexes-requires : tie.Need-other-indexes-requires
 other-indexes-requires c κs =
-    let start-2 = c .before .before .before .before .before in
-    let start = start-2 in (
+    let start = c .before .before .before .before .before in (
       start .pre .count,
       subst (λ (x : ℕ). x < length (roots (start .args .n))) (sym (c .root-place .ensures)) (place-below (start .args .n) (start .args .chunk .0) (start .pre)),
     )

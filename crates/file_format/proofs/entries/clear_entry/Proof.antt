@@ -7,6 +7,4 @@ returns : tie.Need-returns
 returns c = cc
 
 pub clear-entry-spec : {M : Type 1} → statement M
-clear-entry-spec =
-    tie.close
-    (tie.spec (λ c κs. search needs) (λ c κs. search needs) (λ c. search needs) returns)
+clear-entry-spec = tie.close (tie.spec (λ c κs. search needs) (λ c κs. search needs) (λ c. search needs) returns)

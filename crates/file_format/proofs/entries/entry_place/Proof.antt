@@ -9,6 +9,4 @@ unfolding entryPlace
 returns c = search needs
 
 pub entry-place-spec : {M : Type 1} → statement M
-entry-place-spec =
-    tie.close
-    (tie.spec (λ c. search needs) (λ c. search needs) returns)
+entry-place-spec = tie.close (tie.spec (λ c. search needs) (λ c. search needs) returns)

@@ -9,14 +9,10 @@ use Rattle.file_format.proofs.entries.stored_hash.Tie as tie
 returns : tie.Need-returns
 unfolding storedHash part
 returns c =
-    let at-copy-to = c .before in
-    let at-entry-place = at-copy-to .before .before .before in
-    let start = at-entry-place .before .before in
-    let a = start .args in
-    read-hash (a .tree .now) (at-entry-place .entry-place .ensures) (search needs) (at-copy-to .copy-to .ensures)
+    let at-entry-place = c .before .before .before .before in
+    read-hash (at-entry-place .before .before .args .tree .now) (at-entry-place .entry-place .ensures) (search needs) (c .before .copy-to .ensures)
 
 pub stored-hash-spec : {M : Type 1} → statement M
 stored-hash-spec =
     tie.close
-    (tie.spec (λ c κs. search needs) (λ c. search needs) (λ c. search needs) (λ c. search needs) (λ c. search needs) (λ c. search needs)
-    (λ c κs. search needs) returns)
+    (tie.spec (λ c κs. search needs) (λ c. search needs) (λ c. search needs) (λ c. search needs) (λ c. search needs) (λ c. search needs) (λ c κs. search needs) returns)

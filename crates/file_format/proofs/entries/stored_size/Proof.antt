@@ -9,6 +9,4 @@ unfolding storedSize
 returns c = cc
 
 pub stored-size-spec : {M : Type 1} → statement M
-stored-size-spec =
-    tie.close
-    (tie.spec (λ c κs. search needs) (λ c. search needs) (λ c κs. search needs) returns)
+stored-size-spec = tie.close (tie.spec (λ c κs. search needs) (λ c. search needs) (λ c κs. search needs) returns)

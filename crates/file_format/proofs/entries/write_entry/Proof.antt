@@ -6,16 +6,12 @@ use Rattle.file_format.proofs.entries.write_entry.Tie as tie
 
 returns : tie.Need-returns
 returns c =
-    let at-copy-to2 = c .before .before in
-    let at-be64 = at-copy-to2 .before .before .before in
+    let at-be64 = c .before .before .before .before .before in
     let at-copy-to = at-be64 .before .before .before in
     let at-entry-place = at-copy-to .before .before .before in
-    let start = at-entry-place .before .before in
-    let a = start .args in
-    written-entry (a .tree .now) (a .hash .now) (a .size)
-    (at-entry-place .entry-place .ensures) (search needs)
-    (search needs) (at-copy-to .copy-to .ensures)
-    (at-be64 .be64 .ensures) (at-copy-to2 .copy-to2 .ensures)
+    let a = at-entry-place .before .before .args in
+    written-entry (a .tree .now) (a .hash .now) (a .size) (at-entry-place .entry-place .ensures) (search needs) (search needs) (at-copy-to .copy-to .ensures)
+    (at-be64 .be64 .ensures) (c .before .before .copy-to2 .ensures)
 
 pub write-entry-spec : {M : Type 1} → statement M
 write-entry-spec =

@@ -10,11 +10,9 @@ returns : tie.Need-returns
 returns c =
     let p = c .before .before .before .before in
     let b = p .before .before .before in
-    let start = b .before .before in
-    leaf-prefix (start .args .chunk .now) (b .be64 .ensures) (p .copy-to .ensures) (c .hash-parts .ensures ∙ node-keyless _)
+    leaf-prefix (b .before .before .args .chunk .now) (b .be64 .ensures) (p .copy-to .ensures) (c .hash-parts .ensures ∙ node-keyless _)
 
 pub leaf-hash-spec : {M : Type 1} → statement M
 leaf-hash-spec =
     tie.close
-    (tie.spec (λ c κs. search needs) (λ c. search needs) (λ c. search needs) (λ c κs. search needs) (λ c. search needs) (λ c. search needs)
-    (λ c κs. search needs) returns)
+    (tie.spec (λ c κs. search needs) (λ c. search needs) (λ c. search needs) (λ c κs. search needs) (λ c. search needs) (λ c. search needs) (λ c κs. search needs) returns)

@@ -12,14 +12,12 @@ returns c =
     let s = t .before .before .before .before in
     let f = s .before .before .before .before in
     let b = f .before .before .before in
-    let start = b .before in
-    let a = start .args in
+    let a = b .before .args in
     parent-pieces (a .left .now) (a .right .now) (a .sum) (b .be64 .ensures) (search needs) (search needs) (f .copy-to .ensures)
     (s .copy-to2 .ensures) (t .copy-to3 .ensures) (c .hash-parts .ensures ∙ node-keyless _)
 
 pub parent-hash-spec : {M : Type 1} → statement M
 parent-hash-spec =
     tie.close
-    (tie.spec (λ c κs. search needs) (λ c. search needs) (λ c. search needs) (λ c κs. search needs) (λ c. search needs)
-    (λ c κs. search needs) (λ c. search needs) (λ c κs. search needs) (λ c. search needs) (λ c. search needs) (λ c. search needs)
-    (λ c κs. search needs) returns)
+    (tie.spec (λ c κs. search needs) (λ c. search needs) (λ c. search needs) (λ c κs. search needs) (λ c. search needs) (λ c κs. search needs) (λ c. search needs)
+    (λ c κs. search needs) (λ c. search needs) (λ c. search needs) (λ c. search needs) (λ c κs. search needs) returns)

@@ -11,19 +11,15 @@ use Rattle.file_format.proofs.roots.adds_up.Tie as tie
 sizes-add-up-requires : tie.Need-sizes-add-up-requires
 sizes-add-up-requires c κs =
     let start = c .before .before in
-    subst (λ (i : ℕ). i ≤ 20) (sym (c .stored-roots .ensures .count))
-    (length-roots-le (start .args .n) (start .pre .count))
+    subst (λ (i : ℕ). i ≤ 20) (sym (c .stored-roots .ensures .count)) (length-roots-le (start .args .n) (start .pre .count))
 
 returns : tie.Need-returns
 returns c =
-    let at-stored-roots = c .before in
-    let start = at-stored-roots .before .before in
+    let start = c .before .before .before in
     let a = start .args in
     c .sizes-add-up .ensures ∙ ap (λ (i : ℕ). eqb i (a .size))
-    (total-roots (a .tree .now) (a .n) (at-stored-roots .stored-roots .result .count) (at-stored-roots .stored-roots .ensures .count)
-    (at-stored-roots .stored-roots .result .sizes) (at-stored-roots .stored-roots .ensures .sizes))
+    (total-roots (a .tree .now) (a .n) (c .before .stored-roots .result .count) (c .before .stored-roots .ensures .count)
+    (c .before .stored-roots .result .sizes) (c .before .stored-roots .ensures .sizes))
 
 pub adds-up-spec : {M : Type 1} → statement M
-adds-up-spec =
-    tie.close
-    (tie.spec (λ c κs. search needs) sizes-add-up-requires returns)
+adds-up-spec = tie.close (tie.spec (λ c κs. search needs) sizes-add-up-requires returns)

@@ -6,19 +6,14 @@ use Rattle.file_format.proofs.roots.put_item.Tie as tie
 
 returns : tie.Need-returns
 returns c =
-    let at-copy-to3 = c .before .before in
-    let at-be642 = at-copy-to3 .before .before .before in
-    let at-copy-to2 = at-be642 .before .before .before in
-    let at-be64 = at-copy-to2 .before .before .before in
-    let at-copy-to = at-be64 .before .before .before in
-    let start = at-copy-to .before in
+    let at-be642 = c .before .before .before .before .before in
+    let at-be64 = at-be642 .before .before .before .before .before .before in
+    let start = at-be64 .before .before .before .before in
     let a = start
     .before .before .before .args in (
       written-item (a .message .now) (a .hash .now) (a .index .0) (a .size) (search needs) (search needs)
-          (at-copy-to .copy-to .ensures)
-          (at-be64 .be64 .ensures)
-          (at-copy-to2 .copy-to2 .ensures)
-          (at-be642 .be642 .ensures) (at-copy-to3 .copy-to3 .ensures),
+          (at-be64 .before .before .before .copy-to .ensures) (at-be64 .be64 .ensures) (at-be642 .before .before .before .copy-to2 .ensures)
+          (at-be642 .be642 .ensures) (c .before .before .copy-to3 .ensures),
       search needs,
     )
 

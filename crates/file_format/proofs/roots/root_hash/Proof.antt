@@ -7,18 +7,14 @@ use Rattle.file_format.proofs.ByValue.{front-hashed}
 use Rattle.file_format.proofs.roots.root_hash.Statement.{statement}
 use Rattle.file_format.proofs.roots.root_hash.Tie as tie
 
-part-hash-parts-end : tie.Need-part-hash-parts-end
-part-hash-parts-end c = omega arith
-
 returns : tie.Need-returns
 returns c =
     let m = c .before .before .before .before .before .before in
-    let start = m .before in
-    front-hashed (start .args .roots .count) (m .root-message .result) _ (c .hash-parts .result) (c .hash-parts .ensures ∙ node-keyless _)
+    front-hashed (m .before .args .roots .count) (m .root-message .result) _ (c .hash-parts .result) (c .hash-parts .ensures ∙ node-keyless _)
     (m .root-message .ensures)
 
 pub root-hash-spec : {M : Type 1} → statement M
 root-hash-spec =
     tie.close
     (tie.spec (λ c κs. search needs) (λ c. search needs) (λ c. search needs) (λ c. search needs) (λ c. search needs) (λ c. search needs)
-    (λ c. search needs) part-hash-parts-end (λ c κs. search needs) returns)
+    (λ c. search needs) (λ c. omega arith) (λ c κs. search needs) returns)

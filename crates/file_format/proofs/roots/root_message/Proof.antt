@@ -21,32 +21,30 @@ abbrev μ-loop : tie.MeasureT-loop
 loop-holds : tie.Need-loop-holds Inv-loop μ-loop
 loop-holds c = let a = c .before .before .args in (zero-le, refl, items-none (a .t2) (numbers (a .roots .indexes)) (a .roots .sizes))
 
-put-item-requires : tie.Need-put-item-requires Inv-loop μ-loop
-put-item-requires c κs = omega arith
-
 loop-again : tie.Need-loop-again Inv-loop μ-loop
 loop-again c =
-    let at-put-item = c .before in
-    let looped = at-put-item .before .before .before .before .before .before in
+    let looped = c .before .before .before .before .before .before .before in
     let start = looped .before .before .before in
-    let a = start .args in let j = looped .loop .j in let l : j < 20 = omega arith in (
+    let a = start .args in
+    let j = looped .loop .j in
+    let l : j < 20 = omega arith in (
       omega arith,
-      at-put-item .put-item .kept .0 ∙ looped .loop .inv .1,
+      c .before .put-item .kept .0 ∙ looped .loop .inv .1,
       items-next (a .t2) (numbers (a .roots .indexes)) (a .roots .sizes) j (looped .loop .message)
-          (at-put-item .put-item .last .0) l (at-put-item .put-item .ensures .1) (looped .loop .inv .2)
-          (at-put-item .put-item .ensures .0 ∙ ap (λ (i : ℕ). put (looped .loop .message) (1 + 48 * j) (rootItem (getD (a .t2) j []) i (getD (a .roots .sizes) j 0)))
+          (c .before .put-item .last .0) l (c .before .put-item .ensures .1) (looped .loop .inv .2)
+          (c .before .put-item .ensures .0 ∙ ap (λ (i : ℕ). put (looped .loop .message) (1 + 48 * j) (rootItem (getD (a .t2) j []) i (getD (a .roots .sizes) j 0)))
           (sym (number-at (a .roots .indexes) j))),
     )
 
 returns : tie.Need-returns Inv-loop μ-loop
 returns c =
-    let looped = c .before in
-    let start = looped .before .before .before in
-    let a = start .args in items-end (a .t2) (numbers (a .roots .indexes)) (a .roots .sizes) (looped .loop .j) (a .roots .count) (looped .loop .message)
-    (looped .loop .inv .0) (c .loop-test .left) (looped .loop .inv .2)
+    let start = c .before .before .before .before in
+    let a = start .args in
+    items-end (a .t2) (numbers (a .roots .indexes)) (a .roots .sizes) (c .before .loop .j) (a .roots .count) (c .before .loop .message)
+    (c .before .loop .inv .0) (c .loop-test .left) (c .before .loop .inv .2)
 
 pub root-message-spec : {M : Type 1} → statement M
 root-message-spec =
     tie.close
     (tie.spec Inv-loop μ-loop loop-holds (λ c. search needs) (λ c. search needs) (λ c. search needs) (λ c. search needs) (λ c. search needs) (λ c. search needs) (λ c. search needs)
-    (λ c. search needs) (λ c. search needs) put-item-requires (λ c. search needs) (λ c. search needs) loop-again returns)
+    (λ c. search needs) (λ c. search needs) (λ c κs. omega arith) (λ c. search needs) (λ c. search needs) loop-again returns)

@@ -21,36 +21,29 @@ loop-holds c = omega arith
 
 returns : tie.Need-returns Inv-loop μ-loop
 returns c =
-    let tested = c .before in
-    let looped = tested .before in
-    let start = looped .before .before in
-    let a = start .args in
+    let looped = c .before .before in
+    let a = looped .before .before .args in
     let j = looped .loop .j in
     let l : j < 20 = omega arith in
-    too-much (a .roots .sizes) j (a .roots .count) (looped .loop .left) (a .size) (tested .loop-test .taken) (search needs)
-    (looped .loop .inv .1) (c .if1 .taken)
+    too-much (a .roots .sizes) j (a .roots .count) (looped .loop .left) (a .size) (c .before .loop-test .taken) (search needs) (looped .loop .inv .1) (c .if1 .taken)
 
 loop-again : tie.Need-loop-again Inv-loop μ-loop
 loop-again c =
-    let looped = c .before .before in
-    let start = looped .before .before in
-    let a = start .args in
-    let j = looped .loop .j in
+    let start = c .before .before .before .before in
+    let j = c .before .before .loop .j in
     let l : j < 20 = omega arith in
-    let m : j < length (a .roots .sizes) = search needs in
-    omega (arith, total-next (a .roots .sizes) j m)
+    let m : j < length (start .args .roots .sizes) = search needs in
+    omega (arith, total-next (start .args .roots .sizes) j m)
 
 returns-2 : tie.Need-returns-2 Inv-loop μ-loop
 returns-2 c =
-    let looped = c .before in
-    let start = looped .before .before in
+    let start = c .before .before .before in
     let a = start .args in
-    let e : looped .loop .j ≡ a .roots .count = omega arith in
-    none-left (total (take (a .roots .count) (a .roots .sizes))) (looped .loop .left) (a .size)
-    (ap (λ (i : ℕ). total (take i (a .roots .sizes)) + looped .loop .left) (sym e) ∙ looped .loop .inv .1)
+    let e : c .before .loop .j ≡ a .roots .count = omega arith in
+    none-left (total (take (a .roots .count) (a .roots .sizes))) (c .before .loop .left) (a .size)
+    (ap (λ (i : ℕ). total (take i (a .roots .sizes)) + c .before .loop .left) (sym e) ∙ c .before .loop .inv .1)
 
 pub sizes-add-up-spec : {M : Type 1} → statement M
 sizes-add-up-spec =
     tie.close
-    (tie.spec Inv-loop μ-loop loop-holds (λ c. search needs) (λ c. search needs) returns (λ c. search needs) (λ c. search needs) loop-again
-    returns-2)
+    (tie.spec Inv-loop μ-loop loop-holds (λ c. search needs) (λ c. search needs) returns (λ c. search needs) (λ c. search needs) loop-again returns-2)

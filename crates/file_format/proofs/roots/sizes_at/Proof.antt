@@ -22,20 +22,16 @@ loop-holds c = filling-none _ _ _ (c .before .pre .few)
 
 stored-size-requires : tie.Need-stored-size-requires Inv-loop μ-loop
 stored-size-requires c κs =
-    let tested = c .before in
-    let looped = tested .before in
-    let start = looped .before .before in
-    let j = looped .loop .j in
-    subst (EntryIn (start .args .tree .now)) (number-at (start .args .t2) j) (start .pre .each j (tested .loop-test .taken))
+    let start = c .before .before .before .before in
+    let j = c .before .before .loop .j in
+    subst (EntryIn (start .args .tree .now)) (number-at (start .args .t2) j) (start .pre .each j (c .before .loop-test .taken))
 
 loop-again : tie.Need-loop-again Inv-loop μ-loop
 loop-again c =
-    let tested = c .before .before in
-    let looped = tested .before in
-    let start = looped .before .before in
-    let a = start .args in
+    let looped = c .before .before .before in
+    let a = looped .before .before .args in
     let l = looped .loop in
-    filling-next _ _ _ (l .j) (l .sizes) (l .inv) _ (c .stored-size .result) (tested .loop-test .taken)
+    filling-next _ _ _ (l .j) (l .sizes) (l .inv) _ (c .stored-size .result) (c .before .before .loop-test .taken)
     (c .stored-size .ensures ∙ ap (storedSize (a .tree .now)) (sym (number-at (a .t2) (l .j)))) refl
 
 returns : tie.Need-returns Inv-loop μ-loop

@@ -11,25 +11,19 @@ use Rattle.file_format.proofs.roots.stored_root_hash.Tie as tie
 
 root-hash-requires : tie.Need-root-hash-requires
 root-hash-requires c κs =
-    let at-stored-roots = c .before in
-    let start = at-stored-roots .before .before in
-    subst (λ (i : ℕ). i ≤ 20) (sym (at-stored-roots .stored-roots .ensures .count))
-    (length-roots-le (start .args .n) (start .pre .count))
+    let start = c .before .before .before in
+    subst (λ (i : ℕ). i ≤ 20) (sym (c .before .stored-roots .ensures .count)) (length-roots-le (start .args .n) (start .pre .count))
 
 returns : tie.Need-returns
 returns c =
-    let at-stored-root-hashes = c .before in
-    let at-stored-roots = at-stored-root-hashes .before in
-    let start = at-stored-roots .before .before in
-    let a = start .args in
+    let at-stored-roots = c .before .before in
+    let a = at-stored-roots .before .before .args in
     c .root-hash .ensures ∙ ap nodeHash
     (items-roots (a .tree .now) (numbers (at-stored-roots .stored-roots .result .indexes)) (a .n)
     (at-stored-roots .stored-roots .result .count) (at-stored-roots .stored-roots .ensures .count)
     (from-padded (numbers (at-stored-roots .stored-roots .result .indexes)) (a .n) (at-stored-roots .stored-roots .ensures .indexes))
-    (at-stored-root-hashes .stored-root-hashes .result) (at-stored-roots .stored-roots .result .sizes) (at-stored-root-hashes .stored-root-hashes .ensures)
+    (c .before .stored-root-hashes .result) (at-stored-roots .stored-roots .result .sizes) (c .before .stored-root-hashes .ensures)
     (at-stored-roots .stored-roots .ensures .sizes))
 
 pub stored-root-hash-spec : {M : Type 1} → statement M
-stored-root-hash-spec =
-    tie.close
-    (tie.spec (λ c κs. search needs) (λ c κs. search needs) root-hash-requires returns)
+stored-root-hash-spec = tie.close (tie.spec (λ c κs. search needs) (λ c κs. search needs) root-hash-requires returns)

@@ -10,6 +10,4 @@ unfolding usedBitfield entryCount
 returns c = search needs
 
 pub used-bitfield-spec : {M : Type 1} → statement M
-used-bitfield-spec =
-    tie.close
-    (tie.spec (λ c. search needs) (λ c. search needs) (λ c. search needs) returns)
+used-bitfield-spec = tie.close (tie.spec (λ c. search needs) (λ c. search needs) (λ c. search needs) returns)

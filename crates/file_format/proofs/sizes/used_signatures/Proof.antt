@@ -9,6 +9,4 @@ unfolding usedSignatures
 returns c = search needs
 
 pub used-signatures-spec : {M : Type 1} → statement M
-used-signatures-spec =
-    tie.close
-    (tie.spec (λ c. search needs) (λ c. search needs) returns)
+used-signatures-spec = tie.close (tie.spec (λ c. search needs) (λ c. search needs) returns)

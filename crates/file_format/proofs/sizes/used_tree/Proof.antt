@@ -15,6 +15,4 @@ unfolding usedTree entries
 returns-2 c = omega arith
 
 pub used-tree-spec : {M : Type 1} → statement M
-used-tree-spec =
-    tie.close
-    (tie.spec returns (λ c. search needs) (λ c. search needs) (λ c. search needs) (λ c. search needs) returns-2)
+used-tree-spec = tie.close (tie.spec returns (λ c. search needs) (λ c. search needs) (λ c. search needs) (λ c. search needs) returns-2)

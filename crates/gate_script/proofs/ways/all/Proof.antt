@@ -5,10 +5,10 @@ use Rattle.gate_script.proofs.ways.all.Statement.{statement}
 use Rattle.gate_script.proofs.ways.all.Tie as tie
 
 abbrev Inv-loop : tie.InvT-loop
-Inv-loop tree signatures bitfield «data» line told first count j₀ j = Unit {0}
+Inv-loop t g b d line told first count j₀ j = Unit {0}
 
 abbrev μ-loop : tie.MeasureT-loop
-μ-loop tree signatures bitfield «data» line told first count j₀ j = count - j
+μ-loop t g b d line told first count j₀ j = count - j
 
 pub all-spec : {M : Type 1} → statement M
 all-spec =

@@ -33,15 +33,4 @@ returns-5 : tie.Need-returns-5
 returns-5 c = ends _ _ _ _ _ (end-once _ _ _ (omega arith) (omega arith)) (omega arith)
 
 pub bytes-end-spec : {M : Type 1} → statement M
-bytes-end-spec =
-    tie.close
-    (tie.spec
-    returns
-    sub-if2
-    returns-2
-    add-middle
-    sub-if4
-    returns-3
-    add-result
-    returns-4
-    returns-5)
+bytes-end-spec = tie.close (tie.spec returns sub-if2 returns-2 add-middle sub-if4 returns-3 add-result returns-4 returns-5)

@@ -33,14 +33,4 @@ returns-2 : tie.Need-returns-2
 returns-2 c = new-once _ _ (c .if1 .left)
 
 pub new-place-spec : {M : Type 1} → statement M
-new-place-spec =
-    tie.close
-    (tie.spec
-    add-from
-    add-if1
-    shared-slice-read-if1
-    add-read-be64
-    read-be64-requires
-    add-result
-    returns
-    returns-2)
+new-place-spec = tie.close (tie.spec add-from add-if1 shared-slice-read-if1 add-read-be64 read-be64-requires add-result returns returns-2)

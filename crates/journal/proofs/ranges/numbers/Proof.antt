@@ -39,21 +39,10 @@ returns c =
     let at-read-be642 = c .before in
     let at-read-be64 = at-read-be642 .before in
     let at-wide2 = at-read-be64 .before in
-    let at-wide = at-wide2 .before .before in
-    five-said _ _ _ _ _ _ _ (at-wide .wide .ensures) (at-wide2 .wide2 .ensures) (at-read-be64 .read-be64 .ensures) (at-read-be642 .read-be642 .ensures) (c .new-place .ensures)
+    five-said _ _ _ _ _ _ _ (at-wide2 .before .before .wide .ensures) (at-wide2 .wide2 .ensures) (at-read-be64 .read-be64 .ensures) (at-read-be642 .read-be642 .ensures) (c .new-place .ensures)
 
 pub numbers-spec : {M : Type 1} → statement M
 numbers-spec =
     tie.close
-    (tie.spec
-    shared-slice-read-wide
-    wide-requires
-    add-wide
-    shared-slice-read-wide-2
-    wide-requires-2
-    add-read-be64
-    read-be64-requires
-    add-read-be64-2
-    read-be64-requires-2
-    new-place-requires
-    returns)
+    (tie.spec shared-slice-read-wide wide-requires add-wide shared-slice-read-wide-2 wide-requires-2 add-read-be64 read-be64-requires add-read-be64-2 read-be64-requires-2
+    new-place-requires returns)

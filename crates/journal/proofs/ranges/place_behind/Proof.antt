@@ -47,16 +47,5 @@ returns-5 c =
 pub place-behind-spec : {M : Type 1} → statement M
 place-behind-spec =
     tie.close
-    (tie.spec
-    returns
-    returns-2
-    add-wide
-    shared-slice-read-wide
-    wide-requires
-    returns-3
-    returns-4
-    add-read-be64
-    read-be64-requires
-    add-bytes-end
-    bytes-end-requires
+    (tie.spec returns returns-2 add-wide shared-slice-read-wide wide-requires returns-3 returns-4 add-read-be64 read-be64-requires add-bytes-end bytes-end-requires
     returns-5)

@@ -22,14 +22,12 @@ returns-2 : tie.Need-returns-2
 returns-2 c =
     let at-begins = c .before in
     let branch1 = at-begins .before in
-    let at-length-right = branch1 .before in
-    read-first _ _ (sym (at-length-right .length-right .ensures) ∙ not-false _ (branch1 .if1 .left)) (sym (at-begins .begins .ensures) ∙ not-true _ (c .if2 .taken))
+    read-first _ _ (sym (branch1 .before .length-right .ensures) ∙ not-false _ (branch1 .if1 .left)) (sym (at-begins .begins .ensures) ∙ not-true _ (c .if2 .taken))
 
 read-be64-requires : tie.Need-read-be64-requires
 read-be64-requires c κs =
     let branch1 = c .before .before in
-    let at-length-right = branch1 .before in
-    let h = right-least _ (sym (at-length-right .length-right .ensures) ∙ not-false _ (branch1 .if1 .left)) in search needs
+    let h = right-least _ (sym (branch1 .before .length-right .ensures) ∙ not-false _ (branch1 .if1 .left)) in search needs
 
 returns-3 : tie.Need-returns-3
 returns-3 c =
@@ -37,21 +35,18 @@ returns-3 c =
     let branch2 = at-read-be64 .before in
     let at-begins = branch2 .before in
     let branch1 = at-begins .before in
-    let at-length-right = branch1 .before in
-    read-own _ _ (sym (at-length-right .length-right .ensures) ∙ not-false _ (branch1 .if1 .left)) (sym (at-begins .begins .ensures) ∙ not-false _ (branch2 .if2 .left))
+    read-own _ _ (sym (branch1 .before .length-right .ensures) ∙ not-false _ (branch1 .if1 .left)) (sym (at-begins .begins .ensures) ∙ not-false _ (branch2 .if2 .left))
     (ne-eqb _ _ (λ e. c .if3 .taken (at-read-be64 .read-be64 .ensures ∙ e)))
 
 sub-end : tie.Need-sub-end
 sub-end c =
     let branch1 = c .before .before .before .before in
-    let at-length-right = branch1 .before in
-    let h = right-least _ (sym (at-length-right .length-right .ensures) ∙ not-false _ (branch1 .if1 .left)) in search needs
+    let h = right-least _ (sym (branch1 .before .length-right .ensures) ∙ not-false _ (branch1 .if1 .left)) in search needs
 
 judge-table-requires : tie.Need-judge-table-requires
 judge-table-requires c κs =
     let branch1 = c .before .before .before .before in
-    let at-length-right = branch1 .before in
-    let h = right-least _ (sym (at-length-right .length-right .ensures) ∙ not-false _ (branch1 .if1 .left)) in search needs
+    let h = right-least _ (sym (branch1 .before .length-right .ensures) ∙ not-false _ (branch1 .if1 .left)) in search needs
 
 is-done-requires : tie.Need-is-done-requires
 is-done-requires c κs = search needs
@@ -65,8 +60,7 @@ returns-4 c =
     let branch2 = at-read-be64 .before in
     let at-begins = branch2 .before in
     let branch1 = at-begins .before in
-    let at-length-right = branch1 .before in
-    read-table _ _ (sym (at-length-right .length-right .ensures) ∙ not-false _ (branch1 .if1 .left)) (sym (at-begins .begins .ensures) ∙ not-false _ (branch2 .if2 .left))
+    read-table _ _ (sym (branch1 .before .length-right .ensures) ∙ not-false _ (branch1 .if1 .left)) (sym (at-begins .begins .ensures) ∙ not-false _ (branch2 .if2 .left))
     (eq-eqb _ _ (sym (at-read-be64 .read-be64 .ensures) ∙ branch3 .if3 .left)) _ (at-judge-table .judge-table .ensures) (sym (at-is-done .is-done .ensures) ∙ not-true _ (c .if4 .taken))
 
 slice-aggregate-hash-parts : tie.Need-slice-aggregate-hash-parts
@@ -115,8 +109,7 @@ returns-5 c =
     let at-begins = branch2 .before in
     let branch1 = at-begins .before in
     let at-length-right = branch1 .before in
-    let start = at-length-right .before .before in
-    let j = start .args .journal .now in
+    let j = at-length-right .before .before .args .journal .now in
     read-done _ _ (sym (at-length-right .length-right .ensures) ∙ not-false _
     (branch1 .if1 .left))
     (sym (at-begins .begins .ensures) ∙ not-false _ (branch2 .if2 .left))
@@ -137,8 +130,7 @@ returns-6 c =
     let at-begins = branch2 .before in
     let branch1 = at-begins .before in
     let at-length-right = branch1 .before in
-    let start = at-length-right .before .before in
-    let j = start .args .journal .now in
+    let j = at-length-right .before .before .args .journal .now in
     read-hash _ _ (sym (at-length-right .length-right .ensures) ∙ not-false _
     (branch1 .if1 .left))
     (sym (at-begins .begins .ensures) ∙ not-false _ (branch2 .if2 .left))
@@ -149,27 +141,6 @@ returns-6 c =
 pub check-spec : {M : Type 1} → statement M
 check-spec =
     tie.close
-    (tie.spec
-    length-right-requires
-    returns
-    begins-requires
-    returns-2
-    read-be64-requires
-    returns-3
-    sub-end
-    judge-table-requires
-    is-done-requires
-    returns-4
-    slice-aggregate-hash-parts
-    slice-aggregate-hash-parts-2
-    sub-hash-parts
-    part-hash-parts-start
-    part-hash-parts-end
-    hash-parts-requires
-    slice-aggregate-same
-    sub-same
-    part-same-start
-    part-same-end
-    same-requires
-    returns-5
-    returns-6)
+    (tie.spec length-right-requires returns begins-requires returns-2 read-be64-requires returns-3 sub-end judge-table-requires is-done-requires returns-4
+    slice-aggregate-hash-parts slice-aggregate-hash-parts-2 sub-hash-parts part-hash-parts-start part-hash-parts-end hash-parts-requires slice-aggregate-same sub-same
+    part-same-start part-same-end same-requires returns-5 returns-6)

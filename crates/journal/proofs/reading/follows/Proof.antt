@@ -77,23 +77,6 @@ returns-4 c =
 pub follows-spec : {M : Type 1} → statement M
 follows-spec =
     tie.close
-    (tie.spec
-    shared-slice-read-wide
-    wide-requires
-    returns
-    returns-2
-    add-read-be64
-    read-be64-requires
-    returns-3
-    add-wide
-    shared-slice-read-wide-2
-    wide-requires-2
-    add-read-be64-2
-    read-be64-requires-2
-    old-length-requires
-    new-length-requires
-    reach-of-requires
-    mul-numbers-right
-    element-copy-out-numbers-right
-    numbers-right-requires
+    (tie.spec shared-slice-read-wide wide-requires returns returns-2 add-read-be64 read-be64-requires returns-3 add-wide shared-slice-read-wide-2 wide-requires-2
+    add-read-be64-2 read-be64-requires-2 old-length-requires new-length-requires reach-of-requires mul-numbers-right element-copy-out-numbers-right numbers-right-requires
     returns-4)

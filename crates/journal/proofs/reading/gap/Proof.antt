@@ -53,17 +53,4 @@ returns-2 : tie.Need-returns-2 Inv-loop μ-loop
 returns-2 c = sym (c .before .loop .inv .1 ∙ lowest-end _ _ _ (omega arith))
 
 pub gap-spec : {M : Type 1} → statement M
-gap-spec =
-    tie.close
-    (tie.spec
-    Inv-loop
-    μ-loop
-    loop-holds
-    mul-if1
-    element-copy-out-if1
-    new-length-requires
-    returns
-    add-i
-    loop-less
-    loop-again
-    returns-2)
+gap-spec = tie.close (tie.spec Inv-loop μ-loop loop-holds mul-if1 element-copy-out-if1 new-length-requires returns add-i loop-less loop-again returns-2)

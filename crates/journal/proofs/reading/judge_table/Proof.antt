@@ -19,16 +19,12 @@ walk-requires c κs = search needs
 returns : tie.Need-returns
 returns c =
     let at-i = c .before in
-    let at-wrong-state = at-i .before .before in
-    state-at _ _ _ _ (at-i .i .given .1) (at-wrong-state .wrong-state .ensures)
+    state-at _ _ _ _ (at-i .i .given .1) (at-i .before .before .wrong-state .ensures)
 
 returns-2 : tie.Need-returns-2
 returns-2 c =
     let at-enum-told = c .before in
-    let at-wrong-state = at-enum-told .before .before in
-    state-none _ _ _ _ (at-enum-told .enum-told .given .1) (at-wrong-state .wrong-state .ensures) (c .walk .ensures)
+    state-none _ _ _ _ (at-enum-told .enum-told .given .1) (at-enum-told .before .before .wrong-state .ensures) (c .walk .ensures)
 
 pub judge-table-spec : {M : Type 1} → statement M
-judge-table-spec =
-    tie.close
-    (tie.spec wrong-state-requires enum-known-i enum-told walk-requires returns returns-2)
+judge-table-spec = tie.close (tie.spec wrong-state-requires enum-known-i enum-told walk-requires returns returns-2)

@@ -14,8 +14,7 @@ length-right-requires c κs = search needs
 returns : tie.Need-returns
 returns c =
     let at-length-right = c .before in
-    let start = at-length-right .before .before in
-    let e = next-length _ (start .args .at) (sym (at-length-right .length-right .ensures) ∙ not-true _ (c .if1 .taken)) in
+    let e = next-length _ (at-length-right .before .before .args .at) (sym (at-length-right .length-right .ensures) ∙ not-true _ (c .if1 .taken)) in
     (e, refused-kept _ _ _ _ refl e)
 
 sub-place-behind : tie.Need-sub-place-behind
@@ -28,8 +27,7 @@ returns-2 : tie.Need-returns-2
 returns-2 c =
     let at-place-behind = c .before in
     let branch1 = at-place-behind .before in
-    let at-length-right = branch1 .before in
-    let e = next-none _ _ (sym (at-length-right .length-right .ensures) ∙ not-false _ (branch1 .if1 .left)) (behind-none _ _ _ _ (at-place-behind .place-behind .ensures) (c .if2 .taken)) in
+    let e = next-none _ _ (sym (branch1 .before .length-right .ensures) ∙ not-false _ (branch1 .if1 .left)) (behind-none _ _ _ _ (at-place-behind .place-behind .ensures) (c .if2 .taken)) in
     (e, refused-kept _ _ _ _ refl e)
 
 numbers-requires : tie.Need-numbers-requires
@@ -45,19 +43,9 @@ returns-3 c =
     let branch2 = c .before in
     let at-place-behind = branch2 .before in
     let branch1 = at-place-behind .before in
-    let at-length-right = branch1 .before in
     let w = behind-some _ _ _ _ (at-place-behind .place-behind .ensures) (branch2 .if2 .left) in
-    let e = next-some _ _ _ (sym (at-length-right .length-right .ensures) ∙ not-false _ (branch1 .if1 .left)) (w .is) (w .place) in
+    let e = next-some _ _ _ (sym (branch1 .before .length-right .ensures) ∙ not-false _ (branch1 .if1 .left)) (w .is) (w .place) in
     (e, c .numbers .ensures ∙ done-written _ _ _ _ refl e)
 
 pub next-spec : {M : Type 1} → statement M
-next-spec =
-    tie.close
-    (tie.spec
-    length-right-requires
-    returns
-    sub-place-behind
-    place-behind-requires
-    returns-2
-    numbers-requires
-    returns-3)
+next-spec = tie.close (tie.spec length-right-requires returns sub-place-behind place-behind-requires returns-2 numbers-requires returns-3)

@@ -27,5 +27,4 @@ returns-6 : tie.Need-returns-6
 returns-6 c = kept-old _ _ _ _ _ _ _ (omega arith) (omega arith) (omega arith) (omega arith)
 
 pub numbers-right-spec : {M : Type 1} → statement M
-numbers-right-spec =
-    tie.close (tie.spec returns returns-2 returns-3 returns-4 returns-5 add-result returns-6)
+numbers-right-spec = tie.close (tie.spec returns returns-2 returns-3 returns-4 returns-5 add-result returns-6)

@@ -31,14 +31,4 @@ returns-5 : tie.Need-returns-5
 returns-5 c = of-data _ _ _ (omega arith) (omega arith) (omega arith) (omega arith) refl
 
 pub right-length-spec : {M : Type 1} → statement M
-right-length-spec =
-    tie.close
-    (tie.spec
-    returns
-    is-tree-requires
-    returns-2
-    is-signatures-requires
-    returns-3
-    is-bitfield-requires
-    returns-4
-    returns-5)
+right-length-spec = tie.close (tie.spec returns is-tree-requires returns-2 is-signatures-requires returns-3 is-bitfield-requires returns-4 returns-5)

@@ -21,5 +21,4 @@ returns-3 : tie.Need-returns-3
 returns-3 c = there _ _ _ _ (omega arith) (omega arith) (c .right-length .ensures)
 
 pub states-right-spec : {M : Type 1} → statement M
-states-right-spec =
-    tie.close (tie.spec returns returns-2 sub-right-length right-length-requires returns-3)
+states-right-spec = tie.close (tie.spec returns returns-2 sub-right-length right-length-requires returns-3)

@@ -46,8 +46,7 @@ follows-requires c κs =
     let at-place-behind = branch1 .before in
     let l = at-place-behind .before .before in
     let g = l .before .before .before in
-    let j = g .args .journal .now in
-    let w = behind-some j (g .args .end) (l .loop .at) _ (at-place-behind .place-behind .ensures) (branch1 .if1 .left) in
+    let w = behind-some (g .args .journal .now) (g .args .end) (l .loop .at) _ (at-place-behind .place-behind .ensures) (branch1 .if1 .left) in
     search needs
 
 returns-2 : tie.Need-returns-2 Inv-loop μ-loop
@@ -68,8 +67,7 @@ shared-slice-read-wide c =
     let at-place-behind = branch1 .before in
     let l = at-place-behind .before .before in
     let g = l .before .before .before in
-    let j = g .args .journal .now in
-    let w = behind-some j (g .args .end) (l .loop .at) _ (at-place-behind .place-behind .ensures) (branch1 .if1 .left) in
+    let w = behind-some (g .args .journal .now) (g .args .end) (l .loop .at) _ (at-place-behind .place-behind .ensures) (branch1 .if1 .left) in
     search needs
 
 wide-requires : tie.Need-wide-requires Inv-loop μ-loop
@@ -81,8 +79,7 @@ add-read-be64 c =
     let at-place-behind = branch1 .before in
     let l = at-place-behind .before .before in
     let g = l .before .before .before in
-    let j = g .args .journal .now in
-    let w = behind-some j (g .args .end) (l .loop .at) _ (at-place-behind .place-behind .ensures) (branch1 .if1 .left) in
+    let w = behind-some (g .args .journal .now) (g .args .end) (l .loop .at) _ (at-place-behind .place-behind .ensures) (branch1 .if1 .left) in
     search needs
 
 read-be64-requires : tie.Need-read-be64-requires Inv-loop μ-loop
@@ -91,8 +88,7 @@ read-be64-requires c κs =
     let at-place-behind = branch1 .before in
     let l = at-place-behind .before .before in
     let g = l .before .before .before in
-    let j = g .args .journal .now in
-    let w = behind-some j (g .args .end) (l .loop .at) _ (at-place-behind .place-behind .ensures) (branch1 .if1 .left) in
+    let w = behind-some (g .args .journal .now) (g .args .end) (l .loop .at) _ (at-place-behind .place-behind .ensures) (branch1 .if1 .left) in
     search needs
 
 add-read-be64-2 : tie.Need-add-read-be64-2 Inv-loop μ-loop
@@ -101,8 +97,7 @@ add-read-be64-2 c =
     let at-place-behind = branch1 .before in
     let l = at-place-behind .before .before in
     let g = l .before .before .before in
-    let j = g .args .journal .now in
-    let w = behind-some j (g .args .end) (l .loop .at) _ (at-place-behind .place-behind .ensures)
+    let w = behind-some (g .args .journal .now) (g .args .end) (l .loop .at) _ (at-place-behind .place-behind .ensures)
     (branch1 .if1 .left) in
     search needs
 
@@ -112,8 +107,7 @@ read-be64-requires-2 c κs =
     let at-place-behind = branch1 .before in
     let l = at-place-behind .before .before in
     let g = l .before .before .before in
-    let j = g .args .journal .now in
-    let w = behind-some j (g .args .end) (l .loop .at) _ (at-place-behind .place-behind .ensures)
+    let w = behind-some (g .args .journal .now) (g .args .end) (l .loop .at) _ (at-place-behind .place-behind .ensures)
     (branch1 .if1 .left) in
     search needs
 
@@ -219,8 +213,7 @@ loop-less c =
     let at-place-behind = branch1 .before in
     let l = at-place-behind .before .before in
     let g = l .before .before .before in
-    let j = g .args .journal .now in
-    let w = behind-some j (g .args .end) (l .loop .at) _ (at-place-behind .place-behind .ensures)
+    let w = behind-some (g .args .journal .now) (g .args .end) (l .loop .at) _ (at-place-behind .place-behind .ensures)
     (branch1 .if1 .left) in
     search needs
 
@@ -279,31 +272,6 @@ returns-4 c =
 pub walk-spec : {M : Type 1} → statement M
 walk-spec =
     tie.close
-    (tie.spec
-    Inv-loop
-    μ-loop
-    old-lengths-requires
-    loop-holds
-    place-behind-requires
-    returns
-    follows-requires
-    returns-2
-    shared-slice-read-wide
-    wide-requires
-    add-read-be64
-    read-be64-requires
-    add-read-be64-2
-    read-be64-requires-2
-    add-reach
-    mul-larger
-    array-read-larger
-    larger-requires
-    mul-covered
-    array-write-covered
-    loop-less
-    loop-again
-    gap-requires
-    enum-known-i
-    enum-told
-    returns-3
-    returns-4)
+    (tie.spec Inv-loop μ-loop old-lengths-requires loop-holds place-behind-requires returns follows-requires returns-2 shared-slice-read-wide wide-requires add-read-be64
+    read-be64-requires add-read-be64-2 read-be64-requires-2 add-reach mul-larger array-read-larger larger-requires mul-covered array-write-covered loop-less loop-again
+    gap-requires enum-known-i enum-told returns-3 returns-4)

@@ -48,8 +48,7 @@ returns c =
     let at-read-be642 = at-states-right .before in
     let at-read-be64 = at-read-be642 .before in
     let l = at-read-be64 .before .before in
-    let start = l .before .before in
-    let j = start .args .journal .now in
+    let j = l .before .before .args .journal .now in
     let right = state-said j (l .loop .i) _ _ _ false (at-read-be64 .read-be64 .ensures) (at-read-be642 .read-be642 .ensures) (at-states-right .states-right .ensures) (not-true _ (c .if1 .taken)) in
     sym (l .loop .inv .1 ∙ lowest-off (stateRight j) (l .loop .i) 10 (omega arith) right)
 
@@ -65,8 +64,7 @@ loop-again c =
     let at-read-be642 = at-states-right .before in
     let at-read-be64 = at-read-be642 .before in
     let l = at-read-be64 .before .before in
-    let start = l .before .before in
-    let j = start .args .journal .now in
+    let j = l .before .before .args .journal .now in
     let right = state-said j (l .loop .i) _ _ _ true (at-read-be64 .read-be64 .ensures) (at-read-be642 .read-be642 .ensures) (at-states-right .states-right .ensures) (not-false _ (c .if1 .left)) in
     (omega arith, l .loop .inv .1 ∙ lowest-on (stateRight j) (l .loop .i) 10 (omega arith) right)
 
@@ -76,19 +74,5 @@ returns-2 c = sym (c .before .loop .inv .1 ∙ lowest-end _ _ _ (omega arith))
 pub wrong-state-spec : {M : Type 1} → statement M
 wrong-state-spec =
     tie.close
-    (tie.spec
-    Inv-loop
-    μ-loop
-    loop-holds
-    mul-read-be64
-    add-read-be64
-    read-be64-requires
-    mul-read-be64-2
-    add-read-be64-2
-    read-be64-requires-2
-    states-right-requires
-    returns
-    add-i
-    loop-less
-    loop-again
-    returns-2)
+    (tie.spec Inv-loop μ-loop loop-holds mul-read-be64 add-read-be64 read-be64-requires mul-read-be64-2 add-read-be64-2 read-be64-requires-2 states-right-requires returns
+    add-i loop-less loop-again returns-2)

@@ -25,12 +25,11 @@ read-chunks-requires c κs =
     let at-start = c .before .before .before .before .before .before .before .before .before .before in
     let branch2 = at-start .before .before .before .before .before in
     let branch1 = branch2 .before .before in
-    let start = branch1 .before .before .before .before .before .before in
-    let s = start in (
+    let s = branch1 .before .before .before .before .before .before in
+    let a = s .args in (
       branch1 .if1 .left,
       omega (arith, branch2 .if2 .left),
-      left-started (s .args .tree .now) (s .args .signatures .now) (s .args .bitfield .now) (s .args .content .now) (s .pre) _ _ _ _ _
-          (at-start .start .ensures),
+      left-started (a .tree .now) (a .signatures .now) (a .bitfield .now) (a .content .now) (s .pre) _ _ _ _ _ (at-start .start .ensures),
     )
 
 returns-3 : tie.Need-returns-3

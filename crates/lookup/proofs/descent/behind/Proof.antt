@@ -19,14 +19,12 @@ sub-t6 : tie.Need-sub-t6
 sub-t6 c =
     let at-sought2 = c .before .before in
     let s = at-sought2 .before .before in
-    let k = at-sought2 .sought2 .given in
-    subst (λ (q : Sought). Passed q (s .args .size)) (k .1) (s .pre)
+    subst (λ (q : Sought). Passed q (s .args .size)) (at-sought2 .sought2 .given .1) (s .pre)
 
 returns : tie.Need-returns
 returns c d k s z =
     let at-sought = c .before in
-    let start = at-sought .before .before in
-    let a = start .args in
+    let a = at-sought .before .before .args in
     let g = at-sought .sought .given in
     behind-chunk (g .0 .0) (a .size) d k s z ∙ sym (ap (λ (q : Sought). withinOf q d k (a .size + s) z) (g .1))
 

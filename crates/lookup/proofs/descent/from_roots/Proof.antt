@@ -24,8 +24,7 @@ abbrev μ-loop : tie.MeasureT-loop
 among : (l : tie.In-loop Inv-loop μ-loop) → l .before .loop .j < length (roots (l .before .before .before .before .before .before .args .n))
 among l =
     let looped = l .before in
-    let at-root-count = looped .before .before in
-    subst (λ (x : ℕ). looped .loop .j < x) (at-root-count .root-count .ensures) (l .loop-test .taken)
+    subst (λ (x : ℕ). looped .loop .j < x) (looped .before .before .root-count .ensures) (l .loop-test .taken)
 
 root : (l : tie.In-loop Inv-loop μ-loop)
     → getD (l .before .before .root-indexes .result) (l .before .loop .j) (record { 0 = 0 }) .0 ≡ getD (roots (l .before .before .before .before .before .before .args .n)) (l .before .loop .j) 0
@@ -51,14 +50,14 @@ loop-holds c =
 mul-i : tie.Need-mul-i Inv-loop μ-loop
 mul-i c =
     let at-root-count = c .before .before .before in
-    let start = at-root-count .before .before .before in
-    let s = start in omega (arith, at-root-count .root-count .ensures, length-roots-le (s .args .n) (s .pre .roots .count))
+    let s = at-root-count .before .before .before in
+    omega (arith, at-root-count .root-count .ensures, length-roots-le (s .args .n) (s .pre .roots .count))
 
 array-copy-out-i : tie.Need-array-copy-out-i Inv-loop μ-loop
 array-copy-out-i c =
     let at-root-count = c .before .before .before in
-    let start = at-root-count .before .before .before in
-    let s = start in omega (arith, at-root-count .root-count .ensures, length-roots-le (s .args .n) (s .pre .roots .count))
+    let s = at-root-count .before .before .before in
+    omega (arith, at-root-count .root-count .ensures, length-roots-le (s .args .n) (s .pre .roots .count))
 
 is-known-requires : tie.Need-is-known-requires Inv-loop μ-loop
 is-known-requires c κs =
@@ -131,8 +130,6 @@ behind-requires c κs =
     let at-is-within = c .before in
     let at-stored-size = at-is-within .before in
     let looped = at-stored-size .before .before .before .before .before in
-    let s = looped .before .before .before .before .before in
-    let a = s .args in
     passed (looped .loop .left) (at-stored-size .stored-size .result) _ _ (sym (at-is-within .is-within .ensures) ∙ c .if2 .left)
 
 add-capped-requires : tie.Need-add-capped-requires Inv-loop μ-loop
@@ -173,24 +170,5 @@ returns-3 c =
 pub from-roots-spec : {M : Type 1} → statement M
 from-roots-spec =
     tie.close
-    (tie.spec
-    Inv-loop
-    μ-loop
-    root-count-requires
-    root-indexes-requires
-    loop-holds
-    mul-i
-    array-copy-out-i
-    is-known-requires
-    returns
-    stored-size-requires
-    is-within-requires
-    descend-requires
-    moved-requires
-    returns-2
-    behind-requires
-    add-capped-requires
-    add-j
-    loop-less
-    loop-again
-    returns-3)
+    (tie.spec Inv-loop μ-loop root-count-requires root-indexes-requires loop-holds mul-i array-copy-out-i is-known-requires returns stored-size-requires
+    is-within-requires descend-requires moved-requires returns-2 behind-requires add-capped-requires add-j loop-less loop-again returns-3)

@@ -11,8 +11,7 @@ is-known-requires c κs = c .before .before .pre (c .if1 .taken)
 returns : tie.Need-returns
 returns c =
     let branch1 = c .before in
-    let start = branch1 .before .before in
-    let a = start .args in
+    let a = branch1 .before .before .args in
     c .is-known .ensures ∙ sym (ap (λ (p : Bool). knownIf p (a .bitfield .now) (a .i .0)) (branch1 .if1 .taken))
 
 returns-2 : tie.Need-returns-2

@@ -24,8 +24,7 @@ add-result c = search needs
 returns : tie.Need-returns
 returns c =
     let at-sought = c .before .before in
-    let start = at-sought .before .before in
-    let a = start .args in
+    let a = at-sought .before .before .args in
     let k = at-sought .sought .given in
     ap not (c .ends-before .ensures)
     ∙ chunk-within (k .0 .0 .0) (a .i .0) (a .start .0) (a .size)
@@ -35,17 +34,8 @@ returns-2 : tie.Need-returns-2
 unfolding byteWithin
 returns-2 c =
     let at-sought2 = c .before .before .before in
-    let start = at-sought2 .before .before in
-    let a = start .args in
+    let a = at-sought2 .before .before .args in
     sym (ap (λ s. withinOf s (depth (a .i .0)) (block (a .i .0)) (a .start .0) (a .size)) (at-sought2 .sought2 .given .1))
 
 pub is-within-spec : {M : Type 1} → statement M
-is-within-spec =
-    tie.close
-    (tie.spec
-    enum-known-sought
-    ends-before-requires
-    enum-known-sought-2
-    add-result
-    returns
-    returns-2)
+is-within-spec = tie.close (tie.spec enum-known-sought ends-before-requires enum-known-sought-2 add-result returns returns-2)

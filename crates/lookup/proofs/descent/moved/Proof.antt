@@ -11,27 +11,21 @@ returns : tie.Need-returns
 unfolding cappedEnding movedBy
 returns c =
     let at-ending = c .before in
-    let start = at-ending .before .before in
-    let a = start .args in
-    sym (ap (λ (e : Ending). cappedEnding (movedBy (a .start .0) e)) (ap endingOf (at-ending .ending .given .1)))
+    sym (ap (λ (e : Ending). cappedEnding (movedBy (at-ending .before .before .args .start .0) e)) (ap endingOf (at-ending .ending .given .1)))
 
 returns-2 : tie.Need-returns-2
 unfolding cappedEnding movedBy
 returns-2 c =
     let at-ending2 = c .before in
-    let start = at-ending2 .before .before in
-    let a = start .args in
-    sym (ap (λ (e : Ending). cappedEnding (movedBy (a .start .0) e)) (ap endingOf (at-ending2 .ending2 .given .1)))
+    sym (ap (λ (e : Ending). cappedEnding (movedBy (at-ending2 .before .before .args .start .0) e)) (ap endingOf (at-ending2 .ending2 .given .1)))
 
 returns-3 : tie.Need-returns-3
 unfolding cappedEnding movedBy
 returns-3 c =
     let at-ending3 = c .before .before in
-    let start = at-ending3 .before .before in
-    let a = start .args in
     let k = at-ending3 .ending3 .given in
     ap (reached (k .0 .0 .0)) (c .add-capped .ensures)
-    ∙ sym (ap (λ (e : Ending). cappedEnding (movedBy (a .start .0) e)) (ap endingOf (k .1)))
+    ∙ sym (ap (λ (e : Ending). cappedEnding (movedBy (at-ending3 .before .before .args .start .0) e)) (ap endingOf (k .1)))
 
 pub moved-spec : {M : Type 1} → statement M
 moved-spec = tie.close (tie.spec (λ c. search needs) (λ c. search needs) (λ c. search needs) (λ c κs. search needs) returns returns-2 returns-3)

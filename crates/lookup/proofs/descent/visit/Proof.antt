@@ -24,8 +24,7 @@ returns c =
     let branch1 = c .before in
     let at-depth = branch1 .before in
     let at-stored-size = at-depth .before in
-    let start = at-stored-size .before .before in
-    let a = start .args in
+    let a = at-stored-size .before .before .args in
     record {
       same =
           sym
@@ -48,8 +47,7 @@ returns-2 c =
     let branch1 = branch2 .before in
     let at-depth = branch1 .before in
     let at-stored-size = at-depth .before in
-    let start = at-stored-size .before .before in
-    let a = start .args in
+    let a = at-stored-size .before .before .args in
     record {
       same =
           ap (λ (k : ℕ). reached k (a .start .0)) (c .chunk-of-leaf .ensures)
@@ -146,10 +144,9 @@ is-within-requires c κs =
     let at-depth = branch1 .before in
     let at-stored-size = at-depth .before in
     let start = at-stored-size .before .before in
-    let a = start .args in
     let v = seen-children {r = 0} (start .pre) (deeper (start .args .i .0) (at-depth .depth .ensures) (branch1 .if1 .left)) .0 (at-left-child .left-child .ensures) in (
       v .small,
-      seen-fits (withinOf (a .sought)) (start .pre) (record {
+      seen-fits (withinOf (start .args .sought)) (start .pre) (record {
         deep = deeper (start .args .i .0) (at-depth .depth .ensures) (branch1 .if1 .left);
         left = at-left-child .left-child .ensures;
         right = at-right-child .right-child .ensures;
@@ -216,19 +213,5 @@ returns-6 c =
 pub visit-spec : {M : Type 1} → statement M
 visit-spec =
     tie.close
-    (tie.spec
-    stored-size-requires
-    depth-requires
-    returns
-    chunk-of-leaf-requires
-    returns-2
-    left-child-requires
-    right-child-requires
-    stored-size-requires-2
-    stored-size-requires-3
-    returns-3
-    returns-4
-    is-within-requires
-    returns-5
-    add-t17
-    returns-6)
+    (tie.spec stored-size-requires depth-requires returns chunk-of-leaf-requires returns-2 left-child-requires right-child-requires stored-size-requires-2
+    stored-size-requires-3 returns-3 returns-4 is-within-requires returns-5 add-t17 returns-6)

@@ -2,8 +2,8 @@
 use mathlib.Core.Path.{sym, ap, _∙_}
 use Rattle.answer_types.specs.Verdict.{Verdict}
 use Rattle.answer_types.specs.Meaning.{said}
-use Rattle.lookup.specs.Lookup.{Found, foundBehind}
-use Rattle.lookup.specs.Inner.{knownIf, placeIn}
+use Rattle.lookup.specs.Lookup.{Found, foundBehind, placeIn}
+use Rattle.lookup.specs.Inner.{knownIf}
 use borrow.Author.Needs.{needs}
 use Rattle.lookup.proofs.places.place_behind.Statement.{statement}
 use Rattle.lookup.proofs.places.place_behind.Tie as tie

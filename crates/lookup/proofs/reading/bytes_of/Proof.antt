@@ -2,7 +2,8 @@
 use mathlib.Core.Path.{sym, ap, subst}
 use Rattle.byte_strings.specs.Lists.{part}
 use Rattle.lookup.specs.Lookup.{found}
-use Rattle.lookup.specs.Meaning.{verifiedOf, PartIn, bytesFound}
+use Rattle.lookup.specs.Read.{bytesFound}
+use Rattle.lookup.specs.Meaning.{verifiedOf, PartIn}
 use borrow.Author.Needs.{needs}
 use Rattle.lookup.proofs.reading.bytes_of.Statement.{statement}
 use Rattle.lookup.proofs.reading.bytes_of.Tie as tie
@@ -22,8 +23,7 @@ returns : tie.Need-returns
 unfolding part
 returns c =
     let at-verified = c .before .before in
-    let start = at-verified .before .before in
-    sym (ap (λ v. bytesFound (start .args .content .now) (verifiedOf v)) (at-verified .verified .given .1))
+    sym (ap (λ v. bytesFound (at-verified .before .before .args .content .now) (verifiedOf v)) (at-verified .verified .given .1))
 
 pub bytes-of-spec : {M : Type 1} → statement M
 bytes-of-spec =

@@ -22,6 +22,4 @@ returns-2 : tie.Need-returns-2
 returns-2 c = rw (c .before .enum-told2 .given .1) (c .read-one2 .ensures)
 
 pub read-spec : {M : Type 1} → statement M
-read-spec =
-    tie.close
-    (tie.spec enum-told read-one-requires enum-told-2 read-one-requires-2 returns returns-2)
+read-spec = tie.close (tie.spec enum-told read-one-requires enum-told-2 read-one-requires-2 returns returns-2)

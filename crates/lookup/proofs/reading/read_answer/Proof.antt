@@ -22,6 +22,4 @@ returns-2 : tie.Need-returns-2
 returns-2 c = rw (c .before .enum-told2 .given .1) (c .answer-one2 .ensures)
 
 pub read-answer-spec : {M : Type 1} → statement M
-read-answer-spec =
-    tie.close
-    (tie.spec enum-told answer-one-requires enum-told-2 answer-one-requires-2 returns returns-2)
+read-answer-spec = tie.close (tie.spec enum-told answer-one-requires enum-told-2 answer-one-requires-2 returns returns-2)

@@ -37,8 +37,7 @@ returns c =
     let at-entry-size = c .before in
     let tested = at-entry-size .before in
     let looped = tested .before in
-    let start = looped .before .before in
-    let a = start .args in
+    let a = looped .before .before .args in
     let l = looped .loop in
     let h : l .j < a .count = tested .loop-test .taken in
     adding-over (sizesIn (a .packet .now) (a .at) (a .count)) (a .from) (l .j) (l .sum) (at-entry-size .entry-size .result) (l .inv .1)
@@ -53,8 +52,7 @@ loop-again c =
     let at-entry-size = c .before in
     let tested = at-entry-size .before in
     let looped = tested .before in
-    let start = looped .before .before in
-    let a = start .args in
+    let a = looped .before .before .args in
     let l = looped .loop in
     let h : l .j < a .count = tested .loop-test .taken in (
       omega arith,
@@ -66,8 +64,7 @@ loop-again c =
 returns-2 : tie.Need-returns-2 Inv-loop μ-loop
 returns-2 c =
     let looped = c .before in
-    let start = looped .before .before in
-    let a = start .args in
+    let a = looped .before .before .args in
     let l = looped .loop in
     adding-all (sizesIn (a .packet .now) (a .at) (a .count)) (a .from) (l .j) (l .sum) (l .inv .1)
     (subst (λ (x : ℕ). x ≤ l .j) (sym (length-sizes (a .packet .now) (a .at) (a .count))) (c .loop-test .left))
@@ -75,16 +72,5 @@ returns-2 c =
 pub add-lengths-spec : {M : Type 1} → statement M
 add-lengths-spec =
     tie.close
-    (tie.spec
-    Inv-loop
-    μ-loop
-    loop-holds
-    mul-entry-size
-    (λ c. search needs)
-    entry-size-requires
-    sub-if1
-    returns
-    add-sum
-    (λ c. search needs) (λ c. search needs)
-    loop-again
+    (tie.spec Inv-loop μ-loop loop-holds mul-entry-size (λ c. search needs) entry-size-requires sub-if1 returns add-sum (λ c. search needs) (λ c. search needs) loop-again
     returns-2)

@@ -76,8 +76,7 @@ returns : tie.Need-returns Inv-loop μ-loop
 returns c =
     let looped = c .before in
     let at-block-over = looped .before in
-    let start = at-block-over .before .before in
-    let a = start .args in
+    let a = at-block-over .before .before .args in
     let l = looped .loop in
     let first = at-block-over .block-over .ensures ∙ div-one (a .chunk .0) in (
       climbing-end nodeHash (a .packet .now) (a .at) (a .count) (at-block-over .block-over .result) (l .k) (entryOf (a .leaf)) (entryOf (l .node)) (l .j)

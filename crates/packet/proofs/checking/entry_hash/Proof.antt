@@ -16,8 +16,4 @@ returns c =
     read-hash (a .packet .now) {at = a .at} refl (search needs) (at-copy-to .copy-to .ensures)
 
 pub entry-hash-spec : {M : Type 1} → statement M
-entry-hash-spec =
-    tie.close
-    (tie.spec
-    (λ c. search needs) (λ c. search needs) (λ c. search needs) (λ c. search needs) (λ c. search needs) (λ c κs. search needs)
-    returns)
+entry-hash-spec = tie.close (tie.spec (λ c. search needs) (λ c. search needs) (λ c. search needs) (λ c. search needs) (λ c. search needs) (λ c κs. search needs) returns)

@@ -29,8 +29,7 @@ loop-again : tie.Need-loop-again Inv-loop μ-loop
 loop-again c =
     let at-in-turn = c .before in
     let tested = at-in-turn .before in
-    let looped = tested .before in
-    let l = looped .loop in
+    let l = tested .before .loop in
     filling-next _ _ _ (l .j) (l .hashes) (l .inv) _ (at-in-turn .in-turn .result .hash) (tested .loop-test .taken)
     (ap (λ (e : Entry). e .hash) (at-in-turn .in-turn .ensures)) refl
 
@@ -41,5 +40,4 @@ returns c = filling-all _ _ _ _ _ (c .before .loop .inv) (c .loop-test .left)
 pub hashes-in-turn-spec : {M : Type 1} → statement M
 hashes-in-turn-spec =
     tie.close
-    (tie.spec Inv-loop μ-loop loop-holds in-turn-requires (λ c. search needs) (λ c. search needs) (λ c. search needs) (λ c. search needs)
-    loop-again returns)
+    (tie.spec Inv-loop μ-loop loop-holds in-turn-requires (λ c. search needs) (λ c. search needs) (λ c. search needs) (λ c. search needs) loop-again returns)

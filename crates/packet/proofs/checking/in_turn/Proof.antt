@@ -29,8 +29,7 @@ returns : tie.Need-returns
 unfolding turnEntry
 returns c =
     let branch1 = c .before in
-    let start = branch1 .before .before in
-    let a = start .args in
+    let a = branch1 .before .before .args in
     c .entry-node .ensures
     ∙ sym (turned-before (λ i. entryIn (a .packet .now) (a .at + 40 * i)) (a .place) (entryOf (a .node)) (a .j) (branch1 .if1 .taken))
 
@@ -52,21 +51,12 @@ unfolding turnEntry
 returns-3 c =
     let branch2 = c .before in
     let branch1 = branch2 .before in
-    let start = branch1 .before .before in
-    let a = start .args in
+    let a = branch1 .before .before .args in
     c .entry-node2 .ensures
     ∙ sym (turned-behind (λ i. entryIn (a .packet .now) (a .at + 40 * i)) (a .place) (entryOf (a .node)) (a .j) (branch1 .if1 .left) (branch2 .if2 .left))
 
 pub in-turn-spec : {M : Type 1} → statement M
 in-turn-spec =
     tie.close
-    (tie.spec
-    (λ c. search needs)
-    add-entry-node
-    entry-node-requires
-    returns
-    returns-2
-    (λ c. search needs) (λ c. search needs)
-    add-entry-node-2
-    entry-node-requires-2
+    (tie.spec (λ c. search needs) add-entry-node entry-node-requires returns returns-2 (λ c. search needs) (λ c. search needs) add-entry-node-2 entry-node-requires-2
     returns-3)

@@ -11,8 +11,7 @@ use Rattle.packet.proofs.checking.leaf_node.Tie as tie
 
 returns : tie.Need-returns
 unfolding leaf
-returns c =
-    let a = c .before .before .args in ap (λ (h : List ℕ). entry h (length (a .chunk .now))) (c .leaf-hash .ensures)
+returns c = ap (λ (h : List ℕ). entry h (length (c .before .before .args .chunk .now))) (c .leaf-hash .ensures)
 
 pub leaf-node-spec : {M : Type 1} → statement M
 leaf-node-spec = tie.close (tie.spec (λ c κs. search needs) returns)

@@ -53,9 +53,4 @@ returns c =
 pub root-hash-with-spec : {M : Type 1} → statement M
 root-hash-with-spec =
     tie.close
-    (tie.spec
-    (λ c κs. search needs) (λ c κs. search needs) (λ c κs. search needs)
-    sizes-in-turn-requires
-    hashes-in-turn-requires
-    root-hash-requires
-    returns)
+    (tie.spec (λ c κs. search needs) (λ c κs. search needs) (λ c κs. search needs) sizes-in-turn-requires hashes-in-turn-requires root-hash-requires returns)

@@ -38,5 +38,4 @@ returns c = filling-all _ _ _ _ _ (c .before .loop .inv) (c .loop-test .left)
 pub sizes-in-turn-spec : {M : Type 1} → statement M
 sizes-in-turn-spec =
     tie.close
-    (tie.spec Inv-loop μ-loop loop-holds in-turn-requires (λ c. search needs) (λ c. search needs) (λ c. search needs) (λ c. search needs)
-    loop-again returns)
+    (tie.spec Inv-loop μ-loop loop-holds in-turn-requires (λ c. search needs) (λ c. search needs) (λ c. search needs) (λ c. search needs) loop-again returns)

@@ -20,5 +20,4 @@ returns-2 c =
     stepped-right nodeHash (a .k) (entryOf (a .node)) (entryOf (a .beside)) (c .parent-hash2 .result) (omega arith) (c .parent-hash2 .ensures)
 
 pub step-up-spec : {M : Type 1} → statement M
-step-up-spec =
-    tie.close (tie.spec (λ c. search needs) (λ c κs. search needs) returns (λ c κs. search needs) returns-2)
+step-up-spec = tie.close (tie.spec (λ c. search needs) (λ c κs. search needs) returns (λ c κs. search needs) returns-2)

@@ -104,20 +104,5 @@ returns c =
 pub write-entries-spec : {M : Type 1} → statement M
 write-entries-spec =
     tie.close
-    (tie.spec
-    Inv-loop
-    μ-loop
-    loop-holds
-    mul-entry-place
-    array-copy-out-entry-place
-    entry-place-requires
-    add-end
-    mul-copy-to
-    add-copy-to
-    (λ c. search needs) (λ c. search needs)
-    part-copy-to-end
-    copy-to-requires
-    (λ c. search needs) (λ c. search needs)
-    loop-again
-    same-length
-    returns)
+    (tie.spec Inv-loop μ-loop loop-holds mul-entry-place array-copy-out-entry-place entry-place-requires add-end mul-copy-to add-copy-to (λ c. search needs)
+    (λ c. search needs) part-copy-to-end copy-to-requires (λ c. search needs) (λ c. search needs) loop-again same-length returns)

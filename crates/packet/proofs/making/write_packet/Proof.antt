@@ -131,15 +131,6 @@ returns c =
 pub write-packet-spec : {M : Type 1} → statement M
 write-packet-spec =
     tie.close
-    (tie.spec
-    (λ c κs. search needs) (λ c κs. search needs) (λ c κs. search needs)
-    other-indexes-requires
-    (λ c κs. search needs) (λ c. search needs) (λ c κs. search needs) (λ c. search needs)
-    copy-to-requires
-    copy-to-requires-2
-    (λ c. search needs) (λ c. search needs)
-    write-section-requires
-    (λ c. search needs) (λ c. search needs) (λ c. search needs)
-    write-section-requires-2
-    (λ c. search needs)
-    returns)
+    (tie.spec (λ c κs. search needs) (λ c κs. search needs) (λ c κs. search needs) other-indexes-requires (λ c κs. search needs) (λ c. search needs)
+    (λ c κs. search needs) (λ c. search needs) copy-to-requires copy-to-requires-2 (λ c. search needs) (λ c. search needs) write-section-requires (λ c. search needs)
+    (λ c. search needs) (λ c. search needs) write-section-requires-2 (λ c. search needs) returns)

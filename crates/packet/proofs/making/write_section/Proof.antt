@@ -21,9 +21,4 @@ returns c =
     (entriesAt (a .tree .now) (numbers (a .indexes)) (a .count)) (omega (arith, start .pre .1)) refl (at-write-entries .write-entries .ensures)
 
 pub write-section-spec : {M : Type 1} → statement M
-write-section-spec =
-    tie.close
-    (tie.spec
-    (λ c. search needs) (λ c. search needs) (λ c. search needs) (λ c κs. search needs)
-    same-length
-    returns)
+write-section-spec = tie.close (tie.spec (λ c. search needs) (λ c. search needs) (λ c. search needs) (λ c κs. search needs) same-length returns)

@@ -31,8 +31,7 @@ place c =
     let at-root-count = looped .before in
     let start = at-root-count .before .before in
     let a = start .args in
-    let m = at-root-count .root-count in
-    let g : looped .loop .j < length (roots (a .n)) - 1 = subst (λ (x : ℕ). looped .loop .j < x - 1) (m .ensures) (tested .loop-test .taken) in
+    let g : looped .loop .j < length (roots (a .n)) - 1 = subst (λ (x : ℕ). looped .loop .j < x - 1) (at-root-count .root-count .ensures) (tested .loop-test .taken) in
     omega (arith, c .skipping .ensures, skipped-below (a .place) (looped .loop .j) (length (roots (a .n))) g (start .pre .1), length-roots-le (a .n) (start .pre .0))
 
 sub-count : tie.Need-sub-count Inv-loop μ-loop
@@ -80,8 +79,7 @@ loop-again c =
     let l = looped .loop in
     let is = at-root-indexes .root-indexes in
     let q = at-skipping .skipping in
-    let m = at-root-count .root-count in
-    let g : l .j < length (roots (a .n)) - 1 = subst (λ (x : ℕ). l .j < x - 1) (m .ensures) (tested .loop-test .taken) in
+    let g : l .j < length (roots (a .n)) - 1 = subst (λ (x : ℕ). l .j < x - 1) (at-root-count .root-count .ensures) (tested .loop-test .taken) in
     let s : q .result < length (roots (a .n)) =
     subst (λ (x : ℕ). x < length (roots (a .n))) (sym (q .ensures)) (skipped-below (a .place) (l .j) (length (roots (a .n))) g (start .pre .1)) in
     filling-next _ _ _ (l .j) (numbers (l .found)) (l .inv) _ (getD (is .result) (q .result) (record { 0 = 0 }) .0) (tested .loop-test .taken)
@@ -93,25 +91,12 @@ unfolding otherRow
 returns c =
     let looped = c .before in
     let at-root-count = looped .before in
-    let start = at-root-count .before .before in
-    let a = start .args in
+    let a = at-root-count .before .before .args in
     filling-all _ _ _ _ _ (looped .loop .inv) (c .loop-test .left)
     ∙ ap (λ (i : ℕ). padded 0 (i - 1) (run (λ j. getD (roots (a .n)) (skipped (a .place) j) 0) 0 (i - 1))) (at-root-count .root-count .ensures)
 
 pub other-indexes-spec : {M : Type 1} → statement M
 other-indexes-spec =
     tie.close
-    (tie.spec
-    Inv-loop
-    μ-loop
-    (λ c κs. search needs) (λ c κs. search needs)
-    sub-count
-    loop-holds
-    skipping-requires
-    mul-found
-    array-copy-out-found
-    mul-found-2
-    array-set-from-found
-    (λ c. search needs) (λ c. search needs)
-    loop-again
-    returns)
+    (tie.spec Inv-loop μ-loop (λ c κs. search needs) (λ c κs. search needs) sub-count loop-holds skipping-requires mul-found array-copy-out-found mul-found-2
+    array-set-from-found (λ c. search needs) (λ c. search needs) loop-again returns)

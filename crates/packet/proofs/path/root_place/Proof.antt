@@ -41,9 +41,8 @@ ends-before-requires c κs =
     let at-root-indexes = looped .before in
     let at-root-count = at-root-indexes .before in
     let start = at-root-count .before in
-    let a = start .args in
     let is = at-root-indexes .root-indexes in
-    root-small (is .result) (a .n) (looped .loop .j) (start .pre) (is .ensures)
+    root-small (is .result) (start .args .n) (looped .loop .j) (start .pre) (is .ensures)
     (subst (λ (x : ℕ). looped .loop .j < x) (at-root-count .root-count .ensures) (tested .loop-test .taken))
 
 returns : tie.Need-returns Inv-loop μ-loop
@@ -53,8 +52,7 @@ returns c =
     let looped = tested .before in
     let at-root-indexes = looped .before in
     let at-root-count = at-root-indexes .before in
-    let start = at-root-count .before in
-    let a = start .args in
+    let a = at-root-count .before .args in
     let is = at-root-indexes .root-indexes in
     let j = looped .loop .j in
     let h : j < length (roots (a .n)) = subst (λ (x : ℕ). j < x) (at-root-count .root-count .ensures) (tested .loop-test .taken) in
@@ -68,8 +66,7 @@ loop-again c =
     let looped = tested .before in
     let at-root-indexes = looped .before in
     let at-root-count = at-root-indexes .before in
-    let start = at-root-count .before in
-    let a = start .args in
+    let a = at-root-count .before .args in
     let is = at-root-indexes .root-indexes in
     let j = looped .loop .j in
     let h : j < length (roots (a .n)) = subst (λ (x : ℕ). j < x) (at-root-count .root-count .ensures) (tested .loop-test .taken) in
@@ -80,23 +77,12 @@ returns-2 : tie.Need-returns-2 Inv-loop μ-loop
 returns-2 c =
     let looped = c .before in
     let at-root-count = looped .before .before in
-    let start = at-root-count .before in
-    let a = start .args in
+    let a = at-root-count .before .args in
     seeking-end (roots (a .n)) (a .chunk .0) (looped .loop .j) (placeAbove (roots (a .n)) (a .chunk .0)) (looped .loop .inv)
     (subst (λ (x : ℕ). x ≤ looped .loop .j) (at-root-count .root-count .ensures) (c .loop-test .left))
 
 pub root-place-spec : {M : Type 1} → statement M
 root-place-spec =
     tie.close
-    (tie.spec
-    Inv-loop
-    μ-loop
-    (λ c κs. search needs) (λ c κs. search needs)
-    loop-holds
-    mul-ends-before
-    array-copy-out-ends-before
-    ends-before-requires
-    returns
-    (λ c. search needs) (λ c. search needs)
-    loop-again
-    returns-2)
+    (tie.spec Inv-loop μ-loop (λ c κs. search needs) (λ c κs. search needs) loop-holds mul-ends-before array-copy-out-ends-before ends-before-requires returns
+    (λ c. search needs) (λ c. search needs) loop-again returns-2)

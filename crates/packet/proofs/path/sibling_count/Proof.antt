@@ -51,11 +51,4 @@ returns c =
     (e, subst (λ (x : ℕ). x ≤ 20) (sym e) (few-siblings (a .n) (a .chunk .0) (start .pre)))
 
 pub sibling-count-spec : {M : Type 1} → statement M
-sibling-count-spec =
-    tie.close
-    (tie.spec
-    (λ c κs. search needs) (λ c κs. search needs)
-    mul-depth
-    array-copy-out-depth
-    depth-requires
-    returns)
+sibling-count-spec = tie.close (tie.spec (λ c κs. search needs) (λ c κs. search needs) mul-depth array-copy-out-depth depth-requires returns)

@@ -27,23 +27,20 @@ loop-holds c = filling-none _ _ _ (c .pre .1)
 beside-requires : tie.Need-beside-requires Inv-loop μ-loop
 beside-requires c κs =
     let looped = c .before .before in
-    let start = looped .before in
-    omega (arith, c .block-over .ensures, shr-le (start .args .chunk .0) (looped .loop .h))
+    omega (arith, c .block-over .ensures, shr-le (looped .before .args .chunk .0) (looped .loop .h))
 
 node-index-requires : tie.Need-node-index-requires Inv-loop μ-loop
 node-index-requires c κs =
     let at-block-over = c .before in
     let looped = at-block-over .before .before in
-    let start = looped .before in
-    omega (arith, c .beside .ensures, beside-end (at-block-over .block-over .result), at-block-over .block-over .ensures, shr-le (start .args .chunk .0) (looped .loop .h))
+    omega (arith, c .beside .ensures, beside-end (at-block-over .block-over .result), at-block-over .block-over .ensures, shr-le (looped .before .args .chunk .0) (looped .loop .h))
 
 loop-again : tie.Need-loop-again Inv-loop μ-loop
 loop-again c =
     let at-beside = c .before in
     let at-block-over = at-beside .before in
     let tested = at-block-over .before in
-    let looped = tested .before in
-    let l = looped .loop in
+    let l = tested .before .loop in
     let i = c .node-index in
     filling-next _ _ _ (l .h) (numbers (l .found)) (l .inv) _ (i .result .0) (tested .loop-test .taken)
     (i .ensures ∙ ap (index (l .h)) (at-beside .beside .ensures ∙ ap beside (at-block-over .block-over .ensures))) (numbers-set (l .found) (l .h) (i .result))

@@ -10,18 +10,13 @@ use Rattle.parts_audit.proofs.answers.earlier.Tie as tie
 
 returns : tie.Need-returns
 unfolding spec.earlier
-returns c =
-    let s = c .before .before in
-    let enum-told = c .enum-told in
-    sym (ap (λ (x : Answer). spec.earlier (said x) (said (s .args .b))) (enum-told .given .1))
+returns c = sym (ap (λ (x : Answer). spec.earlier (said x) (said (c .before .before .args .b))) (c .enum-told .given .1))
 
 returns-2 : tie.Need-returns-2
 unfolding spec.earlier
 returns-2 c =
     let at-a = c .before .before .before in
-    let a = at-a .a in
-    let enum-told2 = c .enum-told2 in
-    sym (ap₂ (λ (x y : Answer). spec.earlier (said x) (said y)) (a .given .1) (enum-told2 .given .1))
+    sym (ap₂ (λ (x y : Answer). spec.earlier (said x) (said y)) (at-a .a .given .1) (c .enum-told2 .given .1))
 
 returns-3 : tie.Need-returns-3
 unfolding spec.earlier
@@ -31,11 +26,9 @@ returns-3 c =
     let at-a = at-b .before .before .before in
     let a = at-a .a in
     let b = at-b .b in
-    let comes-before = at-comes-before .comes-before in
-    let if1 = c .if1 in
     sym
     (ap₂ (λ (x y : Answer). spec.earlier (said x) (said y)) (a .given .1) (b .given .1)
-    ∙ ap (λ (t : Bool). cond t (refusalOf (a .given .0 .0)) (refusalOf (b .given .0 .0))) (sym (comes-before .ensures) ∙ if1 .taken))
+    ∙ ap (λ (t : Bool). cond t (refusalOf (a .given .0 .0)) (refusalOf (b .given .0 .0))) (sym (at-comes-before .comes-before .ensures) ∙ c .if1 .taken))
 
 returns-4 : tie.Need-returns-4
 unfolding spec.earlier
@@ -45,11 +38,9 @@ returns-4 c =
     let at-a = at-b .before .before .before in
     let a = at-a .a in
     let b = at-b .b in
-    let comes-before = at-comes-before .comes-before in
-    let if1 = c .if1 in
     sym
     (ap₂ (λ (x y : Answer). spec.earlier (said x) (said y)) (a .given .1) (b .given .1)
-    ∙ ap (λ (t : Bool). cond t (refusalOf (a .given .0 .0)) (refusalOf (b .given .0 .0))) (sym (comes-before .ensures) ∙ if1 .left))
+    ∙ ap (λ (t : Bool). cond t (refusalOf (a .given .0 .0)) (refusalOf (b .given .0 .0))) (sym (at-comes-before .comes-before .ensures) ∙ c .if1 .left))
 
 pub earlier-spec : {M : Type 1} → statement M
 earlier-spec =

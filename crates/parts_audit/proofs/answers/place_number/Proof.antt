@@ -8,19 +8,13 @@ use Rattle.parts_audit.proofs.answers.place_number.Statement.{statement
 use Rattle.parts_audit.proofs.answers.place_number.Tie as tie
 
 returns : tie.Need-returns
-returns c =
-    let enum-told = c .enum-told in
-    sym (ap (λ (p : Place). placeNumber (spotOf p)) (enum-told .given .1))
+returns c = sym (ap (λ (p : Place). placeNumber (spotOf p)) (c .enum-told .given .1))
 
 returns-2 : tie.Need-returns-2
-returns-2 c =
-    let place = c .before .place in
-    sym (ap (λ (p : Place). placeNumber (spotOf p)) (place .given .1))
+returns-2 c = sym (ap (λ (p : Place). placeNumber (spotOf p)) (c .before .place .given .1))
 
 returns-3 : tie.Need-returns-3
-returns-3 c =
-    let place2 = c .before .place2 in
-    sym (ap (λ (p : Place). placeNumber (spotOf p)) (place2 .given .1))
+returns-3 c = sym (ap (λ (p : Place). placeNumber (spotOf p)) (c .before .place2 .given .1))
 
 pub place-number-spec : {M : Type 1} → statement M
 place-number-spec = tie.close (tie.spec (λ c. search needs) (λ c. search needs) (λ c. search needs) returns returns-2 returns-3)

@@ -6,14 +6,12 @@ use Rattle.parts_audit.proofs.ranges.lesser.Tie as tie
 returns : tie.Need-returns
 returns c =
     let s = c .before in
-    let if1 = c .if1 in
-    lesser-low (s .args .a) (s .args .b) (if1 .taken)
+    lesser-low (s .args .a) (s .args .b) (c .if1 .taken)
 
 returns-2 : tie.Need-returns-2
 returns-2 c =
     let s = c .before in
-    let if1 = c .if1 in
-    lesser-high (s .args .a) (s .args .b) (if1 .left)
+    lesser-high (s .args .a) (s .args .b) (c .if1 .left)
 
 pub lesser-spec : {M : Type 1} → statement M
 lesser-spec = tie.close (tie.spec returns returns-2)

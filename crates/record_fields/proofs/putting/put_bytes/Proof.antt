@@ -29,8 +29,9 @@ put-part-requires c κs =
 
 returns : tie.Need-returns
 returns c =
-    let start-2 = c .before .before .before .before in
-    let start = start-2 in let a = start .args in bytes-absent (a .d .now) (a .field) (a .k) (a .out .now) (a .at) (start .pre) (c .enum-told .given .1)
+    let start = c .before .before .before .before in
+    let a = start .args in
+    bytes-absent (a .d .now) (a .field) (a .k) (a .out .now) (a .at) (start .pre) (c .enum-told .given .1)
 
 returns-2 : tie.Need-returns-2
 returns-2 c =

@@ -22,164 +22,42 @@ digits-at t = and 1 digits-kinds.ps (is 1 digits-kinds.ps μ-digits t) digits.Pr
 abbrev digits-below : ℕ → In 1 digits-kinds.ps
 digits-below t = and 1 digits-kinds.ps (falls 1 digits-kinds.ps _<_ μ-digits t) digits.Pre
 
-digits-returns : (t : ℕ) → digits-lts.Need-returns (
-  wide-reads.Asked,
-  wide-reads.Learnt,
-  digits-below t,
-  digits.Post,
-  joined-reads.Asked,
-  joined-reads.Learnt,
-) (digits-at t) digits.Post
-digits-returns t c = let a = c .before .before .args in digits-end (a .d .now) (a .k) (a .at) (c .if1 .taken)
-
-digits-shared-slice-read-wide : (t : ℕ) → digits-lts.Need-shared-slice-read-wide (
-  wide-reads.Asked,
-  wide-reads.Learnt,
-  digits-below t,
-  digits.Post,
-  joined-reads.Asked,
-  joined-reads.Learnt,
-) (digits-at t) digits.Post
-digits-shared-slice-read-wide t c = search needs
-
-digits-wide-requires : (t : ℕ) → digits-lts.Need-wide-requires (
-  wide-reads.Asked,
-  wide-reads.Learnt,
-  digits-below t,
-  digits.Post,
-  joined-reads.Asked,
-  joined-reads.Learnt,
-) (digits-at t) digits.Post
-digits-wide-requires t c κs = search needs
-
-digits-add-t9 : (t : ℕ) → digits-lts.Need-add-t9 (
-  wide-reads.Asked,
-  wide-reads.Learnt,
-  digits-below t,
-  digits.Post,
-  joined-reads.Asked,
-  joined-reads.Learnt,
-) (digits-at t) digits.Post
-digits-add-t9 t c = search needs
-
-digits-returns-2 : (t : ℕ) → digits-lts.Need-returns-2 (
-  wide-reads.Asked,
-  wide-reads.Learnt,
-  digits-below t,
-  digits.Post,
-  joined-reads.Asked,
-  joined-reads.Learnt,
-) (digits-at t) digits.Post
-digits-returns-2 t c =
+pub +digits-spec : {M : Type 1} → statement M
++digits-spec = close μ-digits λ t. digits-lts.spec (wide-reads.Asked, wide-reads.Learnt, digits-below t, digits.Post, joined-reads.Asked, joined-reads.Learnt)
+    (digits-at t) digits.Post
+    (λ c. let a = c .before .before .args in digits-end (a .d .now) (a .k) (a .at) (c .if1 .taken)) (λ c. search needs) (λ c κs. search needs) (λ c. search needs)
+    -- the last byte
+    (λ c.
     let read = c .before in
     let branch1 = read .before .before in
-    let start = branch1 .before .before in
-    let a = start .args in
-    digits-last (a .d .now) (a .k) (a .at) (read .wide .result) (branch1 .if1 .left) (read .wide .ensures) (c .if2 .taken)
-
-digits-returns-3 : (t : ℕ) → digits-lts.Need-returns-3 (
-  wide-reads.Asked,
-  wide-reads.Learnt,
-  digits-below t,
-  digits.Post,
-  joined-reads.Asked,
-  joined-reads.Learnt,
-) (digits-at t) digits.Post
-digits-returns-3 t c =
+    let a = branch1 .before .before .args in
+    digits-last (a .d .now) (a .k) (a .at) (read .wide .result) (branch1 .if1 .left) (read .wide .ensures) (c .if2 .taken))
+    -- one more that nothing may follow
+    (λ c.
     let branch2 = c .before in
     let read = branch2 .before in
     let branch1 = read .before .before in
-    let start = branch1 .before .before in
-    let a = start .args in
-    digits-none (a .d .now) (a .k) (a .at) (read .wide .result) (branch1 .if1 .left) (read .wide .ensures) (branch2 .if2 .left) (c .if3 .taken)
-
-digits-add-digits : (t : ℕ) → digits-lts.Need-add-digits (
-  wide-reads.Asked,
-  wide-reads.Learnt,
-  digits-below t,
-  digits.Post,
-  joined-reads.Asked,
-  joined-reads.Learnt,
-) (digits-at t) digits.Post
-digits-add-digits t c = search needs
-
-digits-sub-digits : (t : ℕ) → digits-lts.Need-sub-digits (
-  wide-reads.Asked,
-  wide-reads.Learnt,
-  digits-below t,
-  digits.Post,
-  joined-reads.Asked,
-  joined-reads.Learnt,
-) (digits-at t) digits.Post
-digits-sub-digits t c = search needs
-
-digits-digits-requires : (t : ℕ) → digits-lts.Need-digits-requires (
-  wide-reads.Asked,
-  wide-reads.Learnt,
-  digits-below t,
-  digits.Post,
-  joined-reads.Asked,
-  joined-reads.Learnt,
-) (digits-at t) digits.Post
-digits-digits-requires t c κs =
+    let a = branch1 .before .before .args in
+    digits-none (a .d .now) (a .k) (a .at) (read .wide .result) (branch1 .if1 .left) (read .wide .ensures) (branch2 .if2 .left) (c .if3 .taken))
+    (λ c. search needs) (λ c. search needs)
+    -- the call
+    (λ c κs.
     let branch1 = c .before .before .before .before in
-    let start = branch1 .before .before in
-    (omega (arith, start .pre .0, c .if3 .left), omega (arith, branch1 .if1 .left))
-
-digits-joined-requires : (t : ℕ) → digits-lts.Need-joined-requires (
-  wide-reads.Asked,
-  wide-reads.Learnt,
-  digits-below t,
-  digits.Post,
-  joined-reads.Asked,
-  joined-reads.Learnt,
-) (digits-at t) digits.Post
-digits-joined-requires t c κs =
+    (omega (arith, branch1 .before .before .pre .0, c .if3 .left), omega (arith, branch1 .if1 .left)))
+    -- what was read fits
+    (λ c κs.
     let read = c .before .before .before in
     let at-shared-slice-known2 = read .before in
     let start = at-shared-slice-known2 .before .before .before in
-    let a = start .args in
-    omega (arith, read .wide .ensures, at-shared-slice-known2 .shared-slice-known2 .given (a .at))
-
-digits-returns-4 : (t : ℕ) → digits-lts.Need-returns-4 (
-  wide-reads.Asked,
-  wide-reads.Learnt,
-  digits-below t,
-  digits.Post,
-  joined-reads.Asked,
-  joined-reads.Learnt,
-) (digits-at t) digits.Post
-digits-returns-4 t c =
+    omega (arith, read .wide .ensures, at-shared-slice-known2 .shared-slice-known2 .given (start .args .at)))
+    -- one more and what follows it
+    (λ c.
     let at-digits = c .before in
     let branch3 = at-digits .before in
     let branch2 = branch3 .before in
     let read = branch2 .before in
     let at-shared-slice-known2 = read .before in
     let branch1 = at-shared-slice-known2 .before in
-    let start = branch1 .before .before in
-    let a = start .args in
+    let a = branch1 .before .before .args in
     digits-more (a .d .now) (a .k) (a .at) (read .wide .result) (at-digits .digits .result) (c .joined .result) (branch1 .if1 .left) (read .wide .ensures)
-    (branch2 .if2 .left) (omega (arith, read .wide .ensures, at-shared-slice-known2 .shared-slice-known2 .given (a .at))) (branch3 .if3 .left) (at-digits .digits .ensures) (c .joined .ensures)
-
-pub +digits-spec : {M : Type 1} → statement M
-+digits-spec = close μ-digits λ t. digits-lts.spec (
-  wide-reads.Asked,
-  wide-reads.Learnt,
-  digits-below t,
-  digits.Post,
-  joined-reads.Asked,
-  joined-reads.Learnt,
-)
-    (digits-at t)
-    digits.Post
-    (digits-returns t)
-    (digits-shared-slice-read-wide t)
-    (digits-wide-requires t)
-    (digits-add-t9 t)
-    (digits-returns-2 t)
-    (digits-returns-3 t)
-    (digits-add-digits t)
-    (digits-sub-digits t)
-    (digits-digits-requires t)
-    (digits-joined-requires t)
-    (digits-returns-4 t)
+    (branch2 .if2 .left) (omega (arith, read .wide .ensures, at-shared-slice-known2 .shared-slice-known2 .given (a .at))) (branch3 .if3 .left) (at-digits .digits .ensures) (c .joined .ensures))

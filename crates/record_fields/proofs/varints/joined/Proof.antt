@@ -10,15 +10,12 @@ returns c = joined-zero _ _ _ _ (c .before .before .high .given .1) (c .if1 .tak
 returns-2 : tie.Need-returns-2
 returns-2 c =
     let branch1 = c .before in
-    let at-high = branch1 .before .before in
-    joined-is _ _ _ _ (at-high .high .given .1) (branch1 .if1 .left) (c .if2 .taken)
+    joined-is _ _ _ _ (branch1 .before .before .high .given .1) (branch1 .if1 .left) (c .if2 .taken)
 
 returns-4 : tie.Need-returns-4
 returns-4 c =
     let branch1 = c .before in
-    let at-high = branch1 .before .before in
-    joined-large _ _ _ _ (at-high .high .given .1) (branch1 .if1 .left) (c .if2 .left)
+    joined-large _ _ _ _ (branch1 .before .before .high .given .1) (branch1 .if1 .left) (c .if2 .left)
 
 pub joined-spec : {M : Type 1} → statement M
-joined-spec =
-    tie.close (tie.spec (λ c. search needs) (λ c. search needs) returns (λ c. search needs) (λ c. search needs) returns-2 (λ c. search needs) returns-4)
+joined-spec = tie.close (tie.spec (λ c. search needs) (λ c. search needs) returns (λ c. search needs) (λ c. search needs) returns-2 (λ c. search needs) returns-4)

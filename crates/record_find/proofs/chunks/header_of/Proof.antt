@@ -1,83 +1,30 @@
--- The read's own refusal, or what is said of the bytes read.
-use mathlib.Core.Path.{sym, ap, _∙_}
-use Rattle.answer_types.specs.Verdict.{tree}
-use Rattle.answer_types.specs.Meaning.{spotOf}
+-- The read, and what is told behind it.
+use mathlib.Core.Path.{ap₂, _∙_}
 use Rattle.blake2b.specs.Hash.{nodeHash}
+use Rattle.file_format.specs.Belongs.{Register}
 use Rattle.checks.specs.Lent.{registerOf}
-use Rattle.tree_index.specs.Tree.{index}
-use Rattle.lookup.specs.Read.{readVerdict, readPart}
-use Rattle.lookup.specs.Meaning.{verifiedOf}
-use Rattle.lookup.proofs.Calls.{nothing}
-use Rattle.record_format.specs.Post.{noPart, headerTold, readHeader}
-use Rattle.record_find.proofs.Chunk.{lies, read-refused, read-done, small}
+use Rattle.lookup.proofs.Calls.{read-says, read-bytes}
+use Rattle.record_find.specs.ChunkRecords.{headerAfter}
+use Rattle.record_find.proofs.Chunk.{read-in}
 use borrow.Author.Needs.{needs}
 use Rattle.record_find.proofs.chunks.header_of.Statement.{statement}
 use Rattle.record_find.proofs.chunks.header_of.Tie as tie
 
-sub-header-at : tie.Need-sub-header-at
-sub-header-at c =
-    let at-start = c .before in
-    let at-verify = at-start .before .before in
-    let start = at-verify .before .before .before .before .before in
-    let a = start .args in
-    let k = at-start .start .given in
-    lies nodeHash (registerOf (a .tree .now) (a .signatures .now) (a .bitfield .now) (a .content .now) (a .n) (a .s) (a .size)) (a .chunk .0) (k .0 .0 .0) (k .0 .1 .0 .0)
-    (sym (ap verifiedOf (k .1)) ∙ at-verify .verify .ensures) .ordered
+abbrev given : (c : tie.Start) → Register
+given c = registerOf (c .args .tree .now) (c .args .signatures .now) (c .args .bitfield .now) (c .args .content .now) (c .args .n) (c .args .s) (c .args .size)
 
-part-header-at-start : tie.Need-part-header-at-start
-part-header-at-start c =
-    let at-start = c .before in
-    let at-verify = at-start .before .before in
-    let start = at-verify .before .before .before .before .before in
-    let a = start .args in
-    let k = at-start .start .given in
-    lies nodeHash (registerOf (a .tree .now) (a .signatures .now) (a .bitfield .now) (a .content .now) (a .n) (a .s) (a .size)) (a .chunk .0) (k .0 .0 .0) (k .0 .1 .0 .0)
-    (sym (ap verifiedOf (k .1)) ∙ at-verify .verify .ensures) .ordered
-
-part-header-at-end : tie.Need-part-header-at-end
-part-header-at-end c =
-    let at-start = c .before in
-    let at-verify = at-start .before .before in
-    let start = at-verify .before .before .before .before .before in
-    let a = start .args in
-    let k = at-start .start .given in
-    lies nodeHash (registerOf (a .tree .now) (a .signatures .now) (a .bitfield .now) (a .content .now) (a .n) (a .s) (a .size)) (a .chunk .0) (k .0 .0 .0) (k .0 .1 .0 .0)
-    (sym (ap verifiedOf (k .1)) ∙ at-verify .verify .ensures) .inside
-
-header-at-requires : tie.Need-header-at-requires
-header-at-requires c κs =
-    let at-start = c .before .before in
-    let at-verify = at-start .before .before in
-    let start = at-verify .before .before .before .before .before in
-    let a = start .args in
-    let k = at-start .start .given in
-    small nodeHash (registerOf (a .tree .now) (a .signatures .now) (a .bitfield .now) (a .content .now) (a .n) (a .s) (a .size)) (a .chunk .0) (k .0 .0 .0) (k .0 .1 .0 .0)
-    (sym (ap verifiedOf (k .1)) ∙ at-verify .verify .ensures)
+header-behind-requires : tie.Need-header-behind-requires
+header-behind-requires c κs =
+    let start = c .before .before .before .before .before in
+    read-in nodeHash (given start) (start .args .chunk .0) (c .verify .ensures)
 
 returns : tie.Need-returns
 returns c =
-    let at-refusal = c .before in
-    let at-verify = at-refusal .before .before in
+    let at-verify = c .before in
     let start = at-verify .before .before .before .before .before in
-    let a = start .args in
-    let r = registerOf (a .tree .now) (a .signatures .now) (a .bitfield .now) (a .content .now) (a .n) (a .s) (a .size) in
-    let k = at-refusal .refusal .given in
-    let e = sym (ap verifiedOf (k .1)) ∙ at-verify .verify .ensures in
-    read-refused (readVerdict nodeHash r (a .chunk .0)) noPart (readHeader (tree (index 0 (a .chunk .0))) (readPart nodeHash r (a .chunk .0))) (k .0 .0 .number) (spotOf (k .0 .0 .place))
-    (nothing nodeHash r (a .chunk .0) (k .0 .0 .number) (spotOf (k .0 .0 .place)) e .0)
-
-returns-2 : tie.Need-returns-2
-returns-2 c =
-    let at-start = c .before .before .before in
-    let at-verify = at-start .before .before in
-    let start = at-verify .before .before .before .before .before in
-    let a = start .args in
-    let r = registerOf (a .tree .now) (a .signatures .now) (a .bitfield .now) (a .content .now) (a .n) (a .s) (a .size) in
-    let k = at-start .start .given in
-    let l = lies nodeHash r (a .chunk .0) (k .0 .0 .0) (k .0 .1 .0 .0) (sym (ap verifiedOf (k .1)) ∙ at-verify .verify .ensures) in
-    read-done (readVerdict nodeHash r (a .chunk .0)) noPart (headerTold (c .header-at .result)) (readHeader (tree (index 0 (a .chunk .0))) (readPart nodeHash r (a .chunk .0))) (l .verdict)
-    (c .header-at .ensures ∙ ap (readHeader (tree (index 0 (a .chunk .0)))) (l .same))
+    let i = start .args .chunk .0 in
+    c .header-behind .ensures
+    ∙ ap₂ (λ v d. headerAfter v d i) (read-says nodeHash (given start) i _ (at-verify .verify .ensures)) (read-bytes nodeHash (given start) i _ (at-verify .verify .ensures))
 
 pub header-of-spec : {M : Type 1} → statement M
-header-of-spec =
-    tie.close (tie.spec (λ c κs. search needs) (λ c. search needs) (λ c. search needs) sub-header-at part-header-at-start part-header-at-end header-at-requires returns returns-2)
+header-of-spec = tie.close (tie.spec (λ c κs. search needs) header-behind-requires returns)

@@ -21,5 +21,4 @@ returns-2 c =
     written-done (Unit {0}) (a .bytes .now) (a .out .now) _ _ tt (branch1 .if1 .left) refl (at-copy-to .copy-to .ensures)
 
 pub give-spec : {M : Type 1} → statement M
-give-spec =
-    tie.close (tie.spec (λ c κs. search needs) returns (λ c κs. search needs) (λ c. search needs) returns-2)
+give-spec = tie.close (tie.spec (λ c κs. search needs) returns (λ c κs. search needs) (λ c. search needs) returns-2)

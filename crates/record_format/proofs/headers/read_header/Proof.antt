@@ -8,8 +8,7 @@ use Rattle.record_format.proofs.headers.read_header.Tie as tie
 returns : tie.Need-returns
 returns c =
     let branch1 = c .before in
-    let start = branch1 .before .before in
-    read-sized (start .args .bytes .now) (c .refusal .result) (branch1 .if1 .taken) (c .refusal .ensures)
+    read-sized (branch1 .before .before .args .bytes .now) (c .refusal .result) (branch1 .if1 .taken) (c .refusal .ensures)
 
 returns-2 : tie.Need-returns-2
 returns-2 c =
@@ -25,8 +24,7 @@ returns-3 c =
     let compared = c .before in
     let first = compared .before .before .before in
     let branch1 = first .before in
-    let start = branch1 .before .before in
-    read-content (start .args .bytes .now) (first .first-bytes .result) (compared .same .result) (branch1 .if1 .left) (first .first-bytes .ensures) (compared .same .ensures)
+    read-content (branch1 .before .before .args .bytes .now) (first .first-bytes .result) (compared .same .result) (branch1 .if1 .left) (first .first-bytes .ensures) (compared .same .ensures)
     (not-false _ (c .if2 .left))
 
 pub read-header-spec : {M : Type 1} → statement M

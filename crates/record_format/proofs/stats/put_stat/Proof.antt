@@ -10,8 +10,7 @@ put-three-requires-2 : tie.Need-put-three-requires-2
 put-three-requires-2 c κs =
     let at-put-three = c .before .before .before in
     let start = at-put-three .before .before .before in
-    let a = start .args in
-    let one = three-next 1 _ (a .out .now) 0 _ _ (omega arith) (omega (arith, start .pre)) (at-put-three .put-three .ensures) in
+    let one = three-next 1 _ (start .args .out .now) 0 _ _ (omega arith) (omega (arith, start .pre)) (at-put-three .put-three .ensures) in
     (omega arith, omega (arith, start .pre, one .0, one .1))
 
 put-three-requires-3 : tie.Need-put-three-requires-3
@@ -19,8 +18,7 @@ put-three-requires-3 c κs =
     let at-put-three2 = c .before .before .before in
     let at-put-three = at-put-three2 .before .before .before .before in
     let start = at-put-three .before .before .before in
-    let a = start .args in
-    let one = three-next 1 _ (a .out .now) 0 _ _ (omega arith) (omega (arith, start .pre)) (at-put-three .put-three .ensures) in
+    let one = three-next 1 _ (start .args .out .now) 0 _ _ (omega arith) (omega (arith, start .pre)) (at-put-three .put-three .ensures) in
     let two = three-next 4 _ _ _ _ _ (omega arith) (omega (arith, start .pre, one .0, one .1)) (at-put-three2 .put-three2 .ensures) in
     (omega arith, omega (arith, start .pre, one .0, one .1, two .0, two .1))
 
@@ -34,5 +32,4 @@ returns c =
     stat-put (statOf (a .stat)) (a .out .now) _ _ _ _ _ _ (start .pre) (at-put-three .put-three .ensures) (at-put-three2 .put-three2 .ensures) (at-put-three3 .put-three3 .ensures)
 
 pub put-stat-spec : {M : Type 1} → statement M
-put-stat-spec =
-    tie.close (tie.spec (λ c κs. search needs) put-three-requires-2 put-three-requires-3 (λ c. search needs) returns)
+put-stat-spec = tie.close (tie.spec (λ c κs. search needs) put-three-requires-2 put-three-requires-3 (λ c. search needs) returns)

@@ -35,13 +35,11 @@ returns-3 c =
     let at-three-fit2 = branch2 .before in
     let branch1 = at-three-fit2 .before in
     let at-three-fit = branch1 .before in
-    let start = at-three-fit .before in
-    let s = statOf (start .args .stat) in
+    let s = statOf (at-three-fit .before .args .stat) in
     let first = yes (First s) (at-three-fit .three-fit .result) (not-false _ (branch1 .if1 .left)) (at-three-fit .three-fit .ensures) in
     let second = yes (Second s) (at-three-fit2 .three-fit2 .result) (not-false _ (branch2 .if2 .left)) (at-three-fit2 .three-fit2 .ensures) in
     carried (Third s) (RowsWithin 1 (rowsOf s)) (c .three-fit3 .result)
     (λ z. nine-rows s (first, (second, z))) (λ w. rows-most s w .1 .1) (c .three-fit3 .ensures)
 
 pub rows-fit-spec : {M : Type 1} → statement M
-rows-fit-spec =
-    tie.close (tie.spec (λ c κs. search needs) returns (λ c κs. search needs) returns-2 (λ c κs. search needs) returns-3)
+rows-fit-spec = tie.close (tie.spec (λ c κs. search needs) returns (λ c κs. search needs) returns-2 (λ c κs. search needs) returns-3)

@@ -10,9 +10,7 @@ returns c = no-mode (c .before .before .args .stat) (c .enum-told .given .1)
 returns-2 : tie.Need-returns-2
 returns-2 c =
     let at-enum-told2 = c .before in
-    let start = at-enum-told2 .before .before in
-    with-mode (start .args .stat) _ (c .rows-fit .result) (at-enum-told2 .enum-told2 .given .1) (c .rows-fit .ensures)
+    with-mode (at-enum-told2 .before .before .args .stat) _ (c .rows-fit .result) (at-enum-told2 .enum-told2 .given .1) (c .rows-fit .ensures)
 
 pub stat-fits-spec : {M : Type 1} → statement M
-stat-fits-spec =
-    tie.close (tie.spec (λ c. search needs) (λ c. search needs) (λ c κs. search needs) returns returns-2)
+stat-fits-spec = tie.close (tie.spec (λ c. search needs) (λ c. search needs) (λ c κs. search needs) returns returns-2)

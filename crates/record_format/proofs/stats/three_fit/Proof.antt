@@ -25,13 +25,11 @@ returns-3 c =
     let at-number-fits2 = branch2 .before in
     let branch1 = at-number-fits2 .before in
     let at-number-fits = branch1 .before in
-    let start = at-number-fits .before in
-    let a = start .args in
+    let a = at-number-fits .before .args in
     let first = yes (Most (a .most) (numberOf (a .a))) (at-number-fits .number-fits .result) (not-false _ (branch1 .if1 .left)) (at-number-fits .number-fits .ensures) in
     let second = yes (Most (a .most) (numberOf (a .b))) (at-number-fits2 .number-fits2 .result) (not-false _ (branch2 .if2 .left)) (at-number-fits2 .number-fits2 .ensures) in
     carried (Most (a .most) (numberOf (a .c))) (ThreeMost (a .most) (numberOf (a .a), (numberOf (a .b), numberOf (a .c)))) (c .number-fits3 .result)
     (λ z. (first, (second, z))) (λ w. w .1 .1) (c .number-fits3 .ensures)
 
 pub three-fit-spec : {M : Type 1} → statement M
-three-fit-spec =
-    tie.close (tie.spec (λ c κs. search needs) returns (λ c κs. search needs) returns-2 (λ c κs. search needs) returns-3)
+three-fit-spec = tie.close (tie.spec (λ c κs. search needs) returns (λ c κs. search needs) returns-2 (λ c κs. search needs) returns-3)

@@ -7,50 +7,35 @@ use Rattle.record_node.proofs.reading.last_fields.Tie as tie
 
 number-row-requires : tie.Need-number-row-requires
 number-row-requires c κs =
-    let at-row = c .before in
-    let one = at-row .before .before .before in
-    let start = one .before .before in
-    let a = start .args in
-    (tail-fifth (a .d .now) (a .at) (one .writers-row .result .row) (one .writers-row .result .writers) _ (at-row .row .given .1) (one .writers-row .ensures), omega arith)
+    let row = c .before in
+    let one = row .before .before .before in
+    (tail-fifth _ _ _ (row .row .given .1) (one .writers-row .ensures), omega arith)
 
 returns : tie.Need-returns
 returns c =
-    let at-sequence = c .before .before in
-    let at-number-row = at-sequence .before .before in
-    let at-row = at-number-row .before .before in
-    let one = at-row .before .before .before in
-    let start = one .before .before in
-    let a = start .args in
-    tail-left (a .d .now) (a .at) (one .writers-row .result .row) (one .writers-row .result .writers) _ (at-row .row .given .1) (one .writers-row .ensures)
-    (at-number-row .number-row .result) _ _ (at-sequence .sequence .given .1) (at-number-row .number-row .ensures) (c .if1 .taken)
+    let number = c .before .before in
+    let row = number .before .before .before .before in
+    let one = row .before .before .before in
+    tail-left _ _ _ (row .row .given .1) (one .writers-row .ensures) (number .sequence .given .1) (number .before .before .number-row .ensures) (c .if1 .taken)
 
 returns-2 : tie.Need-returns-2
 returns-2 c =
     let one = c .before .before .before in
-    let start = one .before .before in
-    let a = start .args in
-    tail-writers (a .d .now) (a .at) (one .writers-row .result .row) (one .writers-row .result .writers) (c .enum-told .given .1) (one .writers-row .ensures)
+    tail-writers _ _ _ (c .enum-told .given .1) (one .writers-row .ensures)
 
 returns-3 : tie.Need-returns-3
 returns-3 c =
-    let at-number-row = c .before .before in
-    let at-row = at-number-row .before .before in
-    let one = at-row .before .before .before in
-    let start = one .before .before in
-    let a = start .args in
-    tail-number (a .d .now) (a .at) (one .writers-row .result .row) (one .writers-row .result .writers) _ (at-row .row .given .1) (one .writers-row .ensures)
-    (at-number-row .number-row .result) (c .enum-told2 .given .1) (at-number-row .number-row .ensures)
+    let number = c .before .before in
+    let row = number .before .before in
+    let one = row .before .before .before in
+    tail-number _ _ _ (row .row .given .1) (one .writers-row .ensures) (c .enum-told2 .given .1) (number .number-row .ensures)
 
 returns-4 : tie.Need-returns-4
 returns-4 c =
-    let at-sequence = c .before .before in
-    let at-number-row = at-sequence .before .before in
-    let at-row = at-number-row .before .before in
-    let one = at-row .before .before .before in
-    let start = one .before .before in
-    let a = start .args in
-    tail-read (a .d .now) (a .at) (one .writers-row .result .row) (one .writers-row .result .writers) _ (at-row .row .given .1) (one .writers-row .ensures)
-    (at-number-row .number-row .result) _ _ (at-sequence .sequence .given .1) (at-number-row .number-row .ensures) (c .if1 .left)
+    let number = c .before .before in
+    let row = number .before .before .before .before in
+    let one = row .before .before .before in
+    tail-read _ _ _ (row .row .given .1) (one .writers-row .ensures) (number .sequence .given .1) (number .before .before .number-row .ensures) (c .if1 .left)
 
 pub last-fields-spec : {M : Type 1} → statement M
 last-fields-spec =

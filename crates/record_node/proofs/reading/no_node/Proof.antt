@@ -16,5 +16,4 @@ returns c =
     (c .refuse .ensures) (c .before .no-writers .ensures)
 
 pub no-node-spec : {M : Type 1} → statement M
-no-node-spec =
-    tie.close (tie.spec (λ c κs. search needs) (λ c κs. search needs) returns)
+no-node-spec = tie.close (tie.spec (λ c κs. search needs) (λ c κs. search needs) returns)

@@ -11,5 +11,4 @@ returns : tie.Need-returns
 returns c = ap {B = Writers} (λ (w : Writer). record { count = 0; list = replicate 8 w }) (c .nobody .ensures)
 
 pub no-writers-spec : {M : Type 1} → statement M
-no-writers-spec =
-    tie.close (tie.spec (λ c κs. search needs) returns)
+no-writers-spec = tie.close (tie.spec (λ c κs. search needs) returns)

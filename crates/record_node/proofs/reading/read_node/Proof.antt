@@ -11,21 +11,17 @@ judged-requires : tie.Need-judged-requires
 judged-requires c κs =
     let at-plain = c .before in
     let at-five-fields = at-plain .before .before .before in
-    let start = at-five-fields .before .before in
     let found = at-five-fields .five-fields in
-    let a = start .args in
-    subst (λ (p : Plain). RawRead (a .bytes .now) p (found .result .writers)) (at-plain .plain .given .1) (found .ensures)
+    subst (λ (p : Plain). RawRead (at-five-fields .before .before .args .bytes .now) p (found .result .writers)) (at-plain .plain .given .1) (found .ensures)
 
 returns : tie.Need-returns
 returns c =
     let at-enum-told = c .before in
     let at-five-fields = at-enum-told .before .before .before in
-    let start = at-five-fields .before .before in
     let found = at-five-fields .five-fields in
-    let a = start .args in
-    refused-node (a .bytes .now) (c .no-node .result .answer) (c .no-node .result .node) (c .no-node .ensures)
-    (raw-rejected (a .bytes .now) (subst (λ (p : Plain). RawRead (a .bytes .now) p (found .result .writers)) (at-enum-told .enum-told .given .1) (found .ensures)))
+    let a = at-five-fields .before .before .args in
+    refused-node (a .bytes .now) (c .no-node .result .answer) (c .no-node .ensures)
+    (raw-rejected (subst (λ (p : Plain). RawRead (a .bytes .now) p (found .result .writers)) (at-enum-told .enum-told .given .1) (found .ensures)))
 
 pub read-node-spec : {M : Type 1} → statement M
-read-node-spec =
-    tie.close (tie.spec (λ c κs. search needs) (λ c. search needs) (λ c κs. search needs) (λ c. search needs) judged-requires returns (λ c. search needs))
+read-node-spec = tie.close (tie.spec (λ c κs. search needs) (λ c. search needs) (λ c κs. search needs) (λ c. search needs) judged-requires returns (λ c. search needs))

@@ -20,5 +20,4 @@ returns-3 c p e l =
     c .if1 .left (ap (λ (q : Part). q .len) (given-part (sym (at-key .key .given .1) ∙ e)) ∙ l)
 
 pub with-key-spec : {M : Type 1} → statement M
-with-key-spec =
-    tie.close (tie.spec (λ c. search needs) (λ c. search needs) returns returns-2 returns-3)
+with-key-spec = tie.close (tie.spec (λ c. search needs) (λ c. search needs) returns returns-2 returns-3)

@@ -9,33 +9,23 @@ part-put-part-end : tie.Need-part-put-part-end
 part-put-part-end c =
     let at-put-stat = c .before .before .before in
     let at-value = at-put-stat .before .before .before in
-    let start = at-value .before .before .before in
-    let a = start .args in
-    omega (arith, stat-len (a .value) (a .out .now) (a .at) _ (at-value .value .given .1) _ _ _ (at-put-stat .put-stat .ensures))
+    omega (arith, stat-len (at-value .value .given .1) (at-put-stat .put-stat .ensures))
 
 put-part-requires : tie.Need-put-part-requires
 put-part-requires c κs =
     let at-put-stat = c .before .before .before .before in
     let at-value = at-put-stat .before .before .before in
     let start = at-value .before .before .before in
-    let a = start .args in
-    (omega arith, stat-room (a .value) (a .out .now) (a .at) _ (at-value .value .given .1) _ _ _ (at-put-stat .put-stat .ensures) (start .pre))
-
-returns : tie.Need-returns
-returns c =
-    let start = c .before .before .before in
-    let a = start .args in value-nothing (a .value) (a .out .now) (a .at) (c .enum-told .given .1)
+    (omega arith, stat-room (at-value .value .given .1) (at-put-stat .put-stat .ensures) (start .args .out .now) (start .args .at) (start .pre))
 
 returns-2 : tie.Need-returns-2
 returns-2 c =
-    let at-put-part = c .before .before in
-    let at-put-stat = at-put-part .before .before .before .before .before in
+    let at-put-stat = c .before .before .before .before .before .before .before in
     let at-value = at-put-stat .before .before .before in
-    let start = at-value .before .before .before in
-    let a = start .args in
-    value-put (a .value) (a .out .now) (a .at) _ (at-value .value .given .1) _ _ _ (at-put-stat .put-stat .ensures) _ _ (at-put-part .put-part .ensures)
+    value-put (at-value .value .given .1) (at-put-stat .put-stat .ensures) (c .before .before .put-part .ensures)
 
 pub put-value-spec : {M : Type 1} → statement M
 put-value-spec =
-    tie.close (tie.spec (λ c. search needs) (λ c. search needs) (λ c. search needs) (λ c κs. search needs) (λ c. search needs) (λ c. search needs) part-put-part-end put-part-requires returns
-    (λ c. search needs) returns-2)
+    tie.close
+    (tie.spec (λ c. search needs) (λ c. search needs) (λ c. search needs) (λ c κs. search needs) (λ c. search needs) (λ c. search needs) part-put-part-end put-part-requires
+    (λ c. value-nothing (c .enum-told .given .1)) (λ c. search needs) returns-2)

@@ -1,7 +1,7 @@
 -- So many were put. The measure is what is left of the count.
 use native.Mathlib.Omega.{arith}
-use Prim.Native.Nat.{_-_, _≤_}
-use Rattle.record_node.proofs.Placed.{Placed, placed-none, one-roomy, one-len, one-room, one-placed, placed-all}
+use Prim.Native.Nat.{_-_, _≤_, _<_}
+use Rattle.record_node.proofs.Placed.{Placed, placed-none, few-left, one-roomy, one-len, one-room, one-placed, placed-all}
 use borrow.Author.Needs.{needs}
 use Rattle.record_node.proofs.writing.put_writers.Statement.{statement}
 use Rattle.record_node.proofs.writing.put_writers.Tie as tie
@@ -12,51 +12,33 @@ Inv-loop out₀ at d count list next₀ i₀ out next i = Placed d list out₀ a
 abbrev μ-loop : tie.MeasureT-loop
 μ-loop out₀ at d count list next₀ i₀ out next i = count - i
 
+abbrev start : (c : tie.At-loop Inv-loop μ-loop) → tie.Start Inv-loop μ-loop
+start c =
+    let entered = c .before .before .before .before in
+    entered
+
+count : (c : tie.In-loop Inv-loop μ-loop) → c .before .loop .i < 8
+count c = few-left (start (c .before) .pre) (c .before .loop .inv .0) (c .loop-test .taken)
+
 loop-holds : tie.Need-loop-holds Inv-loop μ-loop
-loop-holds c =
-    let start = c .before .before .before in
-    let a = start .args in (placed-none (a .d .now) (a .writers .list) (a .out .now) (a .at), omega arith)
-
-mul-put-writer : tie.Need-mul-put-writer Inv-loop μ-loop
-mul-put-writer c =
-    let tested = c .before in
-    let start = tested .before .before .before .before .before in
-    omega (arith, tested .loop-test .taken, start .pre .fits .inside .count)
-
-array-copy-out-put-writer : tie.Need-array-copy-out-put-writer Inv-loop μ-loop
-array-copy-out-put-writer c =
-    let tested = c .before in
-    let start = tested .before .before .before .before .before in
-    omega (arith, tested .loop-test .taken, start .pre .fits .inside .count)
+loop-holds c = (placed-none, omega arith)
 
 put-writer-requires : tie.Need-put-writer-requires Inv-loop μ-loop
 put-writer-requires c κs =
     let tested = c .before .before in
-    let looped = tested .before in
-    let start = looped .before .before .before .before in
-    let a = start .args in
-    let l = looped .loop in
-    one-roomy (a .d .now) (a .writers) (a .out .now) (a .at) (start .pre) (l .out) (l .next) (l .i) (l .inv .0) (tested .loop-test .taken) _ (omega arith)
+    one-roomy (start (tested .before) .pre) (tested .before .loop .inv .0) (tested .loop-test .taken) (omega arith)
 
 part-put-part-end : tie.Need-part-put-part-end Inv-loop μ-loop
 part-put-part-end c =
-    let at-put-writer = c .before .before .before in
-    let tested = at-put-writer .before .before .before in
-    let looped = tested .before in
-    let start = looped .before .before .before .before in
-    let a = start .args in
-    let l = looped .loop in
-    omega (arith, one-len (a .d .now) (a .writers) (a .out .now) (a .at) (start .pre) (l .out) (l .next) (l .i) (l .inv .0) (tested .loop-test .taken) _ _ _ (at-put-writer .put-writer .ensures))
+    let one = c .before .before .before in
+    let tested = one .before .before .before in
+    omega (arith, one-len (start (tested .before) .pre) (tested .before .loop .inv .0) (tested .loop-test .taken) (one .put-writer .ensures))
 
 put-part-requires : tie.Need-put-part-requires Inv-loop μ-loop
 put-part-requires c κs =
-    let at-put-writer = c .before .before .before .before in
-    let tested = at-put-writer .before .before .before in
-    let looped = tested .before in
-    let start = looped .before .before .before .before in
-    let a = start .args in
-    let l = looped .loop in
-    (omega arith, one-room (a .d .now) (a .writers) (a .out .now) (a .at) (start .pre) (l .out) (l .next) (l .i) (l .inv .0) (tested .loop-test .taken) _ _ _ (at-put-writer .put-writer .ensures))
+    let one = c .before .before .before .before in
+    let tested = one .before .before .before in
+    (omega arith, one-room (start (tested .before) .pre) (tested .before .loop .inv .0) (tested .loop-test .taken) (one .put-writer .ensures))
 
 add-i : tie.Need-add-i Inv-loop μ-loop
 add-i c =
@@ -70,30 +52,16 @@ loop-less c =
 
 loop-again : tie.Need-loop-again Inv-loop μ-loop
 loop-again c =
-    let at-put-part = c .before .before in
-    let at-put-writer = at-put-part .before .before .before .before .before in
-    let tested = at-put-writer .before .before .before in
-    let looped = tested .before in
-    let start = looped .before .before .before .before in
-    let a = start .args in
-    let l = looped .loop in (
-      one-placed (a .d .now) (a .writers) (a .out .now) (a .at) (start .pre) (l .out) (l .next) (l .i) (l .inv .0) (tested .loop-test .taken) _ _ _
-          (at-put-writer .put-writer .ensures) _ _ (at-put-part .put-part .ensures),
+    let one = c .before .before .before .before .before .before .before in
+    let tested = one .before .before .before in
+    let looped = tested .before in (
+      one-placed (start looped .pre) (looped .loop .inv .0) (tested .loop-test .taken) (one .put-writer .ensures) (c .before .before .put-part .ensures),
       omega (arith, tested .loop-test .taken),
     )
 
-same-length : tie.Need-same-length Inv-loop μ-loop
-same-length c = c .before .loop .inv .0 .same
-
-returns : tie.Need-returns Inv-loop μ-loop
-returns c =
-    let looped = c .before in
-    let start = looped .before .before .before .before in
-    let a = start .args in
-    let l = looped .loop in
-    placed-all (a .d .now) (a .writers) (a .out .now) (a .at) (l .out) (l .next) (l .i) (l .inv .0) (omega (arith, l .inv .1, c .loop-test .left))
-
 pub put-writers-spec : {M : Type 1} → statement M
 put-writers-spec =
-    tie.close (tie.spec Inv-loop μ-loop loop-holds (λ c. search needs) mul-put-writer array-copy-out-put-writer put-writer-requires (λ c. search needs) (λ c. search needs) part-put-part-end
-    put-part-requires add-i loop-less loop-again same-length returns)
+    tie.close
+    (tie.spec Inv-loop μ-loop loop-holds (λ c. search needs) (λ c. omega (arith, count (c .before))) (λ c. omega (arith, count (c .before))) put-writer-requires
+    (λ c. search needs) (λ c. search needs) part-put-part-end put-part-requires add-i loop-less loop-again (λ c. c .before .loop .inv .0 .same)
+    (λ c. let l = c .before .loop in placed-all (start (c .before) .args .writers) (l .inv .0) (omega (arith, l .inv .1, c .loop-test .left))))

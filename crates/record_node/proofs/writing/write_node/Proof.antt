@@ -10,46 +10,36 @@ use borrow.Author.Needs.{needs}
 use Rattle.record_node.proofs.writing.write_node.Statement.{statement}
 use Rattle.record_node.proofs.writing.write_node.Tie as tie
 
+abbrev start : (c : tie.After-node-fits) → tie.Start
+start c =
+    let entered = c .before .before .before in
+    entered
+
+fits : (c : tie.Else1) → NodeFits (start (c .before) .args .bytes .now) (start (c .before) .args .node)
+fits c = yes _ (c .before .node-fits .result) (not-false _ (c .if1 .left)) (c .before .node-fits .ensures)
+
 returns : tie.Need-returns
 returns c =
     let branch1 = c .before in
-    let at-node-fits = branch1 .before in
-    let start = at-node-fits .before .before .before in
-    let a = start .args in
+    let a = start (branch1 .before) .args in
     written-15 (NodeFits (a .bytes .now) (a .node)) (nodeBytes (nodeOf (a .bytes .now) (a .node))) (a .out .now) (c .refusal .result) (c .refusal .ensures)
-    (no (NodeFits (a .bytes .now) (a .node)) (at-node-fits .node-fits .result) (not-true _ (branch1 .if1 .taken)) (at-node-fits .node-fits .ensures))
-
-put-node-requires : tie.Need-put-node-requires
-put-node-requires c κs =
-    let branch1 = c .before in
-    let at-node-fits = branch1 .before in
-    let start = at-node-fits .before .before .before in
-    let a = start .args in
-    record { fits = yes (NodeFits (a .bytes .now) (a .node)) (at-node-fits .node-fits .result) (not-false _ (branch1 .if1 .left)) (at-node-fits .node-fits .ensures); room = omega arith }
+    (no _ (branch1 .before .node-fits .result) (not-true _ (branch1 .if1 .taken)) (branch1 .before .node-fits .ensures))
 
 part-give-end : tie.Need-part-give-end
 part-give-end c =
     let at-put-node = c .before .before in
-    let branch1 = at-put-node .before .before in
-    let at-node-fits = branch1 .before in
-    let start = at-node-fits .before .before .before in
-    let a = start .args in
-    let fits = yes (NodeFits (a .bytes .now) (a .node)) (at-node-fits .node-fits .result) (not-false _ (branch1 .if1 .left)) (at-node-fits .node-fits .ensures) in
-    omega (arith, at-put-node .put-node .ensures .ends, node-size (a .bytes .now) (a .node) fits)
+    omega (arith, at-put-node .put-node .ensures .ends, node-size (fits (at-put-node .before .before)))
 
 returns-2 : tie.Need-returns-2
 returns-2 c =
-    let at-give = c .before .before in
-    let at-put-node = at-give .before .before .before .before .before in
+    let at-put-node = c .before .before .before .before .before .before .before in
     let branch1 = at-put-node .before .before in
-    let at-node-fits = branch1 .before in
-    let start = at-node-fits .before .before .before in
-    let a = start .args in
-    let fits = yes (NodeFits (a .bytes .now) (a .node)) (at-node-fits .node-fits .result) (not-false _ (branch1 .if1 .left)) (at-node-fits .node-fits .ensures) in
-    written-given (NodeFits (a .bytes .now) (a .node)) (nodeBytes (nodeOf (a .bytes .now) (a .node))) _ (a .out .now) _ _ fits (front-of _ _ _ _ (at-put-node .put-node .ensures))
-    (at-give .give .ensures)
+    let a = start (branch1 .before) .args in
+    written-given (NodeFits (a .bytes .now) (a .node)) (nodeBytes (nodeOf (a .bytes .now) (a .node))) _ (a .out .now) _ _ (fits branch1) (front-of (at-put-node .put-node .ensures))
+    (c .before .before .give .ensures)
 
 pub write-node-spec : {M : Type 1} → statement M
 write-node-spec =
-    tie.close (tie.spec (λ c κs. search needs) (λ c κs. search needs) returns (λ c. search needs) put-node-requires (λ c. search needs) (λ c. search needs) part-give-end
-    (λ c κs. search needs) (λ c. search needs) returns-2)
+    tie.close
+    (tie.spec (λ c κs. search needs) (λ c κs. search needs) returns (λ c. search needs) (λ c κs. record { fits = fits (c .before); room = omega arith }) (λ c. search needs)
+    (λ c. search needs) part-give-end (λ c κs. search needs) (λ c. search needs) returns-2)

@@ -20,14 +20,10 @@ loop-holds : tie.Need-loop-holds Inv-loop μ-loop
 loop-holds c = (omega arith, refl)
 
 add-smaller-of : tie.Need-add-smaller-of Inv-loop μ-loop
-add-smaller-of c =
-    let entered = c .before .before .before in
-    let h = entered .pre .few in search needs
+add-smaller-of c = search needs
 
 mul-smaller-of : tie.Need-mul-smaller-of Inv-loop μ-loop
-mul-smaller-of c =
-    let entered = c .before .before .before in
-    let h = entered .pre .few in search needs
+mul-smaller-of c = search needs
 
 in-group-requires : tie.Need-in-group-requires Inv-loop μ-loop
 in-group-requires c κs =
@@ -47,8 +43,7 @@ returns c =
     let at-smaller-of = at-in-group .before .before .before in
     let tested = at-smaller-of .before in
     let looped = tested .before in
-    let start = looped .before .before in
-    let a = start .args in
+    let a = looped .before .before .args in
     let s = at-smaller-of .smaller-of .ensures in
     let k = looped .loop .k in
     found-here (notMissing (a .xs .now)) (at-in-group .in-group .result) (a .from) k (at-smaller-of .smaller-of .result) (a .end) (s .above k (omega arith) (tested .loop-test .taken)) (s .right)
@@ -58,10 +53,8 @@ loop-less : tie.Need-loop-less Inv-loop μ-loop
 loop-less c =
     let at-smaller-of = c .before .before .before .before .before in
     let tested = at-smaller-of .before in
-    let looped = tested .before in
     let s = at-smaller-of .smaller-of .ensures in
-    let k = looped .loop .k in
-    omega (arith, s .above k (omega arith) (tested .loop-test .taken), s .right)
+    omega (arith, s .above (tested .before .loop .k) (omega arith) (tested .loop-test .taken), s .right)
 
 loop-again : tie.Need-loop-again Inv-loop μ-loop
 loop-again c =
@@ -69,8 +62,7 @@ loop-again c =
     let at-smaller-of = at-in-group .before .before .before in
     let tested = at-smaller-of .before in
     let looped = tested .before in
-    let start = looped .before .before in
-    let a = start .args in
+    let a = looped .before .before .args in
     let s = at-smaller-of .smaller-of .ensures in
     let k = looped .loop .k in (
       omega (arith, s .above k (omega arith) (tested .loop-test .taken), looped .loop .inv .0),
@@ -82,8 +74,7 @@ loop-again c =
 returns-2 : tie.Need-returns-2 Inv-loop μ-loop
 returns-2 c =
     let looped = c .before in
-    let start = looped .before .before in
-    let a = start .args in
+    let a = looped .before .before .args in
     sym (looped .loop .inv .1 ∙ lowest-end (notMissing (a .xs .now)) (looped .loop .k) (a .end) (c .loop-test .left))
 
 pub by-groups-spec : {M : Type 1} → statement M

@@ -20,14 +20,10 @@ loop-holds : tie.Need-loop-holds Inv-loop μ-loop
 loop-holds c = refl
 
 add-smaller-of : tie.Need-add-smaller-of Inv-loop μ-loop
-add-smaller-of c =
-    let entered = c .before .before .before in
-    let h = entered .pre .0 in search needs
+add-smaller-of c = search needs
 
 mul-smaller-of : tie.Need-mul-smaller-of Inv-loop μ-loop
-mul-smaller-of c =
-    let entered = c .before .before .before in
-    let h = entered .pre .0 in search needs
+mul-smaller-of c = search needs
 
 in-run-requires : tie.Need-in-run-requires Inv-loop μ-loop
 in-run-requires c κs =
@@ -45,8 +41,7 @@ returns c =
     let at-smaller-of = at-in-run .before in
     let tested = at-smaller-of .before in
     let looped = tested .before in
-    let start = looped .before .before in
-    let a = start .args in
+    let a = looped .before .before .args in
     let s = at-smaller-of .smaller-of .ensures in
     let k = looped .loop .k in
     found-here (notMissing (a .xs .now)) (at-in-run .in-run .result) (a .from) k (at-smaller-of .smaller-of .result) (a .n) (s .above k (omega arith) (tested .loop-test .taken)) (s .right)
@@ -56,10 +51,8 @@ loop-less : tie.Need-loop-less Inv-loop μ-loop
 loop-less c =
     let at-smaller-of = c .before .before .before in
     let tested = at-smaller-of .before in
-    let looped = tested .before in
     let s = at-smaller-of .smaller-of .ensures in
-    let k = looped .loop .k in
-    omega (arith, s .above k (omega arith) (tested .loop-test .taken), s .right)
+    omega (arith, s .above (tested .before .loop .k) (omega arith) (tested .loop-test .taken), s .right)
 
 loop-again : tie.Need-loop-again Inv-loop μ-loop
 loop-again c =
@@ -67,8 +60,7 @@ loop-again c =
     let at-smaller-of = at-in-run .before in
     let tested = at-smaller-of .before in
     let looped = tested .before in
-    let start = looped .before .before in
-    let a = start .args in
+    let a = looped .before .before .args in
     let s = at-smaller-of .smaller-of .ensures in
     let k = looped .loop .k in
     none-here (notMissing (a .xs .now)) (at-in-run .in-run .result) (a .from) k (at-smaller-of .smaller-of .result) (a .n) (s .above k (omega arith) (tested .loop-test .taken)) (s .right)
@@ -77,8 +69,7 @@ loop-again c =
 returns-2 : tie.Need-returns-2 Inv-loop μ-loop
 returns-2 c =
     let looped = c .before in
-    let start = looped .before .before in
-    let a = start .args in
+    let a = looped .before .before .args in
     sym (looped .loop .inv ∙ lowest-end (notMissing (a .xs .now)) (looped .loop .k) (a .n) (c .loop-test .left))
 
 pub by-runs-spec : {M : Type 1} → statement M

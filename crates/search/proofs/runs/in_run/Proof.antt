@@ -30,13 +30,12 @@ by-groups-requires c κs =
     let at-run-tuples = c .before in
     let at-chunk-behind = at-run-tuples .before in
     let start = at-chunk-behind .before .before in
-    let a = start .args in
     let p = start .pre .1 in
     record {
       room = p .room;
       few = p .few;
       same = p .same;
-      is = at-run-tuples .run-tuples .ensures ∙ ap (λ (j : ℕ). storedTuples (a .xs .now) (j / 64)) (at-chunk-behind .chunk-behind .ensures);
+      is = at-run-tuples .run-tuples .ensures ∙ ap (λ (j : ℕ). storedTuples (start .args .xs .now) (j / 64)) (at-chunk-behind .chunk-behind .ensures);
     }
 
 returns-2 : tie.Need-returns-2

@@ -9,5 +9,4 @@ returns : tie.Need-returns
 returns c = tuples-at (c .before .args .chunk .0 / 64)
 
 pub tuples-place-spec : {M : Type 1} → statement M
-tuples-place-spec =
-    tie.close (tie.spec (λ c. search needs) (λ c. search needs) (λ c. search needs) (λ c. search needs) (λ c. search needs) returns)
+tuples-place-spec = tie.close (tie.spec (λ c. search needs) (λ c. search needs) (λ c. search needs) (λ c. search needs) (λ c. search needs) returns)

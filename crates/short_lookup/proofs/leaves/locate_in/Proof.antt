@@ -22,22 +22,6 @@ abbrev μ-loop : tie.MeasureT-loop
 abbrev known : tie.Start Inv-loop μ-loop → ℕ → Bool
 known s = knownIf (s .args .partly) (s .args .bitfield .now)
 
-returns : tie.Need-returns Inv-loop μ-loop
-returns c =
-    let s = c .before .before .before .before in
-    byte-nine (known s) (s .args .tree .now) (s .args .n) (s .args .size) (s .args .offset .0) (c .if1 .taken)
-
-returns-2 : tie.Need-returns-2 Inv-loop μ-loop
-returns-2 c =
-    let branch2 = c .before in
-    let s = branch2 .before .before .before .before .before .before in
-    ap (λ k. found k 0) (c .chunk-behind .ensures) ∙ byte-end (known s) (s .args .tree .now) (s .args .n) (s .args .size) (s .args .offset .0) (branch2 .if2 .taken)
-
-loop-holds : tie.Need-loop-holds Inv-loop μ-loop
-loop-holds c =
-    let s = c .before .before .before .before .before .before in
-    passed-none (known s) (s .args .tree .now) (s .args .n) (s .args .offset .0)
-
 leaf-index-requires : tie.Need-leaf-index-requires Inv-loop μ-loop
 leaf-index-requires c κs =
     let s = c .before .before .before .before .before .before .before .before .before in
@@ -58,8 +42,7 @@ returns-3 c =
     let looped = branch3 .before .before in
     let branch2 = looped .before in
     let branch1 = branch2 .before .before in
-    let s = branch1 .before .before .before .before in
-    byte-unknown (s .args .size) (branch1 .if1 .left) (branch2 .if2 .left) (looped .loop .inv) (branch3 .if3 .taken) (at-leaf-index .leaf-index .ensures)
+    byte-unknown _ (branch1 .if1 .left) (branch2 .if2 .left) (looped .loop .inv) (branch3 .if3 .taken) (at-leaf-index .leaf-index .ensures)
     (sym (at-is-known .is-known .ensures) ∙ not-true _ (c .if4 .taken))
 
 stored-size-requires : tie.Need-stored-size-requires Inv-loop μ-loop
@@ -82,9 +65,8 @@ read : (c : tie.After-stored-size Inv-loop μ-loop)
 read c =
     let branch4 = c .before in
     let at-is-known = branch4 .before in
-    let at-leaf-index = at-is-known .before in
     record {
-      at = at-leaf-index .leaf-index .ensures;
+      at = at-is-known .before .leaf-index .ensures;
       knows = sym (at-is-known .is-known .ensures) ∙ not-false _ (branch4 .if4 .left);
       says = c .stored-size .ensures;
     }
@@ -96,8 +78,7 @@ returns-4 c =
     let looped = branch3 .before .before in
     let branch2 = looped .before in
     let branch1 = branch2 .before .before in
-    let s = branch1 .before .before .before .before in
-    byte-long (s .args .size) (branch1 .if1 .left) (branch2 .if2 .left) (looped .loop .inv) (branch3 .if3 .taken) (read earlier) (c .if5 .taken)
+    byte-long _ (branch1 .if1 .left) (branch2 .if2 .left) (looped .loop .inv) (branch3 .if3 .taken) (read earlier) (c .if5 .taken)
 
 add-if6 : tie.Need-add-if6 Inv-loop μ-loop
 add-if6 c =
@@ -121,8 +102,7 @@ returns-5 c =
     let looped = branch3 .before .before in
     let branch2 = looped .before in
     let branch1 = branch2 .before .before in
-    let s = branch1 .before .before .before .before in
-    byte-here (s .args .size) (branch1 .if1 .left) (branch2 .if2 .left) (looped .loop .inv) (branch3 .if3 .taken) (read earlier) (branch5 .if5 .left)
+    byte-here _ (branch1 .if1 .left) (branch2 .if2 .left) (looped .loop .inv) (branch3 .if3 .taken) (read earlier) (branch5 .if5 .left)
     (branch6 .if6 .taken)
 
 add-t21 : tie.Need-add-t21 Inv-loop μ-loop
@@ -153,8 +133,7 @@ loop-again c =
     let looped = branch3 .before .before in
     let branch2 = looped .before in
     let branch1 = branch2 .before .before in
-    let s = branch1 .before .before .before .before in
-    byte-on (s .args .size) (branch1 .if1 .left) (branch2 .if2 .left) (looped .loop .inv) (branch3 .if3 .taken) (read earlier) (branch5 .if5 .left)
+    byte-on _ (branch1 .if1 .left) (branch2 .if2 .left) (looped .loop .inv) (branch3 .if3 .taken) (read earlier) (branch5 .if5 .left)
     (branch6 .if6 .left)
 
 returns-6 : tie.Need-returns-6 Inv-loop μ-loop
@@ -162,29 +141,11 @@ returns-6 c =
     let looped = c .before .before in
     let branch2 = looped .before in
     let branch1 = branch2 .before .before in
-    let s = branch1 .before .before .before .before in
-    byte-none (s .args .size) (branch1 .if1 .left) (branch2 .if2 .left) (looped .loop .inv) (c .if3 .left)
+    byte-none _ (branch1 .if1 .left) (branch2 .if2 .left) (looped .loop .inv) (c .if3 .left)
 
 pub locate-in-spec : {M : Type 1} → statement M
 locate-in-spec =
     tie.close
-    (tie.spec
-    Inv-loop
-    μ-loop
-    returns
-    (λ c κs. search needs)
-    returns-2
-    loop-holds
-    leaf-index-requires
-    is-known-requires
-    returns-3
-    stored-size-requires
-    returns-4
-    add-if6
-    sub-t22
-    returns-5
-    add-t21
-    add-t21-2
-    loop-less
-    loop-again
-    returns-6)
+    (tie.spec Inv-loop μ-loop (λ c. byte-nine _ _ _ _ _ (c .if1 .taken)) (λ c κs. search needs)
+    (λ c. ap (λ k. found k 0) (c .chunk-behind .ensures) ∙ byte-end _ _ _ _ _ (c .before .if2 .taken)) (λ c. passed-none _ _ _ _) leaf-index-requires is-known-requires
+    returns-3 stored-size-requires returns-4 add-if6 sub-t22 returns-5 add-t21 add-t21-2 loop-less loop-again returns-6)

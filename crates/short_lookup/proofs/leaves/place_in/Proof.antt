@@ -21,11 +21,6 @@ abbrev μ-loop : tie.MeasureT-loop
 abbrev known : tie.Start Inv-loop μ-loop → ℕ → Bool
 known s = knownIf (s .args .partly) (s .args .bitfield .now)
 
-returns : tie.Need-returns Inv-loop μ-loop
-returns c =
-    let s = c .before .before .before .before in
-    place-nine (known s) (s .args .tree .now) (s .args .n) (s .args .chunk .0) (c .if1 .taken)
-
 loop-holds : tie.Need-loop-holds Inv-loop μ-loop
 loop-holds c =
     let s = c .before .before .before .before in
@@ -49,8 +44,7 @@ returns-2 c =
     let at-leaf-index = at-is-known .before in
     let looped = at-leaf-index .before in
     let branch1 = looped .before in
-    let s = branch1 .before .before .before .before in
-    place-unknown (s .args .n) (branch1 .if1 .left) (looped .loop .inv) (at-leaf-index .leaf-index .ensures)
+    place-unknown _ (branch1 .if1 .left) (looped .loop .inv) (at-leaf-index .leaf-index .ensures)
     (sym (at-is-known .is-known .ensures) ∙ not-true _ (c .if2 .taken))
 
 stored-size-requires : tie.Need-stored-size-requires Inv-loop μ-loop
@@ -61,16 +55,24 @@ stored-size-requires c κs =
     subst (EntryIn (s .args .tree .now)) (sym (at-leaf-index .leaf-index .ensures))
     (leaf-in (s .pre) (looped .loop .k .0) (omega (arith, looped .loop .inv .upto)))
 
+abbrev leaf : tie.After-stored-size Inv-loop μ-loop → tie.After-leaf-index Inv-loop μ-loop
+leaf c =
+    let at-leaf-index = c .before .before .before in
+    at-leaf-index
+
+abbrev start : tie.At-loop Inv-loop μ-loop → tie.Start Inv-loop μ-loop
+start c =
+    let entered = c .before .before .before .before .before in
+    entered
+
 -- what was read, behind a stored size
 read : (c : tie.After-stored-size Inv-loop μ-loop)
-    → Leaf (known (c .before .before .before .before .before .before .before .before .before)) (c .before .before .before .before .before .before .before .before .before .args .tree .now)
-    (c .before .before .before .before .loop .k .0) (c .before .before .before .leaf-index .result .0) (c .stored-size .result)
+    → Leaf (known (start (leaf c .before))) (start (leaf c .before) .args .tree .now) (leaf c .before .loop .k .0) (leaf c .leaf-index .result .0) (c .stored-size .result)
 read c =
     let branch2 = c .before in
     let at-is-known = branch2 .before in
-    let at-leaf-index = at-is-known .before in
     record {
-      at = at-leaf-index .leaf-index .ensures;
+      at = at-is-known .before .leaf-index .ensures;
       knows = sym (at-is-known .is-known .ensures) ∙ not-false _ (branch2 .if2 .left);
       says = c .stored-size .ensures;
     }
@@ -80,8 +82,7 @@ returns-3 c =
     let earlier = c .before in
     let looped = earlier .before .before .before .before in
     let branch1 = looped .before in
-    let s = branch1 .before .before .before .before in
-    place-long (s .args .n) (branch1 .if1 .left) (looped .loop .inv) (read earlier) (c .if3 .taken)
+    place-long _ (branch1 .if1 .left) (looped .loop .inv) (read earlier) (c .if3 .taken)
 
 returns-4 : tie.Need-returns-4 Inv-loop μ-loop
 returns-4 c =
@@ -89,8 +90,7 @@ returns-4 c =
     let earlier = branch3 .before in
     let looped = earlier .before .before .before .before in
     let branch1 = looped .before in
-    let s = branch1 .before .before .before .before in
-    place-here (s .args .n) (branch1 .if1 .left) (looped .loop .inv) (read earlier) (branch3 .if3 .left) (c .if4 .taken)
+    place-here _ (branch1 .if1 .left) (looped .loop .inv) (read earlier) (branch3 .if3 .left) (c .if4 .taken)
 
 add-t19 : tie.Need-add-t19 Inv-loop μ-loop
 add-t19 c =
@@ -116,24 +116,10 @@ loop-again c =
     let earlier = branch3 .before in
     let looped = earlier .before .before .before .before in
     let branch1 = looped .before in
-    let s = branch1 .before .before .before .before in
-    place-on (s .args .n) (branch1 .if1 .left) (looped .loop .inv) (read earlier) (branch3 .if3 .left) (branch4 .if4 .left)
+    place-on _ (branch1 .if1 .left) (looped .loop .inv) (read earlier) (branch3 .if3 .left) (branch4 .if4 .left)
 
 pub place-in-spec : {M : Type 1} → statement M
 place-in-spec =
     tie.close
-    (tie.spec
-    Inv-loop
-    μ-loop
-    returns
-    loop-holds
-    leaf-index-requires
-    is-known-requires
-    returns-2
-    stored-size-requires
-    returns-3
-    returns-4
-    add-t19
-    add-t19-2
-    loop-less
+    (tie.spec Inv-loop μ-loop (λ c. place-nine _ _ _ _ (c .if1 .taken)) loop-holds leaf-index-requires is-known-requires returns-2 stored-size-requires returns-3 returns-4 add-t19 add-t19-2 loop-less
     loop-again)

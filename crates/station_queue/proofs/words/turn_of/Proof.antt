@@ -9,13 +9,11 @@ use Rattle.station_queue.proofs.words.turn_of.Tie as tie
 returns : tie.Need-returns
 returns c =
     let known = c .before .before in
-    let start = known .before .before in
-    let a = start .args in
+    let a = known .before .before .args in
     ap (turn (a .s)) (first-read (a .table .now) (a .s) (known .first .result) (known .first .ensures .0))
 
 pub turn-of-spec : {M : Type 1} → statement M
 turn-of-spec =
     tie.close
-    (tie.spec
-    (λ c κs. search needs) (λ c. search needs) (λ c. search needs) (λ c. search needs) (λ c. search needs)
-    (λ c. search needs) (λ c. search needs) (λ c. search needs) (λ c. search needs) returns)
+    (tie.spec (λ c κs. search needs) (λ c. search needs) (λ c. search needs) (λ c. search needs) (λ c. search needs) (λ c. search needs) (λ c. search needs)
+    (λ c. search needs) (λ c. search needs) returns)

@@ -26,28 +26,24 @@ stored-hash-requires c κs = let s = c .before .before in sibling-in (s .args .t
 
 stored-size-requires : tie.Need-stored-size-requires
 stored-size-requires c κs =
-    let at-node-index = c .before .before in
-    let start = at-node-index .before .before in
-    let s = start in sibling-in (s .args .tree .now) (s .args .n) (s .args .d) _ (s .pre .few) (s .pre .depth) (s .pre .room) (at-node-index .node-index .ensures)
+    let s = c .before .before .before .before in
+    sibling-in (s .args .tree .now) (s .args .n) (s .args .d) _ (s .pre .few) (s .pre .depth) (s .pre .room) (c .before .before .node-index .ensures)
 
 add-size : tie.Need-add-size
 add-size c =
-    let at-stored-size = c .before in
-    let at-node-index = at-stored-size .before .before .before in
-    let start = at-node-index .before .before in
-    let s = start in record {
+    let at-node-index = c .before .before .before .before in
+    let s = at-node-index .before .before in record {
       fits = sum-fits (s .args .tree .now) (s .args .n) (s .args .d) _ _ (s .args .node .size) (at-node-index .node-index .ensures)
-          (at-stored-size .stored-size .ensures) (s .pre .sum);
+          (c .before .stored-size .ensures) (s .pre .sum);
     }
 
 returns : tie.Need-returns
 returns c =
     let at-stored-size = c .before .before .before .before in
-    let at-stored-hash = at-stored-size .before .before in
-    let at-node-index = at-stored-hash .before in
-    let start = at-node-index .before .before in
-    let a = start .args in node-above (a .tree .now) _ (a .node .hash) _ (a .n) (a .d) _ _ (a .node .size) (at-node-index .node-index .ensures)
-    (at-stored-hash .stored-hash .ensures) (at-stored-size .stored-size .ensures) (c .parent-hash .ensures)
+    let at-node-index = at-stored-size .before .before .before in
+    let a = at-node-index .before .before .args in
+    node-above (a .tree .now) _ (a .node .hash) _ (a .n) (a .d) _ _ (a .node .size) (at-node-index .node-index .ensures)
+    (at-stored-size .before .before .stored-hash .ensures) (at-stored-size .stored-size .ensures) (c .parent-hash .ensures)
 
 pub above-spec : {M : Type 1} → statement M
 above-spec =

@@ -15,32 +15,24 @@ returns c = let a = c .before .before .args in no-hole-first (a .tree .now) (a .
 
 returns-2 : tie.Need-returns-2
 returns-2 c =
-    let at-is-filled = c .before in
-    let at-parent-before = at-is-filled .before in
-    let at-chunk-behind = at-parent-before .before in
+    let at-chunk-behind = c .before .before .before in
     let start = at-chunk-behind .before .before .before in
     let a = start .args in
-    no-hole (a .tree .now) (a .n) _ _ (at-parent-before .parent-before .ensures ∙ ap before (at-chunk-behind .chunk-behind .ensures)) (at-is-filled .is-filled .ensures) (c .if2 .taken)
+    no-hole (a .tree .now) (a .n) _ _ (c .before .before .parent-before .ensures ∙ ap before (at-chunk-behind .chunk-behind .ensures)) (c .before .is-filled .ensures) (c .if2 .taken)
 
 clear-entry-requires : tie.Need-clear-entry-requires
 clear-entry-requires c κs =
     let at-parent-before = c .before .before .before in
-    let at-chunk-behind = at-parent-before .before in
-    let start = at-chunk-behind .before .before .before in
-    let a = start .args in
-    hole-in (a .tree .now) (a .n) _ (start .pre .0) (start .pre .1) (at-parent-before .parent-before .ensures ∙ ap before (at-chunk-behind .chunk-behind .ensures))
+    let start = at-parent-before .before .before .before .before in
+    hole-in (start .args .tree .now) (start .args .n) _ (start .pre .0) (start .pre .1) (at-parent-before .parent-before .ensures ∙ ap before (at-parent-before .before .chunk-behind .ensures))
 
 returns-3 : tie.Need-returns-3
 returns-3 c =
-    let at-clear-entry = c .before .before in
-    let branch2 = at-clear-entry .before .before in
-    let at-is-filled = branch2 .before in
-    let at-parent-before = at-is-filled .before in
-    let at-chunk-behind = at-parent-before .before in
+    let branch2 = c .before .before .before .before in
+    let at-chunk-behind = branch2 .before .before .before in
     let start = at-chunk-behind .before .before .before in
-    let a = start .args in
-    a-hole (a .tree .now) (a .n) _ _ (at-parent-before .parent-before .ensures ∙ ap before (at-chunk-behind .chunk-behind .ensures)) (at-is-filled .is-filled .ensures) _
-    (branch2 .if2 .left) (at-clear-entry .clear-entry .ensures)
+    a-hole (start .args .tree .now) (start .args .n) _ _ (branch2 .before .before .parent-before .ensures ∙ ap before (at-chunk-behind .chunk-behind .ensures)) (branch2 .before .is-filled .ensures) _
+    (branch2 .if2 .left) (c .before .before .clear-entry .ensures)
 
 pub clear-hole-spec : {M : Type 1} → statement M
 clear-hole-spec =

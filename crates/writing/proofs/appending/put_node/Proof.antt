@@ -14,27 +14,23 @@ ending d n = index d ((n + 1) / 2 ^ d - 1)
 node-ending-requires : tie.Need-node-ending-requires
 node-ending-requires c κs =
     let start = c .before .before in
-    let a = start .args in
-    subst (λ (m : ℕ). (m < 1048576) × (a .d ≤ completed m)) (sym (c .chunk-behind .ensures)) (start .pre .few, start .pre .depth)
+    subst (λ (m : ℕ). (m < 1048576) × (start .args .d ≤ completed m)) (sym (c .chunk-behind .ensures)) (start .pre .few, start .pre .depth)
 
 write-entry-requires : tie.Need-write-entry-requires
 write-entry-requires c κs =
     let at-node-ending = c .before .before .before in
-    let at-chunk-behind = at-node-ending .before in
-    let start = at-chunk-behind .before .before in
+    let start = at-node-ending .before .before .before in
     let a = start .args in
     place-in (a .tree .now) (a .n) (a .d) _ (start .pre .few) (start .pre .depth) (start .pre .room)
-    (at-node-ending .node-ending .ensures ∙ ap (ending (a .d)) (at-chunk-behind .chunk-behind .ensures))
+    (at-node-ending .node-ending .ensures ∙ ap (ending (a .d)) (at-node-ending .before .chunk-behind .ensures))
 
 returns : tie.Need-returns
 returns c =
-    let at-write-entry = c .before .before in
-    let at-node-ending = at-write-entry .before .before .before .before in
-    let at-chunk-behind = at-node-ending .before in
-    let start = at-chunk-behind .before .before in
+    let at-node-ending = c .before .before .before .before .before .before in
+    let start = at-node-ending .before .before .before in
     let a = start .args in
-    node-put (a .tree .now) _ (a .node .hash) (a .n) (a .d) (a .node .size) _ (at-node-ending .node-ending .ensures ∙ ap (ending (a .d)) (at-chunk-behind .chunk-behind .ensures))
-    (at-write-entry .write-entry .ensures)
+    node-put (a .tree .now) _ (a .node .hash) (a .n) (a .d) (a .node .size) _ (at-node-ending .node-ending .ensures ∙ ap (ending (a .d)) (at-node-ending .before .chunk-behind .ensures))
+    (c .before .before .write-entry .ensures)
 
 pub put-node-spec : {M : Type 1} → statement M
 put-node-spec = tie.close (tie.spec (λ c κs. search needs) node-ending-requires write-entry-requires (λ c. search needs) returns)

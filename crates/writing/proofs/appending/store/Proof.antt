@@ -10,8 +10,8 @@ use Rattle.writing.proofs.appending.store.Tie as tie
 
 add-leaf-requires : tie.Need-add-leaf-requires
 add-leaf-requires c κs =
-    let start = c .before .before .before .before .before .before .before .before .before .before .before .before in
-    let s = start in filled-fits (s .args .tree .now) (s .args .bitfield .now) (s .args .content .now) (s .args .chunk .now) (s .args .n) (s .args .size) (s .pre) (s .good .1 .1 .0 .0)
+    let s = c .before .before .before .before .before .before .before .before .before .before .before .before in
+    filled-fits (s .args .tree .now) (s .args .bitfield .now) (s .args .content .now) (s .args .chunk .now) (s .args .n) (s .args .size) (s .pre) (s .good .1 .1 .0 .0)
 
 append-bits-requires : tie.Need-append-bits-requires
 append-bits-requires c κs =
@@ -22,15 +22,13 @@ append-bits-requires c κs =
 returns : tie.Need-returns
 returns c =
     let at-append-bits = c .before .before .before .before in
-    let at-chunk-behind = at-append-bits .before in
-    let at-add-leaf = at-chunk-behind .before .before .before .before in
-    let at-leaf-hash = at-add-leaf .before .before in
-    let at-copy-to = at-leaf-hash .before .before .before .before .before in
+    let at-add-leaf = at-append-bits .before .before .before .before .before in
+    let at-copy-to = at-add-leaf .before .before .before .before .before .before .before in
     let s = at-copy-to .before .before .before .before .before .before in
     let a = s .args in
     store-post (a .tree .now) (a .bitfield .now) (a .content .now) _ _ _ (a .chunk .now) _ _ (a .n) (a .size) _ (s .pre) refl
-    (at-copy-to .copy-to .ensures) (at-leaf-hash .leaf-hash .ensures) (at-add-leaf .add-leaf .ensures)
-    (at-append-bits .append-bits .ensures ∙ ap (appended (a .bitfield .now)) (at-chunk-behind .chunk-behind .ensures)) (c .stored-root-hash .ensures)
+    (at-copy-to .copy-to .ensures) (at-add-leaf .before .before .leaf-hash .ensures) (at-add-leaf .add-leaf .ensures)
+    (at-append-bits .append-bits .ensures ∙ ap (appended (a .bitfield .now)) (at-append-bits .before .chunk-behind .ensures)) (c .stored-root-hash .ensures)
 
 pub store-spec : {M : Type 1} → statement M
 store-spec =

@@ -18,79 +18,73 @@ Inv-loop tree₀ n last node₀ d₀ tree node d =
 abbrev μ-loop : tie.MeasureT-loop
 μ-loop tree₀ n last node₀ d₀ tree node d = last - d
 
+abbrev begins : tie.After-completed Inv-loop μ-loop → tie.Start Inv-loop μ-loop
+begins c =
+    let start = c .before .before .before in
+    start
+
 -- how many parents the chunk completes, as the code counted them
-parents : (c : tie.After-completed Inv-loop μ-loop) → c .completed .result ≡ completed (c .before .before .before .args .n)
+parents : (c : tie.After-completed Inv-loop μ-loop) → c .completed .result ≡ completed (begins c .args .n)
 parents c = c .completed .ensures ∙ ap completed (c .before .chunk-behind .ensures)
 
--- the file with one entry more
-step : (c : tie.After-put-node Inv-loop μ-loop) → Going (c .before .before .before .before .before .before .before .args .tree .now)
-    (c .before .before .before .before .before .before .before .args .n) (entryOf (c .before .before .before .before .before .before .before .args .leaf))
-    (c .before .before .before .loop .d + 1) (c .put-node .last .0)
-step c =
-    let s = c .before .before .before .before .before .before .before in
-    let l = c .before .before .before .loop in
-    going-step (s .args .tree .now) (s .args .n) (entryOf (s .args .leaf)) (l .d) (l .tree) (c .put-node .last .0) (entryOf (l .node)) (s .pre .few)
-    (omega (arith, c .before .before .loop-test .taken, parents (c .before .before .before .before))) (s .pre .room) (search needs) (l .inv .2) (l .inv .1) (c .put-node .ensures)
-
-below : (c : tie.In-loop Inv-loop μ-loop) → c .before .loop .d < completed (c .before .before .before .before .before .args .n)
+below : (c : tie.In-loop Inv-loop μ-loop) → c .before .loop .d < completed (begins (c .before .before) .args .n)
 below c = omega (arith, c .loop-test .taken, parents (c .before .before))
+
+-- the place of the loop whose entry is put, and the file with one entry more
+abbrev tests : tie.After-put-node Inv-loop μ-loop → tie.In-loop Inv-loop μ-loop
+tests c = c .before .before
+
+step : (c : tie.After-put-node Inv-loop μ-loop) → let s = begins (tests c .before .before) in
+    Going (s .args .tree .now) (s .args .n) (entryOf (s .args .leaf)) (tests c .before .loop .d + 1) (c .put-node .last .0)
+step c =
+    let l = tests c .before in
+    let s = begins (l .before) in
+    going-step (l .loop .inv .2) (s .pre .few) (omega (arith, below (tests c))) (s .pre .room) (search needs) (l .loop .inv .1) (c .put-node .ensures)
 
 loop-holds : tie.Need-loop-holds Inv-loop μ-loop
 loop-holds c =
-    let start = c .before .before .before in
-    let s = start in (search needs, made-first (s .args .tree .now) (s .args .n) (entryOf (s .args .leaf)), going-none (s .args .tree .now) (s .args .n) (entryOf (s .args .leaf)))
+    let s = begins c in
+    (search needs, made-first (s .args .tree .now) (s .args .n) (entryOf (s .args .leaf)), going-none)
 
 put-node-requires : tie.Need-put-node-requires Inv-loop μ-loop
 put-node-requires c κs =
-    let earlier = c .before in
-    let looped = earlier .before in
-    let start = looped .before .before .before .before in
-    let s = start in record { few = s .pre .few; depth = omega (arith, below earlier); room = omega (arith, s .pre .room, looped .loop .inv .2 .long) }
+    let l = c .before .before in
+    let s = begins (l .before) in
+    record { few = s .pre .few; depth = omega (arith, below (c .before)); room = omega (arith, s .pre .room, l .loop .inv .2 .long) }
 
 above-requires : tie.Need-above-requires Inv-loop μ-loop
 above-requires c κs =
-    let earlier = c .before .before .before in
-    let earlier-2 = earlier .before .before in
-    let looped = earlier-2 .before in
-    let s = looped .before .before .before .before in
+    let put = c .before .before .before in
+    let l = tests put .before in
+    let s = begins (l .before) in
     record {
       few = s .pre .few;
-      depth = below earlier-2;
-      room = omega (arith, s .pre .room, step earlier .long);
-      sum =
-          above-fits (s .args .tree .now) (s .args .n) (entryOf (s .args .leaf)) (looped .loop .d) _ (entryOf (looped .loop .node)) (s .pre .few) (below earlier-2) (s .pre .sum)
-          (step earlier) (looped .loop .inv .1);
+      depth = below (tests put);
+      room = omega (arith, s .pre .room, step put .long);
+      sum = above-fits (l .loop .d) (s .pre .few) (below (tests put)) (s .pre .sum) (step put) (l .loop .inv .1);
     }
 
 loop-again : tie.Need-loop-again Inv-loop μ-loop
 loop-again c =
-    let earlier = c .before .before .before .before in
-    let tested = earlier .before .before in
-    let looped = tested .before in
-    let start = looped .before .before .before .before in
-    let s = start in (
-      omega (arith, tested .loop-test .taken),
-      above-made (s .args .tree .now) (s .args .n) (entryOf (s .args .leaf)) (looped .loop .d) _ (entryOf (looped .loop .node)) _ (s .pre .few) (below tested) (step earlier)
-          (looped .loop .inv .1) (c .above .ensures),
-      step earlier,
-    )
+    let put = c .before .before .before .before in
+    let l = tests put .before in
+    let s = begins (l .before) in
+    (omega (arith, tests put .loop-test .taken), above-made (l .loop .d) (s .pre .few) (below (tests put)) (step put) (l .loop .inv .1) (c .above .ensures), step put)
 
 put-node-requires-2 : tie.Need-put-node-requires-2 Inv-loop μ-loop
 put-node-requires-2 c κs =
-    let looped = c .before .before in
-    let earlier = looped .before in
-    let start = earlier .before .before .before in
-    let s = start in record { few = s .pre .few; depth = omega (arith, looped .loop .inv .0, parents earlier); room = omega (arith, s .pre .room, looped .loop .inv .2 .long) }
+    let l = c .before .before in
+    let s = begins (l .before) in
+    record { few = s .pre .few; depth = omega (arith, l .loop .inv .0, parents (l .before)); room = omega (arith, s .pre .room, l .loop .inv .2 .long) }
 
 returns : tie.Need-returns Inv-loop μ-loop
 returns c =
-    let s = c .before .before .before .before .before .before .before .before .before in
-    let l = c .before .before .before .before .before .loop in
-    let p = c .before .before .put-node2 in
-    let last : l .d ≡ completed (s .args .n) = omega (arith, l .inv .0, c .before .before .before .before .loop-test .left, parents (c .before .before .before .before .before .before)) in
-    going-all (s .args .tree .now) (s .args .n) (entryOf (s .args .leaf)) (l .d) (p .last .0) last
-    (going-step (s .args .tree .now) (s .args .n) (entryOf (s .args .leaf)) (l .d) (l .tree) (p .last .0) (entryOf (l .node)) (s .pre .few)
-    (omega (arith, last)) (s .pre .room) (search needs) (l .inv .2) (l .inv .1) (p .ensures))
+    let tested = c .before .before .before .before in
+    let l = tested .before in
+    let s = begins (l .before) in
+    let last : l .loop .d ≡ completed (s .args .n) = omega (arith, l .loop .inv .0, tested .loop-test .left, parents (l .before)) in
+    going-all (l .loop .d) last
+    (going-step (l .loop .inv .2) (s .pre .few) (omega (arith, last)) (s .pre .room) (search needs) (l .loop .inv .1) (c .before .before .put-node2 .ensures))
 
 pub write-filled-spec : {M : Type 1} → statement M
 write-filled-spec =

@@ -1,7 +1,6 @@
 -- `writing::signing::judge` meets its contract. Assumes nothing.
 use borrow.Author.Needs.{needs}
 use Rattle.answer_types.specs.Verdict.{done}
-use Rattle.answer_types.specs.Meaning.{said}
 use Rattle.file_format.specs.Belongs.{Register}
 use Rattle.checks.specs.Checks.{judged, registerChecks}
 use Rattle.checks.specs.Lent.{registerOf}
@@ -13,34 +12,27 @@ use Rattle.writing.proofs.signing.judge.Tie as tie
 
 abbrev given : (c : tie.Start) → Register
 given c =
-    registerOf (c .args .tree .now) (c .args .signatures .now) (c .args .bitfield .now) (c .args .content .now) (c .args .n) (c .args .s)
-    (c .args .size)
+    registerOf (c .args .tree .now) (c .args .signatures .now) (c .args .bitfield .now) (c .args .content .now) (c .args .n) (c .args .s) (c .args .size)
 
 judge-own-requires : tie.Need-judge-own-requires
 judge-own-requires c κs =
-    let at-judge = c .before .before in
-    let start = at-judge .before .before .before .before .before in
-    counts-right (given start) (at-judge .judge .result) (c .enum-told .given .1) (at-judge .judge .ensures)
+    let start = c .before .before .before .before .before .before .before in
+    counts-right (given start) (c .enum-told .given .1) (c .before .before .judge .ensures)
 
 returns : tie.Need-returns
 returns c =
-    let at-found = c .before in
-    let at-judge = at-found .before .before in
+    let at-judge = c .before .before .before in
     let start = at-judge .before .before .before .before .before in
-    let a = start .args in sign-by (given start) _
-    (refused-before (registerChecks (given start)) (judged (ownSignChecks (a .signatures .now) (a .n) (a .s)) done) (at-judge .judge .result) (at-found .found .given .0 .0)
-    (at-found .found .given .1) (at-judge .judge .ensures))
+    let a = start .args in
+    sign-by (given start)
+    (refused-before (registerChecks (given start)) (judged (ownSignChecks (a .signatures .now) (a .n) (a .s)) done)
+    (c .before .found .given .1) (at-judge .judge .ensures))
 
 returns-2 : tie.Need-returns-2
 returns-2 c =
-    let at-enum-told = c .before in
-    let at-judge = at-enum-told .before .before in
+    let at-judge = c .before .before .before in
     let start = at-judge .before .before .before .before .before in
-    let a = start .args in sign-by (given start) _
-    (passed-before (registerChecks (given start)) (said (c .judge-own .result)) (judged (ownSignChecks (a .signatures .now) (a .n) (a .s)) done) (at-judge .judge .result)
-    (at-enum-told .enum-told .given .1) (at-judge .judge .ensures) (c .judge-own .ensures))
+    sign-by (given start) (passed-before (registerChecks (given start)) (c .before .enum-told .given .1) (at-judge .judge .ensures) (c .judge-own .ensures))
 
 pub judge-spec : {M : Type 1} → statement M
-judge-spec =
-    tie.close
-    (tie.spec (λ c κs. search needs) (λ c. search needs) (λ c. search needs) judge-own-requires returns returns-2)
+judge-spec = tie.close (tie.spec (λ c κs. search needs) (λ c. search needs) (λ c. search needs) judge-own-requires returns returns-2)

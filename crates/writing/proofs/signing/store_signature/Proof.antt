@@ -9,39 +9,30 @@ use Rattle.writing.proofs.signing.store_signature.Tie as tie
 
 abbrev given : (c : tie.Start) → Register
 given c =
-    registerOf (c .args .tree .now) (c .args .signatures .now) (c .args .bitfield .now) (c .args .content .now) (c .args .n) (c .args .s)
-    (c .args .size)
+    registerOf (c .args .tree .now) (c .args .signatures .now) (c .args .bitfield .now) (c .args .content .now) (c .args .n) (c .args .s) (c .args .size)
 
 used-signatures-requires : tie.Need-used-signatures-requires
 used-signatures-requires c κs =
-    let at-judge = c .before .before in
-    let start = at-judge .before .before .before .before .before .before in
-    sign-fits (given start) (at-judge .judge .result) (c .enum-told .given .1) (at-judge .judge .ensures) .0
+    let start = c .before .before .before .before .before .before .before .before in
+    sign-fits (given start) (c .enum-told .given .1) (c .before .before .judge .ensures) .0
 
 copy-to-requires : tie.Need-copy-to-requires
 copy-to-requires c κs =
-    let at-used-signatures = c .before .before in
-    let at-enum-told = at-used-signatures .before in
-    let at-judge = at-enum-told .before .before in
-    let start = at-judge .before .before .before .before .before .before in
-    omega (arith, at-used-signatures .used-signatures .ensures, sign-fits (given start) (at-judge .judge .result) (at-enum-told .enum-told .given .1) (at-judge .judge .ensures) .1)
+    let at-enum-told = c .before .before .before in
+    let start = at-enum-told .before .before .before .before .before .before .before .before in
+    omega (arith, c .before .before .used-signatures .ensures, sign-fits (given start) (at-enum-told .enum-told .given .1) (at-enum-told .before .before .judge .ensures) .1)
 
 returns : tie.Need-returns
 returns c =
-    let at-found = c .before in
-    let at-judge = at-found .before .before in
-    let start = at-judge .before .before .before .before .before .before in
-    sign-not (given start) (start .args .signature .now) (at-judge .judge .result) (at-found .found .given .0 .0) (at-found .found .given .1) (at-judge .judge .ensures)
+    let at-judge = c .before .before .before in
+    sign-not (c .before .found .given .1) (at-judge .judge .ensures)
 
 returns-2 : tie.Need-returns-2
 returns-2 c =
-    let at-copy-to = c .before .before in
-    let at-used-signatures = at-copy-to .before .before .before in
-    let at-enum-told = at-used-signatures .before in
-    let at-judge = at-enum-told .before .before in
-    let start = at-judge .before .before .before .before .before .before in
-    sign-done (given start) (start .args .signature .now) _ _ (at-judge .judge .result) (at-enum-told .enum-told .given .1) (at-judge .judge .ensures)
-    (at-used-signatures .used-signatures .ensures) (at-copy-to .copy-to .ensures)
+    let at-used-signatures = c .before .before .before .before .before in
+    let at-judge = at-used-signatures .before .before .before in
+    sign-done (at-used-signatures .before .enum-told .given .1) (at-judge .judge .ensures)
+    (at-used-signatures .used-signatures .ensures) (c .before .before .copy-to .ensures)
 
 pub store-signature-spec : {M : Type 1} → statement M
 store-signature-spec =

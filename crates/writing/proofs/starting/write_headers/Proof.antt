@@ -6,14 +6,13 @@ use Rattle.writing.proofs.starting.write_headers.Tie as tie
 
 returns : tie.Need-returns
 returns c =
-    let at-write-header3 = c .before .before in
-    let at-bitfield-header = at-write-header3 .before .before .before in
+    let at-bitfield-header = c .before .before .before .before .before in
     let at-write-header2 = at-bitfield-header .before .before .before in
     let at-signatures-header = at-write-header2 .before .before .before in
     let at-write-header = at-signatures-header .before .before .before in
     let at-tree-header = at-write-header .before .before .before in
     headers-put _ _ _ _ _ _ _ _ _ (at-tree-header .tree-header .ensures) (at-signatures-header .signatures-header .ensures) (at-bitfield-header .bitfield-header .ensures)
-    (at-write-header .write-header .ensures) (at-write-header2 .write-header2 .ensures) (at-write-header3 .write-header3 .ensures)
+    (at-write-header .write-header .ensures) (at-write-header2 .write-header2 .ensures) (c .before .before .write-header3 .ensures)
 
 pub write-headers-spec : {M : Type 1} → statement M
 write-headers-spec =

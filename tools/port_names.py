@@ -43,7 +43,7 @@ def is_lemma_file(path):
 
 def table(root):
     """Old word -> new word. A lemma that would have a definition's or another word's name gets _lem."""
-    defined, lemmas, foreign, said, code = {}, {}, set(), {}, set()
+    defined, lemmas, foreign, said = {}, {}, set(), {}
     for p in files(root, ".antt"):
         with open(p, encoding="utf-8") as f:
             text = f.read()
@@ -55,10 +55,6 @@ def table(root):
         if is_lemma_file(p):
             for m in DECLARED.finditer(text):
                 (defined if "/specs/" in p else lemmas).setdefault(m[1], p)
-    for p in files(root, ".rt"):
-        with open(p, encoding="utf-8") as f:
-            code |= set(re.findall(r"\bfn (\w+)", f.read()))
-
     def wants(word):
         return word not in foreign and not re.match(r"x[0-9A-F]{2}$", word) and snake(word) != word and not (word[0].isupper() and "-" not in word)
 
@@ -86,14 +82,27 @@ def table(root):
     return turned, clashes
 
 
-def turn(text, turned):
-    return TOKEN.sub(lambda m: turned.get(m[0], m[0]), text)
+def functions(root):
+    """The functions of src/: a lemma of the same name is turned only where it stands alone, never in a path or behind a dot."""
+    found = set()
+    for p in files(root, ".rt"):
+        with open(p, encoding="utf-8") as f:
+            found |= set(re.findall(r"\bfn (\w+)", f.read()))
+    return found
 
 
-def turn_rt(text, turned):
+def turn(text, turned, code=frozenset(), source=False):
+    def one(m):
+        if m[0] in code and (source or m.string[max(0, m.start() - 1):m.start()] == "."):
+            return m[0]
+        return turned.get(m[0], m[0])
+    return TOKEN.sub(one, text)
+
+
+def turn_rt(text, turned, code):
     """An .rt file: its strings stay, all else is turned (no word of its code has a capital behind a small letter or a dash without blanks)."""
     parts = re.split(r'(b?"(?:[^"\\]|\\.)*")', text)
-    return "".join(p if i % 2 else turn(p, turned) for i, p in enumerate(parts))
+    return "".join(p if i % 2 else turn(p, turned, code, True) for i, p in enumerate(parts))
 
 
 def main(argv):
@@ -106,10 +115,11 @@ def main(argv):
         for c in clashes:
             print("clash:", *c)
         return
+    code = functions(root)
     for p in files(root, ".antt", ".rt", ".edit"):
         with open(p, encoding="utf-8") as f:
             text = f.read()
-        new = turn_rt(text, turned) if p.endswith(".rt") else turn(text, turned)
+        new = turn_rt(text, turned, code) if p.endswith(".rt") else turn(text, turned, code, "file: src/" in text)
         if new != text:
             with open(p, "w", encoding="utf-8") as f:
                 f.write(new)

@@ -6,7 +6,7 @@ ghost use Rattle.answer_types.specs.Meaning.{said};
 use number_types::{ByteOffset, TreeIndex};
 
 // Where a refusal points: nowhere, at a tree entry, or at a byte of the bitfield file.
-#[derive(Drop)]
+#[derive(Clone, Copy)]
 pub enum Place {
     Nowhere,
     Tree(TreeIndex),
@@ -14,14 +14,14 @@ pub enum Place {
 }
 
 // A refused call: the number of the refusal and its place.
-#[derive(Drop)]
+#[derive(Clone, Copy)]
 pub struct Refusal {
     pub number: u64,
     pub place: Place,
 }
 
 // The answer of a call that gives nothing but its being done.
-#[derive(Drop)]
+#[derive(Clone, Copy)]
 pub enum Answer {
     Done,
     Refused(Refusal),

@@ -14,7 +14,7 @@ use answer_types::Answer;
 
 // An answer, and beside it the sizes of the four files and the runs for the new leaves, the completed parents and the root hash, and all runs
 // together; zeros after a refusal.
-#[derive(Drop)]
+#[derive(Clone, Copy)]
 pub struct Needed {
     pub answer: Answer,
     pub tree: u64,

@@ -16,7 +16,7 @@ use file_format::roots::Roots;
 use writing::Node;
 
 // An answer, and beside it the root hash that the append would give; zeros after a refusal.
-#[derive(Drop)]
+#[derive(Clone, Copy)]
 pub struct Previewed {
     pub answer: Answer,
     pub root: [u8; 32],

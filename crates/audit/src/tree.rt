@@ -124,7 +124,7 @@ pub fn hole_right(tree: &[u8], i: TreeIndex) -> bool
     requires { EntryIn tree.now i.0 }
     ensures { result ≡ hole_right node_hash tree.now i.0 }
 {
-    let from = file_format::entries::entry_place_lem(i);
+    let from = file_format::entries::entry_place(i);
     let end = from + 40;
     byte_strings::is_zero(&tree[from..end])
 }

@@ -42,7 +42,7 @@ fn tree_bit(i: TreeIndex) -> usize
 }
 
 // Inner: where an entry that lies in a file begins.
-fn entry_place_lem(e: usize) -> usize
+fn entry_place(e: usize) -> usize
     requires { bits_place e < 2 ^ 64 }
     ensures { result ≡ bits_place e }
 {
@@ -92,7 +92,7 @@ fn set_data_bit(xs: &mut [u8], c: ChunkNumber)
     requires { bits_place (c.0 / 8192 + 1) ≤ length xs.old }
     ensures { xs.new ≡ set_data_bit xs.old c.0 }
 {
-    let at = entry_place_lem(entry_of_chunk(c));
+    let at = entry_place(entry_of_chunk(c));
     set_bit(xs, at, data_bit(c));
 }
 
@@ -101,7 +101,7 @@ fn set_tree_bit(xs: &mut [u8], e: usize, i: TreeIndex)
     requires { (e ≡ i.0 / 16384) × (bits_place (e + 1) ≤ length xs.old) }
     ensures { xs.new ≡ set_tree_bit xs.old i.0 }
 {
-    let at = entry_place_lem(e) + 1024;
+    let at = entry_place(e) + 1024;
     set_bit(xs, at, tree_bit(i));
 }
 
@@ -111,7 +111,7 @@ fn zero_if_new(xs: &mut [u8], c: ChunkNumber)
     ensures { xs.new ≡ zeroed_if_new xs.old c.0 }
 {
     if data_bit(c) == 0 {
-        let at = entry_place_lem(entry_of_chunk(c));
+        let at = entry_place(entry_of_chunk(c));
         byte_strings::clear(xs, at, 3328);
     }
 }
@@ -121,7 +121,7 @@ fn regenerate(xs: &mut [u8], e: usize)
     requires { bits_place (e + 1) ≤ length xs.old }
     ensures { xs.new ≡ regenerated xs.old e }
 {
-    let at = entry_place_lem(e);
+    let at = entry_place(e);
     let end = at + 1024;
     let bytes = index::index_of(&xs[at..end]);
     byte_strings::copy_to(xs, at + 3072, &bytes);
@@ -174,12 +174,12 @@ pub fn is_held(xs: &[u8], c: ChunkNumber) -> bool
     requires { bits_place (c.0 / 8192 + 1) ≤ length xs.now }
     ensures { result ≡ stored_held xs.now c.0 }
 {
-    let at = entry_place_lem(entry_of_chunk(c));
+    let at = entry_place(entry_of_chunk(c));
     bit_is_set(xs, at, data_bit(c))
 }
 
 // What a search for a chunk that is not held finds.
-#[derive(Drop)]
+#[derive(Clone, Copy)]
 pub enum Found {
     At(ChunkNumber),
     Nothing,
@@ -205,7 +205,7 @@ fn clear_data_bit(xs: &mut [u8], c: ChunkNumber)
     requires { bits_place (c.0 / 8192 + 1) ≤ length xs.old }
     ensures { xs.new ≡ clear_data_bit xs.old c.0 }
 {
-    let at = entry_place_lem(entry_of_chunk(c));
+    let at = entry_place(entry_of_chunk(c));
     clear_bit(xs, at, data_bit(c));
 }
 
@@ -223,7 +223,7 @@ pub fn is_known(xs: &[u8], i: TreeIndex) -> bool
     requires { bits_place (i.0 / 16384 + 1) ≤ length xs.now }
     ensures { result ≡ stored_known xs.now i.0 }
 {
-    let at = entry_place_lem(entry_of_index(i)) + 1024;
+    let at = entry_place(entry_of_index(i)) + 1024;
     bit_is_set(xs, at, tree_bit(i))
 }
 

@@ -9,7 +9,7 @@ mod rounds;
 
 use mixing::{Row, Rows};
 
-#[derive(Drop)]
+#[derive(Clone, Copy)]
 pub struct Block {
     pub m0: u64,
     pub m1: u64,
@@ -30,7 +30,7 @@ pub struct Block {
 }
 
 // The offset counter: the bytes taken so far, as a low and a high word.
-#[derive(Drop)]
+#[derive(Clone, Copy)]
 pub struct Counter {
     pub low: u64,
     pub high: u64,

@@ -4,11 +4,11 @@ ghost use Rattle.blake2b_compression.specs.Mixing.{rotr};
 ghost use Rattle.blake2b_compression.specs.Rows.{vector, vector_of, sums, sums3, xors, rotrs, columns, diagonals};
 
 // Four words, one for each column.
-#[derive(Drop)]
+#[derive(Clone, Copy)]
 pub struct Row(pub u64, pub u64, pub u64, pub u64);
 
 // The working vector: v[0] to v[3], v[4] to v[7], v[8] to v[11], v[12] to v[15].
-#[derive(Drop)]
+#[derive(Clone, Copy)]
 pub struct Rows {
     pub a: Row,
     pub b: Row,

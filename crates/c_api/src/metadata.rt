@@ -55,7 +55,7 @@ pub extern "C" fn sleep_flat_write_node(
 )
     ensures { WritesNode bytes.now node.now out.old length.old answer.new out.new length.new }
 {
-    let fields = c_records::node_in_lem(c_records::flat_at(node));
+    let fields = c_records::node_in(c_records::flat_at(node));
     *answer = give_length(record_node::write_node(bytes, fields, out), length);
 }
 

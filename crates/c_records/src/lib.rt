@@ -12,34 +12,34 @@ use record_format::Stat;
 use record_node::{Node, Value, Writer, Writers};
 
 // A number's field: `given` is 0 where it is absent, and `value` is 0 then.
-#[derive(Drop)]
+#[derive(Clone, Copy)]
 pub struct FlatNumber {
     pub given: u64,
     pub value: u64,
 }
 
 // A part of the bytes lent: where it begins, and how long it is.
-#[derive(Drop)]
+#[derive(Clone, Copy)]
 pub struct FlatPart {
     pub at: u64,
     pub length: u64,
 }
 
 // A part's field, all 0 where it is absent.
-#[derive(Drop)]
+#[derive(Clone, Copy)]
 pub struct FlatBytes {
     pub given: u64,
     pub part: FlatPart,
 }
 
-#[derive(Drop)]
+#[derive(Clone, Copy)]
 pub struct FlatWriter {
     pub key: FlatPart,
     pub permission: FlatBytes,
 }
 
 // A Stat's field, all 0 where it is absent.
-#[derive(Drop)]
+#[derive(Clone, Copy)]
 pub struct FlatStat {
     pub given: u64,
     pub mode: FlatNumber,
@@ -54,7 +54,7 @@ pub struct FlatStat {
 }
 
 // As many Writers as are counted.
-#[derive(Drop)]
+#[derive(Clone, Copy)]
 pub struct FlatNode {
     pub path: FlatPart,
     pub value: FlatStat,
@@ -208,7 +208,7 @@ fn number_in(flat: FlatNumber) -> Number
 }
 
 // A part by its numbers.
-pub fn part_in_lem(flat: FlatPart) -> Part
+pub fn part_in(flat: FlatPart) -> Part
     ensures { result ≡ part_in flat }
 {
     Part {
@@ -223,13 +223,13 @@ fn bytes_in(flat: FlatBytes) -> Bytes
     if flat.given == 0 {
         return Bytes::Absent;
     }
-    Bytes::Given(part_in_lem(flat.part))
+    Bytes::Given(part_in(flat.part))
 }
 
-fn writer_in_lem(flat: FlatWriter) -> Writer
+fn writer_in(flat: FlatWriter) -> Writer
     ensures { result ≡ writer_in flat }
 {
-    let key = part_in_lem(flat.key);
+    let key = part_in(flat.key);
     let permission = bytes_in(flat.permission);
     Writer { key, permission }
 }
@@ -238,14 +238,14 @@ fn writers_in(list: [FlatWriter; 8]) -> [Writer; 8]
     ensures { result ≡ writers_in list }
 {
     [
-        writer_in_lem(list[0]),
-        writer_in_lem(list[1]),
-        writer_in_lem(list[2]),
-        writer_in_lem(list[3]),
-        writer_in_lem(list[4]),
-        writer_in_lem(list[5]),
-        writer_in_lem(list[6]),
-        writer_in_lem(list[7]),
+        writer_in(list[0]),
+        writer_in(list[1]),
+        writer_in(list[2]),
+        writer_in(list[3]),
+        writer_in(list[4]),
+        writer_in(list[5]),
+        writer_in(list[6]),
+        writer_in(list[7]),
     ]
 }
 
@@ -274,7 +274,7 @@ fn stat_in(flat: FlatStat) -> Stat
     }
 }
 
-fn value_in_lem(flat: FlatStat) -> Value
+fn value_in(flat: FlatStat) -> Value
     ensures { result ≡ value_in flat }
 {
     if flat.given == 0 {
@@ -284,11 +284,11 @@ fn value_in_lem(flat: FlatStat) -> Value
 }
 
 // The Node whose fields these numbers are.
-pub fn node_in_lem(flat: FlatNode) -> Node
+pub fn node_in(flat: FlatNode) -> Node
     ensures { result ≡ node_in flat }
 {
-    let path = part_in_lem(flat.path);
-    let value = value_in_lem(flat.value);
+    let path = part_in(flat.path);
+    let value = value_in(flat.value);
     let trie = bytes_in(flat.trie);
     let count = flat.count as usize;
     let several = flat.writers;

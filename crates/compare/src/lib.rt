@@ -19,7 +19,7 @@ use bitfield::Found;
 use number_types::{ChunkNumber, TreeIndex};
 
 // What the walk answers: a refusal and which register it is of, "roots differ", a collision at the roots or at a tree index, or "equal".
-#[derive(Drop)]
+#[derive(Clone, Copy)]
 pub enum Compared {
     FirstRefused(Refusal),
     SecondRefused(Refusal),
@@ -30,7 +30,7 @@ pub enum Compared {
 }
 
 // What the roots of two registers say: their root hashes differ, or only their root messages do, or neither.
-#[derive(Drop)]
+#[derive(Clone, Copy)]
 pub enum Roots {
     Differ,
     Collide,

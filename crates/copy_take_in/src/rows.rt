@@ -19,7 +19,7 @@ pub fn contradiction_at(tree: &[u8], bitfield: &[u8], i: TreeIndex, row: &[u8], 
     if !bitfield::is_known(bitfield, i) {
         return First::Nothing;
     }
-    let start = file_format::entries::entry_place_lem(i);
+    let start = file_format::entries::entry_place(i);
     let end = start + 40;
     let to = at + 40;
     if byte_strings::same(&tree[start..end], &row[at..to]) {
@@ -59,7 +59,7 @@ pub fn write_one(tree: &mut [u8], bitfield: &mut [u8], i: TreeIndex, row: &[u8],
     ensures { WithGiven tree.old bitfield.old (lies row.now at i.0 ∷ []) tree.new
         bitfield.new }
 {
-    let start = file_format::entries::entry_place_lem(i);
+    let start = file_format::entries::entry_place(i);
     let to = at + 40;
     byte_strings::copy_to(tree, start, &row[at..to]);
     bitfield::make_known(bitfield, i);

@@ -10,7 +10,7 @@ use number_types::{ChunkNumber, TreeIndex};
 use packet::Node;
 
 // How many siblings and how many other roots there are, and the tree indexes of parents, siblings and other roots.
-#[derive(Drop)]
+#[derive(Clone, Copy)]
 pub struct Way {
     pub up: usize,
     pub above: [TreeIndex; 20],

@@ -10,7 +10,7 @@ ghost use Rattle.file_format.specs.Inner.{EntryIn};
 use number_types::TreeIndex;
 
 // Where an entry begins.
-pub fn entry_place_lem(i: TreeIndex) -> usize
+pub fn entry_place(i: TreeIndex) -> usize
     requires { i.0 < 4194304 }
     ensures { result ≡ entry_place i.0 }
 {
@@ -22,7 +22,7 @@ pub fn stored_hash(tree: &[u8], i: TreeIndex) -> [u8; 32]
     requires { EntryIn tree.now i.0 }
     ensures { result ≡ stored_hash tree.now i.0 }
 {
-    let start = entry_place_lem(i);
+    let start = entry_place(i);
     let end = start + 32;
     let mut hash = [0u8; 32];
     byte_strings::copy_to(&mut hash, 0, &tree[start..end]);
@@ -34,7 +34,7 @@ pub fn stored_size(tree: &[u8], i: TreeIndex) -> u64
     requires { EntryIn tree.now i.0 }
     ensures { result ≡ stored_size tree.now i.0 }
 {
-    byte_strings::read_be64(tree, entry_place_lem(i) + 32)
+    byte_strings::read_be64(tree, entry_place(i) + 32)
 }
 
 // An entry written, and everything else left as it was.
@@ -42,7 +42,7 @@ pub fn write_entry(tree: &mut [u8], i: TreeIndex, hash: &[u8; 32], size: u64)
     requires { EntryIn tree.old i.0 }
     ensures { tree.new ≡ put tree.old (entry_place i.0) (hash.now ++ be 8 size) }
 {
-    let start = entry_place_lem(i);
+    let start = entry_place(i);
     byte_strings::copy_to(tree, start, hash);
     let length = byte_strings::be64(size);
     byte_strings::copy_to(tree, start + 32, &length);
@@ -53,5 +53,5 @@ pub fn clear_entry(tree: &mut [u8], i: TreeIndex)
     requires { EntryIn tree.old i.0 }
     ensures { tree.new ≡ put tree.old (entry_place i.0) (zeros 40) }
 {
-    byte_strings::clear(tree, entry_place_lem(i), 40);
+    byte_strings::clear(tree, entry_place(i), 40);
 }

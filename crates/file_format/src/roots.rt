@@ -12,7 +12,7 @@ ghost use Rattle.file_format.specs.RootsByValue.{padded, sizes_at, hashes_at, it
 use number_types::TreeIndex;
 
 // At most 20 roots from the left; behind them the arrays hold zeros.
-#[derive(Drop)]
+#[derive(Clone, Copy)]
 pub struct Roots {
     pub count: usize,
     pub indexes: [TreeIndex; 20],

@@ -6,7 +6,7 @@ use record_format::Stat;
 use record_node::{Node, Value, Writer, Writers};
 
 // What is told of the register that is made.
-#[derive(Drop)]
+#[derive(Clone, Copy)]
 pub struct Told {
     pub n: u64,
     pub size: u64,

@@ -12,7 +12,7 @@ ghost use Rattle.std.specs.Prelude.{◌<◌};
 use given::Told;
 
 // The letter of a step, and how many bytes follow.
-#[derive(Drop)]
+#[derive(Clone, Copy)]
 struct Head {
     kind: u8,
     len: usize,

@@ -2,7 +2,7 @@
 ghost use Rattle.std.specs.Prelude.{◌<◌, ◌≤◌};
 
 // What a caller tells of a register.
-#[derive(Drop)]
+#[derive(Clone, Copy)]
 pub struct Told {
     pub n: u64,
     pub s: u64,

@@ -6,13 +6,13 @@ use super::words;
 use gate_samples::Told;
 
 // From and to where in an array something lies.
-#[derive(Drop)]
+#[derive(Clone, Copy)]
 pub struct Part {
     pub from: u64,
     pub to: u64,
 }
 
-#[derive(Drop)]
+#[derive(Clone, Copy)]
 pub struct Lent {
     pub tree: Part,
     pub signatures: Part,
@@ -20,20 +20,20 @@ pub struct Lent {
     pub data: Part,
 }
 
-#[derive(Drop)]
+#[derive(Clone, Copy)]
 pub struct Register {
     pub lent: Lent,
     pub told: Told,
 }
 
-#[derive(Drop)]
+#[derive(Clone, Copy)]
 pub struct Both {
     pub first: Register,
     pub second: Register,
 }
 
 // A line, and the registers after it.
-#[derive(Drop)]
+#[derive(Clone, Copy)]
 pub struct Turn {
     pub line: Line,
     pub both: Both,

@@ -1,7 +1,7 @@
 // The lines of a script: a word, whose first two letters say what is meant, and numbers behind it.
 ghost use Rattle.std.specs.Prelude.{◌<◌, ◌≤◌, length};
 
-#[derive(Drop)]
+#[derive(Clone, Copy)]
 pub struct Line {
     pub word: u64,
     // The word is in the place 0, and the numbers follow.

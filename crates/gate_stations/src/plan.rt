@@ -4,7 +4,7 @@ use super::runs::Rule;
 use super::tally::Tally;
 
 // At which row the plan is, at which step of it, the state of the random numbers, and what was counted.
-#[derive(Drop)]
+#[derive(Clone, Copy)]
 pub struct State {
     pub row: u64,
     pub step: u64,

@@ -1,6 +1,6 @@
 // The steps of the stories. Empty serves until no read waits; Wrong serves with an s of the metadata register that no call could use; at Stop
 // the registers are changed.
-#[derive(Drop)]
+#[derive(Clone, Copy)]
 pub enum Step {
     Fresh,
     Enter(u64, u64, u64),

@@ -5,7 +5,7 @@ use gate_printing::named;
 
 // Of a row: whether its calls are printed; and of a random run the seed, how many steps it has, of 8 how many enter a read on average, and which
 // station floods the table: it enters every other read. 99 does not. A row of a story has no steps.
-#[derive(Drop)]
+#[derive(Clone, Copy)]
 pub struct Rule {
     pub show: bool,
     pub seed: u64,

@@ -3,7 +3,7 @@ use answer_types::Answer;
 use station_reads::Served;
 
 // Whether each call is printed; what the answers fold to, and how many of each kind there were.
-#[derive(Drop)]
+#[derive(Clone, Copy)]
 pub struct Tally {
     pub show: bool,
     pub folded: u64,

@@ -6,7 +6,7 @@ pub use ranges::{length_right, place_behind, wide};
 pub use reading::{begins, check, is_done, judge_table, next, states};
 
 // What a call says. A place is one in the journal unless it says otherwise.
-#[derive(Drop)]
+#[derive(Clone, Copy)]
 pub enum Said {
     // Done: the place behind what was read or written.
     Done(usize),
@@ -33,7 +33,7 @@ pub enum Said {
 }
 
 // The first place that a search finds.
-#[derive(Drop)]
+#[derive(Clone, Copy)]
 pub enum Place {
     At(usize),
     Nowhere,

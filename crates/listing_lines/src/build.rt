@@ -5,7 +5,7 @@ ghost use Rattle.listing_lines.specs.Input.{chunk_stands, chunks_in, input_of};
 ghost use Rattle.listing_lines.specs.Inner.{Adds, Ready, Read, Rooms};
 
 // Whether the input is one of chunks, and then their number and the sum of their lengths.
-#[derive(Drop)]
+#[derive(Clone, Copy)]
 pub struct Told {
     pub read: bool,
     pub n: u64,

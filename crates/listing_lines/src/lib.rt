@@ -15,7 +15,7 @@ use crate::text::put_text;
 use answer_types::{Place, Refusal};
 
 // What a listing answers: a refusal, or the length of its lines.
-#[derive(Drop)]
+#[derive(Clone, Copy)]
 pub enum Listing {
     Refused(Refusal),
     Written(usize),

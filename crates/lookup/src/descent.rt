@@ -10,14 +10,14 @@ ghost use Rattle.lookup.specs.Capped.{capped_ending, moved_by, Passed, Behind};
 use number_types::{ByteOffset, ChunkNumber, TreeIndex};
 
 // What a lookup seeks.
-#[derive(Drop)]
+#[derive(Clone, Copy)]
 pub enum Sought {
     Chunk(ChunkNumber),
     Byte(ByteOffset),
 }
 
 // Where a descent ends: it stops at a tree index, comes to the leaf of a chunk, whose bytes begin at an offset, or would read an unknown entry.
-#[derive(Drop)]
+#[derive(Clone, Copy)]
 pub enum Ending {
     Stopped(TreeIndex),
     Reached(ChunkNumber, ByteOffset),
@@ -25,14 +25,14 @@ pub enum Ending {
 }
 
 // The first entry that a search finds, by its tree index.
-#[derive(Drop)]
+#[derive(Clone, Copy)]
 pub enum First {
     At(TreeIndex),
     Nothing,
 }
 
 // What a visit of one node finds: the descent ends here, or goes on at a child, whose bytes begin at an offset.
-#[derive(Drop)]
+#[derive(Clone, Copy)]
 pub enum Step {
     End(Ending),
     Down(TreeIndex, ByteOffset),

@@ -12,7 +12,7 @@ use answer_types::{Answer, Place, Refusal};
 use number_types::{ByteOffset, ChunkNumber};
 
 // What a place lookup answers: where the chunk's bytes begin, and how many they are.
-#[derive(Drop)]
+#[derive(Clone, Copy)]
 pub enum Placed {
     Refused(Refusal),
     At(ByteOffset, u64),
@@ -20,7 +20,7 @@ pub enum Placed {
 
 // What a byte lookup answers: the chunk whose bytes contain the offset, and the offset less its start; at the data size the count of chunks,
 // as the number of the chunk behind the last, and 0.
-#[derive(Drop)]
+#[derive(Clone, Copy)]
 pub enum Located {
     Refused(Refusal),
     In(ChunkNumber, u64),

@@ -11,14 +11,14 @@ use answer_types::{Answer, Place, Refusal};
 use number_types::{ByteOffset, ChunkNumber};
 
 // Which of the two registers a read names.
-#[derive(Drop)]
+#[derive(Clone, Copy)]
 pub enum Name {
     Metadata,
     Content,
 }
 
 // What the checks of a read find: a refusal, or where the chunk's bytes begin and end in the data.
-#[derive(Drop)]
+#[derive(Clone, Copy)]
 pub enum Verified {
     Refused(Refusal),
     Part(ByteOffset, ByteOffset),

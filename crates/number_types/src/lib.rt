@@ -5,15 +5,15 @@
 ghost use Rattle.std.specs.Prelude.{◌≡◌};
 
 // The number of a chunk in its register, from 0.
-#[derive(Drop)]
+#[derive(Clone, Copy)]
 pub struct ChunkNumber(pub u64);
 
 // The index of an entry in the tree file, from 0, leaves and parents together.
-#[derive(Drop)]
+#[derive(Clone, Copy)]
 pub struct TreeIndex(pub u64);
 
 // An offset in bytes, from the start of a file or of the data.
-#[derive(Drop)]
+#[derive(Clone, Copy)]
 pub struct ByteOffset(pub u64);
 
 // The chunk behind n others: the one that an append to n chunks adds.

@@ -17,21 +17,21 @@ use file_format::roots::Roots;
 use number_types::ChunkNumber;
 
 // An entry by value.
-#[derive(Drop)]
+#[derive(Clone, Copy)]
 pub struct Node {
     pub hash: [u8; 32],
     pub size: u64,
 }
 
 // What a climb leads to: the root above a chunk, and the parents on the way to it, one behind the other.
-#[derive(Drop)]
+#[derive(Clone, Copy)]
 pub struct Ascent {
     pub top: Node,
     pub row: [u8; 800],
 }
 
 // An answer, and what was hashed for it: the leaf and the parents on the way.
-#[derive(Drop)]
+#[derive(Clone, Copy)]
 pub struct Checked {
     pub answer: Answer,
     pub leaf: Node,
@@ -39,7 +39,7 @@ pub struct Checked {
 }
 
 // The same of the root hash alone.
-#[derive(Drop)]
+#[derive(Clone, Copy)]
 struct Hashed {
     right: bool,
     leaf: Node,

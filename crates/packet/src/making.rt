@@ -18,7 +18,7 @@ use lookup::Verified;
 use number_types::{ChunkNumber, TreeIndex};
 
 // What making a packet answers: a refusal, or the packet's length.
-#[derive(Drop)]
+#[derive(Clone, Copy)]
 pub enum Made {
     Refused(Refusal),
     Length(u64),
@@ -31,7 +31,7 @@ fn write_entries(tree: &[u8], indexes: [TreeIndex; 20], count: usize, out: &mut 
 {
     let mut j: usize = 0;
     while j < count {
-        let start = file_format::entries::entry_place_lem(indexes[j]);
+        let start = file_format::entries::entry_place(indexes[j]);
         let end = start + 40;
         byte_strings::copy_to(out, at + 40 * j, &tree[start..end]);
         j += 1;

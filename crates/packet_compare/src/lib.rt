@@ -16,7 +16,7 @@ use packet::Node;
 
 // What the walk answers: a refusal and which packet it is of, "same chunk", or two different messages with one hash, at a tree index or at the
 // roots.
-#[derive(Drop)]
+#[derive(Clone, Copy)]
 pub enum Walked {
     FirstRefused(Refusal),
     SecondRefused(Refusal),

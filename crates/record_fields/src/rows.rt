@@ -5,35 +5,35 @@ ghost use Rattle.record_fields.specs.Inner.{NumberRead, BytesRead};
 use super::varints::Varint;
 
 // A part of the bytes lent: where it begins and how long it is.
-#[derive(Drop)]
+#[derive(Clone, Copy)]
 pub struct Part {
     pub at: usize,
     pub len: usize,
 }
 
 // A field that is a number.
-#[derive(Drop)]
+#[derive(Clone, Copy)]
 pub enum Number {
     Absent,
     Given(u64),
 }
 
 // A field that is a part of the bytes.
-#[derive(Drop)]
+#[derive(Clone, Copy)]
 pub enum Bytes {
     Absent,
     Given(Part),
 }
 
 // What reading a number's field finds: bytes that are none, or the field and where it ends.
-#[derive(Drop)]
+#[derive(Clone, Copy)]
 pub enum NumberRow {
     Bad,
     Read(Number, usize),
 }
 
 // What reading a part's field finds.
-#[derive(Drop)]
+#[derive(Clone, Copy)]
 pub enum BytesRow {
     Bad,
     Read(Bytes, usize),

@@ -4,7 +4,7 @@ ghost use Rattle.record_fields.specs.Varints as varint;
 ghost use Rattle.record_fields.specs.Inner.{DigitsRead, joined_of, PutAt, Roomy};
 
 // A number and where it ends, or that none below 2^64 stands there in its shortest form.
-#[derive(Drop)]
+#[derive(Clone, Copy)]
 pub enum Varint {
     Bad,
     Is(u64, usize),

@@ -18,7 +18,7 @@ use record_format::HeaderRead;
 use record_node::NodeRead;
 
 // Whether the path of a chunk's Node is the one sought.
-#[derive(Drop)]
+#[derive(Clone, Copy)]
 pub enum Compared {
     Refused(Refusal),
     Same,

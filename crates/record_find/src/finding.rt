@@ -15,7 +15,7 @@ use number_types::ChunkNumber;
 use record_format::HeaderRead;
 
 // What a search answers: a refusal, the chunk found, or that no record has the path.
-#[derive(Drop)]
+#[derive(Clone, Copy)]
 pub enum Found {
     Refused(Refusal),
     At(ChunkNumber),

@@ -7,7 +7,7 @@ ghost use Rattle.record_format.specs.Post.{GivenAs};
 use answer_types::{Place, Refusal};
 
 // What writing answers: a refusal, or the number of bytes written.
-#[derive(Drop)]
+#[derive(Clone, Copy)]
 pub enum Written {
     Refused(Refusal),
     Length(u64),

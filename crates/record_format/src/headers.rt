@@ -8,7 +8,7 @@ use answer_types::Refusal;
 use record_fields::Part;
 
 // What reading a Header answers: a refusal, or where its content bytes are.
-#[derive(Drop)]
+#[derive(Clone, Copy)]
 pub enum HeaderRead {
     Refused(Refusal),
     Content(Part),

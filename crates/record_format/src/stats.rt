@@ -9,7 +9,7 @@ ghost use Rattle.record_format.specs.Post.{Decides, StatReadAs, stat_of};
 use record_fields::{Number, NumberRow};
 
 // The nine fields, each there or absent.
-#[derive(Drop)]
+#[derive(Clone, Copy)]
 pub struct Stat {
     pub mode: Number,
     pub uid: Number,
@@ -23,14 +23,14 @@ pub struct Stat {
 }
 
 // What reading a Stat finds: bytes that are none, or its fields.
-#[derive(Drop)]
+#[derive(Clone, Copy)]
 pub enum StatRead {
     Bad,
     Read(Stat),
 }
 
 // Three fields in rising number and where they end.
-#[derive(Drop)]
+#[derive(Clone, Copy)]
 pub enum Three {
     Bad,
     Read(Number, Number, Number, usize),
@@ -64,7 +64,7 @@ fn three_rows(d: &[u8], at: usize, k: u8, most: u64) -> Three
 }
 
 // A Stat whose mode is there.
-fn with_mode_lem(stat: Stat) -> StatRead
+fn with_mode(stat: Stat) -> StatRead
     ensures { result ≡ with_mode stat }
 {
     let mode = stat.mode;
@@ -98,7 +98,7 @@ pub fn read_stat(d: &[u8]) -> StatRead
                     if end < d.len() {
                         return StatRead::Bad;
                     }
-                    with_mode_lem(Stat {
+                    with_mode(Stat {
                         mode,
                         uid,
                         gid,

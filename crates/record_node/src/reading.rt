@@ -11,14 +11,14 @@ use record_fields::{Bytes, BytesRow, Number, NumberRow, Part};
 use record_format::{Stat, StatRead};
 
 // A Stat, there or absent.
-#[derive(Drop)]
+#[derive(Clone, Copy)]
 pub enum Value {
     Absent,
     Given(Stat),
 }
 
 // The five fields, with parts of the bytes lent.
-#[derive(Drop)]
+#[derive(Clone, Copy)]
 pub struct Node {
     pub path: Part,
     pub value: Value,
@@ -28,56 +28,56 @@ pub struct Node {
 }
 
 // What reading a Node answers, and its fields; beside a refusal a Node that says nothing.
-#[derive(Drop)]
+#[derive(Clone, Copy)]
 pub struct NodeRead {
     pub answer: Answer,
     pub node: Node,
 }
 
 // The first three fields and where they end.
-#[derive(Drop)]
+#[derive(Clone, Copy)]
 pub enum Parts {
     Bad,
     Read(Bytes, Bytes, Bytes, usize),
 }
 
 // The last field, behind which nothing is left.
-#[derive(Drop)]
+#[derive(Clone, Copy)]
 pub enum Last {
     Bad,
     Read(Number),
 }
 
 // The last two fields.
-#[derive(Drop)]
+#[derive(Clone, Copy)]
 pub struct Tail {
     pub last: Last,
     pub writers: Writers,
 }
 
 // The fields but for the Writers, the path and the Stat not yet judged.
-#[derive(Drop)]
+#[derive(Clone, Copy)]
 pub enum Plain {
     Bad,
     Read(Bytes, Bytes, Bytes, Number),
 }
 
 // The five fields.
-#[derive(Drop)]
+#[derive(Clone, Copy)]
 pub struct Raw {
     pub plain: Plain,
     pub writers: Writers,
 }
 
 // A path that is there and within the bounds.
-#[derive(Drop)]
+#[derive(Clone, Copy)]
 pub enum PathRead {
     Bad,
     Read(Part),
 }
 
 // A Stat that is absent or within the bounds.
-#[derive(Drop)]
+#[derive(Clone, Copy)]
 pub enum ValueRead {
     Bad,
     Read(Value),

@@ -6,28 +6,28 @@ ghost use Rattle.record_node.specs.Post.{no_writer};
 use record_fields::{Bytes, BytesRow, Part};
 
 // A key and a permission, parts of the bytes lent.
-#[derive(Drop)]
+#[derive(Clone, Copy)]
 pub struct Writer {
     pub key: Part,
     pub permission: Bytes,
 }
 
 // At most 8 of them; those behind the count say nothing.
-#[derive(Drop)]
+#[derive(Clone, Copy)]
 pub struct Writers {
     pub count: usize,
     pub list: [Writer; 8],
 }
 
 // What reading a Writer finds: bytes that are none, or its fields.
-#[derive(Drop)]
+#[derive(Clone, Copy)]
 pub enum WriterRead {
     Bad,
     Read(Writer),
 }
 
 // What reading one more Writer finds: a field that is none, no such field, or a Writer and where its field ends.
-#[derive(Drop)]
+#[derive(Clone, Copy)]
 pub enum WriterRow {
     Bad,
     End,
@@ -35,14 +35,14 @@ pub enum WriterRow {
 }
 
 // Where the fields of all of them end, or that one is none.
-#[derive(Drop)]
+#[derive(Clone, Copy)]
 pub enum Row {
     Bad,
     Upto(usize),
 }
 
 // What reading all of them finds; beside a field that is none the Writers say nothing.
-#[derive(Drop)]
+#[derive(Clone, Copy)]
 pub struct WritersRow {
     pub row: Row,
     pub writers: Writers,

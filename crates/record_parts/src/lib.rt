@@ -16,7 +16,7 @@ use record_format::HeaderRead;
 use record_node::{Node, Writer, Writers};
 
 // A part of a Node; of a Writer's, by its place among them, from 0.
-#[derive(Drop)]
+#[derive(Clone, Copy)]
 pub enum Field {
     Path,
     Trie,
@@ -25,7 +25,7 @@ pub enum Field {
 }
 
 // The Writer at a place; nobody behind the last.
-fn writer_in_lem(writers: Writers, place: usize) -> Writer
+fn writer_in(writers: Writers, place: usize) -> Writer
     ensures { result ≡ writer_in writers place }
 {
     let count = writers.count;
@@ -52,12 +52,12 @@ fn chosen(node: Node, field: Field) -> Bytes
         Field::Path => Bytes::Given(path),
         Field::Trie => trie,
         Field::Key(place) => {
-            let writer = writer_in_lem(writers, place);
+            let writer = writer_in(writers, place);
             let key = writer.key;
             Bytes::Given(key)
         }
         Field::Permission(place) => {
-            let writer = writer_in_lem(writers, place);
+            let writer = writer_in(writers, place);
             writer.permission
         }
     }

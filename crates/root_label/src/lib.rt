@@ -2,7 +2,7 @@
 ghost use Rattle.root_label.specs.Post.{LabelledAs};
 
 // What `label` gives: its answer, and the label, or zeros after a refusal.
-#[derive(Drop)]
+#[derive(Clone, Copy)]
 pub struct Labelled {
     pub bytes: [u8; 32],
     pub answer: answer_types::Answer,

@@ -14,7 +14,7 @@ use bitfield::Found;
 use number_types::ChunkNumber;
 
 // What a search answers: a refusal, the chunk, or that there is none.
-#[derive(Drop)]
+#[derive(Clone, Copy)]
 pub enum Searched {
     Refused(Refusal),
     At(ChunkNumber),

@@ -11,7 +11,7 @@ use answer_types::Answer;
 use number_types::ChunkNumber;
 
 // Whose turn it is: a station, with the register and the chunk of its read that came first.
-#[derive(Drop)]
+#[derive(Clone, Copy)]
 pub enum Turn {
     Nobody,
     Of(u64, u64, ChunkNumber),

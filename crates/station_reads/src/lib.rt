@@ -17,7 +17,7 @@ use station_queue::Turn;
 pub use station_queue::fresh;
 
 // What a serving answers: which station is served and what its read is answered, or that no read waits.
-#[derive(Drop)]
+#[derive(Clone, Copy)]
 pub enum Served {
     Nobody,
     Station(u64, Answer),

@@ -11,7 +11,7 @@ use answer_types::{Answer, Refusal};
 use number_types::ChunkNumber;
 
 // What a call for a leaf's entry answers: a refusal, or the length that is stored in it.
-#[derive(Drop)]
+#[derive(Clone, Copy)]
 pub enum Stored {
     Refused(Refusal),
     Length(u64),

@@ -17,14 +17,14 @@ ghost use Rattle.writing.specs.Post.{lent, AppendPost};
 use answer_types::Answer;
 
 // An answer, and beside it the new root hash; zeros after a refusal.
-#[derive(Drop)]
+#[derive(Clone, Copy)]
 pub struct Appended {
     pub answer: Answer,
     pub root: [u8; 32],
 }
 
 // A tree entry by value.
-#[derive(Drop)]
+#[derive(Clone, Copy)]
 pub struct Node {
     pub hash: [u8; 32],
     pub size: u64,

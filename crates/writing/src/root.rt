@@ -6,7 +6,7 @@ ghost use Rattle.writing.specs.Post.{RootPost};
 use answer_types::Answer;
 
 // An answer, and beside it the root hash; zeros after a refusal.
-#[derive(Drop)]
+#[derive(Clone, Copy)]
 pub struct Rooted {
     pub answer: Answer,
     pub root: [u8; 32],

@@ -11,4 +11,4 @@ pub bytes-in-spec : {M : Type 1} → statement M
 bytes-in-spec =
     tie.close
     (tie.spec (λ c. simp (eq-eqb _ _ c.if1.true)) (λ c κs. search rules)
-    (λ c. ap (λ (p : Part). Given p) c.part_in_lem.ensures ∙ simp (ne_eqb _ _ c.before.if1.false)))
+    (λ c. ap (λ (p : Part). Given p) c.part_in.ensures ∙ simp (ne_eqb _ _ c.before.if1.false)))

@@ -4,8 +4,8 @@ use mathlib.Core.Path.{ap, ◌∙◌}
 use Rattle.record_format.specs.declared.stats.Stat.{Stat}
 use Rattle.record_node.specs.declared.reading.Value.TheVariants.{Given}
 use borrow.Author.Rules.{rules}
-use Rattle.c_records.proofs.value_in_lem.Statement.{statement}
-use Rattle.c_records.proofs.value_in_lem.Tie as tie
+use Rattle.c_records.proofs.value_in.Statement.{statement}
+use Rattle.c_records.proofs.value_in.Tie as tie
 
 pub value-in-spec : {M : Type 1} → statement M
 value-in-spec =

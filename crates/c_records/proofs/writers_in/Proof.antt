@@ -17,7 +17,7 @@ returns c =
     let at-writer-in2 = at-writer-in3.before.before in
     let at-writer-in = at-writer-in2.before.before in
     eight (λ j. writer_in (get_or at-writer-in.before.before.args.t1 j no_flat))
-    at-writer-in.writer_in_lem.ensures
+    at-writer-in.writer_in.ensures
     at-writer-in2.writer-in2.ensures
     at-writer-in3.writer-in3.ensures
     at-writer-in4.writer-in4.ensures

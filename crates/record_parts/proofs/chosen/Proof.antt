@@ -19,7 +19,7 @@ returns-3 c =
     let at-writer-in = c.before in
     let known = at-writer-in.before.before in
     let start = known.before.before.before.before in
-    chosen_key start.args.node _ known.field.given.0.0 _ known.field.given.1 at-writer-in.writer_in_lem.ensures
+    chosen_key start.args.node _ known.field.given.0.0 _ known.field.given.1 at-writer-in.writer_in.ensures
 
 returns-4 : tie.Need-returns-4
 returns-4 c =

@@ -1,8 +1,8 @@
 -- The Writer at a place, if there is one.
 use Rattle.record_parts.proofs.Handed.{writer_there, writer_none, writer_beyond}
 use borrow.Author.Rules.{rules}
-use Rattle.record_parts.proofs.writer_in_lem.Statement.{statement}
-use Rattle.record_parts.proofs.writer_in_lem.Tie as tie
+use Rattle.record_parts.proofs.writer_in.Statement.{statement}
+use Rattle.record_parts.proofs.writer_in.Tie as tie
 
 returns : tie.Need-returns
 returns c =

@@ -10,7 +10,7 @@ use Rattle.audit.proofs.tree.hole_right.Tie as tie
 returns : tie.Need-returns
 returns c =
     let start = c.before.before.before.before in
-    let at = c.before.before.entry_place_lem in
+    let at = c.before.before.entry_place in
     hole_same node_hash (at.result + 40 - at.result) start.requires at.ensures c.is_zero.ensures (omega arith)
 
 pub hole-right-spec : {M : Type 1} → statement M

@@ -11,7 +11,7 @@ returns c =
     let at-flat-at = fields.before in
     let start = at-flat-at.before.before.before in
     let a = start.args in
-    writes_node a.bytes.now a.node.now _ _ at-flat-at.flat-at.ensures fields.node_in_lem.ensures _ _ _ made.write-node.ensures _ _ _
+    writes_node a.bytes.now a.node.now _ _ at-flat-at.flat-at.ensures fields.node_in.ensures _ _ _ made.write-node.ensures _ _ _
     c.give-length.ensures
 
 pub sleep-flat-write-node-spec : {M : Type 1} → statement M

@@ -41,7 +41,7 @@ entry-place-requires c κs =
 
 -- the entry lies within the tree file
 ends : tie.Need-slice-bounds-same-end
-ends c = omega (arith, c.entry_place_lem.ensures, (begun c).requires.0.entry.inside)
+ends c = omega (arith, c.entry_place.ensures, (begun c).requires.0.entry.inside)
 
 -- what is stored and what is given, compared
 compared : (c : tie.After-same)
@@ -53,7 +53,7 @@ compared c =
     let lent = at-entry-place.before.before.before in
     let given = lent.shared-slice-known3.given in
     sym (c.same.ensures
-    ∙ ap₂ same_list (lent_entry s.args.tree.now at-entry-place.entry_place_lem.result _ at-entry-place.entry_place_lem.ensures)
+    ∙ ap₂ same_list (lent_entry s.args.tree.now at-entry-place.entry_place.result _ at-entry-place.entry_place.ensures)
     (lent_entry s.args.row.now s.args.at _ refl ∙ sym (given_bytes s.args.row.now s.args.at (λ j. (given j).fits) s.pre.1)))
 
 returns-2 : tie.Need-returns-2

@@ -16,7 +16,7 @@ copy-to-requires : tie.Need-copy-to-requires
 copy-to-requires c κs =
     let at-entry-place = c.before.before in
     let start = at-entry-place.before.before.before.before in
-    omega (arith, at-entry-place.entry_place_lem.ensures, start.requires.0.entry.inside, lent_length start.args.row.now start.args.at start.requires.1)
+    omega (arith, at-entry-place.entry_place.ensures, start.requires.0.entry.inside, lent_length start.args.row.now start.args.at start.requires.1)
 
 make-known-requires : tie.Need-make-known-requires
 make-known-requires c κs =
@@ -30,9 +30,9 @@ returns c =
     let at-entry-place = at-copy-to.before.before.before in
     let at-shared-slice-known = at-entry-place.before in
     let start = at-shared-slice-known.before.before.before in
-    one_written start.args.tree.now start.args.bitfield.now start.args.row.now start.args.at start.args.i.0 at-entry-place.entry_place_lem.result _ _ _
+    one_written start.args.tree.now start.args.bitfield.now start.args.row.now start.args.at start.args.i.0 at-entry-place.entry_place.result _ _ _
     (λ j. (at-shared-slice-known.shared-slice-known.given j).fits) start.requires.1
-    at-entry-place.entry_place_lem.ensures (lent_entry start.args.row.now start.args.at _ refl) at-copy-to.copy-to.ensures at-make-known.make-known.ensures
+    at-entry-place.entry_place.ensures (lent_entry start.args.row.now start.args.at _ refl) at-copy-to.copy-to.ensures at-make-known.make-known.ensures
 
 pub write-one-spec : {M : Type 1} → statement M
 write-one-spec =

@@ -21,12 +21,12 @@ abbrev decreases-loop : tie.decreases-loop
 decreases-loop tree count out₀ at indexes j₀ out j = count - j
 
 -- the entry lies in the tree file
-inside : (c : tie.After-entry-place invariant-loop decreases-loop) → c.entry_place_lem.result + 40 ≤ length c.before.before.before.before.before.before.args.tree.now
+inside : (c : tie.After-entry-place invariant-loop decreases-loop) → c.entry_place.result + 40 ≤ length c.before.before.before.before.before.before.args.tree.now
 inside c =
     let tested = c.before.before in
     let looped = tested.before in
     let start = looped.before.before.before in
-    subst (λ (x : ℕ). x + 40 ≤ length start.args.tree.now) (sym c.entry_place_lem.ensures)
+    subst (λ (x : ℕ). x + 40 ≤ length start.args.tree.now) (sym c.entry_place.ensures)
     (subst (EntryIn start.args.tree.now) (number_at start.args.t2 looped.loop.j) (start.requires.0.each looped.loop.j tested.loop-test.true)).inside
 
 loop-holds : tie.Need-loop-init invariant-loop decreases-loop
@@ -71,7 +71,7 @@ copy-to-requires c κs =
     let at-entry-place = c.before.before in
     let looped = at-entry-place.before.before.before in
     let start = looped.before.before.before in
-    omega (arith, start.requires.1, looped.loop.invariant.1.long, lent_length start.args.tree.now at-entry-place.entry_place_lem.result (inside at-entry-place))
+    omega (arith, start.requires.1, looped.loop.invariant.1.long, lent_length start.args.tree.now at-entry-place.entry_place.result (inside at-entry-place))
 
 loop-again : tie.Need-loop-preserved invariant-loop decreases-loop
 loop-again c =
@@ -82,7 +82,7 @@ loop-again c =
     let start = looped.before.before.before in
     let a = start.args in
     let l = looped.loop in
-    let p = at-entry-place.entry_place_lem in (
+    let p = at-entry-place.entry_place in (
       omega arith,
       writing_next a.tree.now (numbers a.t2) a.out.now a.at a.count l.j l.out at-copy-to.copy-to.new.0 _ start.requires.0
           tested.loop-test.true start.requires.1 l.invariant.1 at-copy-to.copy-to.auto.0

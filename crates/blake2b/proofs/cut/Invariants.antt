@@ -1,0 +1,12 @@
+-- `blake2b::cut` meets its contract. The invariant: the first j bytes stand over zeros.
+-- Assumes nothing.
+use mathlib.Core.Path.{◌≡◌}
+use Prim.Native.Nat.{◌≤◌, ◌-◌}
+use Rattle.blake2b.proofs.Output.{over}
+use Rattle.blake2b.proofs.cut.Given as goal
+
+abbrev pub invariant-loop-j : goal.invariant-loop-j
+invariant-loop-j l = (l.j ≤ l.n) × (l.out ≡ over 64 l.d l.j)
+
+abbrev pub decreases-loop-j : goal.decreases-loop-j
+decreases-loop-j l = l.n - l.j

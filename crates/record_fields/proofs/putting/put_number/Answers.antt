@@ -1,0 +1,24 @@
+-- The tag is a byte; the number follows it.
+use borrow.Author.Rules.{rules}
+use native.Mathlib.Omega.{arith}
+use Rattle.record_fields.proofs.Put.{number_absent, number_roomy, number_put, number_kept}
+use Rattle.record_fields.proofs.putting.put_number.Goals as goal
+
+pub put_digits-requires : goal.put_digits-requires
+put_digits-requires c =
+    let a = c.args in
+    let w = number_roomy a.k a.out.now a.at a.field _ c.in-Given.is c.requires.0 c.requires.1 in
+    record { fits = search rules; room = (w (omega arith)).room }
+
+pub returns-in-Absent : goal.returns-in-Absent
+returns-in-Absent c = let a = c.args in number_absent a.k a.out.now a.at a.field c.in-Absent.is
+
+pub shape_of-out : goal.shape_of-out
+shape_of-out c =
+    let a = c.args in
+    number_kept a.k a.out.now a.at a.field _ c.in-Given.is c.requires.0 c.requires.1 _ _ c.put_digits.ensures
+
+pub returns-in-Given : goal.returns-in-Given
+returns-in-Given c =
+    let a = c.args in
+    number_put a.k a.out.now a.at a.field _ c.in-Given.is c.requires.0 c.requires.1 _ _ c.put_digits.ensures

@@ -1,0 +1,16 @@
+-- `station_queue::words::leave` meets its contract: the station whose turn it is has a read. Assumes nothing.
+use mathlib.Core.Path.{sym, ap, ◌∙◌}
+use Rattle.station_queue.specs.Post.{turn_of}
+use Rattle.station_queue.proofs.Calls.{has_turn, nobody_left, one_left}
+use Rattle.station_queue.proofs.words.leave.Goals as goal
+
+pub drop_first-requires : goal.drop_first-requires
+drop_first-requires c = (c.requires, has_turn c.args.table.now c.in-Of.station (record { register = c.in-Of.field-1; chunk = c.in-Of.field-2.0 }) (sym (ap turn_of c.in-Of.is) ∙ c.next.ensures))
+
+pub returns-in-Nobody : goal.returns-in-Nobody
+returns-in-Nobody c = nobody_left c.args.table.now (sym (ap turn_of c.in-Nobody.is) ∙ c.next.ensures)
+
+pub returns-in-Of : goal.returns-in-Of
+returns-in-Of c =
+    one_left c.args.table.now c.drop_first.new.table c.in-Of.station (record { register = c.in-Of.field-1; chunk = c.in-Of.field-2.0 }) c.requires
+    (sym (ap turn_of c.in-Of.is) ∙ c.next.ensures) c.drop_first.ensures

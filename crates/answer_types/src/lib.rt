@@ -1,4 +1,6 @@
 // How a call answers: done, or a refusal with its number and its place.
+#![tactic(auto)]
+
 ghost use Rattle.std.specs.Prelude.{◌≡◌};
 ghost use Rattle.answer_types.specs.Verdict.{none, tree, bitfield, refused};
 ghost use Rattle.answer_types.specs.Meaning.{said};

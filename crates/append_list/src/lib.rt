@@ -1,5 +1,7 @@
 // "Append a list of chunks: tree, bitfield and data become what single appends would leave, and one root hash is answered." The list is lent
 // as its lengths and one run of bytes. All checks come first, so the list is stored wholly or left out.
+#![tactic(auto)]
+
 mod judging;
 mod storing;
 

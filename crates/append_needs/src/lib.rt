@@ -1,5 +1,7 @@
 // What a job will need: the four file sizes and the compression runs of BLAKE2b, before a chunk is appended. No register is lent, and the work
 // grows with the list alone.
+#![tactic(auto)]
+
 ghost use Rattle.std.specs.Prelude.{◌≡◌, map, ◌+◌, ◌*◌, ◌≤◌, ◌<◌, length, leb};
 ghost use Rattle.answer_types.specs.Meaning.{said};
 ghost use Rattle.byte_strings.specs.Lists.{run, total};

@@ -1,5 +1,7 @@
 // "Writing nothing, give what an append would answer on a copy of the lent buffers, length for length: the root hash, or the refusal and
 // its place." All four images and the chunk are lent to be read; none is copied.
+#![tactic(auto)]
+
 ghost use Rattle.std.specs.Prelude.{◌≡◌, ◌+◌, ◌≤◌, ◌<◌, length};
 ghost use Rattle.answer_types.specs.Meaning.{said};
 ghost use Rattle.tree_index.specs.Tree.{completed};

@@ -1,4 +1,6 @@
 // The audit of a register: whether its used bytes are the images of some chunks, held or released, and some signatures.
+#![tactic(auto)]
+
 mod bits;
 mod tree;
 

@@ -1,4 +1,6 @@
 // The bitfield file: its bits, and the Index regenerated from its data bytes.
+#![tactic(auto)]
+
 pub mod index;
 
 ghost use Rattle.std.specs.Prelude.{◌≡◌, ◌+◌, ◌-◌, ◌/◌, ◌%◌, ◌^◌, ◌<◌, ◌≤◌, length};

@@ -1,4 +1,6 @@
 // The compression function of BLAKE2b, after RFC 7693, sections 3.1 and 3.2.
+#![tactic(auto)]
+
 ghost use Rattle.std.specs.Prelude.{◌≡◌, [], ◌∷◌};
 ghost use Rattle.blake2b_compression.specs.Compression.{F, flagged, folded, start};
 ghost use Rattle.blake2b_compression.specs.Rows.{vector_of};

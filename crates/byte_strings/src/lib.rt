@@ -1,4 +1,6 @@
 // Byte slices: parts compared, copied and cleared, and big-endian numbers read and written.
+#![tactic(auto)]
+
 ghost use Rattle.std.specs.Prelude.{◌≡◌, ◌+◌, ◌*◌, ◌≤◌, length};
 ghost use Rattle.byte_strings.specs.Lists.{part, put, zeros, same_list, all_zero};
 ghost use Rattle.byte_strings.specs.Numbers.{be, number};

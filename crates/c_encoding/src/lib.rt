@@ -1,5 +1,7 @@
 // What C is answered, from what the library's calls answer: three numbers, and further numbers or a hash in what the caller lends,
 // which is as it was after a refusal.
+#![tactic(auto)]
+
 mod answers;
 mod lookups;
 mod packets;

@@ -1,5 +1,7 @@
 // The checks 2 to 6 of a call on a register: "Checks apply to what the call is given, in this order; images as tree, signatures,
 // bitfield, data." They only read, so that a refused call has changed nothing. And what 7 asks of a list of chunks.
+#![tactic(auto)]
+
 ghost use Rattle.std.specs.Prelude.{◌≡◌, ◌+◌, ◌≤◌, length};
 ghost use Rattle.answer_types.specs.Verdict.{done};
 ghost use Rattle.answer_types.specs.Meaning.{said};

@@ -1,4 +1,6 @@
 // The comparing walk on two registers that hold all their chunks. It reads the lent bytes and changes nothing.
+#![tactic(auto)]
+
 mod messages;
 
 ghost use Rattle.std.specs.Prelude.{◌≡◌, ◌-◌, ◌≤◌, not};

@@ -1,5 +1,7 @@
 // Coordinates grouped before storing: words of 4 big-endian bytes become differences from the word before, and then all first bytes stand
 // together, all second bytes, and so on. `ungroup` is the way back. Both are judged before the buffer is written.
+#![tactic(auto)]
+
 ghost use Rattle.std.specs.Prelude.{◌≡◌, ◌*◌, ◌<◌, ◌≤◌, length};
 ghost use Rattle.answer_types.specs.Meaning.{said};
 ghost use Rattle.byte_strings.specs.Lists.{put};

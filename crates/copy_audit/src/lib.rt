@@ -1,5 +1,7 @@
 // The audit of a copy: "lets the tree bit of an entry that is no hole be 0"; an entry that is not known must be zero and its chunk not held, and
 // of the known entries each is judged by what else is known. It only reads.
+#![tactic(auto)]
+
 mod entries;
 
 ghost use Rattle.std.specs.Prelude.{◌≡◌};

@@ -1,5 +1,7 @@
 // Partial copies: which of a copy's roots is unknown, and the checks of a call on a copy. They only read, so that a refused call has changed
 // nothing.
+#![tactic(auto)]
+
 ghost use Rattle.std.specs.Prelude.{◌≡◌, ◌≤◌, length};
 ghost use Rattle.answer_types.specs.Verdict.{done};
 ghost use Rattle.answer_types.specs.Meaning.{said};

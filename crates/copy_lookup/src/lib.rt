@@ -1,4 +1,6 @@
 // The place lookup, the byte lookup and the read on a copy.
+#![tactic(auto)]
+
 mod places;
 mod reads;
 

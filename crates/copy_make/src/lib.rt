@@ -1,4 +1,6 @@
 // Making a partial copy: "headers, zero entries, zero bits and zero data". Everything is judged before a byte is written.
+#![tactic(auto)]
+
 ghost use Rattle.std.specs.Prelude.{◌≡◌, ◌++◌, ◌+◌, ◌≤◌, length};
 ghost use Rattle.answer_types.specs.Meaning.{said};
 ghost use Rattle.byte_strings.specs.Lists.{put, zeros};

@@ -1,4 +1,6 @@
 // Making a packet of a chunk of a partial copy. Everything is judged before the buffer is written.
+#![tactic(auto)]
+
 ghost use Rattle.blake2b.specs.Hash.{node_hash};
 ghost use Rattle.copy_checks.specs.Copy.{copy_of};
 ghost use Rattle.copy_packet.specs.Making.{CopyMadeAs};

@@ -1,4 +1,6 @@
 // The records of a copy's chunks, the paths in them, and the parts of a record as parts of the bytes lent.
+#![tactic(auto)]
+
 mod chunks;
 mod finding;
 mod parts;

@@ -1,4 +1,6 @@
 // Releasing a chunk of a partial copy. Everything is judged before a byte is written.
+#![tactic(auto)]
+
 ghost use Rattle.answer_types.specs.Meaning.{said};
 ghost use Rattle.copy_checks.specs.Copy.{copy_of, files_lent};
 ghost use Rattle.copy_release.specs.Post.{ReleasePost};

@@ -1,4 +1,6 @@
 // The root hash, root hashes of earlier years and the search on a partial copy. Its files are lent to be read.
+#![tactic(auto)]
+
 ghost use Rattle.std.specs.Prelude.{◌≡◌};
 ghost use Rattle.answer_types.specs.Verdict.{tree, done};
 ghost use Rattle.answer_types.specs.Meaning.{said};

@@ -1,4 +1,6 @@
 // The short lookups and the short search on a partial copy: a register's behind the checks of a copy, with 20 at a leaf that is not known.
+#![tactic(auto)]
+
 ghost use Rattle.std.specs.Prelude.{◌≡◌};
 ghost use Rattle.lookup.specs.Meaning.{placed_of, located_of};
 ghost use Rattle.search.specs.Meaning.{searched_of};

@@ -1,4 +1,6 @@
 // The stored entry of a chunk's leaf in a partial copy. Its files are lent to be read, and nothing is audited.
+#![tactic(auto)]
+
 ghost use Rattle.copy_checks.specs.Copy.{copy_of};
 ghost use Rattle.stored_leaf.specs.Post.{LeafPost};
 ghost use Rattle.copy_stored_leaf.specs.StoredLeaf.{copy_leaf_verdict};

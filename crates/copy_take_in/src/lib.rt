@@ -1,5 +1,7 @@
 // Taking in a packet: "writes leaf, siblings, parents on the way and roots with their tree bits, .. and the chunk at the start found from left
 // siblings and left roots, sets its data bit and regenerates that entry's Index". Everything is judged before a byte is written.
+#![tactic(auto)]
+
 mod rows;
 mod way;
 

@@ -1,4 +1,6 @@
 // The files of a register: headers, used sizes, tree entries, the hashes of nodes and the stored roots.
+#![tactic(auto)]
+
 pub mod entries;
 pub mod hashes;
 pub mod headers;

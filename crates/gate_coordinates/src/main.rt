@@ -1,5 +1,7 @@
 // Prints what grouping and ungrouping answer and leave in the buffer, by its first bytes and its hash, for comparison with the text in
 // stdout; and whether each undoes the other.
+#![tactic(auto)]
+
 use answer_types::Answer;
 use gate_printing::text;
 

@@ -1,5 +1,7 @@
 // Prints what jobs will need, for comparison with the text in stdout: lists of 0, 1, 40 and 256 lengths at counts about powers of two, the
 // fullest register with an empty list, each refusal, and each two of them at once.
+#![tactic(auto)]
+
 use answer_types::Answer;
 use append_needs::Needed;
 use gate_printing::named;

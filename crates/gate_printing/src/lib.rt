@@ -1,4 +1,6 @@
 // What the test programs print on standard output: text, numbers, bytes in hexadecimal, and answers.
+#![tactic(auto)]
+
 ghost use Rattle.std.specs.Prelude.{◌<◌};
 
 pub fn text(t: &[u8]) {

@@ -1,6 +1,8 @@
 // Records written and read and paths found, as the script on standard input asks for, which the model wrote (tests/model/records.py). Prints what
 // the calls answer, for comparison with the text in stdout. A step of the script is a letter, a length of two bytes, and so many bytes: a text to
 // print, or what a call is given. Numbers in it have 8 bytes, the highest first.
+#![tactic(auto)]
+
 mod finding;
 mod given;
 mod judging;

@@ -1,4 +1,6 @@
 // Registers for the programs of the gate to work on: chunks and signatures whose bytes depend on the chunk number. Inner.
+#![tactic(auto)]
+
 ghost use Rattle.std.specs.Prelude.{◌<◌, ◌≤◌};
 
 // What a caller tells of a register.

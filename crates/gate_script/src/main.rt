@@ -1,5 +1,7 @@
 // Runs the script on standard input, a call of the library on each line, and prints each line with its answer, for comparison with the text in stdout.
 // The registers of the script are parts of four arrays that held other bytes before; chunks, signatures and packets are parts of a fifth.
+#![tactic(auto)]
+
 mod answers;
 mod asked;
 mod cuts;

@@ -1,6 +1,8 @@
 // Reads of sixteen stations, entered and served from two registers: short stories and long random runs, a station that floods the table
 // among them. Prints what the calls answer, for comparison with the text in stdout. What belongs to the metadata register begins with m, to
 // the content register with c; t, s, b and d are its tree, signatures, bitfield and data.
+#![tactic(auto)]
+
 mod calls;
 mod plan;
 mod rows;

@@ -1,5 +1,7 @@
 // Prints the vectors of BLAKE2b, one a line, for comparison with the text in stdout: those of RFC 7693, the lengths around a block's border,
 // a prefix and a body, the refusals, and then keys of several lengths and labels.
+#![tactic(auto)]
+
 mod keyed;
 mod self_test;
 

@@ -1,4 +1,6 @@
 // The listing of what standard input holds, on standard output.
+#![tactic(auto)]
+
 use listing_lines::Listing;
 
 fn main() {

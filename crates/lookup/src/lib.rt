@@ -1,4 +1,6 @@
 // Lookups and verified reads.
+#![tactic(auto)]
+
 mod descent;
 mod places;
 mod reading;

@@ -2,6 +2,8 @@
 //
 // A chunk number, a tree index and a byte offset count three separate things, so each is a type of its own, and one
 // becomes another only by a function that says how. Each counts from 0, so the number of a thing is how many stand before it.
+#![tactic(auto)]
+
 ghost use Rattle.std.specs.Prelude.{◌≡◌};
 
 // The number of a chunk in its register, from 0.

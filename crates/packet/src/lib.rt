@@ -1,4 +1,6 @@
 // Packets: made from a register, and checked against a root hash.
+#![tactic(auto)]
+
 mod checking;
 mod making;
 mod path;

@@ -1,6 +1,8 @@
 // A walk along two packets of one chunk: "the first such pair from the leaf upward, by its tree index or as "at the roots"". Where the chunks
 // differ, the messages of each step differ as long as the hashes below did, so the first step with one hash is the pair, and no message is
 // compared. It reads the lent bytes and changes nothing.
+#![tactic(auto)]
+
 ghost use Rattle.std.specs.Prelude.{◌≡◌};
 ghost use Rattle.blake2b.specs.Hash.{node_hash};
 ghost use Rattle.file_format.specs.Entries.{parent_of};

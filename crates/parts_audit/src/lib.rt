@@ -1,5 +1,7 @@
 // The audit of a register in parts: each makes the audit's checks and judges a range of tree entries, or of the bitfield's entries, on its own. It only
 // reads, so that parts may run at the same time, in any order, and one of them again.
+#![tactic(auto)]
+
 mod answers;
 mod ranges;
 

@@ -1,4 +1,6 @@
 // The comparing walk in parts. They only read.
+#![tactic(auto)]
+
 ghost use Rattle.std.specs.Prelude.{◌≡◌};
 ghost use Rattle.blake2b.specs.Hash.{node_hash};
 ghost use Rattle.checks.specs.Lent.{register_of};

@@ -1,5 +1,7 @@
 // "Makers keep printed root hashes from earlier years. For each m up to n, give the root hash of the first m chunks from the stored entries,
 // without an audit". All four images are lent to be read; of the tree entries only the roots of n, for the checks, and those of m are read.
+#![tactic(auto)]
+
 ghost use Rattle.std.specs.Prelude.{◌≡◌};
 ghost use Rattle.answer_types.specs.Verdict.{done};
 ghost use Rattle.answer_types.specs.Meaning.{said};

@@ -1,4 +1,6 @@
 // Varints, and the fields of a record by their number: read at a place of lent bytes, and put at a place of a lent buffer.
+#![tactic(auto)]
+
 mod putting;
 mod rows;
 mod varints;

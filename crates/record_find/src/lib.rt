@@ -1,4 +1,6 @@
 // The records of a register's chunks, and the paths in them.
+#![tactic(auto)]
+
 mod chunks;
 mod finding;
 

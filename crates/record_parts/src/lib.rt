@@ -1,6 +1,8 @@
 // The parts of a record as parts of the bytes lent: of bytes, or of a chunk of a register. Nothing after a refusal, whose number the readers
 // tell (`record_format::read_header`, `record_node::read_node`, `record_find::header_of`, `record_find::node_of`), and nothing of a field that is absent, which they
 // tell too.
+#![tactic(auto)]
+
 ghost use Rattle.std.specs.Prelude.{◌≡◌};
 ghost use Rattle.blake2b.specs.Hash.{node_hash};
 ghost use Rattle.checks.specs.Lent.{register_of};

@@ -1,5 +1,7 @@
 // Releasing a chunk: "clears its data bit, regenerates that entry's Index and writes zeros over the chunk's bytes; its tree entries stay".
 // Everything is judged before a byte is written.
+#![tactic(auto)]
+
 ghost use Rattle.answer_types.specs.Meaning.{said};
 ghost use Rattle.checks.specs.Lent.{register_of};
 ghost use Rattle.lookup.specs.Meaning.{placed_of};

@@ -1,4 +1,6 @@
 // Labels: the hash of a root hash under the key of whoever makes them.
+#![tactic(auto)]
+
 ghost use Rattle.root_label.specs.Post.{LabelledAs};
 
 // What `label` gives: its answer, and the label, or zeros after a refusal.

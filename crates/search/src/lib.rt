@@ -1,4 +1,6 @@
 // "A search for the first chunk from a given number on, below n, that isn't held, or none."
+#![tactic(auto)]
+
 mod runs;
 
 ghost use Rattle.std.specs.Prelude.{◌≡◌, ◌≤◌};

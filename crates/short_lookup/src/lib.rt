@@ -1,4 +1,6 @@
 // The short way for a later reader: the simplest programs that someone with the files would write.
+#![tactic(auto)]
+
 mod leaves;
 
 ghost use Rattle.std.specs.Prelude.{◌≡◌, ◌-◌, ◌≤◌, length};

@@ -1,5 +1,7 @@
 // Sixteen workstations that wait for one archive: the table of waiting reads. It is 161 numbers that the caller lends; every content of it is
 // read as a table, as specs/Words says.
+#![tactic(auto)]
+
 mod words;
 
 ghost use Rattle.std.specs.Prelude.{◌≡◌};

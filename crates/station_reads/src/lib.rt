@@ -1,5 +1,7 @@
 // Sixteen workstations, one archive: reads that wait in a table, and are served in turn from the two registers. What belongs to the metadata
 // register begins with m, to the content register with c. The registers are lent at the serving, not at the entering.
+#![tactic(auto)]
+
 ghost use Rattle.std.specs.Prelude.{◌≡◌};
 ghost use Rattle.blake2b.specs.Hash.{node_hash};
 ghost use Rattle.checks.specs.Lent.{register_of};

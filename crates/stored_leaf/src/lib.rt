@@ -1,4 +1,6 @@
 // The stored entry of a chunk's leaf, of a held chunk and of a released one. Nothing is audited.
+#![tactic(auto)]
+
 ghost use Rattle.std.specs.Prelude.{◌≡◌};
 ghost use Rattle.answer_types.specs.Verdict.{done, and_then};
 ghost use Rattle.answer_types.specs.Meaning.{said};

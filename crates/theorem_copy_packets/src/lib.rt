@@ -1,1 +1,2 @@
 // Packets that are made from copies, stated in specs/ and proved in proofs/: this crate has no code.
+#![tactic(auto)]

@@ -1,6 +1,8 @@
 // The in-order tree: indexes, depths, children, parents and roots.
 //
 // Every function here is inner: its `requires` names its bounds, which its callers meet.
+#![tactic(auto)]
+
 ghost use Rattle.std.specs.Prelude.{◌≡◌, ◌++◌, ◌+◌, ◌-◌, ◌*◌, ◌/◌, ◌%◌, ◌^◌, ◌≤◌, ◌<◌, length, replicate};
 ghost use Rattle.tree_index.specs.Tree as tree;
 ghost use Rattle.tree_index.specs.Numbers.{numbers};

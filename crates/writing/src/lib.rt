@@ -1,4 +1,6 @@
 // The calls that write a register, and its root hash.
+#![tactic(auto)]
+
 mod appending;
 mod root;
 mod signing;

@@ -3,7 +3,6 @@
 use mathlib.Core.Path.{◌≡◌}
 use mathlib.Core.List.{◌++◌}
 use Prim.Native.Nat.{◌≤◌, ◌-◌, ◌%◌, ◌/◌}
-use Rattle.blake2b.specs.Hash.{block}
 use Rattle.blake2b.specs.Inner.{onward}
 use Rattle.blake2b.proofs.absorb.Given as goal
 

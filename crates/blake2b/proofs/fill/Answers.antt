@@ -1,4 +1,3 @@
-use Prim.Native.Nat.{◌-◌}
 use Rattle.blake2b.proofs.Filling.{going_none, going_more, going_done}
 use borrow.Author.Rules.{rules}
 use native.Mathlib.Omega.{arith}

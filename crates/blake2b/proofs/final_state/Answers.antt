@@ -20,8 +20,8 @@ returns c =
     let more : 0 < length a.key.now → 0 < length (a.prefix.now ++ a.body.now) =
     λ h.
     elim c.if-key-gt0.branch [
-      then-key-gt0+else-prefix-body-eq0 w ↦ omega (arith, length-append a.prefix.now a.body.now)
-    | else-key-gt0 w ↦ omega arith
+      | then-key-gt0+else-prefix-body-eq0 w ↦ omega (arith, length-append a.prefix.now a.body.now)
+      | else-key-gt0 w ↦ omega arith
     ]
     in
     key_then_message a.nn a.key.now (a.prefix.now ++ a.body.now) _ _ _ _ c.requires more c.first_state.ensures

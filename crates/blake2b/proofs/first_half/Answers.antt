@@ -1,6 +1,6 @@
 use mathlib.Core.Path.{◌≡◌, refl, ap, ◌∙◌}
 use mathlib.Core.List.{List}
-use Prim.Native.Nat.{ℕ, ◌-◌}
+use Prim.Native.Nat.{ℕ}
 use lib.ListN.{set, get_or}
 use Rattle.blake2b.proofs.Output.{over, over_more, over_all}
 use borrow.Author.Rules.{rules}

@@ -1,5 +1,5 @@
 use mathlib.Core.Path.{◌≡◌, ap, ◌∙◌}
-use Prim.Native.Nat.{ℕ, ◌-◌}
+use Prim.Native.Nat.{ℕ}
 use lib.ListN.{length}
 use lib.Seq.{paste, paste-zero, length-paste}
 use Rattle.blake2b.specs.Hash.{low_bytes}
@@ -13,11 +13,10 @@ pub loop-j-init : goal.loop-j-init
 loop-j-init c = (search rules, paste-zero c.args.out.now c.args.at (low_bytes 8 c.args.w))
 
 pub loop-j-preserved : goal.loop-j-preserved
-loop-j-preserved c =
-    (
-      search rules,
-      word_more _ _ _ _ _ _ c.requires.1 c.requires.0 c.loop-j-test.true c.loop-j.invariant.1 c.byte_of.ensures,
-    )
+loop-j-preserved c = (
+  search rules,
+  word_more _ _ _ _ _ _ c.requires.1 c.requires.0 c.loop-j-test.true c.loop-j.invariant.1 c.byte_of.ensures,
+)
 
 pub returns : goal.returns
 returns c =

@@ -22,8 +22,7 @@ returns-then-n-lengths c =
 
 pub judge_own-requires : goal.judge_own-requires
 judge_own-requires c =
-    let given : Register = register_of c.args.tree.now c.args.signatures.now c.args.bitfield.now c.args.content.now c.args.n c.args.s c.args.size in
-    (
+    let given : Register = register_of c.args.tree.now c.args.signatures.now c.args.bitfield.now c.args.content.now c.args.n c.args.s c.args.size in (
       omega (arith, c.if-n-ge1048576.false, c.if-n-lengths.false),
       data_inside (given) c.in-Done.is
           c.judge_later-found.ensures,

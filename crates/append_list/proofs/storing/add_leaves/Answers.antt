@@ -13,8 +13,8 @@ loop-j-init c = (omega arith, refl, going_none c.requires)
 pub overflow_add-end : goal.overflow_add-end
 overflow_add-end c =
     let next_fits : (LeafFits c.loop-j.tree c.args.content.now (c.args.n + c.loop-j.j)
-    c.loop-j.at (c.loop-j.at + get_or c.args.lengths.now c.loop-j.j 0)) = going_fits c.loop-j.invariant.2 c.loop-j-test.true c.TODO_good.1.0.0 in
-    let small : length c.args.content.now < 2 ^ 64 = c.TODO_good.1.0.0 in
+    c.loop-j.at (c.loop-j.at + get_or c.args.lengths.now c.loop-j.j 0)) = going_fits c.loop-j.invariant.2 c.loop-j-test.true c.well_formed.1.0.0 in
+    let small : length c.args.content.now < 2 ^ 64 = c.well_formed.1.0.0 in
     record { fits = omega (arith, (next_fits).content) }
 
 pub overflow_add-n : goal.overflow_add-n
@@ -23,7 +23,7 @@ overflow_add-n c = record { fits = omega (arith, c.loop-j.invariant.2.left.few) 
 pub add_chunk-requires : goal.add_chunk-requires
 add_chunk-requires c =
     let next_fits : (LeafFits c.loop-j.tree c.args.content.now (c.args.n + c.loop-j.j)
-    c.loop-j.at (c.loop-j.at + get_or c.args.lengths.now c.loop-j.j 0)) = going_fits c.loop-j.invariant.2 c.loop-j-test.true c.TODO_good.1.0.0 in
+    c.loop-j.at (c.loop-j.at + get_or c.args.lengths.now c.loop-j.j 0)) = going_fits c.loop-j.invariant.2 c.loop-j-test.true c.well_formed.1.0.0 in
     next_fits
 
 pub loop-j-preserved : goal.loop-j-preserved

@@ -1,4 +1,6 @@
 // A journal of a change of an archive, read: checked whole, and range by range.
+#![tactic(auto)]
+
 mod ranges;
 mod reading;
 

@@ -1,4 +1,6 @@
 // A file as it is, held against its ranges in a journal: of its bytes only those are read that the ranges of kinds 1 and 4 hold.
+#![tactic(auto)]
+
 ghost use Rattle.std.specs.Prelude.{◌≡◌, ◌||◌, suc, ◌+◌, ◌≤◌, ◌<◌, eqb, length};
 ghost use Rattle.byte_strings.specs.Lowest.{lowest};
 ghost use Rattle.journal.specs.Form.{state_of};

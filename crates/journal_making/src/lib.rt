@@ -1,4 +1,6 @@
 // Making a journal in a buffer that is lent: begin, put range by range, end. The end judges all of it as reading does, before it writes.
+#![tactic(auto)]
+
 ghost use Rattle.std.specs.Prelude.{◌≡◌, ◌+◌, ◌*◌, ◌≤◌, length};
 ghost use Rattle.byte_strings.specs.Lists.{put as put_at};
 ghost use Rattle.blake2b.specs.Hash.{node_hash};

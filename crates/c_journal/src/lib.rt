@@ -1,4 +1,6 @@
 // What C is answered by the calls on journals: two numbers.
+#![tactic(auto)]
+
 ghost use Rattle.std.specs.Prelude.{◌≡◌};
 ghost use Rattle.journal.specs.Meaning.{encoded};
 

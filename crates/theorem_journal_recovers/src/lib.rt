@@ -1,1 +1,3 @@
+#![tactic(auto)]
+
 // What a journal gives back, stated in specs/ and proved in proofs/: this crate has no code.

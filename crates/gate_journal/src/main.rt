@@ -1,4 +1,6 @@
 // Prints the journals of FORMAT.md, made range by range, for comparison with the text in stdout.
+#![tactic(auto)]
+
 use journal::Said;
 
 fn main() {

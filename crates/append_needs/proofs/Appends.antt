@@ -29,7 +29,7 @@ use Rattle.writing.specs.Inner.{made}
 use Rattle.writing.proofs.Made.{climb_made}
 use Rattle.writing.proofs.Climb.{new_entries_lem}
 use Rattle.writing.proofs.Climbed.{sibling_filled}
-use Rattle.writing.proofs.Appended.{longer_within}
+use Rattle.writing.proofs.AfterAppend.{longer_within}
 use Rattle.audit.proofs.Audited.{accepted_audited}
 use Rattle.append_needs.specs.Needs.{leaf_runs, parent_runs, root_runs, need_of}
 use Rattle.append_needs.specs.Theorems.{Added, chunks_of, lengths_of, message_over, with_one, with_all, parent_messages, parents_hashed, Job, Counted, NeedsOfAppendsForAll}

@@ -21,7 +21,7 @@ use Rattle.writing.specs.Append.{append_verdict, appended_register}
 use Rattle.writing.specs.Sign.{sign_verdict, signed_register}
 use Rattle.writing.specs.Conditions.{AppendFits}
 use Rattle.writing.proofs.Verdicts.{passed_append, passed_sign}
-use Rattle.writing.proofs.Appended.{longer_within, append_belongs}
+use Rattle.writing.proofs.AfterAppend.{longer_within, append_belongs}
 use Rattle.writing.proofs.Bits.{bits_stay}
 use Rattle.writing.proofs.Signed.{sign_belongs}
 use Rattle.writing.proofs.Tree.{appended_length}

@@ -1,5 +1,7 @@
 // The fields of a Node as numbers alone, for languages that have no enums: a field that may be absent says by a number whether it is there.
 // From the library's fields to these, and back.
+#![tactic(auto)]
+
 mod numbers;
 
 ghost use Rattle.std.specs.Prelude.{◌≡◌};

@@ -35,7 +35,7 @@ use Rattle.writing.specs.Post.{lent, AppendPost, SignPost}
 use Rattle.writing.proofs.Tree.{appended_length}
 use Rattle.writing.proofs.Orders.{left_done}
 use Rattle.writing.proofs.Verdicts.{passed_append, passed_sign}
-use Rattle.writing.proofs.Appended.{none_from, longer_within, append_belongs, bits_put}
+use Rattle.writing.proofs.AfterAppend.{none_from, longer_within, append_belongs, bits_put}
 use Rattle.writing.proofs.Signed.{sign_belongs}
 use Rattle.listing_lines.specs.Inner.{Ready, Adds}
 

@@ -17,7 +17,7 @@ use Rattle.record_format.specs.Records as fields
 use Rattle.record_format.specs.Post.{Decides, stat_of}
 use Rattle.record_format.specs.Inner.{three_fields}
 use Rattle.record_format.specs.declared.stats.Stat.{Stat as CodeStat}
-use Rattle.record_format.proofs.Nine.{nine, nine_bytes}
+use Rattle.record_format.proofs.Nine.{nine_bytes}
 
 -- ---- whether something holds
 

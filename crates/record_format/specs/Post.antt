@@ -1,5 +1,5 @@
 -- The calls on records: what they answer, and what stands in the lent buffer afterwards.
-use Rattle.std.specs.Prelude.{ℕ, ◌+◌, ◌≤◌, ◌≡◌, Bool, true, false, cond, List, [], ◌∷◌, ◌++◌, length, leb}
+use Rattle.std.specs.Prelude.{ℕ, ◌≤◌, ◌≡◌, Bool, true, false, cond, List, [], ◌∷◌, ◌++◌, length, leb}
 use Rattle.std.proofs.Math.Option.{Option, none as absent, some}
 use Rattle.answer_types.specs.Verdict.{Spot, Verdict, none, done, refused}
 use Rattle.answer_types.specs.Meaning.{refusal_of}

@@ -1,4 +1,6 @@
 // The records in the chunks of a metadata register: the Header and the Stat, read of lent bytes and written; the definitions of all four.
+#![tactic(auto)]
+
 mod answers;
 mod headers;
 mod stats;

@@ -47,7 +47,6 @@ use Rattle.record_node.specs.declared.reading.Parts.{Parts}
 use Rattle.record_node.specs.declared.reading.Parts.TheVariants.{Bad as BadParts, Read as ReadParts}
 use Rattle.record_node.specs.declared.reading.Last.{Last}
 use Rattle.record_node.specs.declared.reading.Last.TheVariants.{Bad as BadTail, Read as ReadTail}
-use Rattle.record_node.specs.declared.reading.Plain.{Plain}
 use Rattle.record_node.specs.declared.reading.Plain.TheVariants.{Bad as BadRaw, Read as ReadRaw}
 use Rattle.record_node.specs.declared.reading.PathRead.{PathRead}
 use Rattle.record_node.specs.declared.reading.PathRead.TheVariants.{Bad as BadPath, Read as ReadPath}

@@ -6,7 +6,7 @@ use mathlib.Core.Option.{Option, none, some}
 use native.Mathlib.Omega.{arith}
 use lib.ListN.{length, get_or, replicate, length-append, get_or-append}
 use Rattle.answer_types.specs.Verdict as verdicts
-use Rattle.byte_strings.specs.Lists.{run, put}
+use Rattle.byte_strings.specs.Lists.{put}
 use Rattle.byte_strings.proofs.Lists.{run_ext, run_get_or}
 use Rattle.record_fields.specs.Fields.{number_field, part_field, given_field}
 use Rattle.record_fields.specs.Inner.{head_of, bytes_placed, number_of, number_told}

@@ -5,7 +5,7 @@ use mathlib.Core.List.{List, ◌++◌}
 use mathlib.Core.Option.{Option, none, some}
 use native.Mathlib.Omega.{arith}
 use lib.ListN.{length, take, drop, length-append}
-use Rattle.byte_strings.specs.Lists.{part, put, run}
+use Rattle.byte_strings.specs.Lists.{part, run}
 use Rattle.byte_strings.proofs.Lists.{length_part, part_put}
 use Rattle.record_fields.specs.Fields.{number_field, part_field, given_field, Longest}
 use Rattle.record_fields.specs.Inner.{number_of, part_of, bytes_of, BytesInside, size_of, PutAt, BytesRoomy}
@@ -14,7 +14,7 @@ use Rattle.record_fields.specs.declared.rows.Bytes.{Bytes}
 use Rattle.record_fields.specs.declared.rows.Bytes.TheVariants.{Absent as NoBytes, Given as GivenBytes}
 use Rattle.record_fields.proofs.Unique.{number_size, part_size, part_within}
 use Rattle.record_fields.proofs.Put.{put_then, put_next, put_nothing}
-use Rattle.record_format.specs.Records.{Stat, stat_bytes, Writer, WriterWithin, writer_bytes, writers_bytes, Node, node_bytes, stat_part}
+use Rattle.record_format.specs.Records.{Stat, stat_bytes, Writer, WriterWithin, writer_bytes, writers_bytes, node_bytes, stat_part}
 use Rattle.record_format.specs.Post.{stat_of}
 use Rattle.record_format.specs.declared.stats.Stat.{Stat as CodeStat}
 use Rattle.record_format.proofs.Unique.{stat_size, writer_size}

@@ -7,7 +7,7 @@ use Rattle.record_fields.specs.Inner.{Upto, number_of, part_of, bytes_of, Inside
 use Rattle.record_fields.specs.declared.rows.Part.{Part}
 use Rattle.record_fields.specs.declared.rows.Bytes.{Bytes}
 use Rattle.record_fields.specs.declared.rows.Bytes.TheVariants.{Given as GivenBytes}
-use Rattle.record_format.specs.Records.{Stat, Writer, WriterWithin, writer_bytes, writers_bytes, WritersWithin, PathWithin, ValueWithin, stat_part, Node, NodeWithin, node_bytes}
+use Rattle.record_format.specs.Records.{Stat, Writer, WriterWithin, writer_bytes, writers_bytes, WritersWithin, PathWithin, ValueWithin, stat_part, NodeWithin, node_bytes}
 use Rattle.record_format.specs.Theorems.{Accepted, Rejected}
 use Rattle.record_node.specs.Post.{writer_of, writers_of, value_of, node_of, WriterInside, WritersInside, NodeInside, NodeFits, writer_placed, all_placed, node_placed}
 use Rattle.record_node.specs.declared.writers.Writer.{Writer as CodeWriter}

@@ -1,4 +1,6 @@
 // The Node, a record of every chunk of a metadata register but the first: read of lent bytes, and written into a lent buffer.
+#![tactic(auto)]
+
 mod judging;
 mod reading;
 mod writers;

@@ -26,7 +26,7 @@ use Rattle.writing.specs.Conditions.{AppendFits, SignFits}
 use Rattle.writing.proofs.Orders.{left_done, left_refused}
 use Rattle.writing.proofs.Verdicts.{passed_append, passed_sign}
 use Rattle.writing.proofs.Tree.{appended_length}
-use Rattle.writing.proofs.Appended.{longer_within, append_belongs}
+use Rattle.writing.proofs.AfterAppend.{longer_within, append_belongs}
 use Rattle.writing.proofs.Signed.{sign_belongs}
 use Rattle.writing.proofs.Lent.{append_lent, sign_lent}
 use Rattle.append_list.specs.Chunks.{chunks_of, zero_signatures}

@@ -22,7 +22,7 @@ use Rattle.writing.specs.Conditions.{AppendFits, SignFits}
 use Rattle.writing.proofs.Written.{length_snoc, each_below_snoc}
 use Rattle.writing.proofs.Orders.{left_done, left_refused}
 use Rattle.writing.proofs.Verdicts.{append_passed, passed_append, sign_passed, passed_sign}
-use Rattle.writing.proofs.Appended.{longer_within, append_belongs, append_root_lem, append_tree_rest, append_bitfield_rest, append_content_rest}
+use Rattle.writing.proofs.AfterAppend.{longer_within, append_belongs, append_root_lem, append_tree_rest, append_bitfield_rest, append_content_rest}
 use Rattle.writing.proofs.Signed.{sign_image, sign_rest, sign_belongs}
 use Rattle.writing.proofs.Lent.{append_lent, sign_lent}
 use Rattle.theorem_images.specs.Demand2.{Beyond, AppendWrites, SignWrites}

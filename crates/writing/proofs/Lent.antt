@@ -21,7 +21,7 @@ use Rattle.writing.specs.Append.{with_hole, with_entries, appended_register}
 use Rattle.writing.specs.Sign.{signed_register}
 use Rattle.writing.specs.Conditions.{AppendFits}
 use Rattle.writing.proofs.Tree.{by_hole, appended_entries}
-use Rattle.writing.proofs.Appended.{bits_put, none_from, longer_within}
+use Rattle.writing.proofs.AfterAppend.{bits_put, none_from, longer_within}
 use Rattle.bitfield.specs.Image.{entries_of}
 
 -- ---- the tree's entries

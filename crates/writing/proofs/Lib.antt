@@ -8,7 +8,7 @@ pub mod Made
 pub mod Tree
 pub mod Verdicts
 pub mod Bits
-pub mod Appended
+pub mod AfterAppend
 pub mod Signed
 pub mod Lent
 pub mod Climbed

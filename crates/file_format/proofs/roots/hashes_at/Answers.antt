@@ -19,7 +19,7 @@ loop-j-preserved c =
     let a = c.args in
     let l = c.loop-j in
     filling_next _ _ _ l.j l.hashes l.invariant _ c.stored_hash.result c.loop-j-test.true
-    (c.stored_hash.ensures ∙ ap (stored_hash a.tree.now) (sym (number_at a.t2 l.j))) refl
+    (c.stored_hash.ensures ∙ ap (stored_hash a.tree.now) (sym (number_at a.indexes l.j))) refl
 
 pub returns : goal.returns
 unfolding hashes_at

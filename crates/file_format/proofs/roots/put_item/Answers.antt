@@ -5,9 +5,9 @@ use Rattle.file_format.proofs.roots.put_item.Goals as goal
 
 pub returns : goal.returns
 returns c =
-    let a = c.args in (
-      written_item a.message.now a.hash.now a.index.0 a.size (search rules) (search rules)
+    let a = c.args in record {
+      placed = written_item a.message.now a.hash.now a.index.0 a.size (search rules) (search rules)
           c.copy_to.ensures c.be64-place.ensures c.copy_to-2.ensures
-          c.be64-length.ensures c.copy_to-3.ensures,
-      search rules,
-    )
+          c.be64-length.ensures c.copy_to-3.ensures;
+      whole = search rules;
+    }

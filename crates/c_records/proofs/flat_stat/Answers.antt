@@ -1,0 +1,5 @@
+-- Field by field.
+use Rattle.c_records.proofs.flat_stat.Goals as goal
+
+pub returns : goal.returns
+returns c = cc

@@ -1,7 +1,0 @@
--- By the test.
-use borrow.Author.Tests.{eq-eqb, ne_eqb}
-use Rattle.c_records.proofs.number_in.Statement.{statement}
-use Rattle.c_records.proofs.number_in.Tie as tie
-
-pub number-in-spec : {M : Type 1} → statement M
-number-in-spec = tie.close (tie.spec (λ c. simp (eq-eqb _ _ c.if1.true)) (λ c. simp (ne_eqb _ _ c.if1.false)))

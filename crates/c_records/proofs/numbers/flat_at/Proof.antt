@@ -1,9 +1,0 @@
--- Field by field.
-use borrow.Author.Rules.{rules}
-use Rattle.c_records.proofs.numbers.flat_at.Statement.{statement}
-use Rattle.c_records.proofs.numbers.flat_at.Tie as tie
-
-pub flat-at-spec : {M : Type 1} → statement M
-flat-at-spec =
-    tie.close
-    (tie.spec (λ c κs. search rules) (λ c κs. search rules) (λ c κs. search rules) (λ c κs. search rules) (λ c κs. search rules) (λ c. search rules) (λ c. cc))

@@ -1,0 +1,13 @@
+-- Each case by itself.
+use Rattle.record_format.proofs.Writing.{yes, no}
+use Rattle.record_node.proofs.Five.{path_absent, path_given, path_wrong}
+use Rattle.record_node.proofs.reading.with_path.Goals as goal
+
+pub returns-then-path_lies : goal.returns-then-path_lies
+returns-then-path_lies c = path_given _ _ c.in-Given.is (yes _ _ c.if-path_lies.true c.path_lies.ensures)
+
+pub returns-else-path_lies : goal.returns-else-path_lies
+returns-else-path_lies c = path_wrong c.args.d.now c.args.field c.in-Given.is c.requires (no _ _ c.if-path_lies.false c.path_lies.ensures)
+
+pub returns-in-Absent : goal.returns-in-Absent
+returns-in-Absent c = path_absent _ _ c.in-Absent.is

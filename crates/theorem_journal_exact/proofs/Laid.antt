@@ -11,7 +11,7 @@ use mathlib.Core.List.{List, [], ◌∷◌, ◌++◌, append_assoc, Memᴰ}
 use lib.ListN.{length, get_or, length-append, length-replicate}
 use lib.Dec.{eqb, leb}
 use borrow.Author.Tests.{eqb-true, leb-true}
-use Rattle.byte_strings.specs.Lists.{part, run, same_list}
+use Rattle.byte_strings.specs.Lists.{part, same_list}
 use Rattle.byte_strings.specs.Numbers.{be, number}
 use Rattle.byte_strings.specs.Lowest.{nowhere}
 use Rattle.byte_strings.proofs.Lists.{part_at, part_front, part_behind, part_left, length_run, get_or_run, same_refl}

@@ -16,7 +16,7 @@ use Rattle.byte_strings.proofs.Bools.{both_true, true_both}
 use Rattle.byte_strings.proofs.Lowest.{right_nowhere}
 use Rattle.journal.specs.Ranges.{Range, stop, Placed, ranges_of}
 use Rattle.journal.specs.Form.{length_of, size_of, encode, encode_all, FilesRise}
-use Rattle.journal.specs.Places.{old_at, new_at, file_at, kind_at, start_at, size_at, behind, whole, range_at}
+use Rattle.journal.specs.Places.{old_at, new_at, file_at, kind_at, start_at, size_at, behind, range_at}
 use Rattle.journal.specs.Reading.{numbers_right, reach_of, follows, stop_at, covered_by, is_full, gap_says, walk}
 use Rattle.journal.specs.declared.Said.{Said}
 use Rattle.journal.specs.declared.Said.TheVariants.{Done}

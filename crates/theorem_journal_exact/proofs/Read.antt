@@ -1,5 +1,5 @@
 -- The range that stands at a place: its numbers, its test and its bytes. Assumes nothing.
-use Prim.Native.Nat.{ℕ, ◌+◌, ◌-◌, ◌*◌, ◌≤◌}
+use Prim.Native.Nat.{ℕ, ◌+◌, ◌*◌, ◌≤◌}
 use native.Mathlib.Omega.{arith}
 use native.Mathlib.Decide.{ℕ_discrete}
 use native.Mathlib.Numerals.{add-one}
@@ -15,7 +15,7 @@ use Rattle.byte_strings.proofs.Lists.{length_part, part_add, part_run, bytes_par
 use Rattle.byte_strings.proofs.Numbers.{be_number}
 use Rattle.byte_strings.proofs.Bools.{both_true}
 use Rattle.byte_strings.proofs.Tests.{and_true}
-use Rattle.journal.specs.Ranges.{Range, replaced, fresh, blank, witness, start, bytes, stop, Placed}
+use Rattle.journal.specs.Ranges.{Range, replaced, fresh, blank, witness, start, stop, Placed}
 use Rattle.journal.specs.Form.{kind_of, size_of, payload, header, encode}
 use Rattle.journal.specs.Places.{file_at, kind_at, start_at, size_at, times_long, behind, whole, range_of, range_at}
 use Rattle.journal.specs.Reading.{numbers_right}

@@ -5,7 +5,7 @@ use mathlib.Core.Path.{◌≡◌, refl, sym, ap, ap₂, ◌∙◌}
 use mathlib.Core.Logic.{◌⊎◌, inl, inr, ⊎_elim}
 use mathlib.Core.List.{List, [], ◌∷◌, ◌++◌, Memᴰ}
 use lib.ListN.{length, get_or, take}
-use Rattle.byte_strings.specs.Lists.{part, run, zeros}
+use Rattle.byte_strings.specs.Lists.{part, zeros}
 use Rattle.byte_strings.proofs.Lists.{length_part, run_ext, run_get_or}
 use Rattle.journal.specs.Ranges.{Range, Placed}
 use Rattle.journal.specs.Form.{Journal, WellFormed, encode, encode_all, body, journal_bytes}

@@ -1,5 +1,5 @@
 -- What stands at a place after bytes were put, a range written, or ranges written. Assumes nothing.
-use Prim.Native.Nat.{ℕ, zero, suc, ◌+◌, ◌-◌, ◌≤◌, ◌<◌}
+use Prim.Native.Nat.{ℕ, suc, ◌+◌, ◌-◌, ◌≤◌, ◌<◌}
 use native.Mathlib.Nat.{add-zero}
 use native.Mathlib.Omega.{arith}
 use native.Mathlib.Decide.{dec_le}
@@ -7,9 +7,9 @@ use mathlib.Core.Path.{◌≡◌, refl, sym, ap, ◌∙◌, subst}
 use mathlib.Core.Logic.{◌⊎◌, inl, inr, ⊎_elim}
 use mathlib.Core.List.Memᴰ
 use mathlib.Core.List.{List, [], ◌∷◌, Memᴰ}
-use lib.ListN.{length, get_or, take, drop, length-append, length-replicate, get_or-append}
+use lib.ListN.{length, get_or, drop, length-append, length-replicate, get_or-append}
 use lib.Seq.{get_or-take, get_or-drop}
-use Rattle.byte_strings.specs.Lists.{part, put, zeros}
+use Rattle.byte_strings.specs.Lists.{put, zeros}
 use Rattle.byte_strings.proofs.Lists.{length_put, take_put, drop_put, part_put, get_d_part}
 use Rattle.journal.specs.Ranges.{Range, replaced, fresh, blank, witness, start, bytes, stop, write, write_all, grown}
 use Rattle.journal.specs.Form.{Holds, In, Rising}

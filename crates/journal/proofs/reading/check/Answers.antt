@@ -4,7 +4,7 @@ use mathlib.Core.Path.{sym, ◌∙◌}
 use mathlib.Core.Bool.{true, false}
 use Prim.Native.Nat.{◌-◌}
 use lib.ListN.{length}
-use borrow.Author.Tests.{not-false, eq-eqb, ne_eqb}
+use borrow.Author.Tests.{eq-eqb, ne_eqb}
 use Rattle.journal.proofs.Answers.{right_least, read_length, read_first, read_own, read_table, read_done_lem, read_hash, hash_said, same_said}
 use Rattle.journal.proofs.reading.check.Goals as goal
 
@@ -39,8 +39,7 @@ returns-then-not-is_done c =
 pub returns-then-same : goal.returns-then-same
 returns-then-same c =
     let j = c.args.journal.now in
-    read_done_lem _ _ (sym c.length_right.ensures ∙ not-false _
-    c.if-not-length_right.false)
+    read_done_lem _ _ (sym c.length_right.ensures ∙ c.if-not-length_right.false)
     (sym c.begins.ensures ∙ c.if-not-begins.false)
     (eq-eqb _ _ (sym c.read_be64.ensures ∙ c.if-read_be64-journal.false)) _ c.judge_table-said.ensures
     (sym c.is_done.ensures ∙ c.if-not-is_done.false)
@@ -49,8 +48,7 @@ returns-then-same c =
 pub returns : goal.returns
 returns c =
     let j = c.args.journal.now in
-    read_hash _ _ (sym c.length_right.ensures ∙ not-false _
-    c.if-not-length_right.false)
+    read_hash _ _ (sym c.length_right.ensures ∙ c.if-not-length_right.false)
     (sym c.begins.ensures ∙ c.if-not-begins.false)
     (eq-eqb _ _ (sym c.read_be64.ensures ∙ c.if-read_be64-journal.false)) _ c.judge_table-said.ensures
     (sym c.is_done.ensures ∙ c.if-not-is_done.false)

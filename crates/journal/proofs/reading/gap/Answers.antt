@@ -1,6 +1,5 @@
 use native.Mathlib.Omega.{arith}
 use mathlib.Core.Path.{sym, ◌∙◌}
-use Prim.Native.Nat.{◌-◌}
 use borrow.Author.Tests.{le-leb, lt-leb}
 use Rattle.byte_strings.proofs.Lowest.{lowest_on, lowest_off, lowest_end}
 use Rattle.journal.proofs.Steps.{lowest_start, full_said}

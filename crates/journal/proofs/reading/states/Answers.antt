@@ -8,12 +8,12 @@ use Rattle.journal.proofs.reading.states.Goals as goal
 pub returns-then-not-length_right : goal.returns-then-not-length_right
 returns-then-not-length_right c =
     let e = states_length _ c.args.file (sym c.length_right.ensures ∙ c.if-not-length_right.true) in
-    (e, refused_kept _ _ _ _ refl e)
+    record { value = e; states_after = refused_kept _ _ _ _ refl e }
 
 pub returns-then-file-ge10 : goal.returns-then-file-ge10
 returns-then-file-ge10 c =
     let e = states_unfit _ c.args.file (sym c.length_right.ensures ∙ c.if-not-length_right.false) (omega arith) in
-    (e, refused_kept _ _ _ _ refl e)
+    record { value = e; states_after = refused_kept _ _ _ _ refl e }
 
 pub read_be64-old-requires : goal.read_be64-old-requires
 read_be64-old-requires c = let h = right_least _ (sym c.length_right.ensures ∙ c.if-not-length_right.false) in search rules
@@ -24,4 +24,4 @@ read_be64-new-requires c = let h = right_least _ (sym c.length_right.ensures ∙
 pub returns : goal.returns
 returns c =
     let e = states_done_lem _ c.args.file (sym c.length_right.ensures ∙ c.if-not-length_right.false) (omega arith) in
-    (e, two_said _ _ _ _ c.read_be64-old.ensures c.read_be64-new.ensures ∙ done_written _ _ _ _ refl e)
+    record { value = e; states_after = two_said _ _ _ _ c.read_be64-old.ensures c.read_be64-new.ensures ∙ done_written _ _ _ _ refl e }

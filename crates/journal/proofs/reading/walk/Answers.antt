@@ -1,12 +1,10 @@
 use Rattle.journal.specs.Reading.{follows, stop_at}
 use borrow.Author.Rules.{rules}
 use native.Mathlib.Omega.{arith}
-use borrow.Author.Rules.{rules}
 use mathlib.Core.Path.{◌≡◌, sym, ap₂, ◌∙◌, subst}
-use mathlib.Core.Bool.{true, false}
+use mathlib.Core.Bool.{true}
 use mathlib.Core.List.{List}
-use Prim.Native.Nat.{ℕ, ◌+◌, ◌-◌}
-use borrow.Author.Tests.{not-false}
+use Prim.Native.Nat.{ℕ, ◌+◌}
 use Rattle.journal.proofs.Behind.{behind_none, behind_some}
 use Rattle.journal.proofs.Steps.{Walks, walks_start, walks_cut, walks_off, walks_on, walks_end, follows_has, stop_fits, covered_said, gap_at, gap_none}
 use Rattle.journal.proofs.reading.walk.Goals as goal
@@ -66,11 +64,10 @@ overflow_add-reach c =
     let j = c.args.journal.now in
     let w = behind_some j c.args.end c.loop-at.at _ c.place_behind-next.ensures
     c.if-next-eq0.false in
-    let t : follows j c.loop-at.last c.loop-at.reach c.loop-at.covered c.loop-at.at ≡ true = sym c.follows.ensures ∙ not-false _
-    c.if-not-follows.false in
+    let t : follows j c.loop-at.last c.loop-at.reach c.loop-at.covered c.loop-at.at ≡ true = sym c.follows.ensures ∙ c.if-not-follows.false in
     let f = follows_has j c.loop-at.last c.loop-at.reach c.loop-at.covered c.loop-at.at t in
     let h = stop_fits j c.loop-at.last c.loop-at.reach c.loop-at.covered c.loop-at.at
-    (λ i. (c.shared_slice_known-1.given i).fits) (omega arith) t _ _
+    (λ i. (c.type_inv.journal i).fits) (omega arith) t _ _
     c.read_be64.ensures c.read_be64-in-loop-at.ensures in
     search rules
 
@@ -79,8 +76,7 @@ offset_bounds-covered-file c =
     let j = c.args.journal.now in
     let w = behind_some j c.args.end c.loop-at.at _ c.place_behind-next.ensures
     c.if-next-eq0.false in
-    let t : follows j c.loop-at.last c.loop-at.reach c.loop-at.covered c.loop-at.at ≡ true = sym c.follows.ensures ∙ not-false _
-    c.if-not-follows.false in
+    let t : follows j c.loop-at.last c.loop-at.reach c.loop-at.covered c.loop-at.at ≡ true = sym c.follows.ensures ∙ c.if-not-follows.false in
     let f = follows_has j c.loop-at.last c.loop-at.reach c.loop-at.covered c.loop-at.at t in
     let h = c.wide-last.ensures in
     search rules
@@ -90,8 +86,7 @@ bounds-covered-file c =
     let j = c.args.journal.now in
     let w = behind_some j c.args.end c.loop-at.at _ c.place_behind-next.ensures
     c.if-next-eq0.false in
-    let t : follows j c.loop-at.last c.loop-at.reach c.loop-at.covered c.loop-at.at ≡ true = sym c.follows.ensures ∙ not-false _
-    c.if-not-follows.false in
+    let t : follows j c.loop-at.last c.loop-at.reach c.loop-at.covered c.loop-at.at ≡ true = sym c.follows.ensures ∙ c.if-not-follows.false in
     let f = follows_has j c.loop-at.last c.loop-at.reach c.loop-at.covered c.loop-at.at t in
     let h = c.wide-last.ensures in
     search rules

@@ -1,7 +1,6 @@
 use native.Mathlib.Omega.{arith}
 use mathlib.Core.Path.{sym, ◌∙◌}
 use mathlib.Core.Bool.{true, false}
-use Prim.Native.Nat.{◌-◌}
 use Rattle.byte_strings.proofs.Lowest.{lowest_on, lowest_off, lowest_end}
 use Rattle.journal.specs.Reading.{state_right}
 use Rattle.journal.proofs.Steps.{lowest_start, state_said}

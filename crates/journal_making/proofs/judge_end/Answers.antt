@@ -1,0 +1,32 @@
+-- `journal_making::judge_end` meets its contract. Assumes nothing.
+use native.Mathlib.Omega.{arith}
+use mathlib.Core.Path.{sym, ◌∙◌}
+use Rattle.journal.proofs.Answers.{right_least}
+use Rattle.journal_making.proofs.Answers.{end_no_room, end_length, end_first, end_table, end_done}
+use borrow.Author.Rules.{rules}
+use Rattle.journal_making.proofs.judge_end.Goals as goal
+
+pub returns-then-journal-lt32 : goal.returns-then-journal-lt32
+returns-then-journal-lt32 c = end_no_room _ _ (omega arith)
+
+pub returns-then-journal-at : goal.returns-then-journal-at
+returns-then-journal-at c = end_no_room _ _ (omega arith)
+
+pub returns-then-not-length_right : goal.returns-then-not-length_right
+returns-then-not-length_right c = end_length _ _ (omega arith) (sym c.length_right.ensures ∙ c.if-not-length_right.true)
+
+pub returns-then-not-begins : goal.returns-then-not-begins
+returns-then-not-begins c = end_first _ _ (omega arith) (sym c.length_right.ensures ∙ c.if-not-length_right.false) (sym c.begins.ensures ∙ c.if-not-begins.true)
+
+pub judge_table-said-requires : goal.judge_table-said-requires
+judge_table-said-requires c = let h = right_least _ (sym c.length_right.ensures ∙ c.if-not-length_right.false) in search rules
+
+pub returns-then-not-is_done : goal.returns-then-not-is_done
+returns-then-not-is_done c =
+    end_table _ _ (omega arith) (sym c.length_right.ensures ∙ c.if-not-length_right.false)
+    (sym c.begins.ensures ∙ c.if-not-begins.false) _ c.judge_table-said.ensures (sym c.is_done.ensures ∙ c.if-not-is_done.true)
+
+pub returns : goal.returns
+returns c =
+    end_done _ _ (omega arith) (sym c.length_right.ensures ∙ c.if-not-length_right.false)
+    (sym c.begins.ensures ∙ c.if-not-begins.false) _ c.judge_table-said.ensures (sym c.is_done.ensures ∙ c.if-not-is_done.false)

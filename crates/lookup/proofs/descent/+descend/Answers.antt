@@ -19,7 +19,7 @@ descend-requires t c =
     let k = c.in-Down in
     let l = subst (Lower a.tree.now a.i.0) k.is c.visit.ensures.lower in
     let w = subst (Way (within_of a.sought) a.tree.now a.i.0 a.start.0) k.is c.visit.ensures.way in
-    (l.1, standing_next c.requires (within_of a.sought) k.child.0 k.from.0 w l.0)
+    (subst (λ (x : ℕ). depth k.child.0 < x) c.decreases l.1, standing_next c.requires (within_of a.sought) k.child.0 k.from.0 w l.0)
 
 pub returns-in-At : goal.returns-in-At
 returns-in-At t c =

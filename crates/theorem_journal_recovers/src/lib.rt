@@ -1,4 +1,2 @@
-#![tactic(auto)]
-
 // What a journal gives back, stated in specs/ and proved in proofs/: this crate has no code.
 #![tactic(auto)]

@@ -1,16 +1,19 @@
 -- Laws of big-endian numbers. Assumes nothing.
-use mathlib.Core.Path.{◌≡◌, refl, sym, ap, ◌∙◌, subst}
+use mathlib.Core.Path.{◌≡◌, refl, sym, ap, ap₂, ◌∙◌, subst}
+use mathlib.Core.Bool.{Bool, true, false}
+use borrow.Author.Tests.{eq-eqb}
 use Prim.Native.Nat.{ℕ, zero, suc, ◌+◌, ◌*◌, ◌/◌, ◌%◌, ◌^◌, ◌<◌, ◌≤◌}
 use native.Mathlib.Nat.{add_assoc, mul_assoc, zero-add, add-mul, pow-suc, pow-succ', suc_inj, div-add-mod', div-lt_iff_lt-mul, suc-ne-zero}
 use native.Mathlib.Omega.{arith}
 use mathlib.Core.List.{List, [], ◌∷◌, ◌++◌}
-use lib.ListN.{length, get_or, length-append}
+use lib.ListN.{length, get_or, take, drop, length-append, take-append-drop}
+use lib.Seq.{drop-drop}
 use native.Mathlib.Numerals.{add-one, add-two, add-three}
 use lib.Dec.{lit<}
 use lib.Arith.{digits_div, digits_mod, digits_lt}
-use Rattle.byte_strings.specs.Lists.{Bytes, part, run}
+use Rattle.byte_strings.specs.Lists.{Bytes, part, run, same_list}
 use Rattle.byte_strings.specs.Numbers.{be, number, number_from}
-use Rattle.byte_strings.proofs.Lists.{bytes_append, bytes_part, length_part, part_add, part_run}
+use Rattle.byte_strings.proofs.Lists.{bytes_append, bytes_part, length_part, part_add, part_run, same_eq}
 
 -- ---- the bytes of a number
 
@@ -123,3 +126,30 @@ four_lt xs at p h =
 pub eight_lt : (xs : List ℕ) (at : ℕ) → Bytes xs → at + 8 ≤ length xs → number (part xs at 8) < 2 ^ 64
 eight_lt xs at p h =
     subst (λ (k : ℕ). number (part xs at 8) < 256 ^ k) (length_part xs at 8 h) (number_lt (part xs at 8) (bytes_part xs at 8 p))
+
+-- ---- the same bytes, eight at a time
+
+same_append : (ps xs ys : List ℕ) → same_list (ps ++ xs) (ps ++ ys) ≡ same_list xs ys
+unfolding same_list
+same_append [] xs ys = refl
+same_append (p ∷ ps) xs ys = rw (eq-eqb p p refl) (same_append ps xs ys)
+
+module _ (xs ys : List ℕ) (i : ℕ) (p : Bytes xs) (q : Bytes ys) (h : i + 8 ≤ length xs) (l : i + 8 ≤ length ys) where
+  eight_and_rest : (zs : List ℕ) → drop i zs ≡ part zs i 8 ++ drop (i + 8) zs
+  unfolding part
+  eight_and_rest zs = sym (take-append-drop 8 (drop i zs)) ∙ ap (λ (r : List ℕ). take 8 (drop i zs) ++ r) (drop-drop 8 i zs)
+
+  -- eight bytes with one number are the same, and what is left behind them decides
+  pub eight_on : number (part xs i 8) ≡ number (part ys i 8) → same_list (drop i xs) (drop i ys) ≡ same_list (drop (i + 8) xs) (drop (i + 8) ys)
+  eight_on e =
+      let same : part xs i 8 ≡ part ys i 8 =
+      number_inj (part xs i 8) (part ys i 8) (bytes_part xs i 8 p) (bytes_part ys i 8 q) (length_part xs i 8 h ∙ sym (length_part ys i 8 l)) e in
+      ap₂ same_list (eight_and_rest xs) (eight_and_rest ys ∙ ap (λ (r : List ℕ). r ++ drop (i + 8) ys) (sym same)) ∙ same_append (part xs i 8) (drop (i + 8) xs) (drop (i + 8) ys)
+
+  pub eight_off : (number (part xs i 8) ≡ number (part ys i 8) → ⊥) → same_list (drop i xs) (drop i ys) ≡ false
+  unfolding part
+  eight_off e = other (same_list (drop i xs) (drop i ys)) (λ t. e (ap (λ (r : List ℕ). number (take 8 r)) (same_eq (drop i xs) (drop i ys) t)))
+    where
+      other : (b : Bool) → (b ≡ true → ⊥) → b ≡ false
+      other true f = absurd (f refl)
+      other false f = refl

@@ -1,18 +1,16 @@
 // Byte slices: parts compared, copied and cleared, and big-endian numbers read and written.
 #![tactic(auto)]
 
-ghost use Rattle.std.specs.Prelude.{◌≡◌, ◌+◌, ◌*◌, ◌≤◌, length};
+ghost use Rattle.std.specs.Prelude.{◌≡◌, ◌+◌, ◌*◌, ◌≤◌, length, drop};
 ghost use Rattle.byte_strings.specs.Lists.{part, put, zeros, same_list, all_zero};
 ghost use Rattle.byte_strings.specs.Numbers.{be, number};
 
-// Whether two slices hold the same bytes.
-pub fn same(a: &[u8], b: &[u8]) -> bool
-    ensures { result ≡ same_list a.now b.now }
+// Inner: whether two slices of one length hold the same bytes from a place on.
+fn same_from(a: &[u8], b: &[u8], from: usize) -> bool
+    requires { (from ≤ length a.now) × (length a.now ≡ length b.now) }
+    ensures { result ≡ same_list (drop from a.now) (drop from b.now) }
 {
-    if a.len() != b.len() {
-        return false;
-    }
-    let mut i = 0;
+    let mut i = from;
     while i < a.len() {
         if a[i] != b[i] {
             return false;
@@ -20,6 +18,23 @@ pub fn same(a: &[u8], b: &[u8]) -> bool
         i += 1;
     }
     true
+}
+
+// Whether two slices hold the same bytes: eight at a time as a number, which every check of a header does, and what is left one by one.
+pub fn same(a: &[u8], b: &[u8]) -> bool
+    ensures { result ≡ same_list a.now b.now }
+{
+    if a.len() != b.len() {
+        return false;
+    }
+    let mut i = 0;
+    while 8 <= a.len() - i {
+        if read_be64(a, i) != read_be64(b, i) {
+            return false;
+        }
+        i += 8;
+    }
+    same_from(a, b, i)
 }
 
 // Whether all bytes of a slice are zero.

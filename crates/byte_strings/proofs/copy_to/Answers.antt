@@ -12,13 +12,12 @@ pub loop-i-init : goal.loop-i-init
 loop-i-init c = (search rules, sym (put_nil _ _), search rules)
 
 pub loop-i-preserved : goal.loop-i-preserved
-loop-i-preserved c =
-    (
-      search rules,
-      ap (λ (l : List ℕ). set l (c.args.at + c.loop-i.i) (get_or c.args.src.now c.loop-i.i 0)) c.loop-i.invariant.1
-          ∙ put_take c.args.dst.now c.args.at c.args.src.now c.loop-i.i 0 c.requires c.loop-i-test.true,
-      length-set c.loop-i.dst (c.args.at + c.loop-i.i) (get_or c.args.src.now c.loop-i.i 0) ∙ c.loop-i.invariant.2,
-    )
+loop-i-preserved c = (
+  search rules,
+  ap (λ (l : List ℕ). set l (c.args.at + c.loop-i.i) (get_or c.args.src.now c.loop-i.i 0)) c.loop-i.invariant.1
+      ∙ put_take c.args.dst.now c.args.at c.args.src.now c.loop-i.i 0 c.requires c.loop-i-test.true,
+  length-set c.loop-i.dst (c.args.at + c.loop-i.i) (get_or c.args.src.now c.loop-i.i 0) ∙ c.loop-i.invariant.2,
+)
 
 pub returns : goal.returns
 returns c = c.loop-i.invariant.1 ∙ ap (put c.args.dst.now c.args.at) (take_all c.loop-i.i c.args.src.now c.loop-i-test.false)

@@ -1,4 +1,4 @@
--- What is left of both decides; a turn passes an equal byte.
+-- What is left of both decides; a turn passes eight equal bytes.
 use mathlib.Core.Path.{◌≡◌}
 use Prim.Native.Nat.{◌-◌, ◌≤◌}
 use lib.ListN.{length, drop}

@@ -12,12 +12,11 @@ pub overflow_sub-n : goal.overflow_sub-n
 overflow_sub-n c = block_two c.args.n c.args.d c.requires.few c.requires.depth
 
 pub node_index-i-requires : goal.node_index-i-requires
-node_index-i-requires c =
-    (
-      omega (arith, completed_few c.args.n c.args.d c.requires.few (omega (arith, c.requires.depth))),
-      omega
-          (arith, c.requires.few, (completed_block c.args.n c.args.d c.requires.few (omega (arith, c.requires.depth))).1),
-    )
+node_index-i-requires c = (
+  omega (arith, completed_few c.args.n c.args.d c.requires.few (omega (arith, c.requires.depth))),
+  omega
+      (arith, c.requires.few, (completed_block c.args.n c.args.d c.requires.few (omega (arith, c.requires.depth))).1),
+)
 
 pub stored_hash-left-requires : goal.stored_hash-left-requires
 stored_hash-left-requires c = sibling_in c.args.tree.now c.args.n c.args.d _ c.requires.few c.requires.depth c.requires.room c.node_index-i.ensures

@@ -1,5 +1,5 @@
 /* SLEEP registers: the C interface of the proved library libsleep_register.a, which tools/archive-for writes for x86-64, aarch64 and riscv64 (for x86-64
- * it is also target/staticlib/libc_api.a, of `rt staticlib`).
+ * it is also target/staticlib/libc_api.a, of `make -C examples archive`).
  *
  * CONTENTS
  *   THE REGISTER; HELD AND RELEASED CHUNKS; PARTIAL COPIES; THE BUFFERS; PARTS; RECORDS; WAITING READS

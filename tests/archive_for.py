@@ -18,16 +18,17 @@ AUDIT = 'define void @sleep_flat_audit(ptr noundef %a0, i64 noundef %a1,'
 MODULES = {
     'other target features': ('"target-cpu"="x86-64"', '"target-cpu"="x86-64" "target-features"="+avx2"'),
     'another processor': ('"target-cpu"="x86-64"', '"target-cpu"="x86-64-v3"'),
+    'a stack that is probed otherwise': ('"stack-probe-size"="3072"', '"stack-probe-size"="4096"'),
     'another triple': ('"x86_64-unknown-linux-gnu"', '"x86_64-unknown-freebsd"'),
     'inline assembly': ('  ret void\n', '  call void asm sideeffect "nop", ""()\n  ret void\n'),
     'assembly of the module': ('\ndefine ', '\nmodule asm "nop"\ndefine '),
-    'an intrinsic of one processor': ('declare void @llvm.trap()', 'declare void @llvm.x86.sse2.pause()\ndeclare void @llvm.trap()'),
+    'an intrinsic of one processor': ('\ndeclare ', '\ndeclare void @llvm.x86.sse2.pause()\ndeclare '),
     'an answer by a hidden address': (AUDIT, AUDIT.replace('ptr noundef %a0', 'ptr noundef sret([24 x i8]) %a0')),
     'a struct by value': (AUDIT, AUDIT.replace('ptr noundef %a0', 'ptr noundef byval([24 x i8]) %a0')),
     'a parameter in a chosen register': (AUDIT, AUDIT.replace('i64 noundef %a1', 'i64 inreg noundef %a1')),
     'a narrower parameter': (AUDIT, AUDIT.replace('i64 noundef %a1', 'i32 noundef %a1')),
     'a variable': ('\ndefine ', '\n@counter = global i64 0\ndefine '),
-    'a function from outside': ('declare void @llvm.trap()', 'declare void @malloc()\ndeclare void @llvm.trap()'),
+    'a function from outside': ('\ndeclare ', '\ndeclare void @malloc()\ndeclare '),
 }
 
 
@@ -60,8 +61,12 @@ def main():
     for words in ((), ('mips',), ('aarch64', 'riscv64'), ('',)):
         expect('words %r' % (words,), archive_for(*words), 2, 'usage: tools/archive-for ')
     with tempfile.TemporaryDirectory() as other:
-        open(other + '/KIT-ID', 'w').write('another kit\n')
-        expect('another kit', archive_for('aarch64', RATTLE_HOME=other), 1, 'is another than the one whose words are known')
+        os.mkdir(other + '/bin')
+        for path, text, mode in ((other + '/KIT-ID', 'another kit\n', 0o644), (other + '/bin/rt', '#!/bin/sh\nexit 1\n', 0o755)):
+            open(path, 'w').write(text)
+            os.chmod(path, mode)
+        path = other + '/bin:' + os.environ['PATH']
+        expect('another kit', archive_for('aarch64', PATH=path), 1, 'is another than the one whose words are known')
     for what, (before, after) in MODULES.items():
         changed(KEPT + 'module.ll', before, after, what, 'the module has a line that is not known here')
     changed(KEPT + 'words', '-O3\n', '-O3\n-ffast-math\n', 'other compiler words', 'words that are not known here')

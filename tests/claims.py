@@ -92,11 +92,22 @@ def functions_in(crate, path):
 
 
 def libraries():
-    names = [line.split("#")[0].split(":")[0].strip() for line in read("crates.txt").split("\n")]
+    names = [word for line in read("crates.txt").split("\n") for word in line.split("#")[0].split(":")[0].split()[:1]]
     found = {}
     for name in names:
-        if name and is_file(f"crates/{name}/src/lib.rt"):
+        if is_file(f"crates/{name}/src/lib.rt"):
             found[name] = [f for path in files_below(f"crates/{name}/src", ".rt") for f in functions_in(name, path)]
+    return found
+
+
+def used_in(text, public=False):
+    """What the `use` lines of a file name: the path, the name at its end, and the name that it is given."""
+    found = []
+    for path, group, one in re.findall(r"^%suse ([\w:]+?)::(?:\{([^}]*)\}|(\w+(?: as \w+)?));" % ("pub " if public else "(?:pub )?"), text, re.M):
+        for name in (group or one).split(","):
+            if name.strip():
+                name, _, renamed = name.strip().partition(" as ")
+                found.append((path, name, renamed or name))
     return found
 
 
@@ -104,9 +115,7 @@ def exported(crate, functions):
     """What a library hands on, each with the name that it has outside."""
     root = read(f"crates/{crate}/src/lib.rt")
     modules = re.findall(r"^pub mod (\w+);", root, re.M)
-    used = {}
-    for path, name, renamed in re.findall(r"^pub use ([\w:]+)::(\w+)(?: as (\w+))?;", root, re.M):
-        used[(path.split("::")[-1], name)] = renamed or name
+    used = {(path.split("::")[-1], name): renamed for path, name, renamed in used_in(root, public=True)}
     shown = []
     for f in functions:
         if f.from_c or f.module == "lib":
@@ -228,7 +237,7 @@ class Cited:
 
     def file(self, path):
         """The text of a file, its ending left out or not, or of all definitions and proofs of a folder."""
-        for ending in ("", ".antt", "/Proof.antt"):
+        for ending in ("", ".antt"):
             if is_file(path + ending):
                 return read(path + ending)
         inside = [read(p) for p in files_below(path, ".antt")]
@@ -327,8 +336,8 @@ def check():
         for name, f in functions:
             if f.answer not in enums_of:
                 continue
-            owner = c if c in enums_of[f.answer] else re.search(r"^use (\w+)(?:::\w+)*::%s;" % f.answer, read(f.path), re.M)
-            owner = owner if isinstance(owner, (str, type(None))) else owner.group(1)
+            brought = [path.split("::")[0] for path, _, name in used_in(read(f.path)) if name == f.answer]
+            owner = c if c in enums_of[f.answer] else (brought or [None])[0]
             if not any(p.startswith(f"{owner}/") and word_in(f.answer, read(f"crates/{p}.antt")) for p in definitions):
                 say(ENUMS, f"cites no definition for `{f.answer}` of {owner}, which `{c}::{name}` answers")
     return sorted(set(wrong))
@@ -370,11 +379,11 @@ def seeded():
 
     crates = libraries()
     f = next(f for fs in free(crates).values() for _, f in fs if not f.from_c and f.module == "lib")
-    new = "\n// A new one.\npub fn new_one(n: u64) -> u64\n    ensures { λ r. ⌜ r ≡ n ⌝ }\n{\n    n\n}\n"
+    new = "\n// A new one.\npub fn new_one(n: u64) -> u64\n    ensures { result ≡ n }\n{\n    n\n}\n"
     found("a function that the table lacks", f.path, read(f.path) + new, "the code gives this line")
     line = next(line for line in table_of(crates)[2:] if "`, " in line)
     found("a function that the code lacks", PAGE, page.replace(line, line.replace("`, ", "`, `gone`, ", 1), 1), "the page has this line")
-    asks = new.replace("    ensures", "    requires { ⌜ n < 5 ⌝ }\n    ensures")
+    asks = new.replace("    ensures", "    requires { n < 5 }\n    ensures")
     found("a requires that is not called inner", f.path, read(f.path) + asks, '`new_one` has a `requires`, and no comment says "Inner"')
     found("a function that C lacks", HEADER, read(HEADER) + "\nint sleep_gone(int n);\n", "`sleep_gone` is in the header")
     cut = next(line for line in page.split("\n") if line.startswith(f"| {ENUMS} |"))

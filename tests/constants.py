@@ -10,13 +10,13 @@ import sys
 
 # the header's name, what the wrapper has, the file of the definition and its name, and the file and name of the statement
 PROMISED = [
-    ('SLEEP_PACKET_EXTRA', r'const PACKET_EXTRA: usize = (\w+);', 'packet/specs/Packet', 'packetExtra', 'packet/specs/Theorems', 'PacketStaysShort'),
-    ('SLEEP_NODE_ROOM', r'const NODE_ROOM: usize = (\w+);', 'record_node/specs/Theorems', 'nodeRoom', 'record_node/specs/Theorems', 'RoomForAny'),
-    ('SLEEP_TABLE_NUMBERS', r'numbers: \[u64; (\w+)\]', 'station_queue/specs/Words', 'tableWords', 'station_queue/specs/Words', 'tableWords'),
+    ('SLEEP_PACKET_EXTRA', r'const PACKET_EXTRA: usize = (\w+);', 'packet/specs/Packet', 'packet_extra', 'packet/specs/Theorems', 'PacketStaysShort'),
+    ('SLEEP_NODE_ROOM', r'const NODE_ROOM: usize = (\w+);', 'record_node/specs/Theorems', 'node_room', 'record_node/specs/Theorems', 'RoomForAny'),
+    ('SLEEP_TABLE_NUMBERS', r'numbers: \[u64; (\w+)\]', 'station_queue/specs/Words', 'table_words', 'station_queue/specs/Words', 'table_words'),
 ]
 
 # what the listing program has, and the name of the definition in listing_lines/specs/Limits
-LENT = [(r'let mut input = \[0u8; (\d+)\];', 'mostRead'), (r'let mut out = \[0u8; (\d+)\];', 'mostListed')]
+LENT = [(r'let mut input = \[0u8; (\d+)\];', 'most_read'), (r'let mut out = \[0u8; (\d+)\];', 'most_listed')]
 
 
 def defined(file, name):
@@ -31,7 +31,7 @@ def version(header, wrapper):
     """The version, by the number that the call for it is proved to give."""
     proved = defined('c_api/specs/Version', 'version')
     called = open('crates/c_api/src/version.rt').read()
-    assert 'ensures { λ r. ⌜ r ≡ version ⌝ }' in called, 'the contract of sleep_flat_version names another number'
+    assert 'ensures { result ≡ version }' in called, 'the contract of sleep_flat_version names another number'
     found = {
         'the header': re.findall(r'^#define SLEEP_VERSION (\d+)u$', header, re.M),
         'the wrapper': re.findall(r'^pub const VERSION: u64 = (\d+);$', wrapper, re.M),

@@ -4,7 +4,7 @@ mends a place lowers them.
 
 usage: python3 tests/house.py [--list], from the top; with --list the places too.
 
-A law is compared up to the names that it binds. An operator is used where its parts stand in the file, so a few that are not used are not seen.
+A law is compared up to the names that it binds. An operator, as ◌+◌, is used where its parts stand in the file, so a few that are not used are not seen.
 """
 
 import collections
@@ -17,7 +17,8 @@ KINDS = ('src', 'specs', 'proofs')
 LONGEST = 200
 TOKEN = re.compile(r"[A-Za-z_][\w'·-]*|[^\sA-Za-z_]")
 IMPORTS = re.compile(r'^(?:ghost )*use [^{;\n]*\.\{([^}]*)\};?$', re.M)
-NAMED = re.compile(r"^\s*let [\w'-]+ = [\w'-]+(?: \.before)+ in$")
+NAMED = re.compile(r"^\s*let [\w'-]+ = [\w'-]+(?:\.before)+ in$")
+OF_A_FUNCTION = {'Proof.antt', 'Invariants.antt', 'Answers.antt'}  # in proofs/F; in proofs/ itself a file of that name has laws
 
 
 def files():
@@ -33,8 +34,8 @@ def files():
 
 def stands(name, text):
     """Whether a name, or each part of an operator, stands in a text."""
-    parts = [part for part in name.split('_') if part] if '_' in name and not re.match(r'[A-Za-z]\w*$', name) else [name]
-    return all(re.search(r'(?<![\w·])' + re.escape(part) + r"(?![\w'])", text) if re.match(r'\w', part) else part in text for part in parts)
+    parts = [part for part in name.split('◌') if part]
+    return all(re.search(r"(?<![\w·'])" + re.escape(part) + r"(?![\w'])", text) if re.match(r'\w', part) else part in text for part in parts)
 
 
 def unused(path, text):
@@ -55,7 +56,7 @@ def long(path, text):
 def chains(path, text):
     for number, line in enumerate(text.split('\n'), 1):
         if not NAMED.match(line):
-            for _ in re.finditer(r'(?: \.before){3,}', line):
+            for _ in re.finditer(r'(?:\.before){3,}', line):
                 yield '%s:%d' % (path, number)
 
 
@@ -93,7 +94,8 @@ def laws(path, text):
 def twice(texts):
     seen = collections.defaultdict(list)
     for path, text in texts:
-        if path.split(os.sep)[2] == 'proofs' and os.path.basename(path) != 'Proof.antt':
+        parts = path.split(os.sep)
+        if parts[2] == 'proofs' and (len(parts) == 4 or parts[-1] not in OF_A_FUNCTION):
             for said, place in laws(path, text):
                 seen[said].append(place)
     for places in seen.values():

@@ -1,6 +1,7 @@
 """Holds docs/TRUST.md to what `rt` prints: the kit's identity, the logic's sum in each verdict, and the functions of C that each program assumes.
 
-usage: python3 tests/trust.py docs/TRUST.md LOGS ROOT; LOGS is the folder with a NAME.out for each crate that was checked
+usage: python3 tests/trust.py docs/TRUST.md LOGS ROOT; LOGS is the folder with a NAME.out for each crate that tests/run has checked: of `rt lib` for c_api,
+of `rt check --list-axioms`, which names every function of C, for the programs
 """
 
 import glob
@@ -9,16 +10,7 @@ import re
 import subprocess
 import sys
 
-ALWAYS = {'c_api', 'listing_program'}  # what tests/run itself has checked
-
-
-def verdict_in(file):
-    """What a check said of a crate; of one that is unchanged since, what its last build said, which names the processor that it was built for too."""
-    text = open(file).read()
-    built = file[:-4] + '.say'
-    if 'logic=' in text or not os.path.exists(built):
-        return text
-    return re.sub(r' target=\S+', '', open(built).read())
+ALWAYS = {'c_api', 'listing_program'}  # the others where they are there
 
 
 def stated(page):
@@ -34,8 +26,8 @@ def stated(page):
 def main(path, logs, root):
     page = open(path).read()
     kit = subprocess.run(['rt', 'version'], check=True, capture_output=True, text=True).stdout.strip()
-    outputs = {os.path.basename(file)[:-4]: verdict_in(file) for file in glob.glob(os.path.join(logs, '*.out'))}
-    listed = {line.split(':')[0] for line in open(os.path.join(root, 'crates.txt')) if ':' in line and not line.startswith('#')}
+    outputs = {os.path.basename(file)[:-4]: open(file).read() for file in glob.glob(os.path.join(logs, '*.out'))}
+    listed = {line.split(':')[0].split()[0] for line in open(os.path.join(root, 'crates.txt')) if ':' in line and not line.startswith('#')}
     outputs = {name: text for name, text in outputs.items() if name in listed and 'logic=proved' in text}
     assumed, wrong = stated(page), []
     if '\n    %s\n' % kit not in page:
@@ -43,9 +35,9 @@ def main(path, logs, root):
     if not ALWAYS <= set(outputs):
         wrong.append('no verdict of ' + ', '.join(sorted(ALWAYS - set(outputs))))
     for name, text in sorted(outputs.items()):
-        verdict = re.search(r'^logic=proved.*$', text, re.M).group(0)
+        verdict = re.findall(r'^logic=proved.*$', text, re.M)[-1]  # those before it are of the libraries that were built for it
         words = dict(word.split('=') for word in verdict.split())
-        reached = {'libc::' + one for line in re.findall(r'^axioms libc: (.*) \(', text, re.M) for one in re.findall(r'libc::(\w+)', line)}
+        reached = set(re.findall(r'^  (\S+) +reached$', text, re.M))
         if (words['sum'], words['native']) != (kit.split()[-1], 'nat,char,string') or int(words.get('axioms', 0)) != len(reached):
             wrong.append('%s: %s' % (name, words))
         if name == 'c_api' and '\n    %s\n' % verdict not in page:

@@ -16,7 +16,8 @@ pub leaf_index-leaf-requires : goal.leaf_index-leaf-requires
 leaf_index-leaf-requires c =
     let next : Verdict = leaf_in (known_if c.args.partly c.args.bitfield.now) c.args.n c.args.chunk.0 in
     let whole : Verdict = and_then (said c.args.found) (next) in
-    let leaf-lies : done ≡ whole → (c.args.chunk.0 < 2097152) × EntryIn c.args.tree.now (index 0 c.args.chunk.0) = λ e. leaf_in_lem c.args.chunk.0 (c.requires (done_first (said c.args.found) (next) (sym e))).roots
+    let leaf-lies : done ≡ whole → (c.args.chunk.0 < 2097152) × EntryIn c.args.tree.now (index 0 c.args.chunk.0) =
+    λ e. leaf_in_lem c.args.chunk.0 (c.requires (done_first (said c.args.found) (next) (sym e))).roots
     (leaf_below (known_if c.args.partly c.args.bitfield.now) c.args.n c.args.chunk.0
     (then_next (said c.args.found) (next) (sym e))) in
     (leaf-lies (sym (ap said c.in-Done.is) ∙ c.judge_behind.ensures)).0
@@ -25,7 +26,8 @@ pub stored_hash-requires : goal.stored_hash-requires
 stored_hash-requires c =
     let next : Verdict = leaf_in (known_if c.args.partly c.args.bitfield.now) c.args.n c.args.chunk.0 in
     let whole : Verdict = and_then (said c.args.found) (next) in
-    let leaf-lies : done ≡ whole → (c.args.chunk.0 < 2097152) × EntryIn c.args.tree.now (index 0 c.args.chunk.0) = λ e. leaf_in_lem c.args.chunk.0 (c.requires (done_first (said c.args.found) (next) (sym e))).roots
+    let leaf-lies : done ≡ whole → (c.args.chunk.0 < 2097152) × EntryIn c.args.tree.now (index 0 c.args.chunk.0) =
+    λ e. leaf_in_lem c.args.chunk.0 (c.requires (done_first (said c.args.found) (next) (sym e))).roots
     (leaf_below (known_if c.args.partly c.args.bitfield.now) c.args.n c.args.chunk.0
     (then_next (said c.args.found) (next) (sym e))) in
     subst (EntryIn c.args.tree.now) (sym c.leaf_index-leaf.ensures)
@@ -35,7 +37,8 @@ pub stored_size-requires : goal.stored_size-requires
 stored_size-requires c =
     let next : Verdict = leaf_in (known_if c.args.partly c.args.bitfield.now) c.args.n c.args.chunk.0 in
     let whole : Verdict = and_then (said c.args.found) (next) in
-    let leaf-lies : done ≡ whole → (c.args.chunk.0 < 2097152) × EntryIn c.args.tree.now (index 0 c.args.chunk.0) = λ e. leaf_in_lem c.args.chunk.0 (c.requires (done_first (said c.args.found) (next) (sym e))).roots
+    let leaf-lies : done ≡ whole → (c.args.chunk.0 < 2097152) × EntryIn c.args.tree.now (index 0 c.args.chunk.0) =
+    λ e. leaf_in_lem c.args.chunk.0 (c.requires (done_first (said c.args.found) (next) (sym e))).roots
     (leaf_below (known_if c.args.partly c.args.bitfield.now) c.args.n c.args.chunk.0
     (then_next (said c.args.found) (next) (sym e))) in
     subst (EntryIn c.args.tree.now) (sym c.leaf_index-leaf.ensures)

@@ -17,7 +17,8 @@ stored_size-length-requires c =
 pub returns-then-length-gt65536 : goal.returns-then-length-gt65536
 returns-then-length-gt65536 c =
     let leaf : c.leaf_index-i.result.0 ≡ 2 * c.args.c.0 = c.leaf_index-i.ensures ∙ index_leaf c.args.c.0 in
-    let long : (let a = c.args in c.stored_size-length.result ≡ stored_size a.tree.now (2 * a.c.0)) = c.stored_size-length.ensures ∙ ap (stored_size c.args.tree.now) (leaf) in
+    let long : (let a = c.args in c.stored_size-length.result ≡ stored_size a.tree.now (2 * a.c.0)) =
+    c.stored_size-length.ensures ∙ ap (stored_size c.args.tree.now) (leaf) in
     let a = c.args in
     leaf_long node_hash a.tree.now a.content.now a.size a.held a.c.0 a.start.0 (long) (omega (arith, c.if-length-gt65536.true))
 
@@ -29,7 +30,8 @@ returns-then-size-start c =
 pub returns-then-size-start-2 : goal.returns-then-size-start-2
 returns-then-size-start-2 c =
     let leaf : c.leaf_index-i.result.0 ≡ 2 * c.args.c.0 = c.leaf_index-i.ensures ∙ index_leaf c.args.c.0 in
-    let long : (let a = c.args in c.stored_size-length.result ≡ stored_size a.tree.now (2 * a.c.0)) = c.stored_size-length.ensures ∙ ap (stored_size c.args.tree.now) (leaf) in
+    let long : (let a = c.args in c.stored_size-length.result ≡ stored_size a.tree.now (2 * a.c.0)) =
+    c.stored_size-length.ensures ∙ ap (stored_size c.args.tree.now) (leaf) in
     let a = c.args in
     leaf_past node_hash a.tree.now a.content.now a.size a.held a.c.0 a.start.0 (long) (omega (arith, c.if-length-gt65536.false))
     (omega (arith, c.if-size-start-2.true, c.if-size-start.false))
@@ -37,7 +39,8 @@ returns-then-size-start-2 c =
 pub returns-then-not-held : goal.returns-then-not-held
 returns-then-not-held c =
     let leaf : c.leaf_index-i.result.0 ≡ 2 * c.args.c.0 = c.leaf_index-i.ensures ∙ index_leaf c.args.c.0 in
-    let long : (let a = c.args in c.stored_size-length.result ≡ stored_size a.tree.now (2 * a.c.0)) = c.stored_size-length.ensures ∙ ap (stored_size c.args.tree.now) (leaf) in
+    let long : (let a = c.args in c.stored_size-length.result ≡ stored_size a.tree.now (2 * a.c.0)) =
+    c.stored_size-length.ensures ∙ ap (stored_size c.args.tree.now) (leaf) in
     let a = c.args in
     leaf_zero node_hash a.tree.now a.content.now a.size a.held a.c.0 a.start.0 (long) (omega (arith, c.if-length-gt65536.false))
     {m = a.start.0 + c.stored_size-length.result - a.start.0} (omega (arith, c.if-size-start-2.false, c.if-size-start.false)) (omega arith)
@@ -51,7 +54,8 @@ stored_hash-stored-requires c =
 pub returns : goal.returns
 returns c =
     let leaf : c.leaf_index-i.result.0 ≡ 2 * c.args.c.0 = c.leaf_index-i.ensures ∙ index_leaf c.args.c.0 in
-    let long : (let a = c.args in c.stored_size-length.result ≡ stored_size a.tree.now (2 * a.c.0)) = c.stored_size-length.ensures ∙ ap (stored_size c.args.tree.now) (leaf) in
+    let long : (let a = c.args in c.stored_size-length.result ≡ stored_size a.tree.now (2 * a.c.0)) =
+    c.stored_size-length.ensures ∙ ap (stored_size c.args.tree.now) (leaf) in
     let a = c.args in
     leaf_same node_hash a.tree.now a.content.now a.size a.held a.c.0 a.start.0 (long) (omega (arith, c.if-length-gt65536.false))
     {m = a.start.0 + c.stored_size-length.result - a.start.0} (omega (arith, c.if-size-start-2.false, c.if-size-start.false)) (omega arith)

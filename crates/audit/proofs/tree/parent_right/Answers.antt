@@ -14,7 +14,8 @@ stored_size-first-requires c =
 
 pub returns-then-here-first : goal.returns-then-here-first
 returns-then-here-first c =
-    let left-size : (let a = c.args in c.stored_size-first.result ≡ stored_size a.tree.now (left_child a.i.0)) = c.stored_size-first.ensures ∙ ap (stored_size c.args.tree.now) c.left_child-left.ensures in
+    let left-size : (let a = c.args in c.stored_size-first.result ≡ stored_size a.tree.now (left_child a.i.0)) =
+    c.stored_size-first.ensures ∙ ap (stored_size c.args.tree.now) c.left_child-left.ensures in
     let a = c.args in
     parent_less node_hash a.tree.now a.i.0 c.stored_size-here.ensures (left-size) c.if-here-first.true
 
@@ -25,7 +26,8 @@ stored_size-second-requires c =
 
 pub returns-then-here-first-2 : goal.returns-then-here-first-2
 returns-then-here-first-2 c =
-    let left-size : (let a = c.args in c.stored_size-first.result ≡ stored_size a.tree.now (left_child a.i.0)) = c.stored_size-first.ensures ∙ ap (stored_size c.args.tree.now) c.left_child-left.ensures in
+    let left-size : (let a = c.args in c.stored_size-first.result ≡ stored_size a.tree.now (left_child a.i.0)) =
+    c.stored_size-first.ensures ∙ ap (stored_size c.args.tree.now) c.left_child-left.ensures in
     let a = c.args in
     parent_off node_hash a.tree.now a.i.0 c.stored_size-here.ensures (left-size)
     (c.stored_size-second.ensures ∙ ap (stored_size a.tree.now) c.right_child-right.ensures) c.if-here-first.false c.if-here-first-2.true
@@ -42,7 +44,8 @@ stored_hash-b-requires c =
 
 pub returns : goal.returns
 returns c =
-    let left-size : (let a = c.args in c.stored_size-first.result ≡ stored_size a.tree.now (left_child a.i.0)) = c.stored_size-first.ensures ∙ ap (stored_size c.args.tree.now) c.left_child-left.ensures in
+    let left-size : (let a = c.args in c.stored_size-first.result ≡ stored_size a.tree.now (left_child a.i.0)) =
+    c.stored_size-first.ensures ∙ ap (stored_size c.args.tree.now) c.left_child-left.ensures in
     let a = c.args in
     parent_same node_hash a.tree.now a.i.0 c.stored_size-here.ensures (left-size)
     (c.stored_size-second.ensures ∙ ap (stored_size a.tree.now) c.right_child-right.ensures) c.if-here-first.false c.if-here-first-2.false

@@ -20,7 +20,8 @@ pub above-next-requires : goal.above-next-requires
 above-next-requires c =
     let parents : c.completed-last.result ≡ completed c.args.n = c.completed-last.ensures ∙ ap completed c.chunk_behind.ensures in
     let below : c.loop-d.d < completed c.args.n = omega (arith, c.loop-d-test.true, parents) in
-    let step : Going c.args.tree.now c.args.n (entry_of c.args.leaf) (c.loop-d.d + 1) c.put_node.new.tree = going_step c.loop-d.invariant.2 c.requires.few (omega (arith, below)) c.requires.room (search rules) c.loop-d.invariant.1 c.put_node.ensures in
+    let step : Going c.args.tree.now c.args.n (entry_of c.args.leaf) (c.loop-d.d + 1) c.put_node.new.tree =
+    going_step c.loop-d.invariant.2 c.requires.few (omega (arith, below)) c.requires.room (search rules) c.loop-d.invariant.1 c.put_node.ensures in
     record {
       few = c.requires.few;
       depth = below;
@@ -32,7 +33,8 @@ pub loop-d-preserved : goal.loop-d-preserved
 loop-d-preserved c =
     let parents : c.completed-last.result ≡ completed c.args.n = c.completed-last.ensures ∙ ap completed c.chunk_behind.ensures in
     let below : c.loop-d.d < completed c.args.n = omega (arith, c.loop-d-test.true, parents) in
-    let step : Going c.args.tree.now c.args.n (entry_of c.args.leaf) (c.loop-d.d + 1) c.put_node.new.tree = going_step c.loop-d.invariant.2 c.requires.few (omega (arith, below)) c.requires.room (search rules) c.loop-d.invariant.1 c.put_node.ensures in
+    let step : Going c.args.tree.now c.args.n (entry_of c.args.leaf) (c.loop-d.d + 1) c.put_node.new.tree =
+    going_step c.loop-d.invariant.2 c.requires.few (omega (arith, below)) c.requires.room (search rules) c.loop-d.invariant.1 c.put_node.ensures in
     (omega (arith, c.loop-d-test.true), above_made c.loop-d.d c.requires.few (below) (step) c.loop-d.invariant.1 c.above-next.ensures, step)
 
 pub put_node-requires-2 : goal.put_node-requires-2

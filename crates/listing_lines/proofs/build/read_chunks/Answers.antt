@@ -1,5 +1,6 @@
 use native.Mathlib.Omega.{arith}
-use mathlib.Core.Path.{◌≡◌, sym, ◌∙◌}
+use mathlib.Core.Bool.{not}
+use mathlib.Core.Path.{◌≡◌, sym, ap, ◌∙◌}
 use Prim.Native.Nat.{◌+◌, ◌-◌, ◌≤◌}
 use lib.ListN.{length, drop}
 use Rattle.checks.specs.Lent.{register_of}
@@ -20,15 +21,15 @@ returns-then-not-stands c =
     let l = c.loop-n in
     read_stopped (whole) (register)
     (stopped (whole) c.args.input.now c.args.count l.n l.at l.size (register) c.loop-n-test.true
-    (sym c.stands.ensures ∙ c.if-not-stands.true) l.inv.3)
-    (few) l.inv.2
+    (sym c.stands.ensures ∙ c.if-not-stands.true) l.invariant.3)
+    (few) l.invariant.2
 
 pub read_be32-len-requires : goal.read_be32-len-requires
 read_be32-len-requires c =
     let l = c.loop-n in
     omega (
       arith,
-      (stands_facts c.args.input.now l.at (4096 - l.size) l.inv.1
+      (stands_facts c.args.input.now l.at (4096 - l.size) l.invariant.1
           (sym c.stands.ensures ∙ c.if-not-stands.false)).0,
     )
 
@@ -36,32 +37,32 @@ pub slice_bounds-add-count : goal.slice_bounds-add-count
 slice_bounds-add-count c =
     let room : ((c.loop-n.at + 4 + c.read_be32-len.result ≤ length c.args.input.now)
     × (c.loop-n.size + c.read_be32-len.result ≤ 4096)) = let l = c.loop-n in
-    stood_room c.args.input.now l.at l.size c.read_be32-len.result c.stands.result l.inv.1 l.inv.2
-    c.stands.ensures c.if-not-stands.false c.read_be32-len.ensures in
+    stood_room c.args.input.now l.at l.size c.read_be32-len.result c.stands.result l.invariant.1 l.invariant.2
+    c.stands.ensures (ap not c.if-not-stands.false) c.read_be32-len.ensures in
     omega (arith, (room).0)
 
 pub slice_bounds-add-start : goal.slice_bounds-add-start
 slice_bounds-add-start c =
     let room : ((c.loop-n.at + 4 + c.read_be32-len.result ≤ length c.args.input.now)
     × (c.loop-n.size + c.read_be32-len.result ≤ 4096)) = let l = c.loop-n in
-    stood_room c.args.input.now l.at l.size c.read_be32-len.result c.stands.result l.inv.1 l.inv.2
-    c.stands.ensures c.if-not-stands.false c.read_be32-len.ensures in
+    stood_room c.args.input.now l.at l.size c.read_be32-len.result c.stands.result l.invariant.1 l.invariant.2
+    c.stands.ensures (ap not c.if-not-stands.false) c.read_be32-len.ensures in
     omega (arith, (room).0)
 
 pub slice_bounds-add-end : goal.slice_bounds-add-end
 slice_bounds-add-end c =
     let room : ((c.loop-n.at + 4 + c.read_be32-len.result ≤ length c.args.input.now)
     × (c.loop-n.size + c.read_be32-len.result ≤ 4096)) = let l = c.loop-n in
-    stood_room c.args.input.now l.at l.size c.read_be32-len.result c.stands.result l.inv.1 l.inv.2
-    c.stands.ensures c.if-not-stands.false c.read_be32-len.ensures in
+    stood_room c.args.input.now l.at l.size c.read_be32-len.result c.stands.result l.invariant.1 l.invariant.2
+    c.stands.ensures (ap not c.if-not-stands.false) c.read_be32-len.ensures in
     omega (arith, (room).0)
 
 pub add-requires : goal.add-requires
 add-requires c =
     let room : ((c.loop-n.at + 4 + c.read_be32-len.result ≤ length c.args.input.now)
     × (c.loop-n.size + c.read_be32-len.result ≤ 4096)) = let l = c.loop-n in
-    stood_room c.args.input.now l.at l.size c.read_be32-len.result c.stands.result l.inv.1 l.inv.2
-    c.stands.ensures c.if-not-stands.false c.read_be32-len.ensures in
+    stood_room c.args.input.now l.at l.size c.read_be32-len.result c.stands.result l.invariant.1 l.invariant.2
+    c.stands.ensures (ap not c.if-not-stands.false) c.read_be32-len.ensures in
     let l = c.loop-n in
     (omega (arith, c.loop-n-test.true, c.requires.1), lent_length c.args.input.now (l.at + 4) c.read_be32-len.result l.size (room).0 (room).1)
 
@@ -69,8 +70,8 @@ pub overflow_add-size : goal.overflow_add-size
 overflow_add-size c =
     let room : ((c.loop-n.at + 4 + c.read_be32-len.result ≤ length c.args.input.now)
     × (c.loop-n.size + c.read_be32-len.result ≤ 4096)) = let l = c.loop-n in
-    stood_room c.args.input.now l.at l.size c.read_be32-len.result c.stands.result l.inv.1 l.inv.2
-    c.stands.ensures c.if-not-stands.false c.read_be32-len.ensures in
+    stood_room c.args.input.now l.at l.size c.read_be32-len.result c.stands.result l.invariant.1 l.invariant.2
+    c.stands.ensures (ap not c.if-not-stands.false) c.read_be32-len.ensures in
     omega (arith, (room).1)
 
 pub overflow_add-n : goal.overflow_add-n
@@ -83,8 +84,8 @@ pub loop-n-preserved : goal.loop-n-preserved
 loop-n-preserved c =
     let room : ((c.loop-n.at + 4 + c.read_be32-len.result ≤ length c.args.input.now)
     × (c.loop-n.size + c.read_be32-len.result ≤ 4096)) = let l = c.loop-n in
-    stood_room c.args.input.now l.at l.size c.read_be32-len.result c.stands.result l.inv.1 l.inv.2
-    c.stands.ensures c.if-not-stands.false c.read_be32-len.ensures in
+    stood_room c.args.input.now l.at l.size c.read_be32-len.result c.stands.result l.invariant.1 l.invariant.2
+    c.stands.ensures (ap not c.if-not-stands.false) c.read_be32-len.ensures in
     let whole : Input = chunks_in c.args.count (drop 4 c.args.input.now) 4096 in
     let a = c.args in
     let l = c.loop-n in (
@@ -94,7 +95,7 @@ loop-n-preserved c =
       next_added (whole) a.input.now l.tree l.signatures l.bitfield l.content _ _ _ _
           a.count l.n l.at l.size c.read_be32-len.result c.loop-n-test.true
           (sym c.stands.ensures ∙ c.if-not-stands.false) c.read_be32-len.ensures (room).0
-          (λ i. omega (arith, c.shared_slice_known-1.given i)) l.invariant.3 c.add.ensures,
+          (λ i. omega (arith, (c.type_inv.input i).fits)) l.invariant.3 c.add.ensures,
     )
 
 pub returns : goal.returns
@@ -145,16 +146,16 @@ pub overflow_add-start : goal.overflow_add-start
 overflow_add-start c =
     let room : ((c.loop-n.at + 4 + c.read_be32-len.result ≤ length c.args.input.now)
     × (c.loop-n.size + c.read_be32-len.result ≤ 4096)) = let l = c.loop-n in
-    stood_room c.args.input.now l.at l.size c.read_be32-len.result c.stands.result l.inv.1 l.inv.2
-    c.stands.ensures c.if-not-stands.false c.read_be32-len.ensures in
+    stood_room c.args.input.now l.at l.size c.read_be32-len.result c.stands.result l.invariant.1 l.invariant.2
+    c.stands.ensures (ap not c.if-not-stands.false) c.read_be32-len.ensures in
     omega (arith, (room).0)
 
 pub overflow_add-end : goal.overflow_add-end
 overflow_add-end c =
     let room : ((c.loop-n.at + 4 + c.read_be32-len.result ≤ length c.args.input.now)
     × (c.loop-n.size + c.read_be32-len.result ≤ 4096)) = let l = c.loop-n in
-    stood_room c.args.input.now l.at l.size c.read_be32-len.result c.stands.result l.inv.1 l.inv.2
-    c.stands.ensures c.if-not-stands.false c.read_be32-len.ensures in
+    stood_room c.args.input.now l.at l.size c.read_be32-len.result c.stands.result l.invariant.1 l.invariant.2
+    c.stands.ensures (ap not c.if-not-stands.false) c.read_be32-len.ensures in
     omega (arith, (room).0)
 
 pub shape_of-tree : goal.shape_of-tree

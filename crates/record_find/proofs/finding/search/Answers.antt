@@ -1,0 +1,44 @@
+use Prim.Native.Nat.{◌-◌}
+use mathlib.Core.Path.{ap, ◌∙◌}
+use native.Mathlib.Omega.{arith}
+use Rattle.blake2b.specs.Hash.{node_hash}
+use Rattle.record_find.specs.Inner.{path_behind}
+use Rattle.record_find.proofs.Chunk.{read_placed}
+use Rattle.record_find.proofs.Search.{left_all, left_none, left_told}
+use Rattle.record_find.proofs.finding.search.Goals as goal
+
+pub path_behind-requires : goal.path_behind-requires
+path_behind-requires c = read_placed c.requires node_hash _ c.read_in-read.ensures
+
+pub returns-in-Refused : goal.returns-in-Refused
+returns-in-Refused c =
+    let a = c.args in
+    left_told c.loop-chunk.invariant c.loop-chunk-test.true
+    (c.path_behind.ensures ∙ ap (λ f. path_behind a.content.now (c.loop-chunk.chunk.0 - 1) f a.path.now) c.read_in-read.ensures) c.in-Refused.is
+
+pub loop-chunk-smaller : goal.loop-chunk-smaller
+loop-chunk-smaller c = omega (arith, c.loop-chunk-test.true)
+
+pub loop-chunk-preserved : goal.loop-chunk-preserved
+loop-chunk-preserved c =
+    let a = c.args in
+    record {
+      most = omega (arith, c.loop-chunk.invariant.most);
+      rest = left_told c.loop-chunk.invariant c.loop-chunk-test.true
+          (c.path_behind.ensures ∙ ap (λ f. path_behind a.content.now (c.loop-chunk.chunk.0 - 1) f a.path.now) c.read_in-read.ensures) c.in-Other.is;
+    }
+
+pub loop-chunk-init : goal.loop-chunk-init
+loop-chunk-init c = left_all c.chunk_behind-chunk.ensures
+
+pub overflow_sub-chunk : goal.overflow_sub-chunk
+overflow_sub-chunk c = omega (arith, c.loop-chunk-test.true)
+
+pub returns-in-Same : goal.returns-in-Same
+returns-in-Same c =
+    let a = c.args in
+    left_told c.loop-chunk.invariant c.loop-chunk-test.true
+    (c.path_behind.ensures ∙ ap (λ f. path_behind a.content.now (c.loop-chunk.chunk.0 - 1) f a.path.now) c.read_in-read.ensures) c.in-Same.is
+
+pub returns : goal.returns
+returns c = left_none c.loop-chunk.invariant c.loop-chunk-test.false

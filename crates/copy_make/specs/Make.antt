@@ -1,5 +1,5 @@
 -- "Make a copy for a count and a data size with headers, zero entries, zero bits and zero data". "Making it refuses with 2 and 14 only."
-use Rattle.std.specs.Prelude.{◌*◌, ◌≤◌, ◌≡◌, List, [], ◌∷◌, ◌++◌, length}
+use Rattle.std.specs.Prelude.{◌+◌, ◌*◌, ◌≤◌, ◌≡◌, List, [], ◌∷◌, ◌++◌, length}
 use Rattle.answer_types.specs.Verdict.{Verdict, done, unless_refused}
 use Rattle.byte_strings.specs.Lists.{put, zeros}
 use Rattle.tree_index.specs.Tree.{entries}

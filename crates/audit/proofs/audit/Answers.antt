@@ -13,16 +13,16 @@ pub returns-in_default : goal.returns-in_default
 unfolding audit
 returns-in_default c =
     let given : Register = register_of c.args.tree.now c.args.signatures.now c.args.bitfield.now c.args.content.now c.args.n c.args.s c.args.size in
-    checks_refuse (given) _ c.judge-checked.result c.judge-checked.ensures _ c.in_default.is
+    checks_refuse given _ c.judge-checked.result c.judge-checked.ensures _ c.in_default.is
 
 pub images-requires : goal.images-requires
 images-requires c =
     let given : Register = register_of c.args.tree.now c.args.signatures.now c.args.bitfield.now c.args.content.now c.args.n c.args.s c.args.size in
-    files_in_lem (given) done c.judge-checked.result c.judge-checked.ensures (ap said c.in-Done.is)
+    files_in_lem given done c.judge-checked.result c.judge-checked.ensures (ap said c.in-Done.is)
 
 pub returns : goal.returns
 unfolding audit
 returns c =
     let given : Register = register_of c.args.tree.now c.args.signatures.now c.args.bitfield.now c.args.content.now c.args.n c.args.s c.args.size in
-    checks_pass (given) _ c.judge-checked.result c.judge-checked.ensures (ap said c.in-Done.is) (said c.images.result)
-    (c.images.ensures ∙ images_of node_hash (given))
+    checks_pass given _ c.judge-checked.result c.judge-checked.ensures (ap said c.in-Done.is) (said c.images.result)
+    (c.images.ensures ∙ images_of node_hash given)

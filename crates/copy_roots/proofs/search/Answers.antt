@@ -8,9 +8,9 @@ use Rattle.copy_roots.proofs.search.Goals as goal
 pub search_behind-requires : goal.search_behind-requires
 search_behind-requires c =
     let given : Copy = copy_of c.args.tree.now c.args.bitfield.now c.args.content.now c.args.n c.args.size in
-    λ e. search_room (given) c.args.from.0 (sym e ∙ c.judge-checked.ensures)
+    λ e. search_room given c.args.from.0 (sym e ∙ c.judge-checked.ensures)
 
 pub returns : goal.returns
 returns c =
     let given : Copy = copy_of c.args.tree.now c.args.bitfield.now c.args.content.now c.args.n c.args.size in
-    c.search_behind.ensures ∙ search_by (given) c.args.from.0 (said c.judge-checked.result) c.judge-checked.ensures
+    c.search_behind.ensures ∙ search_by given c.args.from.0 (said c.judge-checked.result) c.judge-checked.ensures

@@ -8,9 +8,9 @@ use Rattle.copy_short_lookup.proofs.locate.Goals as goal
 pub locate_behind-requires : goal.locate_behind-requires
 locate_behind-requires c =
     let given : Copy = copy_of c.args.tree.now c.args.bitfield.now c.args.content.now c.args.n c.args.size in
-    λ e. files_in_lem (given) (sym e ∙ c.judge-checked.ensures)
+    λ e. files_in_lem given (sym e ∙ c.judge-checked.ensures)
 
 pub returns : goal.returns
 returns c =
     let given : Copy = copy_of c.args.tree.now c.args.bitfield.now c.args.content.now c.args.n c.args.size in
-    c.locate_behind.ensures ∙ byte_by (given) (said c.judge-checked.result) c.judge-checked.ensures c.args.offset.0
+    c.locate_behind.ensures ∙ byte_by given (said c.judge-checked.result) c.judge-checked.ensures c.args.offset.0

@@ -19,6 +19,7 @@ returns-then-not-is_held c = rw (sym c.is_held.ensures ∙ c.if-not-is_held.true
 pub returns-then-same : goal.returns-then-same
 unfolding bytes_contradicted
 returns-then-same c =
+    -- the bytes at the start, compared
     let compared : same_list (part c.args.content.now c.args.start (length c.args.bytes.now)) c.args.bytes.now ≡ c.same.result = sym (c.same.ensures ∙ ap (λ (x : List ℕ). same_list x c.args.bytes.now) (as_part_lem c.args.content.now c.args.start (length c.args.bytes.now))) in
     rw (sym c.is_held.ensures ∙ c.if-not-is_held.false, compared ∙ c.if-same.true)
 

@@ -27,6 +27,7 @@ returns c =
 
 pub overflow_mul-second : goal.overflow_mul-second
 overflow_mul-second c =
+    -- the rows' places fit
     let fits : c.siblings_place-first.result + 40 * c.args.way.up + 1 < 2 ^ 64 = places_fit c.requires.0.shaped c.siblings_place-first.ensures c.requires.1.up in
     omega (arith, fits)
 

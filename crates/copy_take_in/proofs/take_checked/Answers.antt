@@ -14,6 +14,7 @@ way_of-way-requires c = c.requires.room.packet.shaped.chunk
 
 pub contradiction_of-found-requires : goal.contradiction_of-found-requires
 contradiction_of-found-requires c =
+    -- all is ready
     let ready : (Ready c.args.tree.now c.args.bitfield.now c.args.content.now c.args.packet.now c.args.n
     c.args.chunk.0 c.way_of-way.result c.start_of-start.result c.entry_row-row.result c.args.path.now) = record {
       room = c.requires.room;

@@ -41,10 +41,11 @@ overflow_add-second-2 c =
 pub add_lengths-sum-requires : goal.add_lengths-sum-requires
 unfolding siblings_place chunk_length
 add_lengths-sum-requires c =
+    -- the places and the counts
     let first_is : 4 + c.read_be32-length.result + 1 ≡ siblings_place c.args.packet.now + 1 = ap (λ (l : ℕ). 4 + l + 1) c.read_be32-length.ensures in
     let length-is : c.read_be32-length.result ≡ chunk_length c.args.packet.now = c.read_be32-length.ensures in
     let z = placed c.args.packet.now c.args.n c.args.chunk.0 c.requires.shaped in (
-      beside_in c.requires.shaped (first_is) c.sibling_count-up.ensures.same,
+      beside_in c.requires.shaped first_is c.sibling_count-up.ensures.same,
       omega (arith, length-is),
     )
 
@@ -52,7 +53,7 @@ pub add_lengths-whole-requires : goal.add_lengths-whole-requires
 unfolding siblings_place chunk_length
 add_lengths-whole-requires c =
     let first_is : 4 + c.read_be32-length.result + 1 ≡ siblings_place c.args.packet.now + 1 = ap (λ (l : ℕ). 4 + l + 1) c.read_be32-length.ensures in (
-      roots_in c.requires.shaped (first_is) c.sibling_count-up.ensures.same c.other_count-others.ensures.same,
+      roots_in c.requires.shaped first_is c.sibling_count-up.ensures.same c.other_count-others.ensures.same,
       c.add_lengths-sum.ensures.small,
     )
 
@@ -64,6 +65,6 @@ returns c =
     ap (λ (x : ℕ). eqb x c.args.size)
     (total_summed c.args.packet.now c.args.n c.args.chunk.0 c.read_be32-length.result _ _ c.sibling_count-up.result
     c.other_count-others.result c.add_lengths-sum.result c.add_lengths-whole.result
-    (length-is) (first_is)
-    (second_is c.requires.shaped (first_is) c.sibling_count-up.ensures.same) c.sibling_count-up.ensures.same
+    length-is first_is
+    (second_is c.requires.shaped first_is c.sibling_count-up.ensures.same) c.sibling_count-up.ensures.same
     c.other_count-others.ensures.same c.requires.small c.add_lengths-sum.ensures c.add_lengths-whole.ensures)

@@ -1,8 +1,8 @@
 -- `copy_take_in::write_all` meets its contract. Assumes nothing.
-use Prim.Native.Nat.{◌-◌, ◌≤◌}
+use Prim.Native.Nat.{◌-◌}
 use mathlib.Core.Path.{◌≡◌, refl}
 use native.Mathlib.Omega.{arith}
-use lib.ListN.{length, take, drop}
+use lib.ListN.{take, drop}
 use Rattle.blake2b.specs.Hash.{node_hash}
 use Rattle.packet.specs.Check.{packet_chunk}
 use Rattle.copy_take_in.proofs.Places.{front, chunk_in, chunk_part}
@@ -28,6 +28,7 @@ slice_bounds-copy_to-end c = (chunk_in c.requires.room.packet.shaped c.siblings_
 
 pub copy_to-requires : goal.copy_to-requires
 copy_to-requires c =
+    -- the chunk's part of the packet
     let chunk : take (c.siblings_place-end.result - 1 - 4) (drop 4 c.args.packet.now) ≡ packet_chunk c.args.packet.now = chunk_part c.requires.room.packet.shaped c.siblings_place-end.ensures in
     let ready = c.requires in
     (held_in_lem ready.room ready.begins chunk).inside

@@ -9,9 +9,11 @@ use Rattle.packet_compare.proofs.compare_packets.Goals as goal
 
 pub walk-requires : goal.walk-requires
 walk-requires c =
+    -- the first packet passes
     let first_passes : (packet_verdict node_hash c.args.first.now
     c.args.n c.args.chunk.0 c.args.root.now
     ≡ done) = sym c.check_answer.ensures ∙ ap said c.in-Done.is in
+    -- and the second
     let second-passes : (packet_verdict node_hash c.args.second.now
     c.args.n c.args.chunk.0
     c.args.root.now
@@ -31,7 +33,7 @@ returns-in-Refused-check_answer c =
     ≡ done) = sym c.check_answer.ensures ∙ ap said c.in-Done.is in
     let a = c.args in
     sym (second_refused_lem node_hash a.first.now a.second.now a.n a.chunk.0 a.root.now c.in-Refused-check_answer.refusal.number (spot_of c.in-Refused-check_answer.refusal.place)
-    (first_passes) (sym c.check_answer-in-Done.ensures ∙ ap said c.in-Refused-check_answer.is))
+    first_passes (sym c.check_answer-in-Done.ensures ∙ ap said c.in-Refused-check_answer.is))
 
 pub returns-in-Done-check_answer : goal.returns-in-Done-check_answer
 returns-in-Done-check_answer c =
@@ -44,4 +46,4 @@ returns-in-Done-check_answer c =
     ≡ done) = sym c.check_answer-in-Done.ensures ∙ ap said c.in-Done-check_answer.is in
     let a = c.args in
     c.walk.ensures
-    ∙ sym (both_done node_hash a.first.now a.second.now a.n a.chunk.0 a.root.now (first_passes) (second-passes))
+    ∙ sym (both_done node_hash a.first.now a.second.now a.n a.chunk.0 a.root.now first_passes second-passes)

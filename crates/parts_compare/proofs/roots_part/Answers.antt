@@ -13,7 +13,7 @@ returns-in-Refused c =
     let fst : Register = register_of c.args.tree.now c.args.signatures.now c.args.bitfield.now c.args.content.now c.args.n c.args.s c.args.size in
     let snd : Register = register_of c.args.tree2.now c.args.signatures2.now c.args.bitfield2.now c.args.content2.now c.args.n2 c.args.s2 c.args.size2 in
     let judge = c.judge-first in
-    roots_first node_hash (fst) (snd) judge.result judge.ensures _ c.in-Refused.is
+    roots_first node_hash fst snd judge.result judge.ensures _ c.in-Refused.is
 
 pub returns-in-Refused-second : goal.returns-in-Refused-second
 returns-in-Refused-second c =
@@ -21,7 +21,7 @@ returns-in-Refused-second c =
     let snd : Register = register_of c.args.tree2.now c.args.signatures2.now c.args.bitfield2.now c.args.content2.now c.args.n2 c.args.s2 c.args.size2 in
     let judge = c.judge-first in
     let judge2 = c.judge-second in
-    roots_second node_hash (fst) (snd) judge.result judge.ensures c.in_default.is judge2.result judge2.ensures _ c.in-Refused-second.is
+    roots_second node_hash fst snd judge.result judge.ensures c.in_default.is judge2.result judge2.ensures _ c.in-Refused-second.is
 
 pub compare_roots-requires : goal.compare_roots-requires
 compare_roots-requires c =
@@ -29,7 +29,7 @@ compare_roots-requires c =
     let snd : Register = register_of c.args.tree2.now c.args.signatures2.now c.args.bitfield2.now c.args.content2.now c.args.n2 c.args.s2 c.args.size2 in
     let judge = c.judge-first in
     let judge2 = c.judge-second in
-    roots_room node_hash (fst) (snd) judge.result judge.ensures c.in_default.is judge2.result judge2.ensures c.in_default-second.is
+    roots_room node_hash fst snd judge.result judge.ensures c.in_default.is judge2.result judge2.ensures c.in_default-second.is
 
 pub returns-in-Differ : goal.returns-in-Differ
 returns-in-Differ c =
@@ -38,7 +38,7 @@ returns-in-Differ c =
     let judge = c.judge-first in
     let judge2 = c.judge-second in
     let compare-roots = c.compare_roots in
-    roots_told_lem node_hash (fst) (snd) judge.result judge.ensures c.in_default.is judge2.result judge2.ensures c.in_default-second.is roots_differ
+    roots_told_lem node_hash fst snd judge.result judge.ensures c.in_default.is judge2.result judge2.ensures c.in_default-second.is roots_differ
     (roots_told compare-roots.result) (sym (ap roots_told c.in-Differ.is)) compare-roots.ensures
 
 pub returns-in-Collide : goal.returns-in-Collide
@@ -48,7 +48,7 @@ returns-in-Collide c =
     let judge = c.judge-first in
     let judge2 = c.judge-second in
     let compare-roots = c.compare_roots in
-    roots_told_lem node_hash (fst) (snd) judge.result judge.ensures c.in_default.is judge2.result judge2.ensures c.in_default-second.is at_roots
+    roots_told_lem node_hash fst snd judge.result judge.ensures c.in_default.is judge2.result judge2.ensures c.in_default-second.is at_roots
     (roots_told compare-roots.result) (sym (ap roots_told c.in-Collide.is)) compare-roots.ensures
 
 pub returns-in-Same : goal.returns-in-Same
@@ -58,5 +58,5 @@ returns-in-Same c =
     let judge = c.judge-first in
     let judge2 = c.judge-second in
     let compare-roots = c.compare_roots in
-    roots_told_lem node_hash (fst) (snd) judge.result judge.ensures c.in_default.is judge2.result judge2.ensures c.in_default-second.is equal
+    roots_told_lem node_hash fst snd judge.result judge.ensures c.in_default.is judge2.result judge2.ensures c.in_default-second.is equal
     (roots_told compare-roots.result) (sym (ap roots_told c.in-Same.is)) compare-roots.ensures

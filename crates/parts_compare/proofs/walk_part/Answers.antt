@@ -13,7 +13,7 @@ returns-in-Refused c =
     let fst : Register = register_of c.args.tree.now c.args.signatures.now c.args.bitfield.now c.args.content.now c.args.n c.args.s c.args.size in
     let snd : Register = register_of c.args.tree2.now c.args.signatures2.now c.args.bitfield2.now c.args.content2.now c.args.n2 c.args.s2 c.args.size2 in
     let judge = c.judge-first in
-    walk_first (fst) (snd) c.args.from.0 c.args.to.0 judge.result judge.ensures _ c.in-Refused.is
+    walk_first fst snd c.args.from.0 c.args.to.0 judge.result judge.ensures _ c.in-Refused.is
 
 pub returns-in-Refused-second : goal.returns-in-Refused-second
 returns-in-Refused-second c =
@@ -21,7 +21,7 @@ returns-in-Refused-second c =
     let snd : Register = register_of c.args.tree2.now c.args.signatures2.now c.args.bitfield2.now c.args.content2.now c.args.n2 c.args.s2 c.args.size2 in
     let judge = c.judge-first in
     let judge2 = c.judge-second in
-    walk_second (fst) (snd) c.args.from.0 c.args.to.0 judge.result judge.ensures c.in_default.is judge2.result judge2.ensures _ c.in-Refused-second.is
+    walk_second fst snd c.args.from.0 c.args.to.0 judge.result judge.ensures c.in_default.is judge2.result judge2.ensures _ c.in-Refused-second.is
 
 pub returns-then-n-n2 : goal.returns-then-n-n2
 returns-then-n-n2 c =
@@ -29,7 +29,7 @@ returns-then-n-n2 c =
     let snd : Register = register_of c.args.tree2.now c.args.signatures2.now c.args.bitfield2.now c.args.content2.now c.args.n2 c.args.s2 c.args.size2 in
     let judge = c.judge-first in
     let judge2 = c.judge-second in
-    walk_none (fst) (snd) c.args.from.0 c.args.to.0 judge.result judge.ensures c.in_default.is judge2.result judge2.ensures c.in_default-second.is
+    walk_none fst snd c.args.from.0 c.args.to.0 judge.result judge.ensures c.in_default.is judge2.result judge2.ensures c.in_default-second.is
     c.if-n-n2.true
 
 pub entry_count-requires : goal.entry_count-requires
@@ -38,7 +38,7 @@ entry_count-requires c =
     let snd : Register = register_of c.args.tree2.now c.args.signatures2.now c.args.bitfield2.now c.args.content2.now c.args.n2 c.args.s2 c.args.size2 in
     let judge = c.judge-first in
     let judge2 = c.judge-second in
-    (walk_room (fst) (snd) c.args.from.0 c.args.to.0 judge.result judge.ensures c.in_default.is judge2.result judge2.ensures c.in_default-second.is
+    (walk_room fst snd c.args.from.0 c.args.to.0 judge.result judge.ensures c.in_default.is judge2.result judge2.ensures c.in_default-second.is
     c.if-n-n2.false).0.count
 
 pub slice_bounds-lowest_collision-end : goal.slice_bounds-lowest_collision-end
@@ -48,7 +48,7 @@ slice_bounds-lowest_collision-end c =
     let judge = c.judge-first in
     let judge2 = c.judge-second in
     let d =
-    walk_data (fst) (snd) c.args.from.0 c.args.to.0 judge.result judge.ensures c.in_default.is judge2.result judge2.ensures
+    walk_data fst snd c.args.from.0 c.args.to.0 judge.result judge.ensures c.in_default.is judge2.result judge2.ensures
     c.in_default-second.is in
     omega (arith, d.0)
 
@@ -59,7 +59,7 @@ slice_bounds-lowest_collision-end-2 c =
     let judge = c.judge-first in
     let judge2 = c.judge-second in
     let d =
-    walk_data (fst) (snd) c.args.from.0 c.args.to.0 judge.result judge.ensures c.in_default.is judge2.result judge2.ensures
+    walk_data fst snd c.args.from.0 c.args.to.0 judge.result judge.ensures c.in_default.is judge2.result judge2.ensures
     c.in_default-second.is in
     omega (arith, d.1)
 
@@ -72,7 +72,7 @@ lowest_collision-requires c =
     let lesser = c.lesser in
     let entry-count = c.entry_count in
     let room =
-    walk_room (fst) (snd) c.args.from.0 c.args.to.0 judge.result judge.ensures c.in_default.is judge2.result judge2.ensures c.in_default-second.is
+    walk_room fst snd c.args.from.0 c.args.to.0 judge.result judge.ensures c.in_default.is judge2.result judge2.ensures c.in_default-second.is
     c.if-n-n2.false in
     (room.0, room.1, end_most lesser.result c.args.to.0 entry-count.result _ lesser.ensures entry-count.ensures)
 
@@ -86,6 +86,6 @@ returns c =
     let lesser = c.lesser in
     let entry-count = c.entry_count in
     let a = c.args in
-    walk_says (fst) (snd) a.from.0 a.to.0 judge.result judge.ensures c.in_default.is judge2.result judge2.ensures c.in_default-second.is
+    walk_says fst snd a.from.0 a.to.0 judge.result judge.ensures c.in_default.is judge2.result judge2.ensures c.in_default-second.is
     c.if-n-n2.false (compared lowest-collision.result) lesser.result entry-count.result (a.size - 0) (a.size2 - 0) entry-count.ensures lesser.ensures (omega arith)
     (omega arith) lowest-collision.ensures

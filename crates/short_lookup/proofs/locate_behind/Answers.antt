@@ -13,9 +13,9 @@ locate_in-requires c = c.requires (ap said c.in-Done.is)
 pub returns-in-Refused : goal.returns-in-Refused
 returns-in-Refused c =
     let answer : Verdict → Found = λ v. let a = c.args in found_behind v (short_byte_in (known_if a.partly a.bitfield.now) a.tree.now a.n a.size a.offset.0) in
-    sym (ap (answer) (ap said c.in-Refused.is))
+    sym (ap answer (ap said c.in-Refused.is))
 
 pub returns-in-Done : goal.returns-in-Done
 returns-in-Done c =
     let answer : Verdict → Found = λ v. let a = c.args in found_behind v (short_byte_in (known_if a.partly a.bitfield.now) a.tree.now a.n a.size a.offset.0) in
-    c.locate_in.ensures ∙ sym (ap (answer) (ap said c.in-Done.is))
+    c.locate_in.ensures ∙ sym (ap answer (ap said c.in-Done.is))

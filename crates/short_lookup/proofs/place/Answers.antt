@@ -9,9 +9,9 @@ use Rattle.short_lookup.proofs.place.Goals as goal
 pub place_behind-requires : goal.place_behind-requires
 place_behind-requires c =
     let given : Register = register_of c.args.tree.now c.args.signatures.now c.args.bitfield.now c.args.content.now c.args.n c.args.s c.args.size in
-    λ e. files_in_lem (given) (sym e ∙ c.judge-checked.ensures)
+    λ e. files_in_lem given (sym e ∙ c.judge-checked.ensures)
 
 pub returns : goal.returns
 returns c =
     let given : Register = register_of c.args.tree.now c.args.signatures.now c.args.bitfield.now c.args.content.now c.args.n c.args.s c.args.size in
-    c.place_behind.ensures ∙ place_by (given) (said c.judge-checked.result) c.judge-checked.ensures c.args.chunk.0
+    c.place_behind.ensures ∙ place_by given (said c.judge-checked.result) c.judge-checked.ensures c.args.chunk.0

@@ -9,9 +9,9 @@ use Rattle.short_lookup.proofs.search.Goals as goal
 pub search_behind-requires : goal.search_behind-requires
 search_behind-requires c =
     let given : Register = register_of c.args.tree.now c.args.signatures.now c.args.bitfield.now c.args.content.now c.args.n c.args.s c.args.size in
-    λ e. bits_room (given) (sym e ∙ c.judge-checked.ensures)
+    λ e. bits_room given (sym e ∙ c.judge-checked.ensures)
 
 pub returns : goal.returns
 returns c =
     let given : Register = register_of c.args.tree.now c.args.signatures.now c.args.bitfield.now c.args.content.now c.args.n c.args.s c.args.size in
-    c.search_behind.ensures ∙ search_by (given) (said c.judge-checked.result) c.judge-checked.ensures c.args.from.0
+    c.search_behind.ensures ∙ search_by given (said c.judge-checked.result) c.judge-checked.ensures c.args.from.0

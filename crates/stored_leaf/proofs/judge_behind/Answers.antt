@@ -12,9 +12,9 @@ judge_leaf-requires c = c.requires (ap said c.in-Done.is)
 pub returns-in-Refused : goal.returns-in-Refused
 returns-in-Refused c =
     let next : Verdict = leaf_in (known_if c.args.partly c.args.bitfield.now) c.args.n c.args.chunk.0 in
-    sym (ap (λ (v : Verdict). and_then v (next)) (ap said c.in-Refused.is))
+    sym (ap (λ (v : Verdict). and_then v next) (ap said c.in-Refused.is))
 
 pub returns-in-Done : goal.returns-in-Done
 returns-in-Done c =
     let next : Verdict = leaf_in (known_if c.args.partly c.args.bitfield.now) c.args.n c.args.chunk.0 in
-    c.judge_leaf.ensures ∙ sym (ap (λ (v : Verdict). and_then v (next)) (ap said c.in-Done.is))
+    c.judge_leaf.ensures ∙ sym (ap (λ (v : Verdict). and_then v next) (ap said c.in-Done.is))

@@ -12,7 +12,7 @@ pub give_leaf-requires : goal.give_leaf-requires
 give_leaf-requires c =
     let given : Register = register_of c.args.tree.now c.args.signatures.now c.args.bitfield.now c.args.content.now c.args.n c.args.s
     c.args.size in
-    λ e. register_files (given) (sym c.judge-found.ensures ∙ e)
+    λ e. register_files given (sym c.judge-found.ensures ∙ e)
 
 pub returns : goal.returns
 unfolding leaf_verdict

@@ -10,9 +10,9 @@ judge_room-requires c = (some_listed c.args.lengths.now c.args.bytes.now c.in-Do
 pub returns-in-Refused : goal.returns-in-Refused
 returns-in-Refused c =
     let given : Register = register_of c.args.tree.now c.args.signatures.now c.args.bitfield.now c.args.content.now c.args.n c.args.s c.args.size in
-    own_refused (given) c.args.lengths.now c.args.bytes.now c.in-Refused.is c.judge_list-found.ensures
+    own_refused given c.args.lengths.now c.args.bytes.now c.in-Refused.is c.judge_list-found.ensures
 
 pub returns-in-Done : goal.returns-in-Done
 returns-in-Done c =
     let given : Register = register_of c.args.tree.now c.args.signatures.now c.args.bitfield.now c.args.content.now c.args.n c.args.s c.args.size in
-    own_passed (given) c.args.lengths.now c.args.bytes.now c.in-Done.is c.judge_list-found.ensures c.judge_room.ensures
+    own_passed given c.args.lengths.now c.args.bytes.now c.in-Done.is c.judge_list-found.ensures c.judge_room.ensures

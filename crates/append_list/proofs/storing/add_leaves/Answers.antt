@@ -12,10 +12,11 @@ loop-j-init c = (omega arith, refl, going_none c.requires)
 
 pub overflow_add-end : goal.overflow_add-end
 overflow_add-end c =
+    -- the next chunk fits, at each turn
     let next_fits : (LeafFits c.loop-j.tree c.args.content.now (c.args.n + c.loop-j.j)
     c.loop-j.at (c.loop-j.at + get_or c.args.lengths.now c.loop-j.j 0)) = going_fits c.loop-j.invariant.2 c.loop-j-test.true c.well_formed.1.0.0 in
     let small : length c.args.content.now < 2 ^ 64 = c.well_formed.1.0.0 in
-    record { fits = omega (arith, (next_fits).content) }
+    record { fits = omega (arith, next_fits.content) }
 
 pub overflow_add-n : goal.overflow_add-n
 overflow_add-n c = record { fits = omega (arith, c.loop-j.invariant.2.left.few) }

@@ -24,16 +24,17 @@ leaf_right-requires c = at_leaf c.requires c.if-i-eq0.true c.chunk_of_leaf-c.ens
 
 pub returns-then-i-eq0 : goal.returns-then-i-eq0
 returns-then-i-eq0 c =
+    -- the entry is filled
     let filled-here : filled c.args.n c.args.i.0 ≡ true = sym c.is_filled.ensures ∙ c.if-not-is_filled.false in
-    leaf_entry_lem c.requires node_hash (omega (arith, c.requires.files.bytes)) c.if-i-eq0.true (filled-here)
+    leaf_entry_lem c.requires node_hash (omega (arith, c.requires.files.bytes)) c.if-i-eq0.true filled-here
     c.chunk_of_leaf-c.ensures c.is_held-held.ensures c.leaf_right.ensures
 
 pub parent_right-requires : goal.parent_right-requires
 parent_right-requires c =
     let filled-here : filled c.args.n c.args.i.0 ≡ true = sym c.is_filled.ensures ∙ c.if-not-is_filled.false in
-    at_parent c.requires c.if-i-eq0.false (filled-here)
+    at_parent c.requires c.if-i-eq0.false filled-here
 
 pub returns : goal.returns
 returns c =
     let filled-here : filled c.args.n c.args.i.0 ≡ true = sym c.is_filled.ensures ∙ c.if-not-is_filled.false in
-    parent_entry c.requires node_hash c.if-i-eq0.false (filled-here) c.parent_right.ensures
+    parent_entry c.requires node_hash c.if-i-eq0.false filled-here c.parent_right.ensures

@@ -9,15 +9,17 @@ use Rattle.audit.proofs.tree.parent_right.Goals as goal
 
 pub stored_size-first-requires : goal.stored_size-first-requires
 stored_size-first-requires c =
+    -- the children lie in the file
     let left_in : EntryIn c.args.tree.now c.left_child-left.result.0 = entry_as c.left_child-left.ensures c.requires.left in
     left_in
 
 pub returns-then-here-first : goal.returns-then-here-first
 returns-then-here-first c =
+    -- the left child's length
     let left-size : (let a = c.args in c.stored_size-first.result ≡ stored_size a.tree.now (left_child a.i.0)) =
     c.stored_size-first.ensures ∙ ap (stored_size c.args.tree.now) c.left_child-left.ensures in
     let a = c.args in
-    parent_less node_hash a.tree.now a.i.0 c.stored_size-here.ensures (left-size) c.if-here-first.true
+    parent_less node_hash a.tree.now a.i.0 c.stored_size-here.ensures left-size c.if-here-first.true
 
 pub stored_size-second-requires : goal.stored_size-second-requires
 stored_size-second-requires c =
@@ -29,7 +31,7 @@ returns-then-here-first-2 c =
     let left-size : (let a = c.args in c.stored_size-first.result ≡ stored_size a.tree.now (left_child a.i.0)) =
     c.stored_size-first.ensures ∙ ap (stored_size c.args.tree.now) c.left_child-left.ensures in
     let a = c.args in
-    parent_off node_hash a.tree.now a.i.0 c.stored_size-here.ensures (left-size)
+    parent_off node_hash a.tree.now a.i.0 c.stored_size-here.ensures left-size
     (c.stored_size-second.ensures ∙ ap (stored_size a.tree.now) c.right_child-right.ensures) c.if-here-first.false c.if-here-first-2.true
 
 pub stored_hash-a-requires : goal.stored_hash-a-requires
@@ -47,7 +49,7 @@ returns c =
     let left-size : (let a = c.args in c.stored_size-first.result ≡ stored_size a.tree.now (left_child a.i.0)) =
     c.stored_size-first.ensures ∙ ap (stored_size c.args.tree.now) c.left_child-left.ensures in
     let a = c.args in
-    parent_same node_hash a.tree.now a.i.0 c.stored_size-here.ensures (left-size)
+    parent_same node_hash a.tree.now a.i.0 c.stored_size-here.ensures left-size
     (c.stored_size-second.ensures ∙ ap (stored_size a.tree.now) c.right_child-right.ensures) c.if-here-first.false c.if-here-first-2.false
     (c.stored_hash-a.ensures ∙ ap (stored_hash a.tree.now) c.left_child-left.ensures)
     (c.stored_hash-b.ensures ∙ ap (stored_hash a.tree.now) c.right_child-right.ensures)

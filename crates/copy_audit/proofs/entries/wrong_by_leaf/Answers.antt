@@ -23,14 +23,14 @@ pub returns-in-Stopped : goal.returns-in-Stopped
 unfolding copy_to_chunk
 returns-in-Stopped c =
     let given : Copy = copy_of c.args.tree.now c.args.bitfield.now c.args.content.now c.args.n c.args.size in
-    leaf_stopped node_hash (given) c.args.c.0 (omega (arith, c.well_formed.1.1.0.1, c.requires.files.bytes))
+    leaf_stopped node_hash given c.args.c.0 (omega (arith, c.well_formed.1.1.0.1, c.requires.files.bytes))
     (sym (ap ending_of c.in-Stopped.is) ∙ c.from_roots.ensures)
 
 pub returns-in-Unknown : goal.returns-in-Unknown
 unfolding copy_to_chunk
 returns-in-Unknown c =
     let given : Copy = copy_of c.args.tree.now c.args.bitfield.now c.args.content.now c.args.n c.args.size in
-    leaf_unknown node_hash (given) c.args.c.0 (omega (arith, c.well_formed.1.1.0.1, c.requires.files.bytes))
+    leaf_unknown node_hash given c.args.c.0 (omega (arith, c.well_formed.1.1.0.1, c.requires.files.bytes))
     (sym (ap ending_of c.in-Unknown.is) ∙ c.from_roots.ensures) c.leaf_index-leaf.ensures
 
 pub returns-in-Reached : goal.returns-in-Reached
@@ -38,5 +38,5 @@ unfolding copy_to_chunk
 returns-in-Reached c =
     let given : Copy = copy_of c.args.tree.now c.args.bitfield.now c.args.content.now c.args.n c.args.size in
     c.wrong_unless.ensures
-    ∙ leaf_reached node_hash (given) c.args.c.0 (omega (arith, c.well_formed.1.1.0.1, c.requires.files.bytes))
+    ∙ leaf_reached node_hash given c.args.c.0 (omega (arith, c.well_formed.1.1.0.1, c.requires.files.bytes))
     (sym (ap ending_of c.in-Reached.is) ∙ c.from_roots.ensures) c.leaf_index-leaf.ensures c.leaf_right-right.ensures

@@ -11,9 +11,9 @@ pub held_place_behind-requires : goal.held_place_behind-requires
 held_place_behind-requires c =
     let given : Copy = copy_of c.args.tree.now c.args.bitfield.now c.args.content.now c.args.n c.args.size in
     let h : c.args.size < 2 ^ 64 = omega arith in
-    λ e. copy_searched_held (given) (sym e ∙ c.judge-checked.ensures) h
+    λ e. copy_searched_held given (sym e ∙ c.judge-checked.ensures) h
 
 pub returns : goal.returns
 returns c =
     let given : Copy = copy_of c.args.tree.now c.args.bitfield.now c.args.content.now c.args.n c.args.size in
-    c.held_place_behind.ensures ∙ held_by (given) (said c.judge-checked.result) c.judge-checked.ensures c.args.chunk.0
+    c.held_place_behind.ensures ∙ held_by given (said c.judge-checked.result) c.judge-checked.ensures c.args.chunk.0

@@ -11,9 +11,9 @@ pub place_behind-requires : goal.place_behind-requires
 place_behind-requires c =
     let given : Copy = copy_of c.args.tree.now c.args.bitfield.now c.args.content.now c.args.n c.args.size in
     let h : c.args.size < 2 ^ 64 = omega arith in
-    λ e. (copy_searched (given) (sym e ∙ c.judge-checked.ensures) h).searched
+    λ e. (copy_searched given (sym e ∙ c.judge-checked.ensures) h).searched
 
 pub returns : goal.returns
 returns c =
     let given : Copy = copy_of c.args.tree.now c.args.bitfield.now c.args.content.now c.args.n c.args.size in
-    c.place_behind.ensures ∙ place_by (given) (said c.judge-checked.result) c.judge-checked.ensures c.args.chunk.0
+    c.place_behind.ensures ∙ place_by given (said c.judge-checked.result) c.judge-checked.ensures c.args.chunk.0

@@ -9,9 +9,9 @@ use Rattle.copy_lookup.proofs.reads.read.Goals as goal
 pub bytes_of-requires : goal.bytes_of-requires
 bytes_of-requires c =
     let given : Copy = copy_of c.args.tree.now c.args.bitfield.now c.args.content.now c.args.n c.args.size in
-    read_in_lem node_hash (given) c.args.chunk.0 (verified_of c.verify-verified.result) c.verify-verified.ensures
+    read_in_lem node_hash given c.args.chunk.0 (verified_of c.verify-verified.result) c.verify-verified.ensures
 
 pub returns : goal.returns
 returns c =
     let given : Copy = copy_of c.args.tree.now c.args.bitfield.now c.args.content.now c.args.n c.args.size in
-    c.bytes_of.ensures ∙ read_bytes node_hash (given) c.args.chunk.0 (verified_of c.verify-verified.result) c.verify-verified.ensures
+    c.bytes_of.ensures ∙ read_bytes node_hash given c.args.chunk.0 (verified_of c.verify-verified.result) c.verify-verified.ensures

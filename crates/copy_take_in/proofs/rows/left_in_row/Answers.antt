@@ -1,4 +1,4 @@
-use Prim.Native.Nat.{ℕ, ◌+◌, ◌-◌, ◌*◌}
+use Prim.Native.Nat.{ℕ, ◌+◌, ◌*◌}
 use mathlib.Core.Path.{◌≡◌, sym, ap, ◌∙◌}
 use mathlib.Core.List.{map}
 use native.Mathlib.Omega.{arith}
@@ -30,6 +30,7 @@ left_size-sum-requires c = omega (arith, c.requires.inside.inside)
 
 pub overflow_add-sum : goal.overflow_add-sum
 overflow_add-sum c =
+    -- what a step adds
     let step : (total
     (map (left_size c.args.leaf.0)
     (row_given c.args.row.now c.args.at

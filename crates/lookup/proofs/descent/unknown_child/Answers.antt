@@ -34,7 +34,7 @@ left_child-left-requires c =
 pub is_known-requires : goal.is_known-requires
 is_known-requires c =
     let deep : 0 < depth c.args.i.0 = deeper c.args.i.0 c.depth.ensures c.if-depth-eq0.false in
-    subst (BitIn c.args.partly c.args.bitfield.now) (sym c.left_child-left.ensures) (c.requires.left (deep))
+    subst (BitIn c.args.partly c.args.bitfield.now) (sym c.left_child-left.ensures) (c.requires.left deep)
 
 pub returns-then-not-is_known : goal.returns-then-not-is_known
 returns-then-not-is_known c =
@@ -44,7 +44,7 @@ returns-then-not-is_known c =
     let l = c.left_child-left.ensures in
     ap first l
     ∙ sym (first_unknown_lem k (left_child a.i.0) (right_child a.i.0 ∷ []) (sym (c.if-not-is_known.true) ∙ c.is_known.ensures ∙ ap k l))
-    ∙ sym (ap (first_unknown k) (children_parent a.i.0 (deep)))
+    ∙ sym (ap (first_unknown k) (children_parent a.i.0 deep))
 
 pub right_child-right-requires : goal.right_child-right-requires
 right_child-right-requires c =
@@ -54,7 +54,7 @@ right_child-right-requires c =
 pub is_known-requires-2 : goal.is_known-requires-2
 is_known-requires-2 c =
     let deep : 0 < depth c.args.i.0 = deeper c.args.i.0 c.depth.ensures c.if-depth-eq0.false in
-    subst (BitIn c.args.partly c.args.bitfield.now) (sym c.right_child-right.ensures) (c.requires.right (deep))
+    subst (BitIn c.args.partly c.args.bitfield.now) (sym c.right_child-right.ensures) (c.requires.right deep)
 
 pub returns-then-not-is_known-2 : goal.returns-then-not-is_known-2
 returns-then-not-is_known-2 c =
@@ -66,7 +66,7 @@ returns-then-not-is_known-2 c =
     ap first r
     ∙ sym (first_unknown_lem k (right_child a.i.0) [] (sym (c.if-not-is_known-2.true) ∙ c.is_known-2.ensures ∙ ap k r))
     ∙ sym (first_known k (left_child a.i.0) (right_child a.i.0 ∷ []) (sym (c.if-not-is_known.false) ∙ c.is_known.ensures ∙ ap k l))
-    ∙ sym (ap (first_unknown k) (children_parent a.i.0 (deep)))
+    ∙ sym (ap (first_unknown k) (children_parent a.i.0 deep))
 
 pub returns : goal.returns
 unfolding first_unknown
@@ -78,4 +78,4 @@ returns c =
     let r = c.right_child-right.ensures in
     sym (first_known k (right_child a.i.0) [] (sym (c.if-not-is_known-2.false) ∙ c.is_known-2.ensures ∙ ap k r))
     ∙ sym (first_known k (left_child a.i.0) (right_child a.i.0 ∷ []) (sym (c.if-not-is_known.false) ∙ c.is_known.ensures ∙ ap k l))
-    ∙ sym (ap (first_unknown k) (children_parent a.i.0 (deep)))
+    ∙ sym (ap (first_unknown k) (children_parent a.i.0 deep))

@@ -13,10 +13,10 @@ pub returns-in-Refused : goal.returns-in-Refused
 returns-in-Refused c =
     let answer : Verdict → Found =
     λ v. let a = c.args in found_behind v (held_place_in (known_if a.partly a.bitfield.now) a.tree.now a.n a.bitfield.now a.chunk.0) in
-    sym (ap (answer) (ap said c.in-Refused.is))
+    sym (ap answer (ap said c.in-Refused.is))
 
 pub returns-in-Done : goal.returns-in-Done
 returns-in-Done c =
     let answer : Verdict → Found =
     λ v. let a = c.args in found_behind v (held_place_in (known_if a.partly a.bitfield.now) a.tree.now a.n a.bitfield.now a.chunk.0) in
-    c.held_place_in.ensures ∙ sym (ap (answer) (ap said c.in-Done.is))
+    c.held_place_in.ensures ∙ sym (ap answer (ap said c.in-Done.is))

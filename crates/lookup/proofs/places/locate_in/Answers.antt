@@ -24,15 +24,17 @@ returns-then-offset-size c =
 
 pub overflow_sub-result : goal.overflow_sub-result
 overflow_sub-result c =
+    -- below the data size
     let below : c.args.offset.0 < c.args.size = lt_of_not-le (λ l. c.if-offset-size.false (omega arith)) in
+    -- the descent's ending
     let told : ((e : Ending) → c.from_roots.result ≡ e
     → ending_of e
     ≡ descent (known_if c.args.partly c.args.bitfield.now) (byte_within c.args.offset.0) c.args.tree.now c.args.n) = λ e f. let a = c.args in
     let z : a.size < 2 ^ 64 = omega arith in
     sym (ap ending_of f) ∙ c.from_roots.ensures
-    ∙ byte_told (known_if a.partly a.bitfield.now) a.tree.now a.n a.size a.offset.0 c.requires (below) z in
+    ∙ byte_told (known_if a.partly a.bitfield.now) a.tree.now a.n a.size a.offset.0 c.requires below z in
     let a = c.args in
-    byte_from_lem (known_if a.partly a.bitfield.now) a.tree.now a.n a.size a.offset.0 c.requires (below) _ _
+    byte_from_lem (known_if a.partly a.bitfield.now) a.tree.now a.n a.size a.offset.0 c.requires below _ _
     (sym (told _ c.in-Reached.is))
 
 pub returns-in-Stopped : goal.returns-in-Stopped
@@ -43,12 +45,13 @@ returns-in-Stopped c =
     ≡ descent (known_if c.args.partly c.args.bitfield.now) (byte_within c.args.offset.0) c.args.tree.now c.args.n) = λ e f. let a = c.args in
     let z : a.size < 2 ^ 64 = omega arith in
     sym (ap ending_of f) ∙ c.from_roots.ensures
-    ∙ byte_told (known_if a.partly a.bitfield.now) a.tree.now a.n a.size a.offset.0 c.requires (below) z in
+    ∙ byte_told (known_if a.partly a.bitfield.now) a.tree.now a.n a.size a.offset.0 c.requires below z in
+    -- and the answer for it
     let ended : ((e : Ending) → c.from_roots.result ≡ e
     → byte_from c.args.offset.0 (ending_of e)
     ≡ byte_in (known_if c.args.partly c.args.bitfield.now) c.args.tree.now c.args.n c.args.size c.args.offset.0) = λ e f. let a = c.args in
     ap (byte_from a.offset.0) (told e f)
-    ∙ sym (byte_below (known_if a.partly a.bitfield.now) a.tree.now a.n a.size a.offset.0 (below)) in
+    ∙ sym (byte_below (known_if a.partly a.bitfield.now) a.tree.now a.n a.size a.offset.0 below) in
     ended _ c.in-Stopped.is
 
 pub returns-in-Unknown : goal.returns-in-Unknown
@@ -59,12 +62,12 @@ returns-in-Unknown c =
     ≡ descent (known_if c.args.partly c.args.bitfield.now) (byte_within c.args.offset.0) c.args.tree.now c.args.n) = λ e f. let a = c.args in
     let z : a.size < 2 ^ 64 = omega arith in
     sym (ap ending_of f) ∙ c.from_roots.ensures
-    ∙ byte_told (known_if a.partly a.bitfield.now) a.tree.now a.n a.size a.offset.0 c.requires (below) z in
+    ∙ byte_told (known_if a.partly a.bitfield.now) a.tree.now a.n a.size a.offset.0 c.requires below z in
     let ended : ((e : Ending) → c.from_roots.result ≡ e
     → byte_from c.args.offset.0 (ending_of e)
     ≡ byte_in (known_if c.args.partly c.args.bitfield.now) c.args.tree.now c.args.n c.args.size c.args.offset.0) = λ e f. let a = c.args in
     ap (byte_from a.offset.0) (told e f)
-    ∙ sym (byte_below (known_if a.partly a.bitfield.now) a.tree.now a.n a.size a.offset.0 (below)) in
+    ∙ sym (byte_below (known_if a.partly a.bitfield.now) a.tree.now a.n a.size a.offset.0 below) in
     ended _ c.in-Unknown.is
 
 pub returns-in-Reached : goal.returns-in-Reached
@@ -75,10 +78,10 @@ returns-in-Reached c =
     ≡ descent (known_if c.args.partly c.args.bitfield.now) (byte_within c.args.offset.0) c.args.tree.now c.args.n) = λ e f. let a = c.args in
     let z : a.size < 2 ^ 64 = omega arith in
     sym (ap ending_of f) ∙ c.from_roots.ensures
-    ∙ byte_told (known_if a.partly a.bitfield.now) a.tree.now a.n a.size a.offset.0 c.requires (below) z in
+    ∙ byte_told (known_if a.partly a.bitfield.now) a.tree.now a.n a.size a.offset.0 c.requires below z in
     let ended : ((e : Ending) → c.from_roots.result ≡ e
     → byte_from c.args.offset.0 (ending_of e)
     ≡ byte_in (known_if c.args.partly c.args.bitfield.now) c.args.tree.now c.args.n c.args.size c.args.offset.0) = λ e f. let a = c.args in
     ap (byte_from a.offset.0) (told e f)
-    ∙ sym (byte_below (known_if a.partly a.bitfield.now) a.tree.now a.n a.size a.offset.0 (below)) in
+    ∙ sym (byte_below (known_if a.partly a.bitfield.now) a.tree.now a.n a.size a.offset.0 below) in
     ended _ c.in-Reached.is

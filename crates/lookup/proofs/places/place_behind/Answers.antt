@@ -12,9 +12,9 @@ place_in-requires c = c.requires (ap said c.in-Done.is)
 pub returns-in-Refused : goal.returns-in-Refused
 returns-in-Refused c =
     let answer : Verdict → Found = λ v. let a = c.args in found_behind v (place_in (known_if a.partly a.bitfield.now) a.tree.now a.n a.chunk.0) in
-    sym (ap (answer) (ap said c.in-Refused.is))
+    sym (ap answer (ap said c.in-Refused.is))
 
 pub returns-in-Done : goal.returns-in-Done
 returns-in-Done c =
     let answer : Verdict → Found = λ v. let a = c.args in found_behind v (place_in (known_if a.partly a.bitfield.now) a.tree.now a.n a.chunk.0) in
-    c.place_in.ensures ∙ sym (ap (answer) (ap said c.in-Done.is))
+    c.place_in.ensures ∙ sym (ap answer (ap said c.in-Done.is))

@@ -21,6 +21,7 @@ stored_size-requires c =
 
 pub returns-in-Stopped : goal.returns-in-Stopped
 returns-in-Stopped c =
+    -- the answer for each ending of the descent
     let ended : ((e : Ending) → c.from_roots.result ≡ e
     → place_from c.args.tree.now c.args.chunk.0 (ending_of e)
     ≡ place_in (known_if c.args.partly c.args.bitfield.now) c.args.tree.now c.args.n c.args.chunk.0) = λ e f. let a = c.args in

@@ -12,18 +12,19 @@ returns-in-Part c = sym (ap (λ v. bytes_found c.args.content.now (verified_of v
 
 pub slice_bounds-result-count : goal.slice_bounds-result-count
 slice_bounds-result-count c =
+    -- where the part lies
     let lies : PartIn c.args.content.now (found c.in-Part.start.0 c.in-Part.end.0) =
     subst (PartIn c.args.content.now) (ap verified_of c.in-Part.is) c.requires in
-    (lies).0
+    lies.0
 
 pub slice_bounds-result-start : goal.slice_bounds-result-start
 slice_bounds-result-start c =
     let lies : PartIn c.args.content.now (found c.in-Part.start.0 c.in-Part.end.0) =
     subst (PartIn c.args.content.now) (ap verified_of c.in-Part.is) c.requires in
-    (lies).0
+    lies.0
 
 pub slice_bounds-result-end : goal.slice_bounds-result-end
 slice_bounds-result-end c =
     let lies : PartIn c.args.content.now (found c.in-Part.start.0 c.in-Part.end.0) =
     subst (PartIn c.args.content.now) (ap verified_of c.in-Part.is) c.requires in
-    (lies).1
+    lies.1

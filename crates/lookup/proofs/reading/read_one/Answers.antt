@@ -10,9 +10,9 @@ use Rattle.lookup.proofs.reading.read_one.Goals as goal
 pub bytes_of-requires : goal.bytes_of-requires
 bytes_of-requires c =
     let given : Register = register_of c.args.tree.now c.args.signatures.now c.args.bitfield.now c.args.content.now c.args.n c.args.s c.args.size in
-    read_in_lem node_hash (given) c.args.chunk.0 (verified_of c.verify-verified.result) c.verify-verified.ensures
+    read_in_lem node_hash given c.args.chunk.0 (verified_of c.verify-verified.result) c.verify-verified.ensures
 
 pub returns : goal.returns
 returns c =
     let given : Register = register_of c.args.tree.now c.args.signatures.now c.args.bitfield.now c.args.content.now c.args.n c.args.s c.args.size in
-    c.bytes_of.ensures ∙ read_bytes node_hash (given) c.args.chunk.0 (verified_of c.verify-verified.result) c.verify-verified.ensures
+    c.bytes_of.ensures ∙ read_bytes node_hash given c.args.chunk.0 (verified_of c.verify-verified.result) c.verify-verified.ensures

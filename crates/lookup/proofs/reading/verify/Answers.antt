@@ -10,9 +10,9 @@ use Rattle.lookup.proofs.reading.verify.Goals as goal
 pub verify_placed-requires : goal.verify_placed-requires
 verify_placed-requires c =
     let given : Register = register_of c.args.tree.now c.args.signatures.now c.args.bitfield.now c.args.content.now c.args.n c.args.s c.args.size in
-    placed_in (given) c.args.chunk.0 (placed_of c.held_place-placed.result) c.held_place-placed.ensures
+    placed_in given c.args.chunk.0 (placed_of c.held_place-placed.result) c.held_place-placed.ensures
 
 pub returns : goal.returns
 returns c =
     let given : Register = register_of c.args.tree.now c.args.signatures.now c.args.bitfield.now c.args.content.now c.args.n c.args.s c.args.size in
-    c.verify_placed.ensures ∙ verified node_hash (given) c.args.chunk.0 (placed_of c.held_place-placed.result) c.held_place-placed.ensures
+    c.verify_placed.ensures ∙ verified node_hash given c.args.chunk.0 (placed_of c.held_place-placed.result) c.held_place-placed.ensures

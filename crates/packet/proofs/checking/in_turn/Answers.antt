@@ -29,14 +29,15 @@ returns-then-j-place-2 c =
 
 pub overflow_add-at-2 : goal.overflow_add-at-2
 overflow_add-at-2 c =
+    -- a root behind the one above the chunk
     let past : c.args.place < c.args.j = omega arith in
-    let behind : c.args.at + 40 * c.args.j ≤ length c.args.packet.now = c.requires.behind (past) in
+    let behind : c.args.at + 40 * c.args.j ≤ length c.args.packet.now = c.requires.behind past in
     omega (arith, behind)
 
 pub entry_node-requires-2 : goal.entry_node-requires-2
 entry_node-requires-2 c =
     let past : c.args.place < c.args.j = omega arith in
-    let behind : c.args.at + 40 * c.args.j ≤ length c.args.packet.now = c.requires.behind (past) in
+    let behind : c.args.at + 40 * c.args.j ≤ length c.args.packet.now = c.requires.behind past in
     omega (arith, behind)
 
 pub returns : goal.returns

@@ -1,4 +1,3 @@
-use Prim.Native.Nat.{◌-◌}
 use mathlib.Core.Path.{ap, refl}
 use Rattle.file_format.specs.Entries.{Entry}
 use Rattle.file_format.proofs.ByValue.{filling_none, filling_next, filling_all}

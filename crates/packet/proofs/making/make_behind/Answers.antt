@@ -9,10 +9,11 @@ use Rattle.packet.proofs.making.make_behind.Goals as goal
 pub make_read-requires : goal.make_read-requires
 unfolding part
 make_read-requires c =
+    -- the part that was read
     let lies : (ReadIn c.args.tree.now c.args.content.now c.args.n c.args.chunk.0
     (found c.in-Part.start.0 c.in-Part.end.0)) = let a = c.args in
     subst (ReadIn a.tree.now a.content.now a.n a.chunk.0) (ap verified_of c.in-Part.is) c.requires in
-    (lies).readable refl
+    lies.readable refl
 
 pub returns-in-Refused : goal.returns-in-Refused
 returns-in-Refused c = rw c.in-Refused.is (record { verdict = refl; long = refl; written = refl })
@@ -26,18 +27,18 @@ slice_bounds-make_read-count c =
     let lies : (ReadIn c.args.tree.now c.args.content.now c.args.n c.args.chunk.0
     (found c.in-Part.start.0 c.in-Part.end.0)) = let a = c.args in
     subst (ReadIn a.tree.now a.content.now a.n a.chunk.0) (ap verified_of c.in-Part.is) c.requires in
-    (lies).part.0
+    lies.part.0
 
 pub slice_bounds-make_read-start : goal.slice_bounds-make_read-start
 slice_bounds-make_read-start c =
     let lies : (ReadIn c.args.tree.now c.args.content.now c.args.n c.args.chunk.0
     (found c.in-Part.start.0 c.in-Part.end.0)) = let a = c.args in
     subst (ReadIn a.tree.now a.content.now a.n a.chunk.0) (ap verified_of c.in-Part.is) c.requires in
-    (lies).part.0
+    lies.part.0
 
 pub slice_bounds-make_read-end : goal.slice_bounds-make_read-end
 slice_bounds-make_read-end c =
     let lies : (ReadIn c.args.tree.now c.args.content.now c.args.n c.args.chunk.0
     (found c.in-Part.start.0 c.in-Part.end.0)) = let a = c.args in
     subst (ReadIn a.tree.now a.content.now a.n a.chunk.0) (ap verified_of c.in-Part.is) c.requires in
-    (lies).part.1
+    lies.part.1

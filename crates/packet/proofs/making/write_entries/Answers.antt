@@ -1,4 +1,4 @@
-use Prim.Native.Nat.{ℕ, zero-le, ◌+◌, ◌-◌, ◌≤◌}
+use Prim.Native.Nat.{ℕ, zero-le, ◌+◌, ◌≤◌}
 use mathlib.Core.Path.{◌≡◌, sym, ap, ◌∙◌, subst}
 use native.Mathlib.Omega.{arith}
 use lib.ListN.{length, get_or}
@@ -25,6 +25,7 @@ entry_place-start-requires c = (subst (EntryIn c.args.tree.now) (number_at c.arg
 
 pub overflow_add-end : goal.overflow_add-end
 overflow_add-end c =
+    -- the entry lies in the tree file
     let inside : c.entry_place-start.result + 40 ≤ length c.args.tree.now = subst (λ (x : ℕ). x + 40 ≤ length c.args.tree.now) (sym c.entry_place-start.ensures)
     (subst (EntryIn c.args.tree.now) (number_at c.args.indexes c.loop-j.j) (c.requires.0.each c.loop-j.j c.loop-j-test.true)).inside in
     omega (arith, inside)
@@ -45,7 +46,7 @@ pub copy_to-requires : goal.copy_to-requires
 copy_to-requires c =
     let inside : c.entry_place-start.result + 40 ≤ length c.args.tree.now = subst (λ (x : ℕ). x + 40 ≤ length c.args.tree.now) (sym c.entry_place-start.ensures)
     (subst (EntryIn c.args.tree.now) (number_at c.args.indexes c.loop-j.j) (c.requires.0.each c.loop-j.j c.loop-j-test.true)).inside in
-    omega (arith, c.requires.1, c.loop-j.invariant.1.long, lent_length c.args.tree.now c.entry_place-start.result (inside))
+    omega (arith, c.requires.1, c.loop-j.invariant.1.long, lent_length c.args.tree.now c.entry_place-start.result inside)
 
 pub loop-j-preserved : goal.loop-j-preserved
 loop-j-preserved c =

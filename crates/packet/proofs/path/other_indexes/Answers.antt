@@ -26,6 +26,7 @@ skipping-from-requires c = omega (arith, c.root_count-count.ensures, length_root
 
 pub offset_bounds-indexes-from : goal.offset_bounds-indexes-from
 offset_bounds-indexes-from c =
+    -- the place that is read lies in the array
     let place : c.skipping-from.result < 20 = let a = c.args in
     let g : c.loop-j.j < length (roots a.n) - 1 = subst (λ (x : ℕ). c.loop-j.j < x - 1) c.root_count-count.ensures c.loop-j-test.true in
     omega (arith, c.skipping-from.ensures, skipped_below a.place c.loop-j.j (length (roots a.n)) g c.requires.1, length_roots_le a.n c.requires.0) in

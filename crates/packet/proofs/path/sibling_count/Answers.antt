@@ -12,6 +12,7 @@ use Rattle.packet.proofs.path.sibling_count.Goals as goal
 
 pub offset_bounds-indexes-place : goal.offset_bounds-indexes-place
 offset_bounds-indexes-place c =
+    -- the root's place in the array
     let place : c.root_place-place.result < 20 = let a = c.args in
     omega (arith, c.root_place-place.ensures, place_below a.n a.chunk.0 c.requires, length_roots_le a.n c.requires.count) in
     omega (arith, place)

@@ -25,12 +25,12 @@ stored_size-length-requires c = subst (EntryIn c.args.tree.now) (sym c.leaf_inde
 pub returns-then-length-gt65536 : goal.returns-then-length-gt65536
 returns-then-length-gt65536 c =
     let known : ℕ → Bool = known_if c.args.partly c.args.bitfield.now in
-    let read : Leaf (known) c.args.tree.now c.loop-k.k.0 c.leaf_index-leaf.result.0 c.stored_size-length.result = record {
+    let read : Leaf known c.args.tree.now c.loop-k.k.0 c.leaf_index-leaf.result.0 c.stored_size-length.result = record {
       at = c.leaf_index-leaf.ensures;
       knows = sym c.is_known.ensures ∙ c.if-not-is_known.false;
       says = c.stored_size-length.ensures;
     } in
-    byte_long_lem _ c.if-size-offset.false c.if-offset-size.false c.loop-k.invariant c.loop-k-test.true (read) c.if-length-gt65536.true
+    byte_long_lem _ c.if-size-offset.false c.if-offset-size.false c.loop-k.invariant c.loop-k-test.true read c.if-length-gt65536.true
 
 pub overflow_add-start : goal.overflow_add-start
 overflow_add-start c = omega (arith, c.loop-k.invariant.walked.small, c.loop-k-test.true, c.if-length-gt65536.false, c.requires.roots.count)
@@ -41,12 +41,12 @@ overflow_sub-result c = c.loop-k.invariant.from
 pub returns-then-offset-start : goal.returns-then-offset-start
 returns-then-offset-start c =
     let known : ℕ → Bool = known_if c.args.partly c.args.bitfield.now in
-    let read : Leaf (known) c.args.tree.now c.loop-k.k.0 c.leaf_index-leaf.result.0 c.stored_size-length.result = record {
+    let read : Leaf known c.args.tree.now c.loop-k.k.0 c.leaf_index-leaf.result.0 c.stored_size-length.result = record {
       at = c.leaf_index-leaf.ensures;
       knows = sym c.is_known.ensures ∙ c.if-not-is_known.false;
       says = c.stored_size-length.ensures;
     } in
-    byte_here _ c.if-size-offset.false c.if-offset-size.false c.loop-k.invariant c.loop-k-test.true (read) c.if-length-gt65536.false
+    byte_here _ c.if-size-offset.false c.if-offset-size.false c.loop-k.invariant c.loop-k-test.true read c.if-length-gt65536.false
     c.if-offset-start.true
 
 pub overflow_add-start-in-loop-k : goal.overflow_add-start-in-loop-k
@@ -61,12 +61,12 @@ loop-k-smaller c = omega (arith, c.loop-k-test.true)
 pub loop-k-preserved : goal.loop-k-preserved
 loop-k-preserved c =
     let known : ℕ → Bool = known_if c.args.partly c.args.bitfield.now in
-    let read : Leaf (known) c.args.tree.now c.loop-k.k.0 c.leaf_index-leaf.result.0 c.stored_size-length.result = record {
+    let read : Leaf known c.args.tree.now c.loop-k.k.0 c.leaf_index-leaf.result.0 c.stored_size-length.result = record {
       at = c.leaf_index-leaf.ensures;
       knows = sym c.is_known.ensures ∙ c.if-not-is_known.false;
       says = c.stored_size-length.ensures;
     } in
-    byte_on _ c.if-size-offset.false c.if-offset-size.false c.loop-k.invariant c.loop-k-test.true (read) c.if-length-gt65536.false
+    byte_on _ c.if-size-offset.false c.if-offset-size.false c.loop-k.invariant c.loop-k-test.true read c.if-length-gt65536.false
     c.if-offset-start.false
 
 pub returns : goal.returns

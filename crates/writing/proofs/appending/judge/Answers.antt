@@ -11,21 +11,21 @@ use Rattle.writing.proofs.appending.judge.Goals as goal
 pub returns-then-n-ge1048576 : goal.returns-then-n-ge1048576
 returns-then-n-ge1048576 c =
     let given : Register = register_of c.args.tree.now c.args.signatures.now c.args.bitfield.now c.args.content.now c.args.n c.args.s c.args.size in
-    append_over (given) c.args.chunk.now c.if-n-ge1048576.true c.refuse.ensures
+    append_over given c.args.chunk.now c.if-n-ge1048576.true c.refuse.ensures
 
 pub judge_own-requires : goal.judge_own-requires
 judge_own-requires c =
     let given : Register = register_of c.args.tree.now c.args.signatures.now c.args.bitfield.now c.args.content.now c.args.n c.args.s c.args.size in
-    (c.if-n-ge1048576.false, data_inside (given) c.in-Done.is c.judge_later-found.ensures)
+    (c.if-n-ge1048576.false, data_inside given c.in-Done.is c.judge_later-found.ensures)
 
 pub returns-in-Refused : goal.returns-in-Refused
 returns-in-Refused c =
     let given : Register = register_of c.args.tree.now c.args.signatures.now c.args.bitfield.now c.args.content.now c.args.n c.args.s c.args.size in
-    append_within (given) c.args.chunk.now c.if-n-ge1048576.false
-    (refused_before (later_checks (given)) (judged (own_checks (given) c.args.chunk.now) done) c.in-Refused.is c.judge_later-found.ensures)
+    append_within given c.args.chunk.now c.if-n-ge1048576.false
+    (refused_before (later_checks given) (judged (own_checks given c.args.chunk.now) done) c.in-Refused.is c.judge_later-found.ensures)
 
 pub returns-in-Done : goal.returns-in-Done
 returns-in-Done c =
     let given : Register = register_of c.args.tree.now c.args.signatures.now c.args.bitfield.now c.args.content.now c.args.n c.args.s c.args.size in
-    append_within (given) c.args.chunk.now c.if-n-ge1048576.false
-    (passed_before (later_checks (given)) c.in-Done.is c.judge_later-found.ensures c.judge_own.ensures)
+    append_within given c.args.chunk.now c.if-n-ge1048576.false
+    (passed_before (later_checks given) c.in-Done.is c.judge_later-found.ensures c.judge_own.ensures)

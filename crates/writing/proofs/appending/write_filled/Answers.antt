@@ -12,6 +12,7 @@ loop-d-init c = (search rules, made_first c.args.tree.now c.args.n (entry_of c.a
 
 pub put_node-requires : goal.put_node-requires
 put_node-requires c =
+    -- how many parents the chunk completes, as the code counted them
     let parents : c.completed-last.result ≡ completed c.args.n = c.completed-last.ensures ∙ ap completed c.chunk_behind.ensures in
     let below : c.loop-d.d < completed c.args.n = omega (arith, c.loop-d-test.true, parents) in
     record { few = c.requires.few; depth = omega (arith, below); room = omega (arith, c.requires.room, c.loop-d.invariant.2.long) }
@@ -25,8 +26,8 @@ above-next-requires c =
     record {
       few = c.requires.few;
       depth = below;
-      room = omega (arith, c.requires.room, (step).long);
-      sum = above_fits c.loop-d.d c.requires.few (below) c.requires.sum (step) c.loop-d.invariant.1;
+      room = omega (arith, c.requires.room, step.long);
+      sum = above_fits c.loop-d.d c.requires.few below c.requires.sum step c.loop-d.invariant.1;
     }
 
 pub loop-d-preserved : goal.loop-d-preserved
@@ -35,7 +36,7 @@ loop-d-preserved c =
     let below : c.loop-d.d < completed c.args.n = omega (arith, c.loop-d-test.true, parents) in
     let step : Going c.args.tree.now c.args.n (entry_of c.args.leaf) (c.loop-d.d + 1) c.put_node.new.tree =
     going_step c.loop-d.invariant.2 c.requires.few (omega (arith, below)) c.requires.room (search rules) c.loop-d.invariant.1 c.put_node.ensures in
-    (omega (arith, c.loop-d-test.true), above_made c.loop-d.d c.requires.few (below) (step) c.loop-d.invariant.1 c.above-next.ensures, step)
+    (omega (arith, c.loop-d-test.true), above_made c.loop-d.d c.requires.few below step c.loop-d.invariant.1 c.above-next.ensures, step)
 
 pub put_node-requires-2 : goal.put_node-requires-2
 put_node-requires-2 c =

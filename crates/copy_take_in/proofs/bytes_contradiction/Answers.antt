@@ -20,7 +20,8 @@ pub returns-then-same : goal.returns-then-same
 unfolding bytes_contradicted
 returns-then-same c =
     -- the bytes at the start, compared
-    let compared : same_list (part c.args.content.now c.args.start (length c.args.bytes.now)) c.args.bytes.now ≡ c.same.result = sym (c.same.ensures ∙ ap (λ (x : List ℕ). same_list x c.args.bytes.now) (as_part_lem c.args.content.now c.args.start (length c.args.bytes.now))) in
+    let compared : same_list (part c.args.content.now c.args.start (length c.args.bytes.now)) c.args.bytes.now ≡ c.same.result =
+    sym (c.same.ensures ∙ ap (λ (x : List ℕ). same_list x c.args.bytes.now) (as_part_lem c.args.content.now c.args.start (length c.args.bytes.now))) in
     rw (sym c.is_held.ensures ∙ c.if-not-is_held.false, compared ∙ c.if-same.true)
 
 pub leaf_index-requires : goal.leaf_index-requires
@@ -29,5 +30,6 @@ leaf_index-requires c = c.requires.small
 pub returns : goal.returns
 unfolding bytes_contradicted
 returns c =
-    let compared : same_list (part c.args.content.now c.args.start (length c.args.bytes.now)) c.args.bytes.now ≡ c.same.result = sym (c.same.ensures ∙ ap (λ (x : List ℕ). same_list x c.args.bytes.now) (as_part_lem c.args.content.now c.args.start (length c.args.bytes.now))) in
+    let compared : same_list (part c.args.content.now c.args.start (length c.args.bytes.now)) c.args.bytes.now ≡ c.same.result =
+    sym (c.same.ensures ∙ ap (λ (x : List ℕ). same_list x c.args.bytes.now) (as_part_lem c.args.content.now c.args.start (length c.args.bytes.now))) in
     rw (sym c.is_held.ensures ∙ c.if-not-is_held.false, compared ∙ c.if-same.false) (ap first c.leaf_index.ensures)

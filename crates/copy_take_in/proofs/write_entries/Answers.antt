@@ -43,15 +43,18 @@ returns c =
 pub overflow_mul-second : goal.overflow_mul-second
 overflow_mul-second c =
     -- the rows' places fit
-    let fits : c.siblings_place-first.result + 40 * c.args.way.up + 1 < 2 ^ 64 = places_fit c.requires.room.packet.shaped c.siblings_place-first.ensures c.requires.way.up in
+    let fits : c.siblings_place-first.result + 40 * c.args.way.up + 1 < 2 ^ 64 =
+    places_fit c.requires.room.packet.shaped c.siblings_place-first.ensures c.requires.way.up in
     omega (arith, fits)
 
 pub overflow_add-second : goal.overflow_add-second
 overflow_add-second c =
-    let fits : c.siblings_place-first.result + 40 * c.args.way.up + 1 < 2 ^ 64 = places_fit c.requires.room.packet.shaped c.siblings_place-first.ensures c.requires.way.up in
+    let fits : c.siblings_place-first.result + 40 * c.args.way.up + 1 < 2 ^ 64 =
+    places_fit c.requires.room.packet.shaped c.siblings_place-first.ensures c.requires.way.up in
     omega (arith, fits)
 
 pub overflow_add-second-2 : goal.overflow_add-second-2
 overflow_add-second-2 c =
-    let fits : c.siblings_place-first.result + 40 * c.args.way.up + 1 < 2 ^ 64 = places_fit c.requires.room.packet.shaped c.siblings_place-first.ensures c.requires.way.up in
+    let fits : c.siblings_place-first.result + 40 * c.args.way.up + 1 < 2 ^ 64 =
+    places_fit c.requires.room.packet.shaped c.siblings_place-first.ensures c.requires.way.up in
     omega (arith, fits)

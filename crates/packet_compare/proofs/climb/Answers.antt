@@ -64,7 +64,8 @@ returns-then-same c =
     c.args.count x in
     let own_block : c.block_over-k.result ≡ c.args.chunk.0 = c.block_over-k.ensures ∙ div-one c.args.chunk.0 in
     let given : Given c.block_over-k.result = subst Given (sym own_block) c.requires in
-    let result : ℕ → Walk = λ x. up_along c.args.first.now c.args.at (entry_of c.args.leaf) c.args.second.now c.args.at2 (entry_of c.args.leaf2) c.args.count x in
+    let result : ℕ → Walk =
+    λ x. up_along c.args.first.now c.args.at (entry_of c.args.leaf) c.args.second.now c.args.at2 (entry_of c.args.leaf2) c.args.count x in
     let a = c.args in
     let l = c.loop-j in
     walking_found a.first.now a.at (entry_of a.leaf) a.second.now a.at2 (entry_of a.leaf2) a.count c.block_over-k.result given
@@ -94,7 +95,8 @@ returns c =
     c.args.count x in
     let own_block : c.block_over-k.result ≡ c.args.chunk.0 = c.block_over-k.ensures ∙ div-one c.args.chunk.0 in
     let given : Given c.block_over-k.result = subst Given (sym own_block) c.requires in
-    let result : ℕ → Walk = λ x. up_along c.args.first.now c.args.at (entry_of c.args.leaf) c.args.second.now c.args.at2 (entry_of c.args.leaf2) c.args.count x in
+    let result : ℕ → Walk =
+    λ x. up_along c.args.first.now c.args.at (entry_of c.args.leaf) c.args.second.now c.args.at2 (entry_of c.args.leaf2) c.args.count x in
     let a = c.args in
     let l = c.loop-j in
     walking_end a.first.now a.at (entry_of a.leaf) a.second.now a.at2 (entry_of a.leaf2) a.count c.block_over-k.result given

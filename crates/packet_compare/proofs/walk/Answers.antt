@@ -17,18 +17,22 @@ use Rattle.packet_compare.proofs.walk.Goals as goal
 pub chunk_part-part-requires : goal.chunk_part-part-requires
 chunk_part-part-requires c =
     -- what the checks say of both packets
-    let first : Held node_hash c.args.first.now c.args.n c.args.chunk.0 c.requires.root = held node_hash c.args.first.now c.args.n c.args.chunk.0 c.requires.root c.requires.first in
+    let first : Held node_hash c.args.first.now c.args.n c.args.chunk.0 c.requires.root =
+    held node_hash c.args.first.now c.args.n c.args.chunk.0 c.requires.root c.requires.first in
     framed c.args.first.now c.args.n c.args.chunk.0 c.requires.root first
 
 pub chunk_part-part2-requires : goal.chunk_part-part2-requires
 chunk_part-part2-requires c =
-    let second : Held node_hash c.args.second.now c.args.n c.args.chunk.0 c.requires.root = held node_hash c.args.second.now c.args.n c.args.chunk.0 c.requires.root c.requires.second in
+    let second : Held node_hash c.args.second.now c.args.n c.args.chunk.0 c.requires.root =
+    held node_hash c.args.second.now c.args.n c.args.chunk.0 c.requires.root c.requires.second in
     framed c.args.second.now c.args.n c.args.chunk.0 c.requires.root second
 
 pub returns-then-same : goal.returns-then-same
 returns-then-same c =
-    let first : Held node_hash c.args.first.now c.args.n c.args.chunk.0 c.requires.root = held node_hash c.args.first.now c.args.n c.args.chunk.0 c.requires.root c.requires.first in
-    let second : Held node_hash c.args.second.now c.args.n c.args.chunk.0 c.requires.root = held node_hash c.args.second.now c.args.n c.args.chunk.0 c.requires.root c.requires.second in
+    let first : Held node_hash c.args.first.now c.args.n c.args.chunk.0 c.requires.root =
+    held node_hash c.args.first.now c.args.n c.args.chunk.0 c.requires.root c.requires.first in
+    let second : Held node_hash c.args.second.now c.args.n c.args.chunk.0 c.requires.root =
+    held node_hash c.args.second.now c.args.n c.args.chunk.0 c.requires.root c.requires.second in
     let bytes : Bytes c.args.first.now = λ j. (c.type_inv.first j).fits in
     let bytes2 : Bytes c.args.second.now = λ j. (c.type_inv.second j).fits in
     -- whether the chunks are the same
@@ -39,13 +43,16 @@ returns-then-same c =
 
 pub leaf_index-requires : goal.leaf_index-requires
 leaf_index-requires c =
-    let first : Held node_hash c.args.first.now c.args.n c.args.chunk.0 c.requires.root = held node_hash c.args.first.now c.args.n c.args.chunk.0 c.requires.root c.requires.first in
+    let first : Held node_hash c.args.first.now c.args.n c.args.chunk.0 c.requires.root =
+    held node_hash c.args.first.now c.args.n c.args.chunk.0 c.requires.root c.requires.first in
     let h = first.chunk in omega (arith, h.count, h.below)
 
 pub returns-then-same-2 : goal.returns-then-same-2
 returns-then-same-2 c =
-    let first : Held node_hash c.args.first.now c.args.n c.args.chunk.0 c.requires.root = held node_hash c.args.first.now c.args.n c.args.chunk.0 c.requires.root c.requires.first in
-    let second : Held node_hash c.args.second.now c.args.n c.args.chunk.0 c.requires.root = held node_hash c.args.second.now c.args.n c.args.chunk.0 c.requires.root c.requires.second in
+    let first : Held node_hash c.args.first.now c.args.n c.args.chunk.0 c.requires.root =
+    held node_hash c.args.first.now c.args.n c.args.chunk.0 c.requires.root c.requires.first in
+    let second : Held node_hash c.args.second.now c.args.n c.args.chunk.0 c.requires.root =
+    held node_hash c.args.second.now c.args.n c.args.chunk.0 c.requires.root c.requires.second in
     let bytes : Bytes c.args.first.now = λ j. (c.type_inv.first j).fits in
     let bytes2 : Bytes c.args.second.now = λ j. (c.type_inv.second j).fits in
     let told : (c.same.result
@@ -58,13 +65,16 @@ returns-then-same-2 c =
 
 pub sibling_count-count-requires : goal.sibling_count-count-requires
 sibling_count-count-requires c =
-    let first : Held node_hash c.args.first.now c.args.n c.args.chunk.0 c.requires.root = held node_hash c.args.first.now c.args.n c.args.chunk.0 c.requires.root c.requires.first in
+    let first : Held node_hash c.args.first.now c.args.n c.args.chunk.0 c.requires.root =
+    held node_hash c.args.first.now c.args.n c.args.chunk.0 c.requires.root c.requires.first in
     first.chunk
 
 pub climb-requires : goal.climb-requires
 climb-requires c =
-    let first : Held node_hash c.args.first.now c.args.n c.args.chunk.0 c.requires.root = held node_hash c.args.first.now c.args.n c.args.chunk.0 c.requires.root c.requires.first in
-    let second : Held node_hash c.args.second.now c.args.n c.args.chunk.0 c.requires.root = held node_hash c.args.second.now c.args.n c.args.chunk.0 c.requires.root c.requires.second in
+    let first : Held node_hash c.args.first.now c.args.n c.args.chunk.0 c.requires.root =
+    held node_hash c.args.first.now c.args.n c.args.chunk.0 c.requires.root c.requires.first in
+    let second : Held node_hash c.args.second.now c.args.n c.args.chunk.0 c.requires.root =
+    held node_hash c.args.second.now c.args.n c.args.chunk.0 c.requires.root c.requires.second in
     let bytes : Bytes c.args.first.now = λ j. (c.type_inv.first j).fits in
     let bytes2 : Bytes c.args.second.now = λ j. (c.type_inv.second j).fits in
     let told : (c.same.result
@@ -86,8 +96,10 @@ climb-requires c =
 
 pub returns : goal.returns
 returns c =
-    let first : Held node_hash c.args.first.now c.args.n c.args.chunk.0 c.requires.root = held node_hash c.args.first.now c.args.n c.args.chunk.0 c.requires.root c.requires.first in
-    let second : Held node_hash c.args.second.now c.args.n c.args.chunk.0 c.requires.root = held node_hash c.args.second.now c.args.n c.args.chunk.0 c.requires.root c.requires.second in
+    let first : Held node_hash c.args.first.now c.args.n c.args.chunk.0 c.requires.root =
+    held node_hash c.args.first.now c.args.n c.args.chunk.0 c.requires.root c.requires.first in
+    let second : Held node_hash c.args.second.now c.args.n c.args.chunk.0 c.requires.root =
+    held node_hash c.args.second.now c.args.n c.args.chunk.0 c.requires.root c.requires.second in
     let bytes : Bytes c.args.first.now = λ j. (c.type_inv.first j).fits in
     let bytes2 : Bytes c.args.second.now = λ j. (c.type_inv.second j).fits in
     let told : (c.same.result

@@ -19,21 +19,26 @@ returns-in-Refused c =
 pub overflow_add-to : goal.overflow_add-to
 overflow_add-to c =
     let verdict : Verdict = verdict_found (verified_of c.args.read) in
-    let told : node_told c.node_behind-told.result.answer c.node_behind-told.result.node ≡ node_after (verdict) c.bytes_of-bytes.result.now c.args.chunk.0 = c.node_behind-told.ensures ∙ sym (ap (λ d. node_after (verdict) d c.args.chunk.0) c.bytes_of-bytes.ensures) in
-    let inside : c.node_behind-told.result.node.path.at + c.node_behind-told.result.node.path.len ≤ length c.bytes_of-bytes.result.now = path_inside (verdict) _ _ _ _ (told) c.args.path.now c.in-Done.is in
+    let told : node_told c.node_behind-told.result.answer c.node_behind-told.result.node ≡ node_after (verdict) c.bytes_of-bytes.result.now c.args.chunk.0 =
+    c.node_behind-told.ensures ∙ sym (ap (λ d. node_after (verdict) d c.args.chunk.0) c.bytes_of-bytes.ensures) in
+    let inside : c.node_behind-told.result.node.path.at + c.node_behind-told.result.node.path.len ≤ length c.bytes_of-bytes.result.now =
+    path_inside (verdict) _ _ _ _ (told) c.args.path.now c.in-Done.is in
     omega (arith, inside)
 
 pub slice_bounds-same-end : goal.slice_bounds-same-end
 slice_bounds-same-end c =
     let verdict : Verdict = verdict_found (verified_of c.args.read) in
-    let told : node_told c.node_behind-told.result.answer c.node_behind-told.result.node ≡ node_after (verdict) c.bytes_of-bytes.result.now c.args.chunk.0 = c.node_behind-told.ensures ∙ sym (ap (λ d. node_after (verdict) d c.args.chunk.0) c.bytes_of-bytes.ensures) in
-    let inside : c.node_behind-told.result.node.path.at + c.node_behind-told.result.node.path.len ≤ length c.bytes_of-bytes.result.now = path_inside (verdict) _ _ _ _ (told) c.args.path.now c.in-Done.is in
+    let told : node_told c.node_behind-told.result.answer c.node_behind-told.result.node ≡ node_after (verdict) c.bytes_of-bytes.result.now c.args.chunk.0 =
+    c.node_behind-told.ensures ∙ sym (ap (λ d. node_after (verdict) d c.args.chunk.0) c.bytes_of-bytes.ensures) in
+    let inside : c.node_behind-told.result.node.path.at + c.node_behind-told.result.node.path.len ≤ length c.bytes_of-bytes.result.now =
+    path_inside (verdict) _ _ _ _ (told) c.args.path.now c.in-Done.is in
     omega (arith, inside)
 
 pub returns-then-same : goal.returns-then-same
 returns-then-same c =
     let verdict : Verdict = verdict_found (verified_of c.args.read) in
-    let told : node_told c.node_behind-told.result.answer c.node_behind-told.result.node ≡ node_after (verdict) c.bytes_of-bytes.result.now c.args.chunk.0 = c.node_behind-told.ensures ∙ sym (ap (λ d. node_after (verdict) d c.args.chunk.0) c.bytes_of-bytes.ensures) in
+    let told : node_told c.node_behind-told.result.answer c.node_behind-told.result.node ≡ node_after (verdict) c.bytes_of-bytes.result.now c.args.chunk.0 =
+    c.node_behind-told.ensures ∙ sym (ap (λ d. node_after (verdict) d c.args.chunk.0) c.bytes_of-bytes.ensures) in
     let a = c.args in
     path_compared (verdict) _ _ _ _ (told) a.path.now c.in-Done.is (sym c.if-same.true ∙ c.same.ensures)
     ∙ ap (λ d. path_after (verdict) d a.chunk.0 a.path.now) c.bytes_of-bytes.ensures
@@ -41,7 +46,8 @@ returns-then-same c =
 pub returns-else-same : goal.returns-else-same
 returns-else-same c =
     let verdict : Verdict = verdict_found (verified_of c.args.read) in
-    let told : node_told c.node_behind-told.result.answer c.node_behind-told.result.node ≡ node_after (verdict) c.bytes_of-bytes.result.now c.args.chunk.0 = c.node_behind-told.ensures ∙ sym (ap (λ d. node_after (verdict) d c.args.chunk.0) c.bytes_of-bytes.ensures) in
+    let told : node_told c.node_behind-told.result.answer c.node_behind-told.result.node ≡ node_after (verdict) c.bytes_of-bytes.result.now c.args.chunk.0 =
+    c.node_behind-told.ensures ∙ sym (ap (λ d. node_after (verdict) d c.args.chunk.0) c.bytes_of-bytes.ensures) in
     let a = c.args in
     path_compared (verdict) _ _ _ _ (told) a.path.now c.in-Done.is (sym c.if-same.false ∙ c.same.ensures)
     ∙ ap (λ d. path_after (verdict) d a.chunk.0 a.path.now) c.bytes_of-bytes.ensures

@@ -7,7 +7,7 @@ use mathlib.Core.List.{◌++◌}
 use native.Mathlib.Omega.{arith}
 use borrow.Author.Tests.{eq-eqb, eqb-true}
 use lib.Dec.{eqb}
-use lib.ListN.{length, length-append, length-replicate}
+use lib.ListN.{length-append, length-replicate}
 use lib.Seq.{take_at}
 use Rattle.byte_strings.specs.Lists.{zeros, total}
 use Rattle.file_format.specs.Headers.{signatures_header}

@@ -14,7 +14,7 @@ use Rattle.blake2b.proofs.Laws.{node_length, node_byte}
 use Rattle.file_format.specs.Entries.{Entry, hole, entry_bytes, parent_of}
 use Rattle.file_format.specs.RootsByValue.{padded}
 use Rattle.file_format.proofs.Nodes.{Proper, entry_bytes_length}
-use Rattle.packet.specs.Check.{entry_in, entries_in, ordered, Step, steps_above, steps}
+use Rattle.packet.specs.Check.{entry_in, entries_in, ordered, Step, steps_above}
 use Rattle.packet.specs.Inner.{step_bytes, path_row}
 use Rattle.packet.proofs.Climb.{ordered_size, left_first, right_first, odd, steps_count}
 use Rattle.packet.proofs.Pieces.{entry_in_lem}

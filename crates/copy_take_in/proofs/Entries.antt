@@ -10,7 +10,6 @@ use borrow.Author.Tests.{lt-ltb, le-ltb}
 use lib.Dec.{ltb}
 use lib.ListN.{length, get_or}
 use Rattle.byte_strings.specs.Lists.{part, put, run, total, Bytes}
-use Rattle.byte_strings.specs.Numbers.{be, number}
 use Rattle.byte_strings.proofs.Lists.{length_part, part_add, bytes_part, length_run, get_or_run, run_add, run_suc, total_append}
 use Rattle.byte_strings.proofs.Numbers.{be_number}
 use Rattle.bitfield.specs.Append.{bits_place, set_tree_bit, set_tree_bits}

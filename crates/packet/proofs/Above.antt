@@ -8,7 +8,7 @@ use mathlib.Core.List.{List, [], ◌∷◌, ◌++◌}
 use native.Mathlib.Nat.{add-zero, zero-add, div-one, mul-one, mul_assoc, le_of_suc-le-suc, not-suc-le-zero, zero-lt-suc, lt_of_lt_of_le}
 use native.Mathlib.Numerals.{add-one}
 use native.Mathlib.Omega.{arith}
-use lib.Dec.{leb, ltb, eqb}
+use lib.Dec.{ltb}
 use lib.ListN.{length, get_or, take, drop, replicate, length-append, length-drop, get_or-append}
 use lib.Seq.{drop-cons, drop-length, length-take-le, get_or-take, get_or-drop, ext_get_or}
 use lib.Pow.{shr-shr}

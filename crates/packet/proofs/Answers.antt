@@ -7,7 +7,7 @@ use mathlib.Core.Logic.{◌⊎◌, inl, inr}
 use mathlib.Core.List.{List, [], ◌∷◌, ◌++◌, map}
 use native.Mathlib.Nat.{zero-add, add-zero, add-suc, suc-add, add_assoc, div-one, div-eq_of_lt-le, le_of_suc-le-suc, not-suc-le-zero}
 use native.Mathlib.Omega.{arith}
-use lib.Dec.{leb, ltb, eqb}
+use lib.Dec.{ltb, eqb}
 use lib.ListN.{length, get_or, take, drop, length-map}
 use lib.Seq.{ext_get_or}
 use borrow.Author.Tests.{ltb-true, ltb-false, le-ltb, eqb-true, eqb-false, le-leb}
@@ -25,7 +25,7 @@ use Rattle.file_format.specs.Images.{leaves, data_size, root_message_for, root_h
 use Rattle.file_format.specs.Stored.{stored_size, stored_root_sizes}
 use Rattle.file_format.specs.Slots.{Slot, contents, held_in, Within}
 use Rattle.file_format.specs.Belongs.{Register, Belongs}
-use Rattle.file_format.proofs.Spans.{span, span_le, span_all, map_ext}
+use Rattle.file_format.proofs.Spans.{span_le, span_all, map_ext}
 use Rattle.file_format.proofs.Slots.{contents_length, leaves_length, leaf_held}
 use Rattle.file_format.proofs.Nodes.{node_at_index, entry_at_filled, node_at_proper}
 use Rattle.file_format.proofs.OfImage.{stored_entry_lem, stored_node_size, stored_total}

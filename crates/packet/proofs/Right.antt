@@ -13,7 +13,7 @@ use Rattle.byte_strings.specs.Lists.{part, run, total, same_list}
 use Rattle.byte_strings.proofs.Lists.{length_part}
 use Rattle.file_format.specs.Sizes.{most_chunks}
 use Rattle.file_format.specs.Entries.{Entry, leaf}
-use Rattle.checks.specs.Checks.{Check, judged, count_right}
+use Rattle.checks.specs.Checks.{judged, count_right}
 use Rattle.checks.proofs.Steps.{and_stop, and_pass}
 use Rattle.packet.specs.Packet.{siblings, other_roots}
 use Rattle.packet.specs.Check.{chunk_length, siblings_place, others_place, shape_right, packet_chunk, entry_in, entries_in, sibling_entries, other_entries}

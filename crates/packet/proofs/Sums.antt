@@ -1,13 +1,13 @@
 -- Lengths added up to the bound.
 -- Assumes nothing.
-use Prim.Native.Nat.{ℕ, zero, ◌+◌, ◌-◌, ◌*◌, ◌≤◌, ◌<◌}
+use Prim.Native.Nat.{ℕ, ◌+◌, ◌-◌, ◌*◌, ◌≤◌, ◌<◌}
 use mathlib.Core.Path.{◌≡◌, ap, ◌∙◌, subst}
 use mathlib.Core.List.{List}
 use native.Mathlib.Nat.{zero-add}
 use native.Mathlib.Omega.{arith}
 use lib.ListN.{length, get_or, take}
 use lib.Seq.{take_all, take-length}
-use Rattle.byte_strings.specs.Lists.{run, total}
+use Rattle.byte_strings.specs.Lists.{total}
 use Rattle.byte_strings.proofs.Lists.{length_run, get_or_run}
 use Rattle.file_format.proofs.ByValue.{total_next, total_more}
 use Rattle.packet.specs.Check.{entry_in}

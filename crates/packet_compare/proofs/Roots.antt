@@ -10,7 +10,7 @@ use native.Mathlib.Omega.{arith}
 use lib.Dec.{ltb, eqb}
 use lib.ListN.{length, get_or}
 use borrow.Author.Tests.{ltb-true, ltb-false, eqb-true, eqb-false}
-use Rattle.byte_strings.specs.Lists.{Bytes, part, joined}
+use Rattle.byte_strings.specs.Lists.{Bytes, joined}
 use Rattle.byte_strings.proofs.Lists.{length_part, bytes_part}
 use Rattle.tree_index.specs.Tree.{roots}
 use Rattle.file_format.specs.Messages.{root_item, root_message}

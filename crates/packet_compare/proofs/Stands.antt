@@ -9,7 +9,6 @@ use native.Mathlib.Nat.{zero-add, div-one, div-eq_of_lt-le, not-suc-le-zero, le_
 use native.Mathlib.Numerals.{add-one}
 use native.Mathlib.Omega.{arith}
 use lib.ListN.{length, get_or}
-use Rattle.byte_strings.specs.Lists.{run}
 use Rattle.byte_strings.proofs.Lists.{length_run, get_or_run}
 use Rattle.tree_index.specs.Tree.{index, depth, left_child, right_child, filled, roots}
 use Rattle.tree_index.proofs.Index.{index_of, left_child_index, right_child_index}

@@ -3,7 +3,7 @@
 use Prim.Native.Nat.{ℕ, ◌≤◌}
 use mathlib.Core.Path.{◌≡◌, sym, ap, ◌∙◌}
 use mathlib.Core.Logic.{◌≢◌}
-use mathlib.Core.Bool.{Bool, true, cond}
+use mathlib.Core.Bool.{Bool, cond}
 use mathlib.Core.List.{List, [], ◌∷◌}
 use borrow.Author.Tests.{leb-true, ltb-true}
 use lib.Dec.{ltb}
@@ -27,7 +27,7 @@ use Rattle.packet.specs.Check.{packet_root_message, root_right, packet_verdict}
 use Rattle.packet.specs.Inner.{ChunkOf}
 use Rattle.packet.proofs.Shape.{Sized, sized}
 use Rattle.packet.proofs.Rows.{siblings_count}
-use Rattle.packet_compare.specs.Walk.{same_chunk, first_pair, root_pair, walk, unless_refused, compare_packets, at_roots, neither, pair}
+use Rattle.packet_compare.specs.Walk.{same_chunk, first_pair, root_pair, walk, unless_refused, compare_packets, at_roots, neither}
 use Rattle.packet_compare.specs.Theorems.{Pair, Names, by_index, by_roots, Tells, TellsForAll, RefusesForAll}
 use Rattle.packet_compare.specs.Inner.{Whole}
 use Rattle.packet_compare.proofs.Up.{Outcome, found, through, pair_true, one_step, walk_up, last_whole}

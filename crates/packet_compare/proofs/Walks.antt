@@ -7,7 +7,7 @@ use mathlib.Core.Bool.{Bool, true, false}
 use mathlib.Core.List.{List, ◌∷◌, map}
 use native.Mathlib.Omega.{arith}
 use lib.ListN.{length}
-use Rattle.byte_strings.specs.Lists.{Bytes, part, run, total, same_list}
+use Rattle.byte_strings.specs.Lists.{Bytes, total, same_list}
 use Rattle.byte_strings.proofs.Lists.{length_part, same_eq}
 use Rattle.tree_index.specs.Tree.{index}
 use Rattle.blake2b.specs.Hash.{node_hash}

@@ -1,0 +1,34 @@
+-- `packet::checking::root_hash_with` meets its contract. Assumes nothing.
+use mathlib.Core.Path.{ap, ◌∙◌}
+use native.Mathlib.Omega.{arith}
+use Rattle.tree_index.specs.Numbers.{numbers}
+use Rattle.tree_index.proofs.Roots.{length_roots_le}
+use Rattle.blake2b.specs.Hash.{node_hash}
+use Rattle.packet.specs.Inner.{entry_of}
+use Rattle.packet.proofs.InTurn.{gathered_message, turns_in}
+use Rattle.packet.proofs.checking.root_hash_with.Goals as goal
+
+pub sizes_in_turn-sizes-requires : goal.sizes_in_turn-sizes-requires
+sizes_in_turn-sizes-requires c =
+    let a = c.args in
+    turns_in a.packet.now a.at a.n a.chunk.0 c.root_count-count.result c.root_place-place.result c.requires
+    c.root_count-count.ensures c.root_place-place.ensures
+
+pub hashes_in_turn-hashes-requires : goal.hashes_in_turn-hashes-requires
+hashes_in_turn-hashes-requires c =
+    let a = c.args in
+    turns_in a.packet.now a.at a.n a.chunk.0 c.root_count-count.result c.root_place-place.result c.requires
+    c.root_count-count.ensures c.root_place-place.ensures
+
+pub root_hash-requires : goal.root_hash-requires
+root_hash-requires c = omega (arith, c.root_count-count.ensures, length_roots_le c.args.n c.requires.chunk.count)
+
+pub returns : goal.returns
+returns c =
+    let a = c.args in
+    c.root_hash.ensures
+    ∙ ap node_hash
+    (gathered_message a.packet.now a.at a.n a.chunk.0 (entry_of a.node) c.requires.chunk c.hashes_in_turn-hashes.result
+    (numbers c.root_indexes-indexes.result) c.sizes_in_turn-sizes.result c.root_count-count.result c.root_place-place.result
+    c.root_count-count.ensures c.root_place-place.ensures c.hashes_in_turn-hashes.ensures c.root_indexes-indexes.ensures
+    c.sizes_in_turn-sizes.ensures)

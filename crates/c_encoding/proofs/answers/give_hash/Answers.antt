@@ -1,0 +1,8 @@
+-- `c_encoding::answers::give_hash` meets its contract, by the case of the answer.
+use Rattle.c_encoding.proofs.Laws.{kept}
+use Rattle.c_encoding.proofs.answers.give_hash.Goals as goal
+
+pub returns-in-Refused : goal.returns-in-Refused
+returns-in-Refused c =
+    let both = kept _ _ c.in-Refused.refusal _ _ c.in-Refused.is c.refused.ensures in
+    record { answers = both.0; gives = both.1 }

@@ -1,8 +1,0 @@
--- `c_api::journals::sleep_flat_journal_check` meets its contract. Assumes nothing.
-use Rattle.c_journal.proofs.Laws.{coded}
-use borrow.Author.Rules.{rules}
-use Rattle.c_api.proofs.journals.sleep_flat_journal_check.Statement.{statement}
-use Rattle.c_api.proofs.journals.sleep_flat_journal_check.Tie as tie
-
-pub sleep-flat-journal-check-spec : {M : Type 1} → statement M
-sleep-flat-journal-check-spec = tie.close (tie.spec (λ c κs. search rules) (λ c κs. search rules) (λ c. coded _ _ _ c.encode.ensures c.before.check.ensures))

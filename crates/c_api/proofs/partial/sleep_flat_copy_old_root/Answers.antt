@@ -1,0 +1,10 @@
+-- `c_api::partial::sleep_flat_copy_old_root` meets its contract.
+use Rattle.c_encoding.proofs.Laws.{coded, given_hash}
+use Rattle.c_api.proofs.partial.sleep_flat_copy_old_root.Goals as goal
+
+pub returns : goal.returns
+returns c =
+    let p = c.prefix_root_hash-rooted.ensures in record {
+      answers = coded _ _ _ c.give_hash.ensures.answers p.answer;
+      gives = given_hash _ _ _ _ _ _ c.give_hash.ensures.gives p.answer p.root;
+    }

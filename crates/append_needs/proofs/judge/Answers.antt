@@ -19,6 +19,7 @@ returns-then-end-gt1048576 c =
 
 pub returns-then-count-gt256 : goal.returns-then-count-gt256
 returns-then-count-gt256 c =
+    -- what holds once a number is passed
     let count : leb (c.args.n + length c.args.lengths.now) most_chunks ≡ true = sym c.count_after-end.ensures ∙ le-leb _ _ c.if-end-gt1048576.false in
     let a = c.args in
     by_tests a.n a.size a.lengths.now (count) (lt-leb _ _ c.if-count-gt256.true) refl refl c.refuse-then-count-gt256.ensures

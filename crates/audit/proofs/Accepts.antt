@@ -19,7 +19,7 @@ use Rattle.bitfield.specs.Release.{stored_held}
 use Rattle.file_format.specs.Headers.{tree_header, signatures_header, bitfield_header}
 use Rattle.file_format.specs.Sizes.{most_chunks, longest_chunk, used_tree, used_signatures, used_bitfield}
 use Rattle.file_format.specs.Messages.{HashFunction, leaf_message}
-use Rattle.file_format.specs.Entries.{Entry, hole, entry_bytes, leaf, parent_of, node, tree_entries}
+use Rattle.file_format.specs.Entries.{Entry, entry_bytes, leaf, parent_of, node, tree_entries}
 use Rattle.file_format.specs.Slots.{Slot, held, released, is_held, slot_bytes, contents, held_in, Within}
 use Rattle.file_format.specs.Images.{data_size, data_image, signatures_image, tree_image, leaves, bitfield_image, bitfield_of}
 use Rattle.file_format.specs.Stored.{stored_chunk}

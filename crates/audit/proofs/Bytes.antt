@@ -12,7 +12,7 @@ use lib.ListN.{length, get_or, take, drop, get_or-append}
 use lib.Seq.{ext_get_or}
 use lib.Dec.{eqb}
 use Rattle.answer_types.specs.Verdict.{Verdict, bitfield, done, refused, and_then}
-use Rattle.byte_strings.specs.Lists.{part, joined}
+use Rattle.byte_strings.specs.Lists.{part}
 use Rattle.byte_strings.proofs.Lists.{get_or_behind, get_d_part, length_part, part_joined}
 use Rattle.tree_index.specs.Tree.{filled, entries}
 use Rattle.tree_index.proofs.Filled.{filled_below}

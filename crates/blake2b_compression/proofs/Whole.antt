@@ -1,5 +1,6 @@
 -- The compression's parts put together.
-use Rattle.std.proofs.Common.{◌≡◌, ℕ, zero, suc, ◌+◌, ◌*◌, ◌/◌, ◌%◌, ◌^◌, ◌<◌, Bool, List, [], ◌∷◌, ◌++◌, length, drop, sym, ap, ◌∙◌, ap₂, mod-eq_of_lt, zero-add, arith, lit<, drop_of_length-le, drop-cons}
+use Rattle.std.proofs.Common.{◌≡◌, ℕ, zero, suc, ◌+◌, ◌*◌, ◌/◌, ◌%◌, ◌^◌, ◌<◌, Bool, List, []}
+use Rattle.std.proofs.Common.{◌∷◌, ◌++◌, length, drop, sym, ap, ◌∙◌, ap₂, mod-eq_of_lt, zero-add, arith, lit<, drop_of_length-le, drop-cons}
 use native.Mathlib.Nat.{div-eq_of_lt, add-mul-div_left, add-mul-mod_self_left}
 use lib.Bits.{bit_xor}
 use Rattle.blake2b_compression.specs.Constants.{IV}

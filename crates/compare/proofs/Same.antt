@@ -1,6 +1,7 @@
 -- What the code compares at one tree index, and what it says of the messages there.
 -- Assumes nothing.
-use Rattle.std.proofs.Common.{◌≡◌, ℕ, zero, suc, ◌+◌, ◌-◌, ◌*◌, ◌/◌, ◌%◌, ◌^◌, ◌<◌, ◌≤◌, Bool, true, false, not, ◌&&◌, eqb, List, [], ◌∷◌, ◌++◌, length, take, drop, sym, refl, ap, ◌∙◌, ap₂, inl, inr, true≢false, arith, length-drop, drop_of_length-le, take_all, eq-eqb, ne_eqb, eqb-true}
+use Rattle.std.proofs.Common.{◌≡◌, ℕ, zero, suc, ◌+◌, ◌-◌, ◌*◌, ◌/◌, ◌%◌, ◌^◌, ◌<◌, ◌≤◌, Bool, true, false, not, ◌&&◌, eqb, List, []}
+use Rattle.std.proofs.Common.{◌∷◌, ◌++◌, length, take, drop, sym, refl, ap, ◌∙◌, ap₂, inl, inr, true≢false, arith, length-drop, drop_of_length-le, take_all, eq-eqb, ne_eqb, eqb-true}
 use native.Mathlib.Nat.{pow-succ'}
 use native.Mathlib.Decide.{dec_lt}
 use lib.Seq.{take-nil}
@@ -9,7 +10,7 @@ use Rattle.byte_strings.specs.Numbers.{be}
 use Rattle.byte_strings.proofs.Lists.{length_part, same_eq, same_of}
 use Rattle.byte_strings.proofs.Numbers.{eight_lt}
 use Rattle.byte_strings.proofs.Bools.{both_true}
-use Rattle.tree_index.specs.Tree.{index, depth, block, left_child, right_child, filled, roots}
+use Rattle.tree_index.specs.Tree.{depth, block, left_child, right_child, filled, roots}
 use Rattle.tree_index.proofs.Index.{index_leaf}
 use Rattle.file_format.specs.Sizes.{entry_place}
 use Rattle.file_format.specs.Messages.{leaf_message, parent_message}

@@ -12,12 +12,13 @@ use Rattle.tree_index.specs.Tree.{entries}
 use Rattle.file_format.specs.Stored.{stored_start, stored_root_message}
 use Rattle.file_format.specs.Belongs.{Register}
 use Rattle.file_format.specs.Inner.{RootsIn}
-use Rattle.audit.specs.Audit.{first, lowest, Accepted}
+use Rattle.audit.specs.Audit.{lowest, Accepted}
 use Rattle.checks.specs.Capped.{capped}
 use Rattle.audit.specs.TreeWalk.{leaves_before}
 use Rattle.audit.proofs.Audited.{accepted_audited}
 use Rattle.audit.proofs.Search.{lowest_on, lowest_off, lowest_end}
-use Rattle.compare.specs.Walk.{Comparison, first_refused, second_refused, roots_differ, at_roots, at_index, equal, found, stored_side, at_top, unless_told, walk, unless_refused, whole_verdict, compare}
+use Rattle.compare.specs.Walk.{Comparison, first_refused, second_refused, roots_differ, at_roots, at_index, equal}
+use Rattle.compare.specs.Walk.{found, stored_side, at_top, unless_told, walk, unless_refused, whole_verdict, compare}
 use Rattle.compare.specs.Inner.{ReadAt, collides_at}
 use Rattle.compare.proofs.RootMessages.{same_count}
 use Rattle.compare.proofs.Whole.{whole_accepted}

@@ -1,5 +1,6 @@
 -- What the calls say and leave. Assumes nothing.
-use Rattle.std.proofs.Common.{◌≡◌, ℕ, ◌+◌, ◌-◌, ◌*◌, ◌/◌, ◌<◌, ◌≤◌, Bool, true, false, cond, leb, List, ◌++◌, length, take, drop, sym, refl, ap, ◌∙◌, ap₂, zero-add, arith, length-drop, take_all, take_at, le-leb, leb-true}
+use Rattle.std.proofs.Common.{◌≡◌, ℕ, ◌+◌, ◌-◌, ◌*◌, ◌/◌, ◌<◌, ◌≤◌, Bool, true, false, cond, leb, List, ◌++◌}
+use Rattle.std.proofs.Common.{length, take, drop, sym, refl, ap, ◌∙◌, ap₂, zero-add, arith, length-drop, take_all, take_at, le-leb, leb-true}
 use borrow.Author.Tests.{lt-leb}
 use Rattle.answer_types.specs.Verdict.{Verdict, none, done, refused}
 use Rattle.answer_types.specs.Meaning.{said, refusal_of}

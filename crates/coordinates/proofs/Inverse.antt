@@ -1,5 +1,6 @@
 -- Each of the two definitions undoes the other, and so do the calls. Assumes nothing.
-use Rattle.std.proofs.Common.{◌≡◌, ℕ, zero, suc, ◌+◌, ◌-◌, ◌*◌, ◌/◌, ◌%◌, ◌^◌, ◌<◌, List, ◌++◌, length, get_or, take, drop, sym, ap, ◌∙◌, subst, ap₂, mul_comm, zero-add, arith, length-append, length-drop, take-append-drop, drop_at}
+use Rattle.std.proofs.Common.{◌≡◌, ℕ, zero, suc, ◌+◌, ◌-◌, ◌*◌, ◌/◌, ◌%◌, ◌^◌, ◌<◌, List, ◌++◌, length}
+use Rattle.std.proofs.Common.{get_or, take, drop, sym, ap, ◌∙◌, subst, ap₂, mul_comm, zero-add, arith, length-append, length-drop, take-append-drop, drop_at}
 use lib.Arith.{digits_lt}
 use lib.ListN.{get_or-append}
 use Rattle.byte_strings.specs.Lists.{Bytes, part, run, joined}

@@ -1,5 +1,7 @@
 -- A loop that stores byte after byte into n-byte planes. Assumes nothing.
-use Rattle.std.proofs.Common.{◌≡◌, ℕ, ◌+◌, ◌*◌, ◌/◌, ◌%◌, ◌<◌, ◌≤◌, Bool, true, false, eqb, List, ◌++◌, length, get_or, take, drop, set, sym, refl, ap, ◌∙◌, subst, ap₂, mul-le-mul_right, suc-mul, mul_comm, zero-add, arith, length-set, take-append-drop, length-take-le, get_or-set_other, get_or-set_same, drop-set-lt, eqb-true}
+use Rattle.std.proofs.Common.{◌≡◌, ℕ, ◌+◌, ◌*◌, ◌/◌, ◌%◌, ◌<◌, ◌≤◌, Bool, true, false, eqb, List, ◌++◌, length, get_or, take, drop}
+use Rattle.std.proofs.Common.{set, sym, refl, ap, ◌∙◌, subst, ap₂, mul-le-mul_right, suc-mul}
+use Rattle.std.proofs.Common.{mul_comm, zero-add, arith, length-set, take-append-drop, length-take-le, get_or-set_other, get_or-set_same, drop-set-lt, eqb-true}
 use lib.Arith.{digits_div, digits_mod, digits_lt}
 use borrow.Author.Tests.{eqb-false}
 use Rattle.byte_strings.specs.Lists.{part, put, run, joined}

@@ -51,6 +51,7 @@ lowest_found {t} {bits} {content} {p} {n} {c} {w} {row = row} {path} r {place} e
     let g : Given = lies row 0 (index 0 c) in
     let q : b ≡ own = hb ∙ ap₂ (λ (s : ℕ) (x : List ℕ). index_if (bytes_contradicted bits content c s x) (index 0 c)) r.begins eb in
     let k : o ≡ f g = ho ∙ ap (λ (j : ℕ). f (lies row 0 j)) ei in
-    hz ∙ ap (λ (m : Lowest). lower_of m (least_of (map f v))) (hs ∙ ap (λ (m : Lowest). lower_of m (least_of (map f y))) (hu ∙ ap (λ (m : Lowest). lower_of m (least_of (map f x))) (hl ∙ ap₂ lower_of q k)))
+    hz ∙ ap (λ (m : Lowest). lower_of m (least_of (map f v))) (hs ∙ ap (λ (m : Lowest). lower_of m (least_of (map f y))) (hu
+    ∙ ap (λ (m : Lowest). lower_of m (least_of (map f x))) (hl ∙ ap₂ lower_of q k)))
     ∙ least_rows f own g x y v
     ∙ ap (λ (gs : List Given). lower_of own (least_of (map f gs))) (sym (all_rows r e))

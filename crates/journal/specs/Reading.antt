@@ -49,7 +49,8 @@ follows j last reach covered q =
     ltb (file_at j q) 10
     && (leb last (file_at j q)
     && (leb 1 (size_at j q)
-    && numbers_right (kind_at j q) (start_at j q) (size_at j q) (length_of (old_at j (file_at j q))) (length_of (new_at j (file_at j q))) (reach_of (file_at j q) last reach) (get_or covered (file_at j q) 0)))
+    && numbers_right (kind_at j q) (start_at j q) (size_at j q) (length_of (old_at j (file_at j q))) (length_of (new_at j (file_at j q))) (reach_of (file_at j q) last reach)
+    (get_or covered (file_at j q) 0)))
 
 -- the test of the range at q
 unfoldable pub range_right : List ℕ → ℕ → ℕ → ℕ → List ℕ → ℕ → Bool

@@ -6,7 +6,7 @@ use mathlib.Core.List.{List}
 use native.Mathlib.Omega.{arith}
 use borrow.Author.Tests.{ltb-true, lt-ltb, le-ltb, eq-eqb, ne_eqb}
 use lib.Dec.{ltb, eqb}
-use Rattle.answer_types.specs.Verdict.{Spot, Verdict, tree, bitfield, done, refused}
+use Rattle.answer_types.specs.Verdict.{Spot, Verdict, tree, bitfield, done}
 use Rattle.answer_types.specs.Meaning.{said}
 use Rattle.answer_types.specs.declared.Refusal.{Refusal}
 use Rattle.answer_types.specs.declared.Answer.{Answer}

@@ -18,6 +18,7 @@ fn wide(x: u8) -> u64
 }
 
 // The number whose lowest seven bits are those of a byte that says that more follow, behind which the rest of the number was read.
+#[tactic(auto, using(crate::proofs::Found::joined_is, crate::proofs::Found::joined_zero, crate::proofs::Found::joined_large))]
 fn joined(low: u64, high: Varint) -> Varint
     requires { low < 128 }
     ensures { result ≡ joined_of low high }

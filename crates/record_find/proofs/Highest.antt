@@ -12,7 +12,7 @@ use Rattle.answer_types.specs.Verdict.{Verdict, tree, done}
 use Rattle.byte_strings.specs.Lists.{same_list}
 use Rattle.byte_strings.proofs.Lists.{same_eq, same_refl}
 use Rattle.tree_index.specs.Tree.{index}
-use Rattle.file_format.specs.Slots.{all_held, held_in, contents}
+use Rattle.file_format.specs.Slots.{all_held, held_in}
 use Rattle.file_format.proofs.Slots.{all_length, all_contents, all_held_lem}
 use Rattle.checks.specs.Checks.{judged, register_checks}
 use Rattle.lookup.specs.Read.{read_verdict, read_part}

@@ -48,7 +48,8 @@ module _ (d : List ℕ) (at k most : ℕ) (kind : k < 14) where
 
   pub three_first : {v : NumberRow} → v ≡ BadNumber → NumberRead d at k most v → ThreeRead d at k most BadThree
   three_first e g =
-      first_not (number_field k) (Most most) (Later k) (both (number_field (k + 1)) (number_field (k + 2))) (Both (Most most) (Most most)) (Later (k + 2)) first_leads (subst (NumberRead d at k most) e g)
+      first_not (number_field k) (Most most) (Later k) (both (number_field (k + 1)) (number_field (k + 2))) (Both (Most most) (Most most)) (Later (k + 2)) first_leads (subst
+      (NumberRead d at k most) e g)
 
   module _ {v : NumberRow} {a : Number} {second : ℕ} (e : v ≡ ReadNumber a second) (g : NumberRead d at k most v) where
     pub three_second : {u : NumberRow} → u ≡ BadNumber → NumberRead d second (k + 1) most u → ThreeRead d at k most BadThree

@@ -49,7 +49,11 @@ module _ (r : Register) (c : ℕ) where
     pub release_post : (p : Found) → p ≡ held_place_of r c → ReleasedPost r.bitfield r.content c p v bits content
         → ReleasePost r c v (lent r.tree r.signatures bits content)
     unfolding release_verdict after_release released_register
-    release_post p e w = record { answer = w.answer ∙ ap verdict_found e; buffers = left p e w ∙ ap (λ (f : Found). unless_refused (verdict_found f) (buffers_of (released_register r c)) (buffers_of r)) e }
+    release_post p e w = record {
+      answer = w.answer ∙ ap verdict_found e;
+      buffers = left p e w
+          ∙ ap (λ (f : Found). unless_refused (verdict_found f) (buffers_of (released_register r c)) (buffers_of r)) e;
+    }
       where
         left : (p : Found) → p ≡ held_place_of r c → ReleasedPost r.bitfield r.content c p v bits content
             → lent r.tree r.signatures bits content ≡ unless_refused (verdict_found p) (buffers_of (released_register r c)) (buffers_of r)

@@ -6,7 +6,7 @@ use mathlib.Core.Logic.{⊎_elim}
 use mathlib.Core.List.{List, [], ◌∷◌, ◌++◌, map}
 use native.Mathlib.Omega.{arith}
 use lib.Dec.{eqb}
-use lib.ListN.{length, get_or, set, drop, length-set, length-map, length-replicate}
+use lib.ListN.{length, get_or, set, length-set, length-map, length-replicate}
 use lib.Seq.{drop_at, map-set_same, get_or-set_same, get_or-set_other}
 use borrow.Author.Tests.{eq-eqb}
 use Rattle.byte_strings.specs.Lists.{put, joined, total, zeros, Bytes}

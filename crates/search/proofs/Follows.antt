@@ -7,13 +7,11 @@ use mathlib.Core.Logic.{⊎_elim}
 use native.Mathlib.Nat.{zero-add}
 use native.Mathlib.Omega.{arith}
 use lib.Dec.{eqb}
-use lib.ListN.{length, get_or, get_or-append}
+use lib.ListN.{get_or, get_or-append}
 use borrow.Author.Tests.{eqb-true, eq-eqb}
 use Rattle.byte_strings.specs.Lists.{part, run}
-use Rattle.byte_strings.specs.Lowest.{lowest}
 use Rattle.byte_strings.proofs.Lists.{get_d_part, get_or_run, length_run}
 use Rattle.byte_strings.proofs.Lowest.{lowest_agree}
-use Rattle.tree_index.specs.Tree.{index, depth, block}
 use Rattle.tree_index.proofs.Index.{depth_index, block_index, index_leaf}
 use Rattle.bitfield.specs.Bits.{digit, bit_at}
 use Rattle.bitfield.specs.Index.{uniform, tuple, four, tuples, node, index_byte, index_bytes}

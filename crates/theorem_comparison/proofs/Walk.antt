@@ -90,7 +90,8 @@ module _ (F : List ℕ → List ℕ) (cs ds : List (List ℕ)) where
 
     pub answer : Answer walk_for
     unfolding walk_for walk answer_of root_hash_for
-    answer = go (told (root_hash_for F (all_held cs)) (root_hash_for F (all_held ds))) (told (root_message_for F (all_held cs)) (root_message_for F (all_held ds))) (found_lowest free 0 (entries (length cs)))
+    answer = go (told (root_hash_for F (all_held cs)) (root_hash_for F (all_held ds))) (told (root_message_for F (all_held cs)) (root_message_for F (all_held ds)))
+        (found_lowest free 0 (entries (length cs)))
       where
         l : Lowest
         l = lowest free 0 (entries (length cs))

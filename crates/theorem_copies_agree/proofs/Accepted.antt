@@ -8,14 +8,14 @@ use native.Mathlib.Nat.{zero-add, mul_comm}
 use native.Mathlib.Omega.{arith}
 use borrow.Author.Tests.{leb-true, eqb-true}
 use lib.Dec.{leb}
-use lib.ListN.{length, get_or}
+use lib.ListN.{get_or}
 use Rattle.answer_types.specs.Verdict.{tree, bitfield, done}
 use Rattle.byte_strings.specs.Lists.{run, joined}
 use Rattle.byte_strings.proofs.Lists.{length_joined}
-use Rattle.byte_strings.specs.Lowest.{Lowest, nowhere, first}
+use Rattle.byte_strings.specs.Lowest.{Lowest, nowhere}
 use Rattle.byte_strings.proofs.Bools.{where_true, both_true}
 use Rattle.byte_strings.proofs.Lowest.{never_first, nowhere_right}
-use Rattle.tree_index.specs.Tree.{index, depth, block, left_child, right_child, filled, entries}
+use Rattle.tree_index.specs.Tree.{index, block, left_child, right_child, filled, entries}
 use Rattle.tree_index.proofs.Index.{depth_index, block_index, left_child_index, right_child_index}
 use Rattle.tree_index.proofs.Filled.{filled_below, filled_left, filled_right}
 use Rattle.bitfield.specs.Image.{entry, entry_count, entries_for}

@@ -11,12 +11,12 @@ use lib.Dec.{leb, ltb, eqb}
 use lib.ListN.{length, get_or, take}
 use lib.Seq.{get_or-take}
 use Rattle.answer_types.specs.Verdict.{tree, bitfield, done}
-use Rattle.byte_strings.specs.Lists.{part, run, joined, total, same_list, all_zero, zeros}
-use Rattle.byte_strings.specs.Lowest.{Lowest, nowhere, first, lowest}
+use Rattle.byte_strings.specs.Lists.{part, joined, total, same_list, all_zero, zeros}
+use Rattle.byte_strings.specs.Lowest.{Lowest, nowhere, first}
 use Rattle.byte_strings.proofs.Lists.{length_part, get_d_part, run_ext, same_of}
 use Rattle.byte_strings.proofs.Bools.{clash, true_both, or_true}
 use Rattle.byte_strings.proofs.Lowest.{lowest_none}
-use Rattle.tree_index.specs.Tree.{index, depth, block, left_child, right_child, filled, root_of, roots_below, roots, entries}
+use Rattle.tree_index.specs.Tree.{index, block, left_child, right_child, filled, root_of, roots_below, roots, entries}
 use Rattle.tree_index.proofs.Index.{depth_index, block_index, by_coordinates, left_child_index, right_child_index}
 use Rattle.tree_index.proofs.Filled.{filled_below, filled_end, filled_left}
 use Rattle.bitfield.specs.Image.{entry, entry_count, entries_for}
@@ -41,7 +41,7 @@ use Rattle.copy_checks.proofs.Descents.{unknown_to_chunk, chunk_same}
 use Rattle.copy_audit.specs.Audit.{wrong_unless, held_leaf, both_known, wrong_from, wrong_by_leaf, wrong_by_parent, wrong_by_known, wrong_by_unknown, copy_byte_right}
 use Rattle.copy_audit.specs.Audit.{wrong_by, wrong_entry_of_copy, known_bits, wrong_byte_of_copy, audit_copy, AcceptedCopy, leaf_right_from}
 use Rattle.copy_audit.proofs.Judged.{right_unless}
-use Rattle.file_format.proofs.Shown.{shown, shown_used}
+use Rattle.file_format.proofs.Shown.{shown_used}
 use Rattle.copy_checks.proofs.Least.{each_least}
 use Rattle.theorem_taking_laws.proofs.Ways.{above_root}
 use Rattle.theorem_taking_laws.proofs.Roots.{in_roots_filled}
@@ -150,7 +150,8 @@ module _ (F : List ℕ → List ℕ) (c : Copy) (g : Grows F c) where
 
       pick : (b : Bool) → g.knows_of (index d (2 * k)) ≡ b → judged (known c (left_child (index (suc d) k))) (parent_right F t (index (suc d) k)) ≡ true
       pick true e =
-          ap (judged (known c (left_child (index (suc d) k)))) (parent_right_lem d k (g.follows d k f e)) ∙ or_true (not (known c (left_child (index (suc d) k)) && known c (right_child (index (suc d) k))))
+          ap (judged (known c (left_child (index (suc d) k)))) (parent_right_lem d k (g.follows d k f e)) ∙ or_true (not (known c (left_child (index (suc d) k))
+          && known c (right_child (index (suc d) k))))
       pick false e = ap (λ (a : Bool). judged a (parent_right F t (index (suc d) k))) (stored ∙ e)
 
   known_none : (d k : ℕ) → g.knows_of (index d k) ≡ true → wrong_by_known F c (index d k) ≡ nowhere

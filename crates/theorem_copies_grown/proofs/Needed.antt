@@ -11,7 +11,7 @@ use borrow.Author.Tests.{leb-true, leb-false, ne_eqb}
 use lib.Dec.{leb, eqb}
 use Rattle.answer_types.specs.Verdict.{Verdict, none, tree, bitfield, done, refused}
 use Rattle.byte_strings.specs.Lists.{total, Bytes}
-use Rattle.byte_strings.specs.Lowest.{Lowest, nowhere, first}
+use Rattle.byte_strings.specs.Lowest.{Lowest, nowhere}
 use Rattle.byte_strings.proofs.Lowest.{never_first}
 use Rattle.tree_index.specs.Tree.{index, depth, block, filled, root_of, roots_below, roots, entries}
 use Rattle.tree_index.proofs.Index.{depth_index, block_index, index_of}
@@ -34,7 +34,8 @@ use Rattle.copy_make.specs.Make.{make_verdict, made_copy}
 use Rattle.copy_make.proofs.Calls.{roomy}
 use Rattle.copy_take_in.specs.TakeIn.{Given, lying, take_verdict, taken_in, brought}
 use Rattle.copy_checks.specs.Descents.{copy_to_chunk}
-use Rattle.copy_audit.specs.Audit.{wrong_unless, wrong_from, wrong_by_leaf, wrong_by_parent, wrong_by_known, wrong_by_unknown, wrong_by, wrong_entry_of_copy, wrong_byte_of_copy, audit_copy, AcceptedCopy}
+use Rattle.copy_audit.specs.Audit.{wrong_unless, wrong_from, wrong_by_leaf, wrong_by_parent, wrong_by_known}
+use Rattle.copy_audit.specs.Audit.{wrong_by_unknown, wrong_by, wrong_entry_of_copy, wrong_byte_of_copy, audit_copy, AcceptedCopy}
 use Rattle.byte_strings.proofs.Members.{In}
 use Rattle.byte_strings.proofs.Bools.{both_true}
 use Rattle.file_format.proofs.Shown.{shown_known}

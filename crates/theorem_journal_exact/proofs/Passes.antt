@@ -62,7 +62,8 @@ behind_part j xs ys q n l h =
     ∙ ap (λ (z : List ℕ). part (xs ++ z) (length xs) (n - length xs)) (sym (append-nil ys)) ∙ part_at xs ys [] (length xs) (n - length xs) refl (omega arith)
 
 follows_true : (j : List ℕ) (last reach : ℕ) (covered : List ℕ) (q : ℕ) → file_at j q < 10 → last ≤ file_at j q → 1 ≤ size_at j q
-    → numbers_right (kind_at j q) (start_at j q) (size_at j q) (length_of (old_at j (file_at j q))) (length_of (new_at j (file_at j q))) (reach_of (file_at j q) last reach) (get_or covered (file_at j q) 0) ≡ true
+    → numbers_right (kind_at j q) (start_at j q) (size_at j q) (length_of (old_at j (file_at j q))) (length_of (new_at j (file_at j q))) (reach_of (file_at j q) last reach)
+    (get_or covered (file_at j q) 0) ≡ true
     → follows j last reach covered q ≡ true
 unfolding follows
 follows_true j last reach covered q a b c d =
@@ -113,7 +114,8 @@ module _ (j : List ℕ) (m : ℕ) (ml : m ≤ length j) where
     other_file : (i : ℕ) → i < 10 → (file_at j q ≡ i → ⊥) → sound_from (length_of (old_at j i)) (length_of (new_at j i)) (reach_of i (file_at j q) (stop_at j q))
         (get_or (covered_by j covered q) i 0) (ranges_of i ps) ≡ true
     other_file i h n =
-        ap₂ (λ (a b : ℕ). sound_from (length_of (old_at j i)) (length_of (new_at j i)) a b (ranges_of i ps)) (sym (reach_other i (file_at j q) (stop_at j q) (λ e. n (sym e)))) (covered_other j covered q i n)
+        ap₂ (λ (a b : ℕ). sound_from (length_of (old_at j i)) (length_of (new_at j i)) a b (ranges_of i ps)) (sym (reach_other i (file_at j q) (stop_at j q) (λ e. n (sym e))))
+        (covered_other j covered q i n)
         ∙ go (ℕ_discrete i last)
       where
         d : p.file ≡ i → ⊥

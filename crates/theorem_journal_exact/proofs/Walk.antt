@@ -76,7 +76,8 @@ module _ (j covered : List ℕ) (q : ℕ) where
 
 -- the numbers of a range that follows are right
 pub follows_numbers : (j : List ℕ) (last reach : ℕ) (covered : List ℕ) (q : ℕ) → follows j last reach covered q ≡ true
-    → numbers_right (kind_at j q) (start_at j q) (size_at j q) (length_of (old_at j (file_at j q))) (length_of (new_at j (file_at j q))) (reach_of (file_at j q) last reach) (get_or covered (file_at j q) 0) ≡ true
+    → numbers_right (kind_at j q) (start_at j q) (size_at j q) (length_of (old_at j (file_at j q))) (length_of (new_at j (file_at j q))) (reach_of (file_at j q) last reach)
+    (get_or covered (file_at j q) 0) ≡ true
 unfolding follows
 follows_numbers j last reach covered q e =
     let x = both_true (ltb (file_at j q) 10) _ e in
@@ -158,7 +159,8 @@ module _ (j : List ℕ) (bytes : Bytes j) (m : ℕ) (ml : m ≤ length j) where
         ⊎_elim (λ e. subst (λ (z : Placed). 1 ≤ size_of z.range) (sym e) (subst (λ (n : ℕ). 1 ≤ n) (sym s.sizes) f.some)) (λ r. x.some p r) (Memᴰ.cases_cons k)
 
     -- the file of the range itself
-    sound_here : (i : ℕ) → i < 10 → file_at j q ≡ i → sound_from (length_of (old_at j i)) (length_of (new_at j i)) (reach_of i last reach) (get_or covered i 0) (ranges_of i (placed_at j q ∷ x.ps)) ≡ true
+    sound_here : (i : ℕ) → i < 10 → file_at j q ≡ i → sound_from (length_of (old_at j i)) (length_of (new_at j i)) (reach_of i last reach) (get_or covered i 0) (ranges_of i
+        (placed_at j q ∷ x.ps)) ≡ true
     sound_here i l e =
         ap (sound_from (length_of (old_at j i)) (length_of (new_at j i)) (reach_of i last reach) (get_or covered i 0)) (of_it i (placed_at j q) x.ps e)
         ∙ more_sound (length_of (old_at j i)) (length_of (new_at j i)) (reach_of i last reach) (get_or covered i 0) (range_at j q) (ranges_of i x.ps)
@@ -181,7 +183,8 @@ module _ (j : List ℕ) (bytes : Bytes j) (m : ℕ) (ml : m ≤ length j) where
         covers = ap (max (get_or covered i 0)) s.ends ∙ sym (covered_here j covered q i e (omega arith))
 
     -- another file
-    sound_other : (i : ℕ) → i < 10 → (file_at j q ≡ i → ⊥) → sound_from (length_of (old_at j i)) (length_of (new_at j i)) (reach_of i last reach) (get_or covered i 0) (ranges_of i (placed_at j q ∷ x.ps)) ≡ true
+    sound_other : (i : ℕ) → i < 10 → (file_at j q ≡ i → ⊥) → sound_from (length_of (old_at j i)) (length_of (new_at j i)) (reach_of i last reach) (get_or covered i 0) (ranges_of i
+        (placed_at j q ∷ x.ps)) ≡ true
     sound_other i l n =
         ap (sound_from (length_of (old_at j i)) (length_of (new_at j i)) (reach_of i last reach) (get_or covered i 0)) (of_others i (placed_at j q) x.ps n) ∙ go (ℕ_discrete i last)
       where
@@ -213,7 +216,8 @@ module _ (j : List ℕ) (bytes : Bytes j) (m : ℕ) (ml : m ≤ length j) where
           sound = λ i l. by_file i l (ℕ_discrete (file_at j q) i);
         }
       where
-        by_file : (i : ℕ) → i < 10 → Dec (file_at j q ≡ i) → sound_from (length_of (old_at j i)) (length_of (new_at j i)) (reach_of i last reach) (get_or covered i 0) (ranges_of i (placed_at j q ∷ x.ps)) ≡ true
+        by_file : (i : ℕ) → i < 10 → Dec (file_at j q ≡ i) → sound_from (length_of (old_at j i)) (length_of (new_at j i)) (reach_of i last reach) (get_or covered i 0) (ranges_of i
+            (placed_at j q ∷ x.ps)) ≡ true
         by_file i l (yes e) = sound_here i l e
         by_file i l (no n) = sound_other i l n
 

@@ -143,7 +143,8 @@ module _ (j : List ℕ) (m : ℕ) (ml : m ≤ length j) where
           λ y t. g.4 y (Memᴰ.tail t),
         )
 
-    pub met_passes : (ps : List Placed) (k q : ℕ) → Given k q ps → ((r : Range) → In r (ranges_of i ps) → met_range f r ≡ nowhere) → met j m i f k q ≡ Done (m - length (encode_all (from_file (i + 1) ps)))
+    pub met_passes : (ps : List Placed) (k q : ℕ) → Given k q ps → ((r : Range) → In r (ranges_of i ps) → met_range f r ≡ nowhere)
+        → met j m i f k q ≡ Done (m - length (encode_all (from_file (i + 1) ps)))
     met_passes [] k q g a =
         let d = left q [] g.0 g.2 in
         let y = none_long in

@@ -87,7 +87,8 @@ module _ (F : List ℕ → List ℕ) (x : Journal) (w : WellFormed x) (fl : Hash
     low_enough l = let e = state_length f in omega arith
 
     -- a file whose state is between
-    says_met : (z : ℕ) → between j i at (is_there f) (contents f) ≡ Done z → (state_met j i (state_of (is_there f) (length (contents f))) ≡ true) × (met j m i (contents f) (suc (length j)) at ≡ Done z)
+    says_met : (z : ℕ) → between j i at (is_there f) (contents f) ≡ Done z → (state_met j i (state_of (is_there f) (length (contents f))) ≡ true)
+        × (met j m i (contents f) (suc (length j)) at ≡ Done z)
     says_met z e = go (state_met j i (state_of (is_there f) (length (contents f)))) refl
       where
         go : (b : Bool) → state_met j i (state_of (is_there f) (length (contents f))) ≡ b

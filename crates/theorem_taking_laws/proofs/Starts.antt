@@ -11,7 +11,7 @@ use native.Mathlib.Omega.{arith}
 use borrow.Author.Tests.{eqb-true, eqb-false}
 use lib.Dec.{ltb, eqb}
 use lib.ListN.{length, get_or}
-use Rattle.byte_strings.specs.Lists.{part, run, total, Bytes}
+use Rattle.byte_strings.specs.Lists.{run, total, Bytes}
 use Rattle.byte_strings.proofs.Lists.{length_part, get_or_run, run_add, run_suc, run_get_or, total_append, bytes_part}
 use Rattle.byte_strings.proofs.Numbers.{eight_lt}
 use Rattle.byte_strings.proofs.Bools.{chosen}

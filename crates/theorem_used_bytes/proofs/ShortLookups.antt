@@ -6,7 +6,6 @@ use mathlib.Core.List.{List}
 use native.Mathlib.Omega.{arith}
 use lib.ListN.{take}
 use Rattle.answer_types.specs.Verdict.{done}
-use Rattle.byte_strings.specs.Lowest.{lowest}
 use Rattle.byte_strings.proofs.Lowest.{lowest_agree}
 use Rattle.tree_index.specs.Tree.{index, entries}
 use Rattle.tree_index.proofs.Index.{index_leaf}

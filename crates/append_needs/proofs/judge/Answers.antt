@@ -1,4 +1,5 @@
 -- Each number is refused where those before it are passed.
+use borrow.Author.Rules.{rules}
 use borrow.Author.Tests.{leb-true, le-leb, lt-leb}
 use Prim.Native.Nat.{◌+◌}
 use mathlib.Core.Path.{◌≡◌, refl, sym, ◌∙◌}
@@ -15,13 +16,14 @@ pub returns-then-end-gt1048576 : goal.returns-then-end-gt1048576
 returns-then-end-gt1048576 c =
     let a = c.args in
     by_tests a.n a.size a.lengths.now
-    (sym c.count_after-end.ensures ∙ lt-leb _ _ c.if-end-gt1048576.true) refl refl refl c.refuse.ensures
+    (sym c.count_after-end.ensures ∙ lt-leb _ _ c.if-end-gt1048576.true) refl refl refl (search rules)
 
 pub returns-then-count-gt256 : goal.returns-then-count-gt256
 returns-then-count-gt256 c =
-    let count : leb (c.args.n + length c.args.lengths.now) most_chunks ≡ true = sym c.count_after-end.ensures ∙ le-leb _ _ c.if-end-gt1048576.false in
+    -- what holds once a number is passed
+    let count : leb (c.args.n + length c.args.lengths.now) most_chunks ≡ true = sym c.count_after-end.ensures ∙ le-leb _ _ (omega arith) in
     let a = c.args in
-    by_tests a.n a.size a.lengths.now (count) (lt-leb _ _ c.if-count-gt256.true) refl refl c.refuse-then-count-gt256.ensures
+    by_tests a.n a.size a.lengths.now (count) (lt-leb _ _ c.if-count-gt256.true) refl refl (search rules)
 
 pub returns-then-not-all_short : goal.returns-then-not-all_short
 returns-then-not-all_short c =

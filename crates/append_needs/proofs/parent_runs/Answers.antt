@@ -5,6 +5,7 @@ use Rattle.append_needs.proofs.parent_runs.Goals as goal
 
 pub overflow_mul-result : goal.overflow_mul-result
 overflow_mul-result c =
+    -- what the three calls give
     let counted : (New c.args.n c.args.count c.runs_of.result c.parents-2.result
     c.parents.result) = new_parents _ _ _ _ _ c.requires c.runs_of.ensures c.parents-2.ensures c.parents.ensures in
     omega (arith, (counted).small)

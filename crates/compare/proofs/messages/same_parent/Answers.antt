@@ -1,7 +1,6 @@
 -- `compare::messages::same_parent` meets its contract. The tests come in the definition's order. Assumes nothing.
 use Rattle.audit.proofs.Entries.{entry_as}
 use Rattle.compare.proofs.Same.{parent_sums, parent_left, parent_right_lem}
-use borrow.Author.Tests.{not-false}
 use Rattle.compare.proofs.messages.same_parent.Goals as goal
 
 pub returns-then-sum_below : goal.returns-then-sum_below

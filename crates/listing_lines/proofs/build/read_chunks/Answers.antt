@@ -35,6 +35,7 @@ read_be32-len-requires c =
 
 pub slice_bounds-add-count : goal.slice_bounds-add-count
 slice_bounds-add-count c =
+    -- a chunk that stands ends within the input, and within 4,096 bytes
     let room : ((c.loop-n.at + 4 + c.read_be32-len.result ≤ length c.args.input.now)
     × (c.loop-n.size + c.read_be32-len.result ≤ 4096)) = let l = c.loop-n in
     stood_room c.args.input.now l.at l.size c.read_be32-len.result c.stands.result l.invariant.1 l.invariant.2
@@ -112,6 +113,7 @@ stands-requires c = (c.loop-n.invariant.1, c.loop-n.invariant.2)
 
 pub shape_of-tree-then-not-stands : goal.shape_of-tree-then-not-stands
 shape_of-tree-then-not-stands c =
+    -- the files keep their lengths
     let kept : ((length c.loop-n.tree ≡ length c.args.tree.now) × (length c.loop-n.signatures ≡ length c.args.signatures.now)
     × (length c.loop-n.bitfield ≡ length c.args.bitfield.now) × (length c.loop-n.content ≡ length c.args.content.now)) = let r = c.loop-n.invariant.3.ready in
     let s = c.requires.2 in

@@ -1,8 +1,7 @@
 -- `lookup::descent::from_roots` meets its contract. The invariant: what is left of the search is the whole of it. The measure: the roots left. Assumes nothing.
 use Prim.Native.Nat.{◌-◌}
-use Rattle.tree_index.specs.Tree.{roots}
 use Rattle.lookup.specs.Inner.{known_if}
-use Rattle.lookup.proofs.Capped.{Rest, whole}
+use Rattle.lookup.proofs.Capped.{Rest}
 use Rattle.lookup.proofs.descent.from_roots.Given as goal
 
 abbrev pub invariant-loop-j : goal.invariant-loop-j

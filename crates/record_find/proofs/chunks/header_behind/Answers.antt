@@ -10,6 +10,7 @@ no_record-requires c = c.requires.small (sym c.answer_of.ensures ∙ ap said c.i
 
 pub returns-in-Refused : goal.returns-in-Refused
 returns-in-Refused c =
+    -- what is told where the read answers so
     behind (λ v d. header_after v d c.args.chunk.0) c.in-Refused.is c.answer_of.ensures c.bytes_of-bytes.ensures refl
 
 pub returns-in-Refused-read_header : goal.returns-in-Refused-read_header

@@ -14,6 +14,7 @@ no_record-refusal-requires c = c.requires.small (sym c.answer_of.ensures ∙ ap 
 
 pub returns-in-Refused : goal.returns-in-Refused
 returns-in-Refused c =
+    -- what is told where the read answers so
     behind (λ v d. node_after v d c.args.chunk.0) c.in-Refused.is c.answer_of.ensures c.bytes_of-bytes.ensures
     (ap (node_told (Refused c.in-Refused.refusal)) (ap (λ (x : Verdict × Node). x.1) c.no_node-none.ensures))
 

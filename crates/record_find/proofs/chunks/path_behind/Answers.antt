@@ -19,6 +19,7 @@ returns-in-Refused c =
 pub overflow_add-to : goal.overflow_add-to
 overflow_add-to c =
     let verdict : Verdict = verdict_found (verified_of c.args.read) in
+    -- the Node is told of the bytes read
     let told : node_told c.node_behind-told.result.answer c.node_behind-told.result.node ≡ node_after (verdict) c.bytes_of-bytes.result.now c.args.chunk.0 =
     c.node_behind-told.ensures ∙ sym (ap (λ d. node_after (verdict) d c.args.chunk.0) c.bytes_of-bytes.ensures) in
     let inside : c.node_behind-told.result.node.path.at + c.node_behind-told.result.node.path.len ≤ length c.bytes_of-bytes.result.now =

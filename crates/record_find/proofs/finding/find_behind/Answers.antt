@@ -1,12 +1,12 @@
 -- The answer of the checks, the empty register, chunk 0, and then the search.
 use Prim.Native.Nat.{◌-◌}
-use mathlib.Core.Path.{refl, sym, ap, ◌∙◌}
+use mathlib.Core.Path.{sym, ap, ◌∙◌}
 use Rattle.answer_types.specs.Verdict.{Verdict}
 use Rattle.answer_types.specs.Meaning.{said}
 use Rattle.blake2b.specs.Hash.{node_hash}
 use Rattle.record_format.specs.Post.{header_told}
 use Rattle.record_find.specs.Finding.{Outcome, find_among}
-use Rattle.record_find.specs.Inner.{Readable, header_behind, find_behind}
+use Rattle.record_find.specs.Inner.{header_behind, find_behind}
 use Rattle.record_find.proofs.Chunk.{read_placed}
 use Rattle.record_find.proofs.Search.{with_head}
 use Rattle.record_find.proofs.finding.find_behind.Goals as goal
@@ -25,8 +25,8 @@ pub returns-in-Refused-header_behind : goal.returns-in-Refused-header_behind
 returns-in-Refused-header_behind c =
     let answer : Verdict → Outcome = λ v. let a = c.args in find_behind a.partly a.tree.now a.bitfield.now a.content.now a.n node_hash v a.path.now in
     let a = c.args in
-    refl
-    ∙ with_head _ c.if-n-eq0.false
+    -- what follows on what is told of chunk 0
+    with_head _ c.if-n-eq0.false
     (ap (λ x. (header_told x).0) (sym c.in-Refused-header_behind.is) ∙ ap (λ x. x.0) c.header_behind.ensures ∙ ap (λ f. (header_behind a.content.now 0 f).0) c.read_in-read.ensures)
     ∙ sym (ap (answer) (ap said c.in-Done.is))
 
@@ -40,16 +40,11 @@ returns-in-Content c =
     ∙ sym (ap (answer) (ap said c.in-Done.is))
 
 pub search-requires : goal.search-requires
-search-requires c =
-    let readable : ((let a = c.args in Readable a.partly a.tree.now a.bitfield.now a.content.now a.n)) = c.requires (ap said c.in-Done.is) in
-    readable
+search-requires c = c.requires (ap said c.in-Done.is)
 
 pub read_in-read-requires : goal.read_in-read-requires
-read_in-read-requires c =
-    let readable : ((let a = c.args in Readable a.partly a.tree.now a.bitfield.now a.content.now a.n)) = c.requires (ap said c.in-Done.is) in
-    readable
+read_in-read-requires c = c.requires (ap said c.in-Done.is)
 
 pub header_behind-requires : goal.header_behind-requires
 header_behind-requires c =
-    let readable : ((let a = c.args in Readable a.partly a.tree.now a.bitfield.now a.content.now a.n)) = c.requires (ap said c.in-Done.is) in
-    read_placed (readable) node_hash 0 c.read_in-read.ensures
+    read_placed (c.requires (ap said c.in-Done.is)) node_hash 0 c.read_in-read.ensures

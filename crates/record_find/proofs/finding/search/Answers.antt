@@ -13,6 +13,7 @@ path_behind-requires c = read_placed c.requires node_hash _ c.read_in-read.ensur
 pub returns-in-Refused : goal.returns-in-Refused
 returns-in-Refused c =
     let a = c.args in
+    -- what is told of the chunk below decides, or leaves those below it
     left_told c.loop-chunk.invariant c.loop-chunk-test.true
     (c.path_behind.ensures ∙ ap (λ f. path_behind a.content.now (c.loop-chunk.chunk.0 - 1) f a.path.now) c.read_in-read.ensures) c.in-Refused.is
 

@@ -1,10 +1,9 @@
--- The number and the place that each case of an answer stands for.
+-- The number and the place that a refusal stands for.
+use Rattle.std.specs.Prelude.{Result, Ok, Err}
 use Rattle.answer_types.specs.Verdict.{Spot, Verdict, none, tree, bitfield, done, refused}
 use Rattle.answer_types.specs.declared.Place.{Place}
 use Rattle.answer_types.specs.declared.Place.TheVariants.{Nowhere, Tree, Bitfield}
 use Rattle.answer_types.specs.declared.Refusal.{Refusal}
-use Rattle.answer_types.specs.declared.Answer.{Answer}
-use Rattle.answer_types.specs.declared.Answer.TheVariants.{Done, Refused}
 
 abbrev pub spot_of : Place → Spot
 spot_of Nowhere = none
@@ -14,6 +13,7 @@ spot_of (Bitfield b) = bitfield b.0
 abbrev pub refusal_of : Refusal → Verdict
 refusal_of r = refused r.number (spot_of r.place)
 
-abbrev pub said : Answer → Verdict
-said Done = done
-said (Refused r) = refusal_of r
+-- what a call says, whatever it gives where it is done
+abbrev pub said : {A : Type 0} → Result A Refusal → Verdict
+said (Ok x) = done
+said (Err r) = refusal_of r

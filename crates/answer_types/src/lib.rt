@@ -1,4 +1,4 @@
-// How a call answers: done, or a refusal with its number and its place.
+// How a call answers: `Ok` with what it gives, or `Err` with a refusal, its number and its place.
 #![tactic(auto)]
 
 ghost use Rattle.std.specs.Prelude.{◌≡◌};
@@ -22,38 +22,31 @@ pub struct Refusal {
     pub place: Place,
 }
 
-// The answer of a call that gives nothing but its being done.
-#[derive(Clone, Copy)]
-pub enum Answer {
-    Done,
-    Refused(Refusal),
-}
-
 // A refusal that has no place.
-pub fn refuse(number: u64) -> Answer
+pub fn refuse(number: u64) -> Result<(), Refusal>
     ensures { said result ≡ refused number none }
 {
-    Answer::Refused(Refusal {
+    Err(Refusal {
         number,
         place: Place::Nowhere,
     })
 }
 
 // A refusal at a tree entry.
-pub fn refuse_entry(number: u64, index: TreeIndex) -> Answer
+pub fn refuse_entry(number: u64, index: TreeIndex) -> Result<(), Refusal>
     ensures { said result ≡ refused number (tree index.0) }
 {
-    Answer::Refused(Refusal {
+    Err(Refusal {
         number,
         place: Place::Tree(index),
     })
 }
 
 // A refusal at a byte of the bitfield file.
-pub fn refuse_byte(number: u64, offset: ByteOffset) -> Answer
+pub fn refuse_byte(number: u64, offset: ByteOffset) -> Result<(), Refusal>
     ensures { said result ≡ refused number (bitfield offset.0) }
 {
-    Answer::Refused(Refusal {
+    Err(Refusal {
         number,
         place: Place::Bitfield(offset),
     })

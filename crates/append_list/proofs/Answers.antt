@@ -1,4 +1,5 @@
 -- The answers of the append of a list, and what is left in the buffers. Assumes nothing.
+use Rattle.std.specs.Prelude.{Result, Ok, Err, ⊤}
 use Prim.Native.Nat.{ℕ, suc, ◌+◌, ◌-◌, ◌*◌, ◌≤◌}
 use mathlib.Core.Path.{◌≡◌, sym, ap, ap₂, ◌∙◌, subst}
 use mathlib.Core.List.{List, [], ◌∷◌}
@@ -7,8 +8,6 @@ use lib.ListN.{length, take, drop}
 use Rattle.answer_types.specs.Verdict.{Verdict, done, unless_refused}
 use Rattle.answer_types.specs.Meaning.{said}
 use Rattle.answer_types.specs.declared.Refusal.{Refusal}
-use Rattle.answer_types.specs.declared.Answer.{Answer}
-use Rattle.answer_types.specs.declared.Answer.TheVariants.{Done, Refused}
 use Rattle.byte_strings.specs.Lists.{put, zeros}
 use Rattle.blake2b.specs.Hash.{node_hash}
 use Rattle.file_format.specs.Sizes.{used_signatures}
@@ -71,9 +70,9 @@ module _ (F : List ℕ → List ℕ) (r : Register) where
 
 -- ---- the call
 
-module _ (r : Register) (ls bs : List ℕ) (a : Answer) (e : said a ≡ list_verdict r ls bs) where
+module _ (r : Register) (ls bs : List ℕ) (a : Result ⊤ Refusal) (e : said a ≡ list_verdict r ls bs) where
   -- what is left to the part that writes
-  pub store_fits : a ≡ Done → StoreFits r.tree r.signatures r.bitfield r.content r.n r.size ls bs
+  pub store_fits : a ≡ (Ok tt) → StoreFits r.tree r.signatures r.bitfield r.content r.n r.size ls bs
   store_fits p =
       let w = list_passed r ls bs (sym e ∙ ap said p) in
       let f : ListFits r ls bs = w.1 in
@@ -88,17 +87,17 @@ module _ (r : Register) (ls bs : List ℕ) (a : Answer) (e : said a ≡ list_ver
         sum = w.0.adds;
       }
 
-  pub list_not : (x : Refusal) → a ≡ Refused x → ListPost r ls bs (said (Refused x)) (zeros 32) (buffers_of r)
+  pub list_not : (x : Refusal) → a ≡ Err x → ListPost r ls bs (said (Err x)) (zeros 32) (buffers_of r)
   unfolding list_root after_list
   list_not x p =
-      let w : said (Refused x) ≡ list_verdict r ls bs = sym (ap said p) ∙ e in
+      let w : said (Err x) ≡ list_verdict r ls bs = sym (ap said p) ∙ e in
       record {
         answer = w;
         root = ap (λ (v : Verdict). root_unless_refused node_hash v (appended_list node_hash r (chunks_of ls bs))) w;
         buffers = ap (λ (v : Verdict). unless_refused v (buffers_of (appended_list node_hash r (chunks_of ls bs))) (buffers_of r)) w;
       }
 
-  pub list_done : (h t g b c : List ℕ) → a ≡ Done → StorePost r.tree r.signatures r.bitfield r.content r.n r.size ls bs h t g b c
+  pub list_done : (h t g b c : List ℕ) → a ≡ (Ok tt) → StorePost r.tree r.signatures r.bitfield r.content r.n r.size ls bs h t g b c
       → ListPost r ls bs done h (lent t g b c)
   unfolding list_root after_list
   list_done h t g b c p w =

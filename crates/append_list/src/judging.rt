@@ -8,7 +8,7 @@ ghost use Rattle.checks.specs.Lent.{register_of};
 ghost use Rattle.append_list.specs.Append.{list_checks, room_checks, list_verdict};
 ghost use Rattle.append_list.specs.Inner.{own_verdict};
 
-use answer_types::Answer;
+use answer_types::Refusal;
 
 // Whether the lengths add up to a number, as whole numbers: what is left of it is never less than 0.
 fn adds_up(lengths: &[u64], whole: u64) -> bool
@@ -28,7 +28,7 @@ fn adds_up(lengths: &[u64], whole: u64) -> bool
 }
 
 // The numbers 16 and 7, which look at the list alone.
-fn judge_list(lengths: &[u64], bytes: &[u8]) -> Answer
+fn judge_list(lengths: &[u64], bytes: &[u8]) -> Result<(), Refusal>
     ensures { said result ≡ judged (list_checks lengths.now bytes.now) done }
 {
     if lengths.len() == 0 {
@@ -43,7 +43,7 @@ fn judge_list(lengths: &[u64], bytes: &[u8]) -> Answer
     if !checks::all_short(lengths) {
         return answer_types::refuse(7);
     }
-    Answer::Done
+    Ok(())
 }
 
 // Inner: the numbers 8 and 14, of a register that passes 2 to 6 and a list of k chunks and `whole` bytes that passes 16 and 7.
@@ -57,7 +57,7 @@ fn judge_room(
     size: u64,
     k: u64,
     whole: usize,
-) -> Answer
+) -> Result<(), Refusal>
     requires { (1 ≤ k) × (n + k ≤ 1048576) × (size ≤ length content.now) }
     ensures { said result ≡
         judged
@@ -81,7 +81,7 @@ fn judge_room(
     if content.len() - (size as usize) < whole {
         return answer_types::refuse(14);
     }
-    Answer::Done
+    Ok(())
 }
 
 // Inner: the numbers behind 6: 16, 7, 8 and 14.
@@ -95,7 +95,7 @@ fn judge_own(
     size: u64,
     lengths: &[u64],
     bytes: &[u8],
-) -> Answer
+) -> Result<(), Refusal>
     requires { (n + length lengths.now ≤ 1048576) × (size ≤ length content.now) }
     ensures { said result ≡
         own_verdict
@@ -104,8 +104,8 @@ fn judge_own(
 {
     let found = judge_list(lengths, bytes);
     match found {
-        Answer::Refused(refusal) => Answer::Refused(refusal),
-        Answer::Done => judge_room(
+        Err(refusal) => Err(refusal),
+        Ok(()) => judge_room(
             tree,
             signatures,
             bitfield,
@@ -131,7 +131,7 @@ pub fn judge(
     size: u64,
     lengths: &[u64],
     bytes: &[u8],
-) -> Answer
+) -> Result<(), Refusal>
     ensures { said result ≡
         list_verdict
         (register_of tree.now signatures.now bitfield.now content.now n s size)
@@ -145,8 +145,8 @@ pub fn judge(
     }
     let found = checks::judge_later(tree, signatures, bitfield, content, n, s, size);
     match found {
-        Answer::Refused(refusal) => Answer::Refused(refusal),
-        Answer::Done => judge_own(
+        Err(refusal) => Err(refusal),
+        Ok(()) => judge_own(
             tree, signatures, bitfield, content, n, s, size, lengths, bytes,
         ),
     }

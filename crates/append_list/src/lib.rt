@@ -10,7 +10,7 @@ ghost use Rattle.checks.specs.Lent.{register_of};
 ghost use Rattle.writing.specs.Post.{lent};
 ghost use Rattle.append_list.specs.Post.{ListPost};
 
-use answer_types::Answer;
+use answer_types::Refusal;
 use writing::Appended;
 
 // All chunks of a list, which are then owed one signature: the last one's. The signatures of the others are 64 zero bytes each.
@@ -34,12 +34,12 @@ pub fn append_list(
         tree, signatures, bitfield, content, n, s, size, lengths, bytes,
     );
     match found {
-        Answer::Refused(refusal) => Appended {
-            answer: Answer::Refused(refusal),
+        Err(refusal) => Appended {
+            answer: Err(refusal),
             root: [0u8; 32],
         },
-        Answer::Done => Appended {
-            answer: Answer::Done,
+        Ok(()) => Appended {
+            answer: Ok(()),
             root: storing::store(tree, signatures, bitfield, content, n, size, lengths, bytes),
         },
     }

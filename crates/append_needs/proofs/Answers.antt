@@ -1,4 +1,5 @@
 -- The answer, from the tests that led to it. Assumes nothing.
+use Rattle.std.specs.Prelude.{Result, Ok, Err, ⊤}
 use Prim.Native.Nat.{ℕ, ◌+◌, ◌*◌, ◌≤◌, ◌<◌}
 use mathlib.Core.Path.{◌≡◌, refl, sym, ap, ◌∙◌}
 use mathlib.Core.Bool.{Bool, cond}
@@ -10,8 +11,6 @@ use lib.ListN.{length}
 use Rattle.answer_types.specs.Verdict.{Verdict, none, done, refused, unless_refused}
 use Rattle.answer_types.specs.Meaning.{said}
 use Rattle.answer_types.specs.declared.Refusal.{Refusal}
-use Rattle.answer_types.specs.declared.Answer.{Answer}
-use Rattle.answer_types.specs.declared.Answer.TheVariants.{Done, Refused}
 use Rattle.byte_strings.specs.Lists.{run, total}
 use Rattle.tree_index.specs.Tree.{completed}
 use Rattle.file_format.specs.Sizes.{most_chunks, longest_chunk, used_tree, used_signatures, used_bitfield}
@@ -54,18 +53,18 @@ module _ (n size : ℕ) (ls : List ℕ) where
   unfolding need_of
   all_numbers t g b c l p r e₁ e₂ e₃ e₄ e₅ e₆ e₇ = cc
 
-  module _ (a : Answer) (e : said a ≡ need_verdict n size ls) where
-    pub asked_of : a ≡ Done → Asked n size ls
+  module _ (a : Result ⊤ Refusal) (e : said a ≡ need_verdict n size ls) where
+    pub asked_of : a ≡ (Ok tt) → Asked n size ls
     asked_of p = asked (sym e ∙ ap said p)
 
-    pub need_not : (x : Refusal) → a ≡ Refused x
-        → NeedPost n size ls (record { answer = Refused x; tree = 0; signatures = 0; bitfield = 0; content = 0; leaves = 0; parents = 0; root = 0; runs = 0 })
+    pub need_not : (x : Refusal) → a ≡ Err x
+        → NeedPost n size ls (record { answer = Err x; tree = 0; signatures = 0; bitfield = 0; content = 0; leaves = 0; parents = 0; root = 0; runs = 0 })
     unfolding need_given nothing
     need_not x p =
-        let v : said (Refused x) ≡ need_verdict n size ls = sym (ap said p) ∙ e in
+        let v : said (Err x) ≡ need_verdict n size ls = sym (ap said p) ∙ e in
         record { answer = v; numbers = ap (λ (w : Verdict). unless_refused w (need_of n size ls) nothing) v; runs = refl }
 
-    pub need_done : (r : Needed) → a ≡ Done → Answered n size ls r → NeedPost n size ls r
+    pub need_done : (r : Needed) → a ≡ (Ok tt) → Answered n size ls r → NeedPost n size ls r
     unfolding need_given
     need_done r p w =
         let v : done ≡ need_verdict n size ls = sym (ap said p) ∙ e in

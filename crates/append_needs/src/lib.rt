@@ -12,13 +12,13 @@ ghost use Rattle.append_needs.specs.Needs.{leaf_runs, parent_runs, root_runs, ne
 ghost use Rattle.append_needs.specs.Post.{NeedPost};
 ghost use Rattle.append_needs.specs.Inner.{Listed, Asked, Answered};
 
-use answer_types::Answer;
+use answer_types::Refusal;
 
 // An answer, and beside it the sizes of the four files and the runs for the new leaves, the completed parents and the root hash, and all runs
 // together; zeros after a refusal.
 #[derive(Clone, Copy)]
 pub struct Needed {
-    pub answer: Answer,
+    pub answer: Result<(), Refusal>,
     pub tree: u64,
     pub signatures: u64,
     pub bitfield: u64,
@@ -43,7 +43,7 @@ fn count_after(n: u64, count: u64) -> u64
 }
 
 // Numbers 2, 16, 7 and 9.
-fn judge(n: u64, size: u64, lengths: &[u64]) -> Answer
+fn judge(n: u64, size: u64, lengths: &[u64]) -> Result<(), Refusal>
     ensures { said result ≡ need_verdict n size lengths.now }
 {
     let count = lengths.len() as u64;
@@ -60,7 +60,7 @@ fn judge(n: u64, size: u64, lengths: &[u64]) -> Answer
     if 65536 * n < size {
         return answer_types::refuse(9);
     }
-    Answer::Done
+    Ok(())
 }
 
 // Inner: the runs of a message of so many bytes.
@@ -137,7 +137,7 @@ fn counted(n: u64, size: u64, lengths: &[u64]) -> Needed
     let parents = parent_runs(n, count);
     let root = root_runs(end);
     Needed {
-        answer: Answer::Done,
+        answer: Ok(()),
         tree: file_format::sizes::used_tree(end) as u64,
         signatures: file_format::sizes::used_signatures(end) as u64,
         bitfield: file_format::sizes::used_bitfield(end) as u64,
@@ -154,8 +154,8 @@ pub fn needs(n: u64, size: u64, lengths: &[u64]) -> Needed
     ensures { NeedPost n size lengths.now result }
 {
     match judge(n, size, lengths) {
-        Answer::Refused(refusal) => Needed {
-            answer: Answer::Refused(refusal),
+        Err(refusal) => Needed {
+            answer: Err(refusal),
             tree: 0,
             signatures: 0,
             bitfield: 0,
@@ -165,6 +165,6 @@ pub fn needs(n: u64, size: u64, lengths: &[u64]) -> Needed
             root: 0,
             runs: 0,
         },
-        Answer::Done => counted(n, size, lengths),
+        Ok(()) => counted(n, size, lengths),
     }
 }

@@ -13,14 +13,14 @@ ghost use Rattle.writing.specs.Append.{appended_tree};
 ghost use Rattle.writing.specs.Inner.{entry_of, made, FilledFits};
 ghost use Rattle.append_preview.specs.Preview.{message_with, PreviewPost};
 
-use answer_types::Answer;
+use answer_types::Refusal;
 use file_format::roots::Roots;
 use writing::Node;
 
 // An answer, and beside it the root hash that the append would give; zeros after a refusal.
 #[derive(Clone, Copy)]
 pub struct Previewed {
-    pub answer: Answer,
+    pub answer: Result<(), Refusal>,
     pub root: [u8; 32],
 }
 
@@ -90,12 +90,12 @@ pub fn preview(
 {
     let found = writing::judge_append(tree, signatures, bitfield, content, n, s, size, chunk);
     match found {
-        Answer::Refused(refusal) => Previewed {
-            answer: Answer::Refused(refusal),
+        Err(refusal) => Previewed {
+            answer: Err(refusal),
             root: [0u8; 32],
         },
-        Answer::Done => Previewed {
-            answer: Answer::Done,
+        Ok(()) => Previewed {
+            answer: Ok(()),
             root: new_root(tree, n, chunk),
         },
     }

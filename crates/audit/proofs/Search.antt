@@ -1,5 +1,6 @@
 -- The verdicts that a search for the lowest wrong number gives.
 -- Assumes nothing.
+use Rattle.std.specs.Prelude.{Result, Err, ⊤}
 use Prim.Native.Nat.{ℕ, zero, suc, ◌+◌}
 use mathlib.Core.Path.{◌≡◌, refl, sym, ap, ap₂, ◌∙◌}
 use mathlib.Core.Bool.{Bool, true, false, cond}
@@ -9,8 +10,6 @@ use native.Mathlib.Omega.{arith}
 use Rattle.answer_types.specs.Verdict.{Spot, Verdict, none, done, refused, and_then}
 use Rattle.answer_types.specs.Meaning.{said}
 use Rattle.answer_types.specs.declared.Refusal.{Refusal}
-use Rattle.answer_types.specs.declared.Answer.{Answer}
-use Rattle.answer_types.specs.declared.Answer.TheVariants.{Refused}
 use Rattle.checks.specs.Checks.{Check, judged}
 use Rattle.byte_strings.specs.Lowest.{Lowest, nowhere, first, lowest}
 use Rattle.byte_strings.proofs.Lowest.{step}
@@ -24,8 +23,8 @@ then_assoc done v w = refl
 then_assoc (refused m at) v w = refl
 
 -- nothing comes next after a refusal
-pub stops : (x : Answer) (r : Refusal) → x ≡ Refused r → (next : Verdict) → and_then (said x) next ≡ said x
-stops x r e next = ap (λ (y : Answer). and_then (said y) next) e ∙ sym (ap said e)
+pub stops : (x : Result ⊤ Refusal) (r : Refusal) → x ≡ Err r → (next : Verdict) → and_then (said x) next ≡ said x
+stops x r e next = ap (λ (y : Result ⊤ Refusal). and_then (said y) next) e ∙ sym (ap said e)
 
 pub judged_then : (cs : List Check) (next : Verdict) → judged cs next ≡ and_then (judged cs done) next
 unfolding judged

@@ -1,13 +1,12 @@
 -- The audit as the code makes it: three verdicts one after the other.
 -- Assumes nothing.
+use Rattle.std.specs.Prelude.{Result, Err, ⊤}
 use Prim.Native.Nat.{ℕ, ◌-◌}
 use mathlib.Core.Path.{◌≡◌, refl, sym, ap, ◌∙◌}
 use mathlib.Core.List.{List, []}
 use Rattle.answer_types.specs.Verdict.{Verdict, tree, bitfield, done, and_then}
 use Rattle.answer_types.specs.Meaning.{said}
 use Rattle.answer_types.specs.declared.Refusal.{Refusal}
-use Rattle.answer_types.specs.declared.Answer.{Answer}
-use Rattle.answer_types.specs.declared.Answer.TheVariants.{Refused}
 use Rattle.tree_index.specs.Tree.{entries}
 use Rattle.file_format.specs.Sizes.{used_bitfield}
 use Rattle.file_format.specs.Belongs.{Register}
@@ -20,11 +19,11 @@ use Rattle.audit.proofs.Search.{stops, judged_then, refused_then}
 
 -- ---- the checks 2 to 6, and what comes next
 
-module _ (r : Register) (next : Verdict) (x : Answer) (checked : said x ≡ judged (register_checks r) done) where
+module _ (r : Register) (next : Verdict) (x : Result ⊤ Refusal) (checked : said x ≡ judged (register_checks r) done) where
   then_next : judged (register_checks r) next ≡ and_then (said x) next
   then_next = judged_then (register_checks r) next ∙ ap (λ (v : Verdict). and_then v next) (sym checked)
 
-  pub checks_refuse : (m : Refusal) → x ≡ Refused m → said x ≡ judged (register_checks r) next
+  pub checks_refuse : (m : Refusal) → x ≡ Err m → said x ≡ judged (register_checks r) next
   checks_refuse m e = sym (then_next ∙ stops x m e next)
 
   pub checks_pass : said x ≡ done → (v : Verdict) → v ≡ next → v ≡ judged (register_checks r) next
@@ -52,12 +51,12 @@ module _ (F : List ℕ → List ℕ) (r : Register) where
   abbrev on_bitfield : Verdict
   on_bitfield = refused_at 11 bitfield (lowest (byte_right r.bitfield r.n) 32 (used_bitfield r.n - 32)) done
 
-  module _ (y : Answer) (q : said y ≡ on_tree) where
+  module _ (y : Result ⊤ Refusal) (q : said y ≡ on_tree) where
     parts : images_verdict F r ≡ and_then (said y) on_bitfield
     unfolding images_verdict wrong_entry wrong_byte
     parts = refused_then 10 tree (wrong_entry F r) on_bitfield ∙ ap (λ (v : Verdict). and_then v on_bitfield) (sym q)
 
-    pub tree_refuses : (m : Refusal) → y ≡ Refused m → said y ≡ images_verdict F r
+    pub tree_refuses : (m : Refusal) → y ≡ Err m → said y ≡ images_verdict F r
     tree_refuses m e = sym (parts ∙ stops y m e on_bitfield)
 
     pub bitfield_says : said y ≡ done → (v : Verdict) → v ≡ on_bitfield → v ≡ images_verdict F r

@@ -8,7 +8,7 @@ ghost use Rattle.file_format.specs.Sizes.{used_bitfield};
 ghost use Rattle.audit.specs.Audit.{lowest, held_bits, refused_at, byte_right_by};
 ghost use Rattle.audit.specs.BitfieldEntries.{eight, tree_bits, entry_with, BitsIn, AtBits};
 
-use answer_types::Answer;
+use answer_types::Refusal;
 use number_types::{ByteOffset, ChunkNumber, TreeIndex};
 
 fn bit_of(b: bool) -> u8
@@ -129,7 +129,7 @@ fn entry_offset(e: u64) -> ByteOffset
 }
 
 // The lowest wrong byte of entry e. Its Index is judged by the stored data bytes: a wrong one of these comes first.
-fn wrong_in_entry(xs: &[u8], n: u64, e: u64, partly: bool) -> Answer
+fn wrong_in_entry(xs: &[u8], n: u64, e: u64, partly: bool) -> Result<(), Refusal>
     requires { AtBits xs.now n e }
     ensures { said result ≡
         refused_at 11 at_byte
@@ -147,7 +147,7 @@ fn wrong_in_entry(xs: &[u8], n: u64, e: u64, partly: bool) -> Answer
         }
         j += 1;
     }
-    Answer::Done
+    Ok(())
 }
 
 // Inner: how many entries the bitfield file of n chunks has.
@@ -159,7 +159,7 @@ pub fn row_count(n: u64) -> u64
 }
 
 // Inner: the lowest wrong byte of the entries from `from` on and before `end`, entry by entry.
-pub fn wrong_in_entries(xs: &[u8], n: u64, partly: bool, from: u64, end: u64) -> Answer
+pub fn wrong_in_entries(xs: &[u8], n: u64, partly: bool, from: u64, end: u64) -> Result<(), Refusal>
     requires { BitsIn xs.now n × (end ≤ entry_count n) }
     ensures { said result ≡
         refused_at 11 at_byte
@@ -168,16 +168,16 @@ pub fn wrong_in_entries(xs: &[u8], n: u64, partly: bool, from: u64, end: u64) ->
     let mut e = from;
     while e < end {
         let answer = wrong_in_entry(xs, n, e, partly);
-        let Answer::Done = answer else {
+        let Ok(()) = answer else {
             return answer;
         };
         e += 1;
     }
-    Answer::Done
+    Ok(())
 }
 
 // Inner: the lowest wrong byte of the file behind its header. In a partial copy the tree bit of an entry may be 0 that is no hole.
-pub fn wrong_byte(xs: &[u8], n: u64, partly: bool) -> Answer
+pub fn wrong_byte(xs: &[u8], n: u64, partly: bool) -> Result<(), Refusal>
     requires { BitsIn xs.now n }
     ensures { said result ≡
         refused_at 11 at_byte

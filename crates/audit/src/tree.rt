@@ -12,7 +12,7 @@ ghost use Rattle.checks.specs.Capped.{capped};
 ghost use Rattle.audit.specs.Audit.{lowest, parent_right, hole_right, entry_right, refused_at, leaf_from};
 ghost use Rattle.audit.specs.TreeWalk.{leaves_before, FilesIn, Started, AtEntry, AtLeaf, AtParent};
 
-use answer_types::Answer;
+use answer_types::Refusal;
 use number_types::{ByteOffset, ChunkNumber, TreeIndex};
 
 // Inner: how many entries the tree file of n chunks has.
@@ -163,7 +163,7 @@ pub fn wrong_between(
     size: u64,
     from: TreeIndex,
     end: TreeIndex,
-) -> Answer
+) -> Result<(), Refusal>
     requires { FilesIn tree.now bitfield.now content.now n size × (end.0 ≤ entries_of n) }
     ensures { said result ≡
         refused_at 10 at_tree
@@ -172,7 +172,7 @@ pub fn wrong_between(
         done }
 {
     if end.0 <= from.0 {
-        return Answer::Done;
+        return Ok(());
     }
     let mut i = from;
     let mut start = start_at(tree, n, from);
@@ -184,11 +184,17 @@ pub fn wrong_between(
         start = next;
         i = TreeIndex(i.0 + 1);
     }
-    Answer::Done
+    Ok(())
 }
 
 // Inner: the lowest wrong entry of all.
-pub fn wrong_entry(tree: &[u8], bitfield: &[u8], content: &[u8], n: u64, size: u64) -> Answer
+pub fn wrong_entry(
+    tree: &[u8],
+    bitfield: &[u8],
+    content: &[u8],
+    n: u64,
+    size: u64,
+) -> Result<(), Refusal>
     requires { FilesIn tree.now bitfield.now content.now n size }
     ensures { said result ≡
         refused_at 10 at_tree

@@ -1,5 +1,6 @@
 -- The public call by the lengths that it is given.
 -- Assumes nothing.
+use Rattle.std.specs.Prelude.{Ok}
 use mathlib.Core.Path.{◌≡◌, sym, ap, ap₂, ◌∙◌}
 use mathlib.Core.Bool.{Bool, true, false}
 use mathlib.Core.List.{List, ◌++◌}
@@ -9,7 +10,6 @@ use lib.Dec.{leb}
 use lib.ListN.{length, replicate}
 use borrow.Author.Tests.{le-leb, lt-leb}
 use Rattle.answer_types.specs.Verdict.{Verdict, none, done, refused, unless_refused}
-use Rattle.answer_types.specs.declared.Answer.TheVariants.{Done}
 use Rattle.blake2b.specs.Hash.{input, final, bytes, blake2b}
 use Rattle.blake2b.specs.Digest.{length_right, key_right, verdict_if, verdict, digest}
 use Rattle.blake2b.specs.Post.{Refused, HashedAs}
@@ -61,7 +61,7 @@ unfolding blake2b
 hash_from nn key d s t b e f g = g ∙ ap (λ (x : List ℕ). over 64 x nn) (f ∙ ap bytes e)
 
 pub as_done : (nn : ℕ) (key d s t b : List ℕ) → verdict nn (length key) ≡ done → s ≡ final nn (length key) (input key d) → t ≡ bytes s
-    → b ≡ over 64 t nn → HashedAs nn key d (record { digest = b; answer = Done })
+    → b ≡ over 64 t nn → HashedAs nn key d (record { digest = b; answer = (Ok tt) })
 unfolding digest
 as_done nn key d s t b e f g h =
     record {

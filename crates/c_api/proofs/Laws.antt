@@ -1,10 +1,10 @@
 -- What a call answers to C, from the case that its answer is.
+use Rattle.std.specs.Prelude.{Ok, Err}
 use Prim.Native.Nat.{ℕ}
 use mathlib.Core.Path.{◌≡◌, sym, ap, ap₂, ◌∙◌}
 use mathlib.Core.List.{List, [], ◌∷◌}
 use Rattle.answer_types.specs.Verdict.{Verdict, done, unless_refused}
 use Rattle.answer_types.specs.Meaning.{said, refusal_of}
-use Rattle.answer_types.specs.declared.Answer.TheVariants.{Done, Refused}
 use Rattle.answer_types.specs.declared.Refusal.{Refusal}
 use Rattle.blake2b.specs.Hash.{node_hash}
 use Rattle.file_format.specs.Belongs.{Register}
@@ -48,12 +48,12 @@ makes r c out long answer m after long_after h a l =
 
 -- what a job needs, from the case that the answer is
 module _ (n size : ℕ) (ls before : List ℕ) (answer : List ℕ) (r : Needed) (h : NeedPost n size ls r) where
-  pub needs_refused : (x : Refusal) → r.answer ≡ Refused x → answer ≡ encoded (refusal_of x) → Needs n size ls before answer before
+  pub needs_refused : (x : Refusal) → r.answer ≡ Err x → answer ≡ encoded (refusal_of x) → Needs n size ls before answer before
   needs_refused x e a =
       let v : refusal_of x ≡ need_verdict n size ls = sym (ap said e) ∙ h.answer in
       record { answers = a ∙ ap encoded v; numbers = ap (λ (u : Verdict). unless_refused u (need_numbers (need_of n size ls)) before) v }
 
-  pub needs_done : r.answer ≡ Done → answer ≡ encoded done
+  pub needs_done : r.answer ≡ (Ok tt) → answer ≡ encoded done
       → Needs n size ls before answer (r.tree ∷ r.signatures ∷ r.bitfield ∷ r.content ∷ r.leaves ∷ r.parents ∷ r.root ∷ r.runs ∷ [])
   unfolding need_given
   needs_done e a =

@@ -1,11 +1,11 @@
 -- What the calls on records answer to C, from the case that their answer is.
+use Rattle.std.specs.Prelude.{Result, ⊤}
 use Prim.Native.Nat.{ℕ}
 use mathlib.Core.Path.{◌≡◌, refl, sym, ap, ap₂, ◌∙◌, subst}
 use mathlib.Core.List.{List, [], ◌∷◌, ◌++◌}
 use lib.ListN.{length, get_or}
 use Rattle.answer_types.specs.Verdict.{Verdict, done, refused, unless_refused}
 use Rattle.answer_types.specs.Meaning.{said, refusal_of}
-use Rattle.answer_types.specs.declared.Answer.{Answer}
 use Rattle.answer_types.specs.declared.Refusal.{Refusal}
 use Rattle.record_fields.specs.declared.rows.Part.{Part}
 use Rattle.record_format.specs.Post.{WrittenAs, write_verdict, length_unless, header_told}
@@ -70,7 +70,7 @@ header_given r p before a e q =
 pub header_same : (told other : Verdict × Part) (before a after : List ℕ) → told ≡ other → GivesHeader told before a after → GivesHeader other before a after
 header_same told other before a after e h = subst (λ (t : Verdict × Part). GivesHeader t before a after) e h
 
-pub node_told_lem : (r a : List ℕ) (v : Answer) (f : FlatNode) (n : Node) → r ≡ get_or a 0 0 ∷ get_or a 1 0 ∷ get_or a 2 0 ∷ node_numbers f → a ≡ encoded (said v)
+pub node_told_lem : (r a : List ℕ) (v : Result ⊤ Refusal) (f : FlatNode) (n : Node) → r ≡ get_or a 0 0 ∷ get_or a 1 0 ∷ get_or a 2 0 ∷ node_numbers f → a ≡ encoded (said v)
     → f ≡ flat_node n → r ≡ encoded_node (node_told v n)
 node_told_lem r a v f n e p q =
     e ∙ ap (λ (x : FlatNode). get_or a 0 0 ∷ get_or a 1 0 ∷ get_or a 2 0 ∷ node_numbers x) q

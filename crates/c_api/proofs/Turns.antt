@@ -1,10 +1,11 @@
 -- What the calls on a table of waiting reads answer to C.
+use Rattle.std.specs.Prelude.{Result, ⊤}
+use Rattle.answer_types.specs.declared.Refusal.{Refusal}
 use Prim.Native.Nat.{ℕ}
 use mathlib.Core.Path.{◌≡◌, sym, ap, ap₂, ◌∙◌, subst}
 use mathlib.Core.List.{List, [], ◌∷◌}
 use lib.ListN.{get_or}
 use Rattle.answer_types.specs.Meaning.{said}
-use Rattle.answer_types.specs.declared.Answer.{Answer}
 use Rattle.blake2b.specs.Hash.{node_hash}
 use Rattle.file_format.specs.Belongs.{Register}
 use Rattle.lookup.specs.Read.{Name, named, read_found}
@@ -19,7 +20,7 @@ use Rattle.c_encoding.proofs.Laws.{three_of}
 use Rattle.c_api.specs.Waiting.{Enters, Hands, encoded_serving, numbers_served}
 
 -- an entry, from the register that a number names
-pub enters : (s k c : ℕ) (n : Name) (before : List ℕ) (a : Answer) (after : List ℕ) (answer : List ℕ) → n ≡ named_by k
+pub enters : (s k c : ℕ) (n : Name) (before : List ℕ) (a : Result ⊤ Refusal) (after : List ℕ) (answer : List ℕ) → n ≡ named_by k
     → Entered s (record { register = number_of n; chunk = c }) before a after → answer ≡ encoded (said a)
     → Enters s (record { register = number_of (named_by k); chunk = c }) before answer after
 enters s k c n before a after answer by h e =

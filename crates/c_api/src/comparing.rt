@@ -10,14 +10,14 @@ ghost use Rattle.packet_compare.specs.Meaning.{walk_of};
 ghost use Rattle.c_encoding.specs.Encoding.{encoded};
 ghost use Rattle.c_api.specs.Encoding.{encoded_comparison, encoded_walk};
 
-use answer_types::Answer;
+use answer_types::Refusal;
 use compare::Compared;
 use number_types::ChunkNumber;
 use packet_compare::Walked;
 
 // An outcome and the three numbers of an answer. The outcome is 0 for equal (of packets: the same chunk), 1 for roots differ, 2 for a collision at the
 // roots, 3 for one at a tree index, 4 where the first register or packet is refused and 5 where the second is, by the answer.
-fn with_outcome(outcome: u64, said: Answer) -> [u64; 4]
+fn with_outcome(outcome: u64, said: Result<(), Refusal>) -> [u64; 4]
     ensures { result ≡ outcome ∷ encoded (toldBy said) }
 {
     let answer = c_encoding::encode(said);
@@ -29,12 +29,12 @@ pub fn encode_comparison(compared: Compared) -> [u64; 4]
     ensures { result ≡ encoded_comparison (Answered·compared compared) }
 {
     match compared {
-        Compared::Equal => with_outcome(0, Answer::Done),
-        Compared::RootsDiffer => with_outcome(1, Answer::Done),
-        Compared::AtRoots => with_outcome(2, Answer::Done),
+        Compared::Equal => with_outcome(0, Ok(())),
+        Compared::RootsDiffer => with_outcome(1, Ok(())),
+        Compared::AtRoots => with_outcome(2, Ok(())),
         Compared::AtIndex(index) => [3, 0, 1, index.0],
-        Compared::FirstRefused(refusal) => with_outcome(4, Answer::Refused(refusal)),
-        Compared::SecondRefused(refusal) => with_outcome(5, Answer::Refused(refusal)),
+        Compared::FirstRefused(refusal) => with_outcome(4, Err(refusal)),
+        Compared::SecondRefused(refusal) => with_outcome(5, Err(refusal)),
     }
 }
 
@@ -84,11 +84,11 @@ fn encode_walk(walked: Walked) -> [u64; 4]
     ensures { result ≡ encoded_walk (walk_of walked) }
 {
     match walked {
-        Walked::SameChunk => with_outcome(0, Answer::Done),
-        Walked::AtRoots => with_outcome(2, Answer::Done),
+        Walked::SameChunk => with_outcome(0, Ok(())),
+        Walked::AtRoots => with_outcome(2, Ok(())),
         Walked::AtIndex(index) => [3, 0, 1, index.0],
-        Walked::FirstRefused(refusal) => with_outcome(4, Answer::Refused(refusal)),
-        Walked::SecondRefused(refusal) => with_outcome(5, Answer::Refused(refusal)),
+        Walked::FirstRefused(refusal) => with_outcome(4, Err(refusal)),
+        Walked::SecondRefused(refusal) => with_outcome(5, Err(refusal)),
     }
 }
 

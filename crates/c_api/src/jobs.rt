@@ -1,7 +1,7 @@
 // What a job will need. No register is lent.
 ghost use Rattle.c_api.specs.Encoding.{Needs};
 
-use answer_types::Answer;
+use answer_types::Refusal;
 
 // What chunks of these `lengths` behind `n` others, with `size` data bytes, will need: the sizes of tree, signatures, bitfield and data
 // afterwards, then the compression runs for the new leaves, the completed parents and the root hash, and all runs together. They stand in
@@ -19,10 +19,10 @@ pub extern "C" fn sleep_flat_needs(
     let needed = append_needs::needs(n, size, lengths);
     let said = needed.answer;
     match said {
-        Answer::Refused(refusal) => {
+        Err(refusal) => {
             *answer = c_encoding::refused(refusal);
         }
-        Answer::Done => {
+        Ok(()) => {
             *out = [
                 needed.tree,
                 needed.signatures,
@@ -33,7 +33,7 @@ pub extern "C" fn sleep_flat_needs(
                 needed.root,
                 needed.runs,
             ];
-            *answer = c_encoding::encode(Answer::Done);
+            *answer = c_encoding::encode(Ok(()));
         }
     }
 }

@@ -6,7 +6,7 @@ ghost use Rattle.stored_leaf.specs.StoredLeaf.{leaf_verdict};
 ghost use Rattle.copy_stored_leaf.specs.StoredLeaf.{copy_leaf_verdict};
 ghost use Rattle.c_api.specs.Leaves.{TellsLength, GivesLeaf};
 
-use answer_types::Answer;
+use answer_types::Refusal;
 use number_types::ChunkNumber;
 use stored_leaf::Stored;
 
@@ -18,7 +18,7 @@ fn tell_length(found: Stored, length: &mut u64) -> [u64; 3]
         Stored::Refused(refusal) => c_encoding::refused(refusal),
         Stored::Length(bytes) => {
             *length = bytes;
-            c_encoding::encode(Answer::Done)
+            c_encoding::encode(Ok(()))
         }
     }
 }

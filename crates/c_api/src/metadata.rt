@@ -12,7 +12,7 @@ ghost use Rattle.record_find.specs.Finding.{found_of, find_in};
 ghost use Rattle.c_encoding.specs.Encoding.{encoded};
 ghost use Rattle.c_api.specs.Metadata.{WritesHeader, WritesNode, Told, GivesHeader, encoded_node, encoded_found};
 
-use answer_types::Answer;
+use answer_types::Refusal;
 use number_types::ChunkNumber;
 use record_find::Found;
 use record_format::{HeaderRead, Written};
@@ -26,7 +26,7 @@ fn give_length(written: Written, length: &mut u64) -> [u64; 3]
         Written::Refused(refusal) => c_encoding::refused(refusal),
         Written::Length(bytes) => {
             *length = bytes;
-            c_encoding::encode(Answer::Done)
+            c_encoding::encode(Ok(()))
         }
     }
 }
@@ -67,7 +67,7 @@ pub fn give_header(read: HeaderRead, out: &mut [u64; 2]) -> [u64; 3]
         HeaderRead::Refused(refusal) => c_encoding::refused(refusal),
         HeaderRead::Content(part) => {
             *out = [part.at as u64, part.len as u64];
-            c_encoding::encode(Answer::Done)
+            c_encoding::encode(Ok(()))
         }
     }
 }
@@ -159,7 +159,7 @@ pub extern "C" fn sleep_flat_node_of(
 }
 
 // Whether a record has the path, 1 or 0, the number of its chunk, which is 0 where none has or the search is refused, and the three numbers of an answer.
-fn with_found(found: u64, chunk: u64, said: Answer) -> [u64; 5]
+fn with_found(found: u64, chunk: u64, said: Result<(), Refusal>) -> [u64; 5]
     ensures { result ≡ found ∷ chunk ∷ encoded (toldBy said) }
 {
     let answer = c_encoding::encode(said);
@@ -171,9 +171,9 @@ pub fn found_as(found: Found) -> [u64; 5]
     ensures { result ≡ encoded_found (found_of found) }
 {
     match found {
-        Found::Refused(refusal) => with_found(0, 0, Answer::Refused(refusal)),
-        Found::At(chunk) => with_found(1, chunk.0, Answer::Done),
-        Found::Nowhere => with_found(0, 0, Answer::Done),
+        Found::Refused(refusal) => with_found(0, 0, Err(refusal)),
+        Found::At(chunk) => with_found(1, chunk.0, Ok(())),
+        Found::Nowhere => with_found(0, 0, Ok(())),
     }
 }
 

@@ -3,7 +3,7 @@ ghost use Rattle.checks.specs.Lent.{register_of};
 ghost use Rattle.c_encoding.specs.Encoding.{Gives};
 ghost use Rattle.c_api.specs.Encoding.{Makes, packet_part};
 
-use answer_types::Answer;
+use answer_types::Refusal;
 use number_types::ChunkNumber;
 
 // The packet of a chunk at the front of `out`, the rest as it was, and the packet's length in `length`. Both are as they were after a
@@ -57,13 +57,13 @@ pub extern "C" fn sleep_flat_check_packet(
 {
     let said = packet::check_answer(packet, n, ChunkNumber(chunk), root);
     match said {
-        Answer::Refused(refusal) => {
+        Err(refusal) => {
             *answer = c_encoding::refused(refusal);
         }
-        Answer::Done => {
+        Ok(()) => {
             let length = byte_strings::read_be32(packet, 0);
             *out = [4, length];
-            *answer = c_encoding::encode(Answer::Done);
+            *answer = c_encoding::encode(Ok(()));
         }
     }
 }

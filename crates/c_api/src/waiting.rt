@@ -11,7 +11,7 @@ ghost use Rattle.station_reads.specs.Serving.{number_of, named_by};
 ghost use Rattle.c_encoding.specs.Encoding.{encoded, Gives, as_part};
 ghost use Rattle.c_api.specs.Waiting.{Enters, Hands};
 
-use answer_types::Answer;
+use answer_types::Refusal;
 use lookup::Name;
 use number_types::ChunkNumber;
 use station_queue::Turn;
@@ -24,7 +24,7 @@ pub extern "C" fn sleep_flat_fresh(table: &mut [u64; 161], answer: &mut [u64; 3]
 {
     let begun = station_queue::fresh();
     *table = begun;
-    *answer = c_encoding::encode(Answer::Done);
+    *answer = c_encoding::encode(Ok(()));
 }
 
 // A read that waits from now on behind those of its station. The name 0 is the metadata register's, any other number the content register's.

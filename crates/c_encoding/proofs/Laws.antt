@@ -1,4 +1,5 @@
 -- What a call answers to C, from the case that its answer is.
+use Rattle.std.specs.Prelude.{Result, Ok, Err, ⊤}
 use Prim.Native.Nat.{ℕ}
 use mathlib.Core.Path.{◌≡◌, refl, sym, ap, ap₂, ◌∙◌, subst}
 use mathlib.Core.List.{List, [], ◌∷◌}
@@ -6,14 +7,12 @@ use lib.ListN.{get_or}
 use Rattle.answer_types.specs.Verdict.{Spot, Verdict, done, refused, none, tree, bitfield, unless_refused}
 use Rattle.answer_types.specs.Meaning.{said, refusal_of, spot_of}
 use Rattle.answer_types.specs.declared.Place.{Place}
-use Rattle.answer_types.specs.declared.Answer.{Answer}
-use Rattle.answer_types.specs.declared.Answer.TheVariants.{Done, Refused}
 use Rattle.answer_types.specs.declared.Refusal.{Refusal}
 use Rattle.lookup.specs.Lookup.{Found, found}
 use Rattle.lookup.specs.Meaning.{refused_as}
 use Rattle.packet.specs.Post.{made_verdict, made_bytes}
 use Rattle.packet.specs.declared.making.Made.{Made}
-use Rattle.packet.specs.declared.making.Made.TheVariants.{Refused as NotMade, Length}
+use Rattle.packet.specs.declared.making.Made.TheVariants.{Err as NotMade, Length}
 use Rattle.c_encoding.specs.Number.{number_of}
 use Rattle.c_encoding.specs.Encoding.{encoded, verdict_of, numbers_unless, Gives}
 
@@ -25,11 +24,11 @@ pub refused_by : (v : Verdict) (m : ℕ) (at : Spot) (written before : List ℕ)
     → (m ≡ number_of v) × (before ≡ unless_refused v written before)
 refused_by v m at written before q = (ap number_of (sym q), ap (λ (u : Verdict). unless_refused u written before) (sym q))
 
-module _ (a : Answer) (v : Verdict) (says : said a ≡ v) (written before : List ℕ) where
-  pub on_done : (d : List ℕ) → a ≡ Done → d ≡ written → (0 ≡ number_of v) × (d ≡ unless_refused v written before)
+module _ (a : Result ⊤ Refusal) (v : Verdict) (says : said a ≡ v) (written before : List ℕ) where
+  pub on_done : (d : List ℕ) → a ≡ (Ok tt) → d ≡ written → (0 ≡ number_of v) × (d ≡ unless_refused v written before)
   on_done d e w = done_by v written before d (sym says ∙ ap said e) w
 
-  pub on_refused : (r : Refusal) → a ≡ Refused r → (r.number ≡ number_of v) × (before ≡ unless_refused v written before)
+  pub on_refused : (r : Refusal) → a ≡ Err r → (r.number ≡ number_of v) × (before ≡ unless_refused v written before)
   on_refused r e = refused_by v r.number (spot_of r.place) written before (sym says ∙ ap said e)
 
 -- a refusal's numbers, from the case that its place is
@@ -37,13 +36,13 @@ pub placed : (n : ℕ) (p q : Place) → p ≡ q → encoded (refused n (spot_of
 placed n p q e = ap (λ (x : Place). encoded (refused n (spot_of x))) (sym e)
 
 -- an answer's numbers, from the case that it is
-pub said_as : (a b : Answer) → a ≡ b → encoded (said b) ≡ encoded (said a)
-said_as a b e = ap (λ (x : Answer). encoded (said x)) (sym e)
+pub said_as : (a b : Result ⊤ Refusal) → a ≡ b → encoded (said b) ≡ encoded (said a)
+said_as a b e = ap (λ (x : Result ⊤ Refusal). encoded (said x)) (sym e)
 
-pub kept : (r : List ℕ) (a : Answer) (x : Refusal) (h before : List ℕ) → a ≡ Refused x → r ≡ encoded (refusal_of x)
+pub kept : (r : List ℕ) (a : Result ⊤ Refusal) (x : Refusal) (h before : List ℕ) → a ≡ Err x → r ≡ encoded (refusal_of x)
     → (r ≡ encoded (said a)) × (before ≡ unless_refused (said a) h before)
 kept r a x h before e p =
-    (p ∙ ap (λ (y : Answer). encoded (said y)) (sym e), ap (λ (y : Answer). unless_refused (said y) h before) (sym e))
+    (p ∙ ap (λ (y : Result ⊤ Refusal). encoded (said y)) (sym e), ap (λ (y : Result ⊤ Refusal). unless_refused (said y) h before) (sym e))
 
 -- an answer's numbers are those of the verdict that it says
 pub coded : (r : List ℕ) (a v : Verdict) → r ≡ encoded a → a ≡ v → r ≡ encoded v

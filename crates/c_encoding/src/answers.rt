@@ -5,7 +5,7 @@ ghost use Rattle.answer_types.specs.Meaning.{said, refusal_of};
 ghost use Rattle.c_encoding.specs.Encoding.{encoded};
 ghost use Rattle.c_encoding.specs.Number.{number_of};
 
-use answer_types::{Answer, Place, Refusal};
+use answer_types::{Place, Refusal};
 
 // The three numbers of a refusal: its number; 0 where it has no place, 1 where that is a tree index, and 2 where it is a byte offset in the bitfield
 // file; and the place.
@@ -22,39 +22,39 @@ pub fn refused(refusal: Refusal) -> [u64; 3]
 }
 
 // The three numbers of an answer, which are 0 where the call is done.
-pub fn encode(answer: Answer) -> [u64; 3]
+pub fn encode(answer: Result<(), Refusal>) -> [u64; 3]
     ensures { result ≡ encoded (said answer) }
 {
     match answer {
-        Answer::Done => [0, 0, 0],
-        Answer::Refused(refusal) => refused(refusal),
+        Ok(()) => [0, 0, 0],
+        Err(refusal) => refused(refusal),
     }
 }
 
 // The three numbers of an answer, and the hash beside it into `out` where the call is done.
-pub fn give_hash(answer: Answer, hash: [u8; 32], out: &mut [u8; 32]) -> [u64; 3]
+pub fn give_hash(answer: Result<(), Refusal>, hash: [u8; 32], out: &mut [u8; 32]) -> [u64; 3]
     ensures answers { result ≡ encoded (said answer) }
     ensures gives { out.new ≡ unless_refused (said answer) hash out.old }
 {
     match answer {
-        Answer::Done => {
+        Ok(()) => {
             *out = hash;
-            encode(Answer::Done)
+            encode(Ok(()))
         }
-        Answer::Refused(refusal) => refused(refusal),
+        Err(refusal) => refused(refusal),
     }
 }
 
 // The number of an answer whose refusal has no place, and the digest beside it into `out` where the call is done.
-pub fn give_digest(answer: Answer, digest: [u8; 64], out: &mut [u8; 64]) -> u64
+pub fn give_digest(answer: Result<(), Refusal>, digest: [u8; 64], out: &mut [u8; 64]) -> u64
     ensures answers { result ≡ number_of (said answer) }
     ensures gives { out.new ≡ unless_refused (said answer) digest out.old }
 {
     match answer {
-        Answer::Done => {
+        Ok(()) => {
             *out = digest;
             0
         }
-        Answer::Refused(refusal) => refusal.number,
+        Err(refusal) => refusal.number,
     }
 }

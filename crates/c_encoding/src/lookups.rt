@@ -14,7 +14,7 @@ pub fn give_place(found: Placed, out: &mut [u64; 2]) -> [u64; 3]
         Placed::Refused(refusal) => super::answers::refused(refusal),
         Placed::At(start, length) => {
             *out = [start.0, length];
-            super::answers::encode(answer_types::Answer::Done)
+            super::answers::encode(Ok(()))
         }
     }
 }
@@ -27,7 +27,7 @@ pub fn give_byte(found: Located, out: &mut [u64; 2]) -> [u64; 3]
         Located::Refused(refusal) => super::answers::refused(refusal),
         Located::In(chunk, rest) => {
             *out = [chunk.0, rest];
-            super::answers::encode(answer_types::Answer::Done)
+            super::answers::encode(Ok(()))
         }
     }
 }
@@ -40,11 +40,11 @@ pub fn give_search(found: Searched, out: &mut [u64; 2]) -> [u64; 3]
         Searched::Refused(refusal) => super::answers::refused(refusal),
         Searched::At(chunk) => {
             *out = [1, chunk.0];
-            super::answers::encode(answer_types::Answer::Done)
+            super::answers::encode(Ok(()))
         }
         Searched::Nothing => {
             *out = [0, 0];
-            super::answers::encode(answer_types::Answer::Done)
+            super::answers::encode(Ok(()))
         }
     }
 }
@@ -58,7 +58,7 @@ pub fn give_part(found: Verified, out: &mut [u64; 2]) -> [u64; 3]
         Verified::Refused(refusal) => super::answers::refused(refusal),
         Verified::Part(start, end) => {
             *out = [start.0, end.0 - start.0];
-            super::answers::encode(answer_types::Answer::Done)
+            super::answers::encode(Ok(()))
         }
     }
 }

@@ -4,7 +4,7 @@ ghost use Rattle.answer_types.specs.Verdict.{unless_refused};
 ghost use Rattle.packet.specs.Post.{made_verdict, made_bytes};
 ghost use Rattle.c_encoding.specs.Encoding.{encoded};
 
-use answer_types::Answer;
+use answer_types::Refusal;
 use packet::Made;
 
 // The three numbers of the answer, and the packet's length into `length` where it is made.
@@ -16,7 +16,7 @@ pub fn give_length(made: Made, length: &mut u64) -> [u64; 3]
         Made::Refused(refusal) => super::answers::refused(refusal),
         Made::Length(bytes) => {
             *length = bytes;
-            super::answers::encode(Answer::Done)
+            super::answers::encode(Ok(()))
         }
     }
 }

@@ -10,7 +10,7 @@ ghost use Rattle.checks.specs.Lent.{register_of, long_right, heads_right};
 ghost use Rattle.checks.specs.Lengths.{all_short};
 ghost use Rattle.checks.specs.Capped.{capped};
 
-use answer_types::Answer;
+use answer_types::Refusal;
 use number_types::ByteOffset;
 
 // "3. s is neither n nor n − 1, or is not 0 when n is 0." No sum wraps, whatever n and s are.
@@ -79,7 +79,7 @@ pub fn judge_later(
     n: u64,
     s: u64,
     size: u64,
-) -> Answer
+) -> Result<(), Refusal>
     requires { n ≤ 1048576 }
     ensures { said result ≡
         judged
@@ -99,7 +99,7 @@ pub fn judge_later(
     if !file_format::roots::adds_up(tree, n, size) {
         return answer_types::refuse(6);
     }
-    Answer::Done
+    Ok(())
 }
 
 // The checks 2 to 6: done, or the first number that holds.
@@ -111,7 +111,7 @@ pub fn judge(
     n: u64,
     s: u64,
     size: u64,
-) -> Answer
+) -> Result<(), Refusal>
     ensures { said result ≡
         judged
         (register_checks

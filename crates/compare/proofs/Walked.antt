@@ -1,11 +1,10 @@
 -- The walk over two registers as the code makes it, and what their checks give it.
 -- Assumes nothing.
+use Rattle.std.specs.Prelude.{Result, Ok, Err, ⊤}
 use Rattle.std.proofs.Common.{◌≡◌, ℕ, ◌+◌, ◌-◌, ◌<◌, ◌≤◌, Bool, true, false, cond, not, List, sym, refl, ap, ◌∙◌, subst, arith}
 use Rattle.answer_types.specs.Verdict.{Verdict, done}
 use Rattle.answer_types.specs.Meaning.{said, spot_of}
 use Rattle.answer_types.specs.declared.Refusal.{Refusal}
-use Rattle.answer_types.specs.declared.Answer.{Answer}
-use Rattle.answer_types.specs.declared.Answer.TheVariants.{Done, Refused}
 use Rattle.byte_strings.specs.Lists.{same_list}
 use Rattle.byte_strings.proofs.Lists.{same_eq}
 use Rattle.tree_index.specs.Tree.{entries}
@@ -137,7 +136,7 @@ module _ (F : List ℕ → List ℕ) (t d u e : List ℕ) (n m : ℕ) where
 
 -- ---- the checks of both, then the walk
 
-module _ (F : List ℕ → List ℕ) (a b : Register) (x : Answer) (p : said x ≡ whole_verdict F a) where
+module _ (F : List ℕ → List ℕ) (a b : Register) (x : Result ⊤ Refusal) (p : said x ≡ whole_verdict F a) where
   abbrev last : Comparison
   last = walked F a.tree a.content b.tree b.content a.n b.n
 
@@ -145,16 +144,16 @@ module _ (F : List ℕ → List ℕ) (a b : Register) (x : Answer) (p : said x �
   unfolding compare
   parts = ap (λ (v : Verdict). unless_refused v (whole_verdict F b) last) (sym p)
 
-  pub first_refuses : (m : Refusal) → x ≡ Refused m → first_refused m.number (spot_of m.place) ≡ compare F a b
-  first_refuses m e = sym (parts ∙ ap (λ (y : Answer). unless_refused (said y) (whole_verdict F b) last) e)
+  pub first_refuses : (m : Refusal) → x ≡ Err m → first_refused m.number (spot_of m.place) ≡ compare F a b
+  first_refuses m e = sym (parts ∙ ap (λ (y : Result ⊤ Refusal). unless_refused (said y) (whole_verdict F b) last) e)
 
-  module _ (e : x ≡ Done) (y : Answer) (q : said y ≡ whole_verdict F b) where
-    pub second_refuses : (m : Refusal) → y ≡ Refused m → second_refused m.number (spot_of m.place) ≡ compare F a b
-    second_refuses m g = sym (parts ∙ (λ j. unless_refused (said (e j)) (sym q j) last) ∙ ap (λ (z : Answer). unless_refused done (said z) last) g)
+  module _ (e : x ≡ (Ok tt)) (y : Result ⊤ Refusal) (q : said y ≡ whole_verdict F b) where
+    pub second_refuses : (m : Refusal) → y ≡ Err m → second_refused m.number (spot_of m.place) ≡ compare F a b
+    second_refuses m g = sym (parts ∙ (λ j. unless_refused (said (e j)) (sym q j) last) ∙ ap (λ (z : Result ⊤ Refusal). unless_refused done (said z) last) g)
 
-    module _ (g : y ≡ Done) where
+    module _ (g : y ≡ (Ok tt)) where
       pub both_rooted : RootsIn a.tree a.n × RootsIn b.tree b.n
       both_rooted = (rooted F a (whole_accepted F a (sym p ∙ ap said e)), rooted F b (whole_accepted F b (sym q ∙ ap said g)))
 
       pub walk_says : {c : Comparison} → c ≡ last → c ≡ compare F a b
-      walk_says z = z ∙ sym (parts ∙ (λ j. unless_refused (said (e j)) (sym q j) last) ∙ ap (λ (w : Answer). unless_refused done (said w) last) g)
+      walk_says z = z ∙ sym (parts ∙ (λ j. unless_refused (said (e j)) (sym q j) last) ∙ ap (λ (w : Result ⊤ Refusal). unless_refused done (said w) last) g)

@@ -1,11 +1,10 @@
 -- The checks of one register for a comparison: what passing them gives, and how the code makes them.
 -- Assumes nothing.
+use Rattle.std.specs.Prelude.{Result, Err, ⊤}
 use Rattle.std.proofs.Common.{◌≡◌, ℕ, zero, suc, ◌+◌, ◌-◌, ◌<◌, ◌≤◌, Bool, true, false, List, [], length, sym, ap, ◌∙◌, zero-add, arith}
 use Rattle.answer_types.specs.Verdict.{Spot, Verdict, tree, done, refused, and_then}
 use Rattle.answer_types.specs.Meaning.{said}
 use Rattle.answer_types.specs.declared.Refusal.{Refusal}
-use Rattle.answer_types.specs.declared.Answer.{Answer}
-use Rattle.answer_types.specs.declared.Answer.TheVariants.{Refused}
 use Rattle.byte_strings.specs.Lowest.{Lowest, nowhere, first, lowest}
 use Rattle.byte_strings.proofs.Lowest.{step, lowest_agree, nowhere_right, right_nowhere}
 use Rattle.tree_index.specs.Tree.{index}
@@ -53,8 +52,8 @@ module _ (r : Register) where
       ∙ then_assoc (judged (register_checks r) done) (refused_at 18 at_leaf_lem (missing r) done) next
       ∙ ap (λ (v : Verdict). and_then v next) (sym (judged_then (register_checks r) (refused_at 18 at_leaf_lem (missing r) done)))
 
-  module _ (x : Answer) (checked : said x ≡ judged (register_checks r) done) where
-    pub held_checks : (m : Refusal) → x ≡ Refused m → said x ≡ held_then r done
+  module _ (x : Result ⊤ Refusal) (checked : said x ≡ judged (register_checks r) done) where
+    pub held_checks : (m : Refusal) → x ≡ Err m → said x ≡ held_then r done
     held_checks = checks_refuse r _ x checked
 
     module _ (ok : said x ≡ done) where
@@ -90,12 +89,12 @@ module _ (F : List ℕ → List ℕ) (r : Register) where
 
   -- ---- all checks as the code makes them
 
-  module _ (x : Answer) (held : said x ≡ held_then r done) where
+  module _ (x : Result ⊤ Refusal) (held : said x ≡ held_then r done) where
     whole_parts : whole_verdict F r ≡ and_then (said x) (images_verdict F r)
     unfolding whole_verdict
     whole_parts = held_then_lem r (images_verdict F r) ∙ ap (λ (v : Verdict). and_then v (images_verdict F r)) (sym held)
 
-    pub whole_refuses : (m : Refusal) → x ≡ Refused m → said x ≡ whole_verdict F r
+    pub whole_refuses : (m : Refusal) → x ≡ Err m → said x ≡ whole_verdict F r
     whole_refuses m e = sym (whole_parts ∙ stops x m e (images_verdict F r))
 
     module _ (ok : said x ≡ done) where

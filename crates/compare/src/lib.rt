@@ -16,7 +16,7 @@ ghost use Rattle.compare.specs.Walk as spec;
 ghost use Rattle.compare.specs.Meaning.{compared, roots_told};
 ghost use Rattle.compare.specs.Inner.{collides_at};
 
-use answer_types::{Answer, Refusal};
+use answer_types::Refusal;
 use bitfield::Found;
 use number_types::{ChunkNumber, TreeIndex};
 
@@ -120,21 +120,21 @@ pub fn judge_held(
     n: u64,
     s: u64,
     size: u64,
-) -> Answer
+) -> Result<(), Refusal>
     ensures { said result ≡
         spec.held_then
         (register_of tree.now signatures.now bitfield.now content.now n s size)
         done }
 {
     let checked = checks::judge(tree, signatures, bitfield, content, n, s, size);
-    let Answer::Done = checked else {
+    let Ok(()) = checked else {
         return checked;
     };
     let missing = bitfield::first_missing(bitfield, ChunkNumber(0), n);
     if let Found::At(c) = missing {
         return answer_types::refuse_entry(18, tree_index::leaf_index(c));
     }
-    Answer::Done
+    Ok(())
 }
 
 // Inner: the checks of one register: these, then 10 and 11 as in the audit.
@@ -146,14 +146,14 @@ fn judge_whole(
     n: u64,
     s: u64,
     size: u64,
-) -> Answer
+) -> Result<(), Refusal>
     ensures { said result ≡
         spec.whole_verdict
         node_hash
         (register_of tree.now signatures.now bitfield.now content.now n s size) }
 {
     let held = judge_held(tree, signatures, bitfield, content, n, s, size);
-    let Answer::Done = held else {
+    let Ok(()) = held else {
         return held;
     };
     audit::images(tree, bitfield, content, n, size)
@@ -183,11 +183,11 @@ pub fn compare(
         (register_of tree2.now signatures2.now bitfield2.now content2.now n2 s2 size2) }
 {
     let first = judge_whole(tree, signatures, bitfield, content, n, s, size);
-    if let Answer::Refused(refusal) = first {
+    if let Err(refusal) = first {
         return Compared::FirstRefused(refusal);
     }
     let second = judge_whole(tree2, signatures2, bitfield2, content2, n2, s2, size2);
-    if let Answer::Refused(refusal) = second {
+    if let Err(refusal) = second {
         return Compared::SecondRefused(refusal);
     }
     walk(tree, content, n, tree2, content2, n2)

@@ -1,11 +1,11 @@
 -- What the calls say and leave. Assumes nothing.
+use Rattle.std.specs.Prelude.{Result, Ok, Err, ⊤}
 use Rattle.std.proofs.Common.{◌≡◌, ℕ, ◌+◌, ◌-◌, ◌*◌, ◌/◌, ◌<◌, ◌≤◌, Bool, true, false, cond, leb, List, ◌++◌}
 use Rattle.std.proofs.Common.{length, take, drop, sym, refl, ap, ◌∙◌, ap₂, zero-add, arith, length-drop, take_all, take_at, le-leb, leb-true}
 use borrow.Author.Tests.{lt-leb}
 use Rattle.answer_types.specs.Verdict.{Verdict, none, done, refused}
 use Rattle.answer_types.specs.Meaning.{said, refusal_of}
 use Rattle.answer_types.specs.declared.Refusal.{Refusal}
-use Rattle.answer_types.specs.declared.Answer.{Answer}
 use Rattle.byte_strings.specs.Lists.{put, Bytes}
 use Rattle.byte_strings.proofs.Lists.{put_append}
 use Rattle.coordinates.specs.Post.{longest, verdict, front_unless, after, Written}
@@ -45,8 +45,8 @@ done_room long room e = at (leb long longest) (leb long room) refl e
     at false b q v = let z : ◌≡◌ {A = ℕ} 0 1 = cc in absurd (omega arith)
 
 -- after a refusal the buffer is as it was
-pub written_none : (f : List ℕ → List ℕ) (d out : List ℕ) (r : Refusal) (a : Answer) → a ≡ Answer.Refused r → said a ≡ verdict (length d) (length out)
-    → Written f d out (Answer.Refused r) out
+pub written_none : (f : List ℕ → List ℕ) (d out : List ℕ) (r : Refusal) (a : Result ⊤ Refusal) → a ≡ Err r → said a ≡ verdict (length d) (length out)
+    → Written f d out (Err r) out
 unfolding after
 written_none f d out r a e v =
     let w : refusal_of r ≡ verdict (length d) (length out) = ap said (sym e) ∙ v in
@@ -60,7 +60,7 @@ behind_is : (d : List ℕ) → behind d ≡ drop (4 * (length d / 4)) d
 behind_is d = take_all (length d - 4 * (length d / 4)) (drop (4 * (length d / 4)) d) (omega (arith, length-drop (4 * (length d / 4)) d))
 
 -- a call that is done: the words stand in d, and there is room for them and for the bytes that remain
-module _ (d out : List ℕ) (a : Answer) (e : a ≡ Answer.Done) (v : said a ≡ verdict (length d) (length out)) where
+module _ (d out : List ℕ) (a : Result ⊤ Refusal) (e : a ≡ (Ok tt)) (v : said a ≡ verdict (length d) (length out)) where
   so_done : verdict (length d) (length out) ≡ done
   so_done = sym v ∙ ap said e
 
@@ -75,7 +75,7 @@ module _ (d out : List ℕ) (a : Answer) (e : a ≡ Answer.Done) (v : said a ≡
 
   -- the front that was written first, and the remaining bytes behind it
   pub written_whole : (f : List ℕ → List ℕ) (front first last : List ℕ) → f d ≡ front ++ remaining d → length front ≡ 4 * count d
-      → first ≡ put out 0 front → last ≡ put first (4 * (length d / 4)) (behind d) → Written f d out Answer.Done last
+      → first ≡ put out 0 front → last ≡ put first (4 * (length d / 4)) (behind d) → Written f d out (Ok tt) last
   unfolding count remaining
   written_whole f front first last s l p q =
       record {

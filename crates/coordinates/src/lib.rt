@@ -9,10 +9,10 @@ ghost use Rattle.coordinates.specs.Grouping.{words, difference, planes, grouped,
 ghost use Rattle.coordinates.specs.Post.{verdict, Written};
 ghost use Rattle.coordinates.specs.Inner.{Worded};
 
-use answer_types::Answer;
+use answer_types::Refusal;
 
 // Number 7, then number 14, of bytes of a length and a buffer's room.
-fn judge(long: usize, room: usize) -> Answer
+fn judge(long: usize, room: usize) -> Result<(), Refusal>
     ensures { said result ≡ verdict long room }
 {
     if 65536 < long {
@@ -21,7 +21,7 @@ fn judge(long: usize, room: usize) -> Answer
     if room < long {
         return answer_types::refuse(14);
     }
-    Answer::Done
+    Ok(())
 }
 
 // Inner: the four planes of the differences, at the front of a buffer that has room for them.
@@ -70,33 +70,33 @@ fn write_words(bytes: &[u8], n: usize, out: &mut [u8])
 }
 
 // The bytes grouped, at the front of the buffer, the rest as it was.
-pub fn group(bytes: &[u8], out: &mut [u8]) -> Answer
+pub fn group(bytes: &[u8], out: &mut [u8]) -> Result<(), Refusal>
     ensures { Written grouped bytes.now out.old result out.new }
 {
     match judge(bytes.len(), out.len()) {
-        Answer::Refused(refusal) => Answer::Refused(refusal),
-        Answer::Done => {
+        Err(refusal) => Err(refusal),
+        Ok(()) => {
             let n = bytes.len() / 4;
             let end = 4 * n;
             write_planes(bytes, n, out);
             byte_strings::copy_to(out, end, &bytes[end..]);
-            Answer::Done
+            Ok(())
         }
     }
 }
 
 // Grouped bytes as they were before, at the front of the buffer, the rest as it was.
-pub fn ungroup(bytes: &[u8], out: &mut [u8]) -> Answer
+pub fn ungroup(bytes: &[u8], out: &mut [u8]) -> Result<(), Refusal>
     ensures { Written ungrouped bytes.now out.old result out.new }
 {
     match judge(bytes.len(), out.len()) {
-        Answer::Refused(refusal) => Answer::Refused(refusal),
-        Answer::Done => {
+        Err(refusal) => Err(refusal),
+        Ok(()) => {
             let n = bytes.len() / 4;
             let end = 4 * n;
             write_words(bytes, n, out);
             byte_strings::copy_to(out, end, &bytes[end..]);
-            Answer::Done
+            Ok(())
         }
     }
 }

@@ -16,7 +16,7 @@ ghost use Rattle.copy_checks.specs.Least.{lower_of};
 ghost use Rattle.copy_checks.specs.Checks.{lent_checks, size_check, copy_judged, partly_judged};
 ghost use Rattle.copy_checks.specs.Meaning.{long_right, heads_right};
 
-use answer_types::Answer;
+use answer_types::Refusal;
 use lookup::First;
 
 // The lower of two.
@@ -84,7 +84,13 @@ fn heads_right(tree: &[u8], bitfield: &[u8]) -> bool
 }
 
 // The checks 2, 4 and 5.
-fn judge_lent(tree: &[u8], bitfield: &[u8], content: &[u8], n: u64, size: u64) -> Answer
+fn judge_lent(
+    tree: &[u8],
+    bitfield: &[u8],
+    content: &[u8],
+    n: u64,
+    size: u64,
+) -> Result<(), Refusal>
     ensures { said result ≡ judged (lent_checks (copy_of tree.now bitfield.now content.now n size)) done }
 {
     if 1048576 < n {
@@ -96,27 +102,27 @@ fn judge_lent(tree: &[u8], bitfield: &[u8], content: &[u8], n: u64, size: u64) -
     if !heads_right(tree, bitfield) {
         return answer_types::refuse(5);
     }
-    Answer::Done
+    Ok(())
 }
 
 // Inner: number 6, of a copy that passes the checks 2 and 4.
-fn judge_size(tree: &[u8], n: u64, size: u64) -> Answer
+fn judge_size(tree: &[u8], n: u64, size: u64) -> Result<(), Refusal>
     requires { RootsIn tree.now n }
     ensures { said result ≡ judged (size_check (adds_up tree.now n size)) done }
 {
     if file_format::roots::adds_up(tree, n, size) {
-        return Answer::Done;
+        return Ok(());
     }
     answer_types::refuse(6)
 }
 
 // The checks of a call on a copy but the taking in and the audit: 2, 4, 5, 20 at the first unknown root from the left, 6.
-pub fn judge(tree: &[u8], bitfield: &[u8], content: &[u8], n: u64, size: u64) -> Answer
+pub fn judge(tree: &[u8], bitfield: &[u8], content: &[u8], n: u64, size: u64) -> Result<(), Refusal>
     ensures { said result ≡ copy_judged (copy_of tree.now bitfield.now content.now n size) done }
 {
     match judge_lent(tree, bitfield, content, n, size) {
-        Answer::Refused(refusal) => Answer::Refused(refusal),
-        Answer::Done => match unknown_root(bitfield, n) {
+        Err(refusal) => Err(refusal),
+        Ok(()) => match unknown_root(bitfield, n) {
             First::At(i) => answer_types::refuse_entry(20, i),
             First::Nothing => judge_size(tree, n, size),
         },
@@ -124,13 +130,19 @@ pub fn judge(tree: &[u8], bitfield: &[u8], content: &[u8], n: u64, size: u64) ->
 }
 
 // The checks of the taking in and of the audit: 2, 4, 5, and 6, which is passed over while a root is unknown.
-pub fn judge_partly(tree: &[u8], bitfield: &[u8], content: &[u8], n: u64, size: u64) -> Answer
+pub fn judge_partly(
+    tree: &[u8],
+    bitfield: &[u8],
+    content: &[u8],
+    n: u64,
+    size: u64,
+) -> Result<(), Refusal>
     ensures { said result ≡ partly_judged (copy_of tree.now bitfield.now content.now n size) done }
 {
     match judge_lent(tree, bitfield, content, n, size) {
-        Answer::Refused(refusal) => Answer::Refused(refusal),
-        Answer::Done => match unknown_root(bitfield, n) {
-            First::At(_) => Answer::Done,
+        Err(refusal) => Err(refusal),
+        Ok(()) => match unknown_root(bitfield, n) {
+            First::At(_) => Ok(()),
             First::Nothing => judge_size(tree, n, size),
         },
     }

@@ -6,7 +6,7 @@ ghost use Rattle.lookup.specs.Meaning.{verified_of};
 ghost use Rattle.copy_checks.specs.Copy.{copy_of};
 ghost use Rattle.copy_lookup.specs.Reading.{copy_read_verdict, copy_read_part, copy_read_found};
 
-use answer_types::Answer;
+use answer_types::Refusal;
 use lookup::Verified;
 use number_types::ChunkNumber;
 
@@ -50,7 +50,7 @@ pub fn read_answer(
     n: u64,
     size: u64,
     chunk: ChunkNumber,
-) -> Answer
+) -> Result<(), Refusal>
     ensures { said result ≡
         copy_read_verdict node_hash (copy_of tree.now bitfield.now content.now n size) chunk.0 }
 {

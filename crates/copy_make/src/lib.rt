@@ -7,10 +7,10 @@ ghost use Rattle.byte_strings.specs.Lists.{put, zeros};
 ghost use Rattle.copy_checks.specs.Copy.{files_of, files_lent, copy_of};
 ghost use Rattle.copy_make.specs.Make.{make_verdict, made_copy, MakePost, Roomy};
 
-use answer_types::Answer;
+use answer_types::Refusal;
 
 // The checks 2 and 14.
-fn judge(tree: &[u8], bitfield: &[u8], content: &[u8], n: u64, size: u64) -> Answer
+fn judge(tree: &[u8], bitfield: &[u8], content: &[u8], n: u64, size: u64) -> Result<(), Refusal>
     ensures { said result ≡ make_verdict (copy_of tree.now bitfield.now content.now n size) }
 {
     if 1048576 < n {
@@ -19,7 +19,7 @@ fn judge(tree: &[u8], bitfield: &[u8], content: &[u8], n: u64, size: u64) -> Ans
     if !copy_checks::long_right(tree, bitfield, content, n, size) {
         return answer_types::refuse(14);
     }
-    Answer::Done
+    Ok(())
 }
 
 // Inner: a header and zeros behind it, at the front of a file that has room for them.
@@ -51,16 +51,16 @@ pub fn make_copy(
     content: &mut [u8],
     n: u64,
     size: u64,
-) -> Answer
+) -> Result<(), Refusal>
     ensures { MakePost (copy_of tree.old bitfield.old content.old n size) (said result)
         (files_lent tree.new bitfield.new content.new) }
 {
     let answer = judge(tree, bitfield, content, n, size);
     match answer {
-        Answer::Refused(refusal) => Answer::Refused(refusal),
-        Answer::Done => {
+        Err(refusal) => Err(refusal),
+        Ok(()) => {
             write_files(tree, bitfield, content, n, size);
-            Answer::Done
+            Ok(())
         }
     }
 }

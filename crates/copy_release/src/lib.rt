@@ -5,7 +5,7 @@ ghost use Rattle.answer_types.specs.Meaning.{said};
 ghost use Rattle.copy_checks.specs.Copy.{copy_of, files_lent};
 ghost use Rattle.copy_release.specs.Post.{ReleasePost};
 
-use answer_types::Answer;
+use answer_types::Refusal;
 use number_types::ChunkNumber;
 
 // A chunk of a copy that is held makes room: it is held no longer, and its bytes are zeros.
@@ -16,7 +16,7 @@ pub fn release(
     n: u64,
     size: u64,
     chunk: ChunkNumber,
-) -> Answer
+) -> Result<(), Refusal>
     ensures { ReleasePost (copy_of tree.now bitfield.old content.old n size) chunk.0 (said result)
         (files_lent tree.now bitfield.new content.new) }
 {

@@ -14,7 +14,7 @@ ghost use Rattle.lookup.specs.Unknown.{first_unknown};
 ghost use Rattle.copy_roots.specs.Roots.{copy_prefix_verdict, copy_search};
 ghost use Rattle.copy_roots.specs.Post.{RootPost, PrefixRootPost};
 
-use answer_types::Answer;
+use answer_types::Refusal;
 use lookup::First;
 use number_types::ChunkNumber;
 use search::Searched;
@@ -29,25 +29,32 @@ pub fn root_hash(tree: &[u8], bitfield: &[u8], content: &[u8], n: u64, size: u64
 }
 
 // Inner: 20 at the first of the roots of m chunks, from the left, that is not known.
-fn roots_known(bitfield: &[u8], m: u64) -> Answer
+fn roots_known(bitfield: &[u8], m: u64) -> Result<(), Refusal>
     requires { BitsIn bitfield.now m }
     ensures { said result ≡ refused_at 20 tree (first_unknown (stored_known bitfield.now) (roots m)) done }
 {
     match copy_checks::unknown_root(bitfield, m) {
         First::At(i) => answer_types::refuse_entry(20, i),
-        First::Nothing => Answer::Done,
+        First::Nothing => Ok(()),
     }
 }
 
 // The checks of a copy, 9 for m above n, and then 20 at an unknown root of the first m chunks.
-fn judge_old(tree: &[u8], bitfield: &[u8], content: &[u8], n: u64, size: u64, m: u64) -> Answer
+fn judge_old(
+    tree: &[u8],
+    bitfield: &[u8],
+    content: &[u8],
+    n: u64,
+    size: u64,
+    m: u64,
+) -> Result<(), Refusal>
     ensures { said result ≡ copy_prefix_verdict (copy_of tree.now bitfield.now content.now n size) m }
 {
     match copy_checks::judge(tree, bitfield, content, n, size) {
-        Answer::Refused(refusal) => Answer::Refused(refusal),
-        Answer::Done => match prefix_root::up_to(n, m) {
-            Answer::Refused(refusal) => Answer::Refused(refusal),
-            Answer::Done => roots_known(bitfield, m),
+        Err(refusal) => Err(refusal),
+        Ok(()) => match prefix_root::up_to(n, m) {
+            Err(refusal) => Err(refusal),
+            Ok(()) => roots_known(bitfield, m),
         },
     }
 }

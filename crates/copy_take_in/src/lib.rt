@@ -18,7 +18,7 @@ ghost use Rattle.copy_take_in.specs.TakeIn.{brought, packet_start, bytes_contrad
 ghost use Rattle.copy_take_in.specs.Inner.{WayOf, WithGiven, Fits, Room, Held, Ready};
 ghost use Rattle.copy_take_in.specs.Post.{TakePost, OwnPost, total_verdict, size_verdict};
 
-use answer_types::Answer;
+use answer_types::Refusal;
 use lookup::First;
 use number_types::ChunkNumber;
 use packet::{Checked, Node};
@@ -57,8 +57,8 @@ fn judge_packet(packet: &[u8], n: u64, size: u64, chunk: ChunkNumber, root: &[u8
     let checked = packet::check_hashing(packet, n, chunk, root);
     let answer = checked.answer;
     match answer {
-        Answer::Refused(refusal) => packet::unhashed(Answer::Refused(refusal)),
-        Answer::Done => {
+        Err(refusal) => packet::unhashed(Err(refusal)),
+        Ok(()) => {
             if total_right(packet, n, chunk, size) {
                 checked
             } else {
@@ -89,8 +89,8 @@ fn judge(
         (handed_on node_hash packet.now n chunk.0) unhanded }
 {
     match copy_checks::judge_partly(tree, bitfield, content, n, size) {
-        Answer::Refused(refusal) => packet::unhashed(Answer::Refused(refusal)),
-        Answer::Done => judge_packet(packet, n, size, chunk, root),
+        Err(refusal) => packet::unhashed(Err(refusal)),
+        Ok(()) => judge_packet(packet, n, size, chunk, root),
     }
 }
 
@@ -233,7 +233,7 @@ fn take_checked(
     chunk: ChunkNumber,
     leaf: Node,
     path: &[u8],
-) -> Answer
+) -> Result<(), Refusal>
     requires room { Room tree.old bitfield.old content.old packet.now n chunk.0 }
     requires led { handed leaf path.now ≡ handed_on node_hash packet.now n chunk.0 }
     ensures { OwnPost node_hash (copy_of tree.old bitfield.old content.old n 0) packet.now chunk.0
@@ -251,7 +251,7 @@ fn take_checked(
             write_all(
                 tree, bitfield, content, n, packet, chunk, way, start, &row, path,
             );
-            Answer::Done
+            Ok(())
         }
     }
 }
@@ -266,7 +266,7 @@ pub fn take_in(
     packet: &[u8],
     chunk: ChunkNumber,
     root: &[u8; 32],
-) -> Answer
+) -> Result<(), Refusal>
     ensures { TakePost node_hash (copy_of tree.old bitfield.old content.old n size) packet.now chunk.0
         root.now (said result) (files_lent tree.new bitfield.new content.new) }
 {
@@ -275,7 +275,7 @@ pub fn take_in(
     let leaf = judged.leaf;
     let path = judged.row;
     match answer {
-        Answer::Refused(refusal) => Answer::Refused(refusal),
-        Answer::Done => take_checked(tree, bitfield, content, n, packet, chunk, leaf, &path),
+        Err(refusal) => Err(refusal),
+        Ok(()) => take_checked(tree, bitfield, content, n, packet, chunk, leaf, &path),
     }
 }

@@ -2,7 +2,7 @@
 // stdout; and whether each undoes the other.
 #![tactic(auto)]
 
-use answer_types::Answer;
+use answer_types::Refusal;
 use gate_printing::text;
 
 fn main() {
@@ -72,7 +72,7 @@ fn row(bytes: &[u8], count: usize, room: usize) {
     }
 }
 
-fn called(grouping: bool, bytes: &[u8], out: &mut [u8]) -> Answer {
+fn called(grouping: bool, bytes: &[u8], out: &mut [u8]) -> Result<(), Refusal> {
     if grouping {
         coordinates::group(bytes, out)
     } else {

@@ -2,7 +2,7 @@
 // fullest register with an empty list, each refusal, and each two of them at once.
 #![tactic(auto)]
 
-use answer_types::Answer;
+use answer_types::Refusal;
 use append_needs::Needed;
 use gate_printing::named;
 
@@ -120,11 +120,11 @@ fn row(n: u64, size: u64, lengths: &[u64]) {
 fn answer(r: Needed) {
     let said = r.answer;
     match said {
-        Answer::Refused(refusal) => {
+        Err(refusal) => {
             gate_printing::text(b" ");
             gate_printing::refusal(refusal);
         }
-        Answer::Done => {
+        Ok(()) => {
             named(b" tree ", r.tree);
             named(b" signatures ", r.signatures);
             named(b" bitfield ", r.bitfield);

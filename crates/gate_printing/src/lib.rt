@@ -67,9 +67,9 @@ pub fn refusal(r: answer_types::Refusal) {
 }
 
 // An answer that gives nothing but its being done.
-pub fn answer(a: answer_types::Answer) {
+pub fn answer(a: Result<(), answer_types::Refusal>) {
     match a {
-        answer_types::Answer::Done => text(b"done"),
-        answer_types::Answer::Refused(r) => refusal(r),
+        Ok(()) => text(b"done"),
+        Err(r) => refusal(r),
     }
 }

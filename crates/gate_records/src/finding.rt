@@ -1,6 +1,6 @@
 // Records of chunks, and paths. A step gives how long the images are that are lent, n, s and the data size.
 use super::given::{Told, behind, first, number};
-use answer_types::Answer;
+use answer_types::Refusal;
 use number_types::ChunkNumber;
 use record_find::Found;
 use record_format::HeaderRead;
@@ -57,11 +57,8 @@ fn node(t: &[u8], g: &[u8], b: &[u8], d: &[u8], n: u64, s: u64, size: u64, chunk
     let answer = read.answer;
     let fields = read.node;
     match answer {
-        Answer::Refused(refusal) => gate_printing::refusal(refusal),
-        Answer::Done => super::show::fields(
-            lookup::read_one(t, g, b, d, n, s, size, chunk),
-            fields,
-        ),
+        Err(refusal) => gate_printing::refusal(refusal),
+        Ok(()) => super::show::fields(lookup::read_one(t, g, b, d, n, s, size, chunk), fields),
     }
 }
 

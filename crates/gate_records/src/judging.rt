@@ -2,7 +2,7 @@
 ghost use Rattle.std.specs.Prelude.{◌≤◌};
 
 use super::given::{Told, behind, number};
-use answer_types::Answer;
+use answer_types::Refusal;
 use record_format::{HeaderRead, Written};
 
 pub fn taken(step: &[u8], told: Told, kind: u8) -> Told {
@@ -69,8 +69,8 @@ fn read_node(bytes: &[u8]) {
     let answer = read.answer;
     let node = read.node;
     match answer {
-        Answer::Refused(refusal) => gate_printing::refusal(refusal),
-        Answer::Done => super::show::fields(bytes, node),
+        Err(refusal) => gate_printing::refusal(refusal),
+        Ok(()) => super::show::fields(bytes, node),
     }
 }
 
@@ -95,8 +95,8 @@ fn judge(kind: u64, bytes: &[u8]) {
         let read = record_node::read_node(bytes);
         let answer = read.answer;
         match answer {
-            Answer::Refused(_) => gate_printing::text(b"0"),
-            Answer::Done => gate_printing::text(b"1"),
+            Err(_) => gate_printing::text(b"0"),
+            Ok(()) => gate_printing::text(b"1"),
         }
     }
 }

@@ -1,5 +1,5 @@
 // What is printed of a call, and counted of many.
-use answer_types::Answer;
+use answer_types::Refusal;
 use station_reads::Served;
 
 // Whether each call is printed; what the answers fold to, and how many of each kind there were.
@@ -35,13 +35,13 @@ fn fold(mut t: Tally, value: u64) -> Tally {
     t
 }
 
-pub fn entry(answer: Answer, mut t: Tally) -> Tally {
+pub fn entry(answer: Result<(), Refusal>, mut t: Tally) -> Tally {
     match answer {
-        Answer::Done => {
+        Ok(()) => {
             t.done = more(t.done);
             fold(t, 0)
         }
-        Answer::Refused(refusal) => refused(refusal.number, t),
+        Err(refusal) => refused(refusal.number, t),
     }
 }
 
@@ -72,10 +72,10 @@ pub fn serving(said: Served, part: &[u8], mut t: Tally) -> Tally {
     }
 }
 
-fn number_of(answer: Answer) -> u64 {
+fn number_of(answer: Result<(), Refusal>) -> u64 {
     match answer {
-        Answer::Done => 0,
-        Answer::Refused(refusal) => refusal.number,
+        Ok(()) => 0,
+        Err(refusal) => refusal.number,
     }
 }
 
@@ -107,10 +107,10 @@ fn print(said: Served, part: &[u8]) {
     gate_printing::text(b"\n");
 }
 
-fn print_part(answer: Answer, part: &[u8]) {
+fn print_part(answer: Result<(), Refusal>, part: &[u8]) {
     match answer {
-        Answer::Refused(_) => gate_printing::hex(part),
-        Answer::Done => {
+        Err(_) => gate_printing::hex(part),
+        Ok(()) => {
             gate_printing::text(b" ");
             if part.len() == 0 {
                 gate_printing::text(b"empty");
@@ -120,7 +120,7 @@ fn print_part(answer: Answer, part: &[u8]) {
     }
 }
 
-pub fn print_entry(station: u64, register: u64, chunk: u64, answer: Answer) {
+pub fn print_entry(station: u64, register: u64, chunk: u64, answer: Result<(), Refusal>) {
     gate_printing::text(b"enter ");
     gate_printing::number(station);
     if register == 0 {

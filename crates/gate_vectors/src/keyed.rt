@@ -2,7 +2,7 @@
 ghost use Rattle.std.specs.Prelude.{◌≤◌};
 
 use crate::{filled, part};
-use answer_types::Answer;
+use answer_types::Refusal;
 use gate_printing::{named, text};
 
 // Keys of several lengths.
@@ -96,8 +96,8 @@ fn label(kk: usize)
     let labelled = root_label::label(&root(), part(&key, 0, kk));
     let answer = labelled.answer;
     match answer {
-        Answer::Done => gate_printing::hex(&labelled.bytes),
-        Answer::Refused(refusal) => gate_printing::refusal(refusal),
+        Ok(()) => gate_printing::hex(&labelled.bytes),
+        Err(refusal) => gate_printing::refusal(refusal),
     }
     text(b"\n");
 }

@@ -105,7 +105,7 @@ fn parts(prefix: usize, body: usize)
 fn refusal(output: usize) {
     let hashed = blake2b::hash(output, b"", b"");
     let answer = hashed.answer;
-    if let answer_types::Answer::Refused(refusal) = answer {
+    if let Err(refusal) = answer {
         text(b"refused ");
         number(output);
         gate_printing::number(refusal.number);

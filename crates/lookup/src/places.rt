@@ -8,7 +8,7 @@ ghost use Rattle.lookup.specs.Inner.{known_if, Searched, SearchedFor, SearchedHe
 ghost use Rattle.lookup.specs.Meaning.{placed_of, located_of};
 
 use super::descent::{Ending, Sought};
-use answer_types::{Answer, Place, Refusal};
+use answer_types::{Place, Refusal};
 use number_types::{ByteOffset, ChunkNumber};
 
 // What a place lookup answers: where the chunk's bytes begin, and how many they are.
@@ -55,7 +55,7 @@ fn place_in(tree: &[u8], bitfield: &[u8], partly: bool, n: u64, chunk: ChunkNumb
 
 // Inner: the same, behind the answer of these checks.
 pub fn place_behind(
-    checked: Answer,
+    checked: Result<(), Refusal>,
     tree: &[u8],
     bitfield: &[u8],
     partly: bool,
@@ -68,8 +68,8 @@ pub fn place_behind(
         (place_in (known_if partly bitfield.now) tree.now n chunk.0) }
 {
     match checked {
-        Answer::Refused(refusal) => Placed::Refused(refusal),
-        Answer::Done => place_in(tree, bitfield, partly, n, chunk),
+        Err(refusal) => Placed::Refused(refusal),
+        Ok(()) => place_in(tree, bitfield, partly, n, chunk),
     }
 }
 
@@ -117,7 +117,7 @@ fn held_place_in(tree: &[u8], bitfield: &[u8], partly: bool, n: u64, chunk: Chun
 
 // Inner: the same, behind the answer of these checks.
 pub fn held_place_behind(
-    checked: Answer,
+    checked: Result<(), Refusal>,
     tree: &[u8],
     bitfield: &[u8],
     partly: bool,
@@ -130,8 +130,8 @@ pub fn held_place_behind(
         (held_place_in (known_if partly bitfield.now) tree.now n bitfield.now chunk.0) }
 {
     match checked {
-        Answer::Refused(refusal) => Placed::Refused(refusal),
-        Answer::Done => held_place_in(tree, bitfield, partly, n, chunk),
+        Err(refusal) => Placed::Refused(refusal),
+        Ok(()) => held_place_in(tree, bitfield, partly, n, chunk),
     }
 }
 
@@ -191,7 +191,7 @@ fn locate_in(
 
 // Inner: the same, behind the answer of these checks.
 pub fn locate_behind(
-    checked: Answer,
+    checked: Result<(), Refusal>,
     tree: &[u8],
     bitfield: &[u8],
     partly: bool,
@@ -205,8 +205,8 @@ pub fn locate_behind(
         (byte_in (known_if partly bitfield.now) tree.now n size offset.0) }
 {
     match checked {
-        Answer::Refused(refusal) => Located::Refused(refusal),
-        Answer::Done => locate_in(tree, bitfield, partly, n, size, offset),
+        Err(refusal) => Located::Refused(refusal),
+        Ok(()) => locate_in(tree, bitfield, partly, n, size, offset),
     }
 }
 

@@ -7,7 +7,7 @@ ghost use Rattle.lookup.specs.Read.{named, verdict_found, bytes_found, hash_judg
 ghost use Rattle.lookup.specs.Meaning.{name_of, placed_of, verified_of, PartIn, PlacedIn};
 
 use super::places::Placed;
-use answer_types::{Answer, Place, Refusal};
+use answer_types::{Place, Refusal};
 use number_types::{ByteOffset, ChunkNumber};
 
 // Which of the two registers a read names.
@@ -86,12 +86,12 @@ pub fn bytes_of<'a>(content: &'a [u8], verified: Verified) -> &'a [u8]
 }
 
 // Whether a part was verified, or the refusal.
-pub fn answer_of(verified: Verified) -> Answer
+pub fn answer_of(verified: Verified) -> Result<(), Refusal>
     ensures { said result ≡ verdict_found (verified_of verified) }
 {
     match verified {
-        Verified::Part(_, _) => Answer::Done,
-        Verified::Refused(refusal) => Answer::Refused(refusal),
+        Verified::Part(_, _) => Ok(()),
+        Verified::Refused(refusal) => Err(refusal),
     }
 }
 
@@ -125,7 +125,7 @@ fn answer_one(
     s: u64,
     size: u64,
     chunk: ChunkNumber,
-) -> Answer
+) -> Result<(), Refusal>
     ensures { said result ≡
         read_verdict node_hash
         (register_of tree.now signatures.now bitfield.now content.now n s size)
@@ -186,7 +186,7 @@ pub fn read_answer(
     cs: u64,
     csize: u64,
     chunk: ChunkNumber,
-) -> Answer
+) -> Result<(), Refusal>
     ensures { said result ≡
         read_verdict node_hash
         (named (name_of name)

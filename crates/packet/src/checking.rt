@@ -12,7 +12,7 @@ ghost use Rattle.packet.specs.Check.{shape_right, entry_in, entries_in, ordered,
 ghost use Rattle.packet.specs.Inner.{ChunkOf, turn_entry, hash_row, size_row, message_with, sizes_in, Summed, entry_of, RowIn, TurnIn, TurnsIn, OthersIn, Climbable, climbed, Shaped};
 ghost use Rattle.packet.specs.Inner.{path_row, handed, unhanded, handed_on};
 
-use answer_types::Answer;
+use answer_types::Refusal;
 use file_format::roots::Roots;
 use number_types::ChunkNumber;
 
@@ -33,7 +33,7 @@ pub struct Ascent {
 // An answer, and what was hashed for it: the leaf and the parents on the way.
 #[derive(Clone, Copy)]
 pub struct Checked {
-    pub answer: Answer,
+    pub answer: Result<(), Refusal>,
     pub leaf: Node,
     pub row: [u8; 800],
 }
@@ -294,7 +294,7 @@ fn root_right(packet: &[u8], n: u64, chunk: ChunkNumber, root: &[u8; 32]) -> Has
 }
 
 // An answer that hands on nothing.
-pub fn unhashed(answer: Answer) -> Checked
+pub fn unhashed(answer: Result<(), Refusal>) -> Checked
     ensures same { result.answer ≡ answer }
     ensures empty { handed result.leaf result.row ≡ unhanded }
 {
@@ -329,14 +329,19 @@ pub fn check_hashing(packet: &[u8], n: u64, chunk: ChunkNumber, root: &[u8; 32])
     let leaf = hashed.leaf;
     let row = hashed.row;
     Checked {
-        answer: Answer::Done,
+        answer: Ok(()),
         leaf,
         row,
     }
 }
 
 // Whether a packet passes the check, or its refusal.
-pub fn check_answer(packet: &[u8], n: u64, chunk: ChunkNumber, root: &[u8; 32]) -> Answer
+pub fn check_answer(
+    packet: &[u8],
+    n: u64,
+    chunk: ChunkNumber,
+    root: &[u8; 32],
+) -> Result<(), Refusal>
     ensures { said result ≡ packet_verdict node_hash packet.now n chunk.0 root.now }
 {
     let checked = check_hashing(packet, n, chunk, root);
@@ -348,8 +353,8 @@ pub fn check<'a>(packet: &'a [u8], n: u64, chunk: ChunkNumber, root: &[u8; 32]) 
     ensures { result.now ≡ checked_chunk node_hash packet.now n chunk.0 root.now }
 {
     match check_answer(packet, n, chunk, root) {
-        Answer::Refused(_) => &packet[0..0],
-        Answer::Done => {
+        Err(_) => &packet[0..0],
+        Ok(()) => {
             let end = 4 + (byte_strings::read_be32(packet, 0) as usize);
             &packet[4..end]
         }

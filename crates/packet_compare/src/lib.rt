@@ -12,7 +12,7 @@ ghost use Rattle.packet_compare.specs.Walk.{walk as walkAlong, compare_packets};
 ghost use Rattle.packet_compare.specs.Meaning.{walk_of};
 ghost use Rattle.packet_compare.specs.Inner.{Framed, Steppable, Climbable2, up_along, Accepted2};
 
-use answer_types::{Answer, Refusal};
+use answer_types::Refusal;
 use number_types::{ChunkNumber, TreeIndex};
 use packet::Node;
 
@@ -113,10 +113,10 @@ pub fn compare_packets(
     ensures { walk_of result ≡ compare_packets node_hash first.now second.now n chunk.0 root.now }
 {
     match packet::check_answer(first, n, chunk, root) {
-        Answer::Refused(refusal) => Walked::FirstRefused(refusal),
-        Answer::Done => match packet::check_answer(second, n, chunk, root) {
-            Answer::Refused(refusal) => Walked::SecondRefused(refusal),
-            Answer::Done => walk(first, second, n, chunk),
+        Err(refusal) => Walked::FirstRefused(refusal),
+        Ok(()) => match packet::check_answer(second, n, chunk, root) {
+            Err(refusal) => Walked::SecondRefused(refusal),
+            Ok(()) => walk(first, second, n, chunk),
         },
     }
 }

@@ -1,4 +1,5 @@
 -- A part as the code makes it. Assumes nothing.
+use Rattle.std.specs.Prelude.{Result, Err, ⊤}
 use Prim.Native.Nat.{ℕ, ◌+◌, ◌-◌, ◌*◌, ◌≤◌, ◌<◌}
 use mathlib.Core.Path.{◌≡◌, refl, sym, ap, ap₂, ◌∙◌}
 use mathlib.Core.Bool.{Bool, true, false, cond, ◌&&◌, ◌||◌}
@@ -9,8 +10,6 @@ use lib.Dec.{ltb, eqb}
 use Rattle.answer_types.specs.Verdict.{Spot, Verdict, tree, bitfield, done}
 use Rattle.answer_types.specs.Meaning.{said}
 use Rattle.answer_types.specs.declared.Refusal.{Refusal}
-use Rattle.answer_types.specs.declared.Answer.{Answer}
-use Rattle.answer_types.specs.declared.Answer.TheVariants.{Refused}
 use Rattle.tree_index.specs.Tree.{entries}
 use Rattle.bitfield.specs.Image.{entry_count}
 use Rattle.file_format.specs.Belongs.{Register}
@@ -60,8 +59,8 @@ module _ (m k : ℕ) (at to : Spot) where
 
 -- ---- the checks, then the range
 
-module _ (F : List ℕ → List ℕ) (r : Register) (a b : ℕ) (x : Answer) (checked : said x ≡ judged (register_checks r) done) where
-  pub tree_refused : (m : Refusal) → x ≡ Refused m → said x ≡ tree_part F r a b
+module _ (F : List ℕ → List ℕ) (r : Register) (a b : ℕ) (x : Result ⊤ Refusal) (checked : said x ≡ judged (register_checks r) done) where
+  pub tree_refused : (m : Refusal) → x ≡ Err m → said x ≡ tree_part F r a b
   unfolding tree_part
   tree_refused = checks_refuse r _ x checked
 
@@ -72,8 +71,8 @@ module _ (F : List ℕ → List ℕ) (r : Register) (a b : ℕ) (x : Answer) (ch
       checks_pass r (refused_at 10 tree (lowest (entry_right F r.tree r.bitfield r.content r.n r.size) a (within (entries r.n) a b)) done) x checked ok v
       (u ∙ ap (λ (m : ℕ). refused_at 10 tree (lowest (entry_right F r.tree r.bitfield r.content r.n r.size) a (m - a)) done) (e ∙ ap (lesser b) q))
 
-module _ (r : Register) (a b : ℕ) (x : Answer) (checked : said x ≡ judged (register_checks r) done) where
-  pub bitfield_refused : (m : Refusal) → x ≡ Refused m → said x ≡ bitfield_part r a b
+module _ (r : Register) (a b : ℕ) (x : Result ⊤ Refusal) (checked : said x ≡ judged (register_checks r) done) where
+  pub bitfield_refused : (m : Refusal) → x ≡ Err m → said x ≡ bitfield_part r a b
   unfolding bitfield_part
   bitfield_refused = checks_refuse r _ x checked
 

@@ -3,7 +3,7 @@ ghost use Rattle.std.specs.Prelude.{◌≡◌};
 ghost use Rattle.answer_types.specs.Meaning.{said, spot_of};
 ghost use Rattle.parts_audit.specs.Together as spec;
 
-use answer_types::{Answer, Place, Refusal};
+use answer_types::{Place, Refusal};
 
 // A place as a number.
 fn place_number(place: Place) -> u64
@@ -32,20 +32,14 @@ fn comes_before(a: Refusal, b: Refusal) -> bool
 }
 
 // Of two answers the one that comes before the other; "done" comes last.
-pub fn earlier(a: Answer, b: Answer) -> Answer
+pub fn earlier(a: Result<(), Refusal>, b: Result<(), Refusal>) -> Result<(), Refusal>
     ensures { said result ≡ spec.earlier (said a) (said b) }
 {
     match a {
-        Answer::Done => b,
-        Answer::Refused(x) => match b {
-            Answer::Done => Answer::Refused(x),
-            Answer::Refused(y) => {
-                if comes_before(x, y) {
-                    Answer::Refused(x)
-                } else {
-                    Answer::Refused(y)
-                }
-            }
+        Ok(()) => b,
+        Err(x) => match b {
+            Ok(()) => Err(x),
+            Err(y) => { if comes_before(x, y) { Err(x) } else { Err(y) } }
         },
     }
 }

@@ -11,7 +11,7 @@ ghost use Rattle.blake2b.specs.Hash.{node_hash};
 ghost use Rattle.checks.specs.Lent.{register_of};
 ghost use Rattle.parts_audit.specs.Part.{tree_part, bitfield_part};
 
-use answer_types::Answer;
+use answer_types::Refusal;
 pub use answers::earlier;
 use number_types::TreeIndex;
 pub use ranges::lesser;
@@ -27,7 +27,7 @@ pub fn tree_part(
     size: u64,
     from: TreeIndex,
     to: TreeIndex,
-) -> Answer
+) -> Result<(), Refusal>
     ensures { said result ≡
         tree_part node_hash
         (register_of tree.now signatures.now bitfield.now content.now n s size)
@@ -35,7 +35,7 @@ pub fn tree_part(
         to.0 }
 {
     let checked = checks::judge(tree, signatures, bitfield, content, n, s, size);
-    let Answer::Done = checked else {
+    let Ok(()) = checked else {
         return checked;
     };
     let end = TreeIndex(lesser(to.0, audit::entry_count(n)));
@@ -53,7 +53,7 @@ pub fn bitfield_part(
     size: u64,
     from: u64,
     to: u64,
-) -> Answer
+) -> Result<(), Refusal>
     ensures { said result ≡
         bitfield_part
         (register_of tree.now signatures.now bitfield.now content.now n s size)
@@ -61,7 +61,7 @@ pub fn bitfield_part(
         to }
 {
     let checked = checks::judge(tree, signatures, bitfield, content, n, s, size);
-    let Answer::Done = checked else {
+    let Ok(()) = checked else {
         return checked;
     };
     let end = lesser(to, audit::row_count(n));

@@ -1,4 +1,5 @@
 -- A part of the comparing walk as the code makes it. Assumes nothing.
+use Rattle.std.specs.Prelude.{Result, Ok, Err, ⊤}
 use Prim.Native.Nat.{ℕ, ◌-◌, ◌≤◌}
 use mathlib.Core.Path.{◌≡◌, refl, sym, ap, ap₂, ◌∙◌, subst}
 use mathlib.Core.Bool.{Bool, true, false, cond}
@@ -10,8 +11,6 @@ use lib.ListN.{length, take}
 use Rattle.answer_types.specs.Verdict.{Verdict, done}
 use Rattle.answer_types.specs.Meaning.{said, spot_of}
 use Rattle.answer_types.specs.declared.Refusal.{Refusal}
-use Rattle.answer_types.specs.declared.Answer.{Answer}
-use Rattle.answer_types.specs.declared.Answer.TheVariants.{Done, Refused}
 use Rattle.tree_index.specs.Tree.{entries}
 use Rattle.file_format.specs.Belongs.{Register}
 use Rattle.file_format.specs.Inner.{RootsIn}
@@ -24,38 +23,38 @@ use Rattle.parts_audit.specs.Range.{lesser}
 use Rattle.parts_compare.specs.Part.{both_checked, roots_part, data_of, walk_part}
 
 -- a register that passes the checks has room for its entries
-rooted : (r : Register) (x : Answer) → said x ≡ judged (register_checks r) done → x ≡ Done → RootsIn r.tree r.n
+rooted : (r : Register) (x : Result ⊤ Refusal) → said x ≡ judged (register_checks r) done → x ≡ (Ok tt) → RootsIn r.tree r.n
 rooted r x p e = let q = (passed r done (sym p ∙ ap said e)).0 in record { count = q.count; inside = q.tree }
 
 -- ---- the checks of both
 
-module _ (a b : Register) (next : Comparison) (x : Answer) (p : said x ≡ judged (register_checks a) done) where
+module _ (a b : Register) (next : Comparison) (x : Result ⊤ Refusal) (p : said x ≡ judged (register_checks a) done) where
   parts : both_checked a b next ≡ unless_refused (said x) (judged (register_checks b) done) next
   parts = ap (λ (v : Verdict). unless_refused v (judged (register_checks b) done) next) (sym p)
 
-  first_refuses : (m : Refusal) → x ≡ Refused m → first_refused m.number (spot_of m.place) ≡ both_checked a b next
-  first_refuses m e = sym (parts ∙ ap (λ (y : Answer). unless_refused (said y) (judged (register_checks b) done) next) e)
+  first_refuses : (m : Refusal) → x ≡ Err m → first_refused m.number (spot_of m.place) ≡ both_checked a b next
+  first_refuses m e = sym (parts ∙ ap (λ (y : Result ⊤ Refusal). unless_refused (said y) (judged (register_checks b) done) next) e)
 
-  module _ (e : x ≡ Done) (y : Answer) (q : said y ≡ judged (register_checks b) done) where
-    second_refuses : (m : Refusal) → y ≡ Refused m → second_refused m.number (spot_of m.place) ≡ both_checked a b next
-    second_refuses m g = sym (parts ∙ (λ j. unless_refused (said (e j)) (sym q j) next) ∙ ap (λ (z : Answer). unless_refused done (said z) next) g)
+  module _ (e : x ≡ (Ok tt)) (y : Result ⊤ Refusal) (q : said y ≡ judged (register_checks b) done) where
+    second_refuses : (m : Refusal) → y ≡ Err m → second_refused m.number (spot_of m.place) ≡ both_checked a b next
+    second_refuses m g = sym (parts ∙ (λ j. unless_refused (said (e j)) (sym q j) next) ∙ ap (λ (z : Result ⊤ Refusal). unless_refused done (said z) next) g)
 
-    both_pass : y ≡ Done → (c : Comparison) → c ≡ next → c ≡ both_checked a b next
-    both_pass g c z = z ∙ sym (parts ∙ (λ j. unless_refused (said (e j)) (sym q j) next) ∙ ap (λ (w : Answer). unless_refused done (said w) next) g)
+    both_pass : y ≡ (Ok tt) → (c : Comparison) → c ≡ next → c ≡ both_checked a b next
+    both_pass g c z = z ∙ sym (parts ∙ (λ j. unless_refused (said (e j)) (sym q j) next) ∙ ap (λ (w : Result ⊤ Refusal). unless_refused done (said w) next) g)
 
 -- ---- each part
 
-module _ (F : List ℕ → List ℕ) (a b : Register) (x : Answer) (p : said x ≡ judged (register_checks a) done) where
-  pub roots_first : (m : Refusal) → x ≡ Refused m → first_refused m.number (spot_of m.place) ≡ roots_part F a b
+module _ (F : List ℕ → List ℕ) (a b : Register) (x : Result ⊤ Refusal) (p : said x ≡ judged (register_checks a) done) where
+  pub roots_first : (m : Refusal) → x ≡ Err m → first_refused m.number (spot_of m.place) ≡ roots_part F a b
   unfolding roots_part
   roots_first = first_refuses a b _ x p
 
-  module _ (e : x ≡ Done) (y : Answer) (q : said y ≡ judged (register_checks b) done) where
-    pub roots_second : (m : Refusal) → y ≡ Refused m → second_refused m.number (spot_of m.place) ≡ roots_part F a b
+  module _ (e : x ≡ (Ok tt)) (y : Result ⊤ Refusal) (q : said y ≡ judged (register_checks b) done) where
+    pub roots_second : (m : Refusal) → y ≡ Err m → second_refused m.number (spot_of m.place) ≡ roots_part F a b
     unfolding roots_part
     roots_second = second_refuses a b _ x p e y q
 
-    module _ (g : y ≡ Done) where
+    module _ (g : y ≡ (Ok tt)) where
       pub roots_room : RootsIn a.tree a.n × RootsIn b.tree b.n
       roots_room = (rooted a x p e, rooted b y q g)
 
@@ -63,17 +62,17 @@ module _ (F : List ℕ → List ℕ) (a b : Register) (x : Answer) (p : said x �
       unfolding roots_part
       roots_told_lem c d u v = both_pass a b _ x p e y q g c (u ∙ v)
 
-module _ (a b : Register) (i j : ℕ) (x : Answer) (p : said x ≡ judged (register_checks a) done) where
-  pub walk_first : (m : Refusal) → x ≡ Refused m → first_refused m.number (spot_of m.place) ≡ walk_part a b i j
+module _ (a b : Register) (i j : ℕ) (x : Result ⊤ Refusal) (p : said x ≡ judged (register_checks a) done) where
+  pub walk_first : (m : Refusal) → x ≡ Err m → first_refused m.number (spot_of m.place) ≡ walk_part a b i j
   unfolding walk_part
   walk_first = first_refuses a b _ x p
 
-  module _ (e : x ≡ Done) (y : Answer) (q : said y ≡ judged (register_checks b) done) where
-    pub walk_second : (m : Refusal) → y ≡ Refused m → second_refused m.number (spot_of m.place) ≡ walk_part a b i j
+  module _ (e : x ≡ (Ok tt)) (y : Result ⊤ Refusal) (q : said y ≡ judged (register_checks b) done) where
+    pub walk_second : (m : Refusal) → y ≡ Err m → second_refused m.number (spot_of m.place) ≡ walk_part a b i j
     unfolding walk_part
     walk_second = second_refuses a b _ x p e y q
 
-    module _ (g : y ≡ Done) where
+    module _ (g : y ≡ (Ok tt)) where
       pub walk_room : a.n ≡ b.n → RootsIn a.tree a.n × RootsIn b.tree a.n
       walk_room s = (rooted a x p e, subst (RootsIn b.tree) (sym s) (rooted b y q g))
 

@@ -7,7 +7,7 @@ ghost use Rattle.checks.specs.Lent.{register_of};
 ghost use Rattle.compare.specs.Meaning.{compared};
 ghost use Rattle.parts_compare.specs.Part.{roots_part, walk_part};
 
-use answer_types::Answer;
+use answer_types::Refusal;
 use compare::{Compared, Roots};
 use number_types::TreeIndex;
 
@@ -35,11 +35,11 @@ pub fn roots_part(
         (register_of tree2.now signatures2.now bitfield2.now content2.now n2 s2 size2) }
 {
     let first = checks::judge(tree, signatures, bitfield, content, n, s, size);
-    if let Answer::Refused(refusal) = first {
+    if let Err(refusal) = first {
         return Compared::FirstRefused(refusal);
     }
     let second = checks::judge(tree2, signatures2, bitfield2, content2, n2, s2, size2);
-    if let Answer::Refused(refusal) = second {
+    if let Err(refusal) = second {
         return Compared::SecondRefused(refusal);
     }
     match compare::compare_roots(tree, n, tree2, n2) {
@@ -76,11 +76,11 @@ pub fn walk_part(
         to.0 }
 {
     let first = checks::judge(tree, signatures, bitfield, content, n, s, size);
-    if let Answer::Refused(refusal) = first {
+    if let Err(refusal) = first {
         return Compared::FirstRefused(refusal);
     }
     let second = checks::judge(tree2, signatures2, bitfield2, content2, n2, s2, size2);
-    if let Answer::Refused(refusal) = second {
+    if let Err(refusal) = second {
         return Compared::SecondRefused(refusal);
     }
     if n != n2 {

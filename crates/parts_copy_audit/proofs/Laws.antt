@@ -1,4 +1,5 @@
 -- A part of a copy's audit as the code makes it. Assumes nothing.
+use Rattle.std.specs.Prelude.{Result, Err, ⊤}
 use Prim.Native.Nat.{ℕ, ◌+◌, ◌-◌, ◌*◌}
 use mathlib.Core.Path.{◌≡◌, sym, ap, ap₂, ◌∙◌}
 use mathlib.Core.Bool.{Bool, true}
@@ -6,8 +7,6 @@ use mathlib.Core.List.{List}
 use Rattle.answer_types.specs.Verdict.{Verdict, tree, bitfield, done, refused, and_then}
 use Rattle.answer_types.specs.Meaning.{said}
 use Rattle.answer_types.specs.declared.Refusal.{Refusal}
-use Rattle.answer_types.specs.declared.Answer.{Answer}
-use Rattle.answer_types.specs.declared.Answer.TheVariants.{Refused}
 use Rattle.byte_strings.specs.Lists.{run}
 use Rattle.byte_strings.specs.Lowest.{Lowest, nowhere, first, lowest}
 use Rattle.tree_index.specs.Tree.{entries}
@@ -33,15 +32,15 @@ partly_then c next =
     ∙ then_assoc (judged (lent_checks c) done) (judged size done) next
     ∙ ap (λ (v : Verdict). and_then v next) (sym (judged_then (lent_checks c) (judged size done)))
 
-module _ (c : Copy) (x : Answer) (checked : said x ≡ partly_judged c done) where
-  refuses : (next : Verdict) (m : Refusal) → x ≡ Refused m → said x ≡ partly_judged c next
+module _ (c : Copy) (x : Result ⊤ Refusal) (checked : said x ≡ partly_judged c done) where
+  refuses : (next : Verdict) (m : Refusal) → x ≡ Err m → said x ≡ partly_judged c next
   refuses next m e = sym (partly_then c next ∙ ap (λ (v : Verdict). and_then v next) (sym checked) ∙ stops x m e next)
 
   passes : (next : Verdict) → said x ≡ done → next ≡ partly_judged c next
   passes next ok = sym (partly_then c next ∙ ap (λ (v : Verdict). and_then v next) (sym checked ∙ ok))
 
   module _ (a b : ℕ) where
-    pub bits_refused : (m : Refusal) → x ≡ Refused m → said x ≡ copy_bitfield_part c a b
+    pub bits_refused : (m : Refusal) → x ≡ Err m → said x ≡ copy_bitfield_part c a b
     unfolding copy_bitfield_part
     bits_refused = refuses _
 
@@ -55,7 +54,7 @@ module _ (c : Copy) (x : Answer) (checked : said x ≡ partly_judged c done) whe
         ∙ passes _ ok
 
   module _ (F : List ℕ → List ℕ) (a b : ℕ) where
-    pub entries_refused : (m : Refusal) → x ≡ Refused m → said x ≡ copy_tree_part F c a b
+    pub entries_refused : (m : Refusal) → x ≡ Err m → said x ≡ copy_tree_part F c a b
     unfolding copy_tree_part
     entries_refused = refuses _
 

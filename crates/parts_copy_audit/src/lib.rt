@@ -7,7 +7,7 @@ ghost use Rattle.blake2b.specs.Hash.{node_hash};
 ghost use Rattle.copy_checks.specs.Copy.{copy_of};
 ghost use Rattle.parts_copy_audit.specs.Part.{copy_tree_part, copy_bitfield_part};
 
-use answer_types::Answer;
+use answer_types::Refusal;
 use lookup::First;
 use number_types::TreeIndex;
 
@@ -21,18 +21,18 @@ pub fn tree_part(
     size: u64,
     from: TreeIndex,
     to: TreeIndex,
-) -> Answer
+) -> Result<(), Refusal>
     ensures { said result ≡
         copy_tree_part node_hash (copy_of tree.now bitfield.now content.now n size) from.0 to.0 }
 {
     let checked = copy_checks::judge_partly(tree, bitfield, content, n, size);
-    let Answer::Done = checked else {
+    let Ok(()) = checked else {
         return checked;
     };
     let end = TreeIndex(parts_audit::lesser(to.0, audit::entry_count(n)));
     match copy_audit::wrong_between(tree, bitfield, content, n, size, from, end) {
         First::At(i) => answer_types::refuse_entry(10, i),
-        First::Nothing => Answer::Done,
+        First::Nothing => Ok(()),
     }
 }
 
@@ -45,11 +45,11 @@ pub fn bitfield_part(
     size: u64,
     from: u64,
     to: u64,
-) -> Answer
+) -> Result<(), Refusal>
     ensures { said result ≡ copy_bitfield_part (copy_of tree.now bitfield.now content.now n size) from to }
 {
     let checked = copy_checks::judge_partly(tree, bitfield, content, n, size);
-    let Answer::Done = checked else {
+    let Ok(()) = checked else {
         return checked;
     };
     let end = parts_audit::lesser(to, audit::row_count(n));

@@ -1,4 +1,5 @@
 -- The answer, from the case that it is. Assumes nothing.
+use Rattle.std.specs.Prelude.{Result, Ok, Err, ⊤}
 use Prim.Native.Nat.{ℕ, ◌≤◌, ◌<◌}
 use mathlib.Core.Path.{◌≡◌, sym, ap, ◌∙◌}
 use mathlib.Core.Bool.{Bool, cond}
@@ -8,8 +9,6 @@ use borrow.Author.Tests.{leb-true, le-leb, lt-leb}
 use Rattle.answer_types.specs.Verdict.{Verdict, none, done, refused}
 use Rattle.answer_types.specs.Meaning.{said, spot_of}
 use Rattle.answer_types.specs.declared.Refusal.{Refusal}
-use Rattle.answer_types.specs.declared.Answer.{Answer}
-use Rattle.answer_types.specs.declared.Answer.TheVariants.{Done, Refused}
 use Rattle.tree_index.specs.Tree.{entries}
 use Rattle.blake2b.specs.Hash.{node_hash}
 use Rattle.file_format.specs.Sizes.{used_tree}
@@ -61,12 +60,12 @@ old_passed r m e =
 
 -- ---- the steps of the code
 
-module _ (r : Register) (m : ℕ) (a : Answer) (e : said a ≡ judged (register_checks r) done) where
-  pub before_refused : (x : Refusal) → a ≡ Refused x → said (Refused x) ≡ prefix_verdict r m
+module _ (r : Register) (m : ℕ) (a : Result ⊤ Refusal) (e : said a ≡ judged (register_checks r) done) where
+  pub before_refused : (x : Refusal) → a ≡ Err x → said (Err x) ≡ prefix_verdict r m
   before_refused x p =
       sym (in_turn_lem r m ∙ judged_refused (register_checks r) (own_verdict r.n m) x.number (spot_of x.place) (sym e ∙ ap said p))
 
-  pub behind_checks : a ≡ Done → (v : Verdict) → v ≡ own_verdict r.n m → v ≡ prefix_verdict r m
+  pub behind_checks : a ≡ (Ok tt) → (v : Verdict) → v ≡ own_verdict r.n m → v ≡ prefix_verdict r m
   behind_checks p v w = w ∙ sym (behind r m (passed r done (sym e ∙ ap said p)).0)
 
 module _ (r : Register) (m : ℕ) where

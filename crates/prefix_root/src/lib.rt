@@ -9,17 +9,17 @@ ghost use Rattle.file_format.specs.Inner.{RootsIn};
 ghost use Rattle.checks.specs.Lent.{register_of};
 ghost use Rattle.prefix_root.specs.PrefixRoot.{own_verdict, prefix_verdict, RootedPost, PrefixRootPost};
 
-use answer_types::Answer;
+use answer_types::Refusal;
 use writing::Rooted;
 
 // "9 is given for m above n".
-pub fn up_to(n: u64, m: u64) -> Answer
+pub fn up_to(n: u64, m: u64) -> Result<(), Refusal>
     ensures { said result ≡ own_verdict n m }
 {
     if n < m {
         return answer_types::refuse(9);
     }
-    Answer::Done
+    Ok(())
 }
 
 // The checks 2 to 6, and then 9.
@@ -32,30 +32,30 @@ fn judge(
     s: u64,
     size: u64,
     m: u64,
-) -> Answer
+) -> Result<(), Refusal>
     ensures { said result ≡
         prefix_verdict
         (register_of tree.now signatures.now bitfield.now content.now n s size)
         m }
 {
     match checks::judge(tree, signatures, bitfield, content, n, s, size) {
-        Answer::Refused(refusal) => Answer::Refused(refusal),
-        Answer::Done => up_to(n, m),
+        Err(refusal) => Err(refusal),
+        Ok(()) => up_to(n, m),
     }
 }
 
 // Inner: an answer, and beside it, where it is done, the root hash that the stored roots of the first m chunks give; zeros after a refusal.
-pub fn rooted(found: Answer, tree: &[u8], m: u64) -> Rooted
+pub fn rooted(found: Result<(), Refusal>, tree: &[u8], m: u64) -> Rooted
     requires { said found ≡ done → RootsIn tree.now m }
     ensures { RootedPost (said found) tree.now m (said result.answer) result.root }
 {
     match found {
-        Answer::Refused(refusal) => Rooted {
-            answer: Answer::Refused(refusal),
+        Err(refusal) => Rooted {
+            answer: Err(refusal),
             root: [0u8; 32],
         },
-        Answer::Done => Rooted {
-            answer: Answer::Done,
+        Ok(()) => Rooted {
+            answer: Ok(()),
             root: file_format::roots::stored_root_hash(tree, m),
         },
     }

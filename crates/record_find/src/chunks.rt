@@ -11,7 +11,7 @@ ghost use Rattle.record_node.specs.Post.{node_told};
 ghost use Rattle.record_find.specs.ChunkRecords.{compared_told, header_in, node_in};
 ghost use Rattle.record_find.specs.Inner.{ReadIn, header_behind, node_behind, path_behind};
 
-use answer_types::{Answer, Place, Refusal};
+use answer_types::{Place, Refusal};
 use lookup::Verified;
 use number_types::ChunkNumber;
 use record_format::HeaderRead;
@@ -44,8 +44,8 @@ pub fn header_behind(read: Verified, content: &[u8], chunk: ChunkNumber) -> Head
 {
     let bytes = lookup::bytes_of(content, read);
     match lookup::answer_of(read) {
-        Answer::Refused(refusal) => HeaderRead::Refused(refusal),
-        Answer::Done => match record_format::read_header(bytes) {
+        Err(refusal) => HeaderRead::Refused(refusal),
+        Ok(()) => match record_format::read_header(bytes) {
             HeaderRead::Refused(_) => HeaderRead::Refused(no_record(chunk)),
             HeaderRead::Content(part) => HeaderRead::Content(part),
         },
@@ -59,27 +59,27 @@ pub fn node_behind(read: Verified, content: &[u8], chunk: ChunkNumber) -> NodeRe
 {
     let bytes = lookup::bytes_of(content, read);
     match lookup::answer_of(read) {
-        Answer::Refused(refusal) => {
+        Err(refusal) => {
             let none = record_node::no_node();
             let node = none.node;
             NodeRead {
-                answer: Answer::Refused(refusal),
+                answer: Err(refusal),
                 node,
             }
         }
-        Answer::Done => {
+        Ok(()) => {
             let told = record_node::read_node(bytes);
             let answer = told.answer;
             let node = told.node;
             match answer {
-                Answer::Done => NodeRead {
-                    answer: Answer::Done,
+                Ok(()) => NodeRead {
+                    answer: Ok(()),
                     node,
                 },
-                Answer::Refused(_) => {
+                Err(_) => {
                     let refusal = no_record(chunk);
                     NodeRead {
-                        answer: Answer::Refused(refusal),
+                        answer: Err(refusal),
                         node,
                     }
                 }
@@ -97,8 +97,8 @@ pub fn path_behind(read: Verified, content: &[u8], chunk: ChunkNumber, path: &[u
     let answer = told.answer;
     let node = told.node;
     match answer {
-        Answer::Refused(refusal) => Compared::Refused(refusal),
-        Answer::Done => {
+        Err(refusal) => Compared::Refused(refusal),
+        Ok(()) => {
             let bytes = lookup::bytes_of(content, read);
             let part = node.path;
             let from = part.at;

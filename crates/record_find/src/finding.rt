@@ -9,7 +9,7 @@ ghost use Rattle.record_find.specs.Finding.{found_of, find_down, find_in};
 ghost use Rattle.record_find.specs.Inner.{Readable, read_behind, judge_behind, find_behind};
 
 use super::chunks::Compared;
-use answer_types::{Answer, Refusal};
+use answer_types::Refusal;
 use lookup::Verified;
 use number_types::ChunkNumber;
 use record_format::HeaderRead;
@@ -35,7 +35,7 @@ fn read_in(
     ensures { verified_of result
         ≡ read_behind partly tree.now bitfield.now content.now n node_hash done chunk.0 }
 {
-    let placed = lookup::held_place_behind(Answer::Done, tree, bitfield, partly, n, chunk);
+    let placed = lookup::held_place_behind(Ok(()), tree, bitfield, partly, n, chunk);
     lookup::verify_placed(tree, content, chunk, placed)
 }
 
@@ -66,7 +66,7 @@ fn search(tree: &[u8], bitfield: &[u8], partly: bool, content: &[u8], n: u64, pa
 
 // Inner: what `find` says, behind the answer of the checks.
 pub fn find_behind(
-    checked: Answer,
+    checked: Result<(), Refusal>,
     tree: &[u8],
     bitfield: &[u8],
     partly: bool,
@@ -80,8 +80,8 @@ pub fn find_behind(
         path.now }
 {
     match checked {
-        Answer::Refused(refusal) => Found::Refused(refusal),
-        Answer::Done => {
+        Err(refusal) => Found::Refused(refusal),
+        Ok(()) => {
             if n == 0 {
                 return Found::Nowhere;
             }

@@ -1,4 +1,6 @@
 -- The five fields of a Node, as its reader takes them. Assumes nothing.
+use Rattle.std.specs.Prelude.{Result, Ok, ⊤}
+use Rattle.answer_types.specs.declared.Refusal.{Refusal}
 use Prim.Native.Nat.{ℕ, ◌+◌, ◌-◌, ◌<◌, ◌≤◌}
 use mathlib.Core.Path.{◌≡◌, refl, sym, ap, ◌∙◌, subst}
 use mathlib.Core.List.{List, [], ◌++◌, append_assoc, append-nil}
@@ -7,8 +9,6 @@ use native.Mathlib.Omega.{arith}
 use lib.ListN.{length, take, drop, length-append, length-drop, drop_of_length-le}
 use Rattle.answer_types.specs.Verdict.{Verdict, refused}
 use Rattle.answer_types.specs.Verdict as verdicts
-use Rattle.answer_types.specs.declared.Answer.{Answer}
-use Rattle.answer_types.specs.declared.Answer.TheVariants.{Done}
 use Rattle.byte_strings.specs.Lists.{part}
 use Rattle.record_fields.specs.Reading.{BeginsNot, both, Both}
 use Rattle.record_fields.specs.Fields.{number_field, part_field, Most, Longest, Later}
@@ -352,10 +352,10 @@ module _ {d : List ℕ} {path value trie : Bytes} {ws : Writers} (sequence : Num
 
 -- ---- a refusal, and a Node
 
-pub refused_node : (d : List ℕ) (a : Answer) {n : CodeNode} → node_told a n ≡ (refused 15 verdicts.none, no_node) → Rejected node_bytes NodeWithin d → node_told a n ≡ read_node verdicts.none d
+pub refused_node : (d : List ℕ) (a : Result ⊤ Refusal) {n : CodeNode} → node_told a n ≡ (refused 15 verdicts.none, no_node) → Rejected node_bytes NodeWithin d → node_told a n ≡ read_node verdicts.none d
 refused_node d a h x = h ∙ ap (told_of verdicts.none no_node node_placed) (sym (each_read.nodes.rejects d x))
 
-pub given_node : {d : List ℕ} {n : CodeNode} → NodeAt d n → node_told Done n ≡ read_node verdicts.none d
+pub given_node : {d : List ℕ} {n : CodeNode} → NodeAt d n → node_told (Ok tt) n ≡ read_node verdicts.none d
 given_node {d} {n} h =
     ap {B = Verdict × CodeNode} (λ (m : CodeNode). (verdicts.done, m)) h.placed
     ∙ ap (told_of verdicts.none no_node node_placed) (sym (each_read.nodes.accepts d (node_of d n) h.accepted))

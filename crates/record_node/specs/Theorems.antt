@@ -1,8 +1,7 @@
 -- What holds of the definitions and of the calls on Nodes.
-use Rattle.std.specs.Prelude.{ℕ, ◌≤◌, ◌≡◌, List, length}
+use Rattle.std.specs.Prelude.{ℕ, ◌≤◌, ◌≡◌, List, length, Ok}
 use Rattle.std.proofs.Math.Option.{some}
 use Rattle.answer_types.specs.Verdict.{none}
-use Rattle.answer_types.specs.declared.Answer.TheVariants.{Done}
 use Rattle.byte_strings.specs.Lists.{put}
 use Rattle.record_format.specs.Records.{Node, NodeWithin, node_bytes}
 use Rattle.record_format.specs.From.{node_from}
@@ -23,7 +22,7 @@ NodesPlaced = (d : List ℕ) (n : Node) → node_from d ≡ some n → Placed d 
 -- and their number
 abbrev pub NodesWrittenBack : Type 0
 NodesWrittenBack =
-    (d : List ℕ) (n : CodeNode) → node_told Done n ≡ read_node none d
+    (d : List ℕ) (n : CodeNode) → node_told (Ok tt) n ≡ read_node none d
     → (out : List ℕ) (answer : Written) (after : List ℕ) → NodeWrittenAs d n out answer after → length d ≤ length out
     → (answer ≡ Length (length d)) × (after ≡ put out 0 d)
 

@@ -6,7 +6,7 @@ ghost use Rattle.record_node.specs.Post.{no_writers, no_node, node_told, read_no
 ghost use Rattle.record_node.specs.Inner.{PartsRead, TailRead, RawRead, RawAt, WithPathAs, ValueReadAs};
 
 use super::writers::{Row, Writers};
-use answer_types::Answer;
+use answer_types::Refusal;
 use record_fields::{Bytes, BytesRow, Number, NumberRow, Part};
 use record_format::{Stat, StatRead};
 
@@ -30,7 +30,7 @@ pub struct Node {
 // What reading a Node answers, and its fields; beside a refusal a Node that says nothing.
 #[derive(Clone, Copy)]
 pub struct NodeRead {
-    pub answer: Answer,
+    pub answer: Result<(), Refusal>,
     pub node: Node,
 }
 
@@ -249,7 +249,7 @@ fn judged(
                     sequence,
                 };
                 NodeRead {
-                    answer: Answer::Done,
+                    answer: Ok(()),
                     node,
                 }
             }

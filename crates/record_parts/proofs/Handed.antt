@@ -1,4 +1,5 @@
 -- A part that is handed back is that of the one record which the bytes are. Assumes nothing.
+use Rattle.std.specs.Prelude.{Result, Ok, Err, ⊤}
 use Prim.Native.Nat.{ℕ, ◌+◌, ◌-◌, ◌<◌, ◌≤◌}
 use mathlib.Core.Path.{◌≡◌, refl, sym, ap, ◌∙◌, subst}
 use mathlib.Core.Logic.{⊎_elim}
@@ -12,8 +13,6 @@ use borrow.Author.Tests.{lt-ltb, le-ltb}
 use Rattle.answer_types.specs.Verdict.{Verdict}
 use Rattle.answer_types.specs.Verdict as verdicts
 use Rattle.answer_types.specs.Meaning.{spot_of}
-use Rattle.answer_types.specs.declared.Answer.{Answer}
-use Rattle.answer_types.specs.declared.Answer.TheVariants.{Done, Refused}
 use Rattle.answer_types.specs.declared.Refusal.{Refusal}
 use Rattle.byte_strings.specs.Lists.{part, run}
 use Rattle.byte_strings.proofs.Lists.{get_or_run, length_run}
@@ -29,7 +28,7 @@ use Rattle.record_format.specs.Records.{Header, header_bytes, Writer, Node, node
 use Rattle.record_format.specs.From.{header_from, node_from}
 use Rattle.record_format.specs.Post.{told_of, no_part, content_part, read_header, header_told}
 use Rattle.record_format.specs.declared.headers.HeaderRead.{HeaderRead}
-use Rattle.record_format.specs.declared.headers.HeaderRead.TheVariants.{Refused as NoHeader, Content}
+use Rattle.record_format.specs.declared.headers.HeaderRead.TheVariants.{Err as NoHeader, Content}
 use Rattle.record_format.proofs.From.{each_read}
 use Rattle.record_format.proofs.Whole.{told_refused, told_some, content_placed}
 use Rattle.record_node.specs.Post.{writer_of, writers_of, writer_at, no_writer, node_of, node_placed, no_node, node_told, read_node, WriterInside, WritersInside, NodeInside}
@@ -138,31 +137,31 @@ module _ (d : List ℕ) where
       by (Permission j) = refl
 
   -- what was read: no Node, or one whose parts lie in the bytes
-  module _ (a : Answer) (n : CodeNode) (h : node_told a n ≡ read_node verdicts.none d) where
-    refused_as_lem : (x : Refusal) → a ≡ Refused x → (node_from d ≡ none) × (n ≡ no_node)
+  module _ (a : Result ⊤ Refusal) (n : CodeNode) (h : node_told a n ≡ read_node verdicts.none d) where
+    refused_as_lem : (x : Refusal) → a ≡ Err x → (node_from d ≡ none) × (n ≡ no_node)
     refused_as_lem x e =
-        let o = told_refused verdicts.none verdicts.none no_node node_placed (node_from d) x.number (spot_of x.place) n (sym (ap (λ (y : Answer). node_told y n) e) ∙ h) in
+        let o = told_refused verdicts.none verdicts.none no_node node_placed (node_from d) x.number (spot_of x.place) n (sym (ap (λ (y : Result ⊤ Refusal). node_told y n) e) ∙ h) in
         (o, ap (λ (y : Verdict × CodeNode). y.1) (h ∙ ap (told_of verdicts.none no_node node_placed) o))
 
-    read_as : a ≡ Done → (m : Node) × ((node_from d ≡ some m) × (n ≡ node_placed m))
-    read_as e = told_some verdicts.none verdicts.none no_node node_placed (node_from d) n (sym (ap (λ (y : Answer). node_told y n) e) ∙ h)
+    read_as : a ≡ (Ok tt) → (m : Node) × ((node_from d ≡ some m) × (n ≡ node_placed m))
+    read_as e = told_some verdicts.none verdicts.none no_node node_placed (node_from d) n (sym (ap (λ (y : Result ⊤ Refusal). node_told y n) e) ∙ h)
 
     read_inside : NodeInside d n
     read_inside = by a refl
       where
-        by : (y : Answer) → a ≡ y → NodeInside d n
-        by Done e = let m = read_as e in subst (NodeInside d) (sym m.1.1) (nodes_placed d m.0 m.1.0).fits.inside
-        by (Refused x) e = subst (NodeInside d) (sym (refused_as_lem x e).1) no_inside
+        by : (y : Result ⊤ Refusal) → a ≡ y → NodeInside d n
+        by (Ok tt) e = let m = read_as e in subst (NodeInside d) (sym m.1.1) (nodes_placed d m.0 m.1.0).fits.inside
+        by (Err x) e = subst (NodeInside d) (sym (refused_as_lem x e).1) no_inside
 
     handed_as : (f : Field) → or_nothing (bytes_of d (chosen_of n f)) ≡ node_handed f d
     handed_as f = by a refl
       where
-        by : (y : Answer) → a ≡ y → or_nothing (bytes_of d (chosen_of n f)) ≡ node_handed f d
-        by Done e =
+        by : (y : Result ⊤ Refusal) → a ≡ y → or_nothing (bytes_of d (chosen_of n f)) ≡ node_handed f d
+        by (Ok tt) e =
             let m = read_as e in
             field_bytes n read_inside f ∙ ap (λ (k : CodeNode). field_of f (node_of d k)) m.1.1 ∙ ap (field_of f) (nodes_placed d m.0 m.1.0).fields
             ∙ ap (handed (field_of f)) (sym m.1.0)
-        by (Refused x) e =
+        by (Err x) e =
             ap (λ (k : CodeNode). or_nothing (bytes_of d (chosen_of k f))) (refused_as_lem x e).1 ∙ no_bytes f ∙ ap (handed (field_of f)) (sym (refused_as_lem x e).0)
 
     pub chosen_inside : (f : Field) (o : Bytes) → o ≡ chosen_of n f → BytesInside d o

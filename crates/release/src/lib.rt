@@ -7,7 +7,7 @@ ghost use Rattle.checks.specs.Lent.{register_of};
 ghost use Rattle.lookup.specs.Meaning.{placed_of};
 ghost use Rattle.release.specs.Post.{lent, Clears, Cleared, ClearsAt, ReleasedPost, ReleasePost};
 
-use answer_types::Answer;
+use answer_types::Refusal;
 use lookup::Placed;
 use number_types::{ByteOffset, ChunkNumber};
 
@@ -34,16 +34,16 @@ pub fn release_placed(
     content: &mut [u8],
     chunk: ChunkNumber,
     placed: Placed,
-) -> Answer
+) -> Result<(), Refusal>
     requires { ClearsAt bitfield.old content.old chunk.0 (placed_of placed) }
     ensures { ReleasedPost bitfield.old content.old chunk.0 (placed_of placed) (said result)
         bitfield.new content.new }
 {
     match placed {
-        Placed::Refused(refusal) => Answer::Refused(refusal),
+        Placed::Refused(refusal) => Err(refusal),
         Placed::At(start, length) => {
             clear_chunk(bitfield, content, chunk, start, length);
-            Answer::Done
+            Ok(())
         }
     }
 }
@@ -58,7 +58,7 @@ pub fn release(
     s: u64,
     size: u64,
     chunk: ChunkNumber,
-) -> Answer
+) -> Result<(), Refusal>
     ensures { ReleasePost
         (register_of tree.now signatures.now bitfield.old content.old n s size)
         chunk.0 (said result)

@@ -7,7 +7,7 @@ ghost use Rattle.root_label.specs.Post.{LabelledAs};
 #[derive(Clone, Copy)]
 pub struct Labelled {
     pub bytes: [u8; 32],
-    pub answer: answer_types::Answer,
+    pub answer: Result<(), answer_types::Refusal>,
 }
 
 // The 32-byte hash of a root hash under a key, or refusal 17 where the key has more than 64 bytes.
@@ -23,6 +23,6 @@ pub fn label(root: &[u8; 32], key: &[u8]) -> Labelled
     let bytes = blake2b::hash_parts(key, b"", root);
     Labelled {
         bytes,
-        answer: answer_types::Answer::Done,
+        answer: Ok(()),
     }
 }

@@ -11,7 +11,7 @@ ghost use Rattle.search.specs.Search.{first_missing, sought_unless, search_for};
 ghost use Rattle.search.specs.Inner.{DataIn};
 ghost use Rattle.search.specs.Meaning.{searched_of};
 
-use answer_types::{Answer, Refusal};
+use answer_types::Refusal;
 use bitfield::Found;
 use number_types::ChunkNumber;
 
@@ -24,13 +24,18 @@ pub enum Searched {
 }
 
 // Inner: the first chunk that is not held, from a given number on, behind the answer of a register's checks 2 to 6 or of a copy's own.
-pub fn search_behind(checked: Answer, bitfield: &[u8], n: u64, from: ChunkNumber) -> Searched
+pub fn search_behind(
+    checked: Result<(), Refusal>,
+    bitfield: &[u8],
+    n: u64,
+    from: ChunkNumber,
+) -> Searched
     requires { said checked ≡ done → (n ≤ 1048576) × DataIn bitfield.now n }
     ensures { searched_of result ≡ sought_unless (said checked) (first_missing bitfield.now n from.0) }
 {
     match checked {
-        Answer::Refused(refusal) => Searched::Refused(refusal),
-        Answer::Done => match runs::by_runs(bitfield, from.0, n) {
+        Err(refusal) => Searched::Refused(refusal),
+        Ok(()) => match runs::by_runs(bitfield, from.0, n) {
             Found::At(chunk) => Searched::At(chunk),
             Found::Nothing => Searched::Nothing,
         },

@@ -18,7 +18,7 @@ ghost use Rattle.search.specs.Search.{sought_unless};
 ghost use Rattle.search.specs.Meaning.{searched_of};
 ghost use Rattle.short_lookup.specs.ShortLookup.{short_place_in, short_byte_in, short_place_of, short_byte_at, short_search_for};
 
-use answer_types::Answer;
+use answer_types::Refusal;
 use bitfield::Found;
 use lookup::{Located, Placed};
 use number_types::{ByteOffset, ChunkNumber};
@@ -27,7 +27,7 @@ use search::Searched;
 // Inner: start and length of a chunk, behind the answer of a register's checks 2 to 6 or of a copy's own. `partly` says that the files
 // are a copy's.
 pub fn place_behind(
-    checked: Answer,
+    checked: Result<(), Refusal>,
     tree: &[u8],
     bitfield: &[u8],
     partly: bool,
@@ -40,14 +40,14 @@ pub fn place_behind(
         (short_place_in (known_if partly bitfield.now) tree.now n chunk.0) }
 {
     match checked {
-        Answer::Refused(refusal) => Placed::Refused(refusal),
-        Answer::Done => leaves::place_in(tree, bitfield, partly, n, chunk),
+        Err(refusal) => Placed::Refused(refusal),
+        Ok(()) => leaves::place_in(tree, bitfield, partly, n, chunk),
     }
 }
 
 // Inner: the chunk whose bytes contain an offset, and the offset less its start.
 pub fn locate_behind(
-    checked: Answer,
+    checked: Result<(), Refusal>,
     tree: &[u8],
     bitfield: &[u8],
     partly: bool,
@@ -61,20 +61,25 @@ pub fn locate_behind(
         (short_byte_in (known_if partly bitfield.now) tree.now n size offset.0) }
 {
     match checked {
-        Answer::Refused(refusal) => Located::Refused(refusal),
-        Answer::Done => leaves::locate_in(tree, bitfield, partly, n, size, offset),
+        Err(refusal) => Located::Refused(refusal),
+        Ok(()) => leaves::locate_in(tree, bitfield, partly, n, size, offset),
     }
 }
 
 // Inner: the first chunk that is not held, from a given number on.
-pub fn search_behind(checked: Answer, bitfield: &[u8], n: u64, from: ChunkNumber) -> Searched
+pub fn search_behind(
+    checked: Result<(), Refusal>,
+    bitfield: &[u8],
+    n: u64,
+    from: ChunkNumber,
+) -> Searched
     requires { said checked ≡ done → bits_place (entry_count n) ≤ length bitfield.now }
     ensures { searched_of result ≡
         sought_unless (said checked) (lowest (stored_held bitfield.now) from.0 (n - from.0)) }
 {
     match checked {
-        Answer::Refused(refusal) => Searched::Refused(refusal),
-        Answer::Done => match bitfield::first_missing(bitfield, from, n) {
+        Err(refusal) => Searched::Refused(refusal),
+        Ok(()) => match bitfield::first_missing(bitfield, from, n) {
             Found::At(chunk) => Searched::At(chunk),
             Found::Nothing => Searched::Nothing,
         },

@@ -1,4 +1,6 @@
 -- What the calls on a table answer and leave, from the case that each came to. Assumes nothing.
+use Rattle.std.specs.Prelude.{Result, Ok, ⊤}
+use Rattle.answer_types.specs.declared.Refusal.{Refusal}
 use Prim.Native.Nat.{ℕ, suc, ◌+◌, ◌-◌, ◌%◌, ◌<◌, ◌≤◌}
 use mathlib.Core.Path.{◌≡◌, refl, sym, ap, ap₂, ◌∙◌}
 use mathlib.Core.List.{List, [], ◌∷◌}
@@ -8,8 +10,6 @@ use lib.Seq.{get_or-set_same, get_or-set_other}
 use borrow.Author.Tests.{lt-ltb, le-ltb}
 use Rattle.answer_types.specs.Verdict.{Verdict, none, done, refused, unless_refused}
 use Rattle.answer_types.specs.Meaning.{said}
-use Rattle.answer_types.specs.declared.Answer.{Answer}
-use Rattle.answer_types.specs.declared.Answer.TheVariants.{Done}
 use Rattle.byte_strings.specs.Lists.{run}
 use Rattle.byte_strings.proofs.Lists.{run_ext}
 use Rattle.station_queue.specs.Table.{Read, Table, Turn, nobody, turn, waiting_for, behind, after_turn, without, round_from, first_of, enter_verdict, entered, next, served, fresh}
@@ -36,7 +36,7 @@ module _ (t : Table) (s : ℕ) where
 waiting_count : (t : List ℕ) (s : ℕ) → s < 16 → length (waiting_for (table_of t) s) ≡ count_at t s
 waiting_count t s h = ap length (for_station t s h) ∙ length_waiting t s
 
-turned_away_lem : (t : List ℕ) (s m : ℕ) (r : Read) (a : Answer) → said a ≡ refused m none → enter_verdict (table_of t) s ≡ refused m none → Entered s r t a t
+turned_away_lem : (t : List ℕ) (s m : ℕ) (r : Read) (a : Result ⊤ Refusal) → said a ≡ refused m none → enter_verdict (table_of t) s ≡ refused m none → Entered s r t a t
 unfolding entered
 turned_away_lem t s m r a e v =
     record {
@@ -45,14 +45,14 @@ turned_away_lem t s m r a e v =
       numbers = sym (ap (λ (x : Verdict). unless_refused x (stored_at t s r) t) v);
     }
 
-pub entered_21 : (t : List ℕ) (s : ℕ) (r : Read) (a : Answer) → said a ≡ refused 21 none → 15 < s → Entered s r t a t
+pub entered_21 : (t : List ℕ) (s : ℕ) (r : Read) (a : Result ⊤ Refusal) → said a ≡ refused 21 none → 15 < s → Entered s r t a t
 entered_21 t s r a e h = turned_away_lem t s 21 r a e (verdict_21 (table_of t) s (omega arith))
 
-pub entered_22 : (t : List ℕ) (s n : ℕ) (r : Read) (a : Answer) → said a ≡ refused 22 none → s ≤ 15 → n ≡ count_at t s → 4 ≤ n → Entered s r t a t
+pub entered_22 : (t : List ℕ) (s n : ℕ) (r : Read) (a : Result ⊤ Refusal) → said a ≡ refused 22 none → s ≤ 15 → n ≡ count_at t s → 4 ≤ n → Entered s r t a t
 entered_22 t s n r a e h c l = turned_away_lem t s 22 r a e (verdict_22 (table_of t) s (omega arith) (omega (arith, waiting_count t s (omega arith))))
 
 pub entered_done : (t : List ℕ) (s f n g c : ℕ) → length t ≡ 161 → s ≤ 15 → f ≡ first_at t s → n ≡ count_at t s → n < 4
-    → Entered s (record { register = g; chunk = c }) t Done (stored t s ((f + n) % 4) g c (n + 1))
+    → Entered s (record { register = g; chunk = c }) t (Ok tt) (stored t s ((f + n) % 4) g c (n + 1))
 unfolding entered stored_at behind_at
 entered_done t s f n g c long h first count l =
     let v : enter_verdict (table_of t) s ≡ done = verdict_done (table_of t) s (omega arith) (omega (arith, waiting_count t s (omega arith))) in

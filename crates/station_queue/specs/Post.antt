@@ -1,8 +1,8 @@
 -- What the calls on a lent table answer and leave.
-use Rattle.std.specs.Prelude.{ℕ, ◌≡◌, List}
+use Rattle.answer_types.specs.declared.Refusal.{Refusal}
+use Rattle.std.specs.Prelude.{ℕ, ◌≡◌, List, Result, ⊤}
 use Rattle.answer_types.specs.Verdict.{unless_refused}
 use Rattle.answer_types.specs.Meaning.{said}
-use Rattle.answer_types.specs.declared.Answer.{Answer}
 use Rattle.station_queue.specs.declared.Turn.{Turn as Answered}
 use Rattle.station_queue.specs.declared.Turn.TheVariants.{Nobody, Of}
 use Rattle.station_queue.specs.Table.{Read, Turn, nobody, turn, fresh, enter_verdict, entered, next, served}
@@ -19,7 +19,7 @@ pub record Begun (numbers : List ℕ) : Type 0 where
   pub table : table_of numbers ≡ fresh
 
 -- entering a read of station s: the answer, and the table's numbers before and after, the same after a refusal
-pub record Entered (s : ℕ) (r : Read) (before : List ℕ) (answer : Answer) (after : List ℕ) : Type 0 where
+pub record Entered (s : ℕ) (r : Read) (before : List ℕ) (answer : Result ⊤ Refusal) (after : List ℕ) : Type 0 where
   pub answers : said answer ≡ enter_verdict (table_of before) s
   pub table : table_of after ≡ entered (table_of before) s r
   pub numbers : after ≡ unless_refused (enter_verdict (table_of before) s) (stored_at before s r) before

@@ -2,9 +2,9 @@
 --
 -- The notions in it: `fresh`, `entered`, `next`, `served` and `waiting_for` (Table), `table_of` (Words), `Begun`, `Entered` and `Left` (Calls),
 -- `among` (byte_strings, Lists).
-use Rattle.std.specs.Prelude.{ℕ, ◌<◌, ◌≤◌, ◌≡◌, false, cond, List, [], ◌∷◌, ◌++◌, length, eqb}
+use Rattle.answer_types.specs.declared.Refusal.{Refusal}
+use Rattle.std.specs.Prelude.{ℕ, ◌<◌, ◌≤◌, ◌≡◌, false, cond, List, [], ◌∷◌, ◌++◌, length, eqb, Result, ⊤}
 use Rattle.answer_types.specs.Verdict.{Verdict, Spot, none, done, refused}
-use Rattle.answer_types.specs.declared.Answer.{Answer}
 use Rattle.byte_strings.specs.Lists.{among}
 use Rattle.station_queue.specs.Table.{Read, Table, Turn, nobody, turn, stations, most_waiting, waiting_for, Waits, fresh, enter_verdict, entered, next, served}
 use Rattle.station_queue.specs.Words.{table_of}
@@ -112,7 +112,7 @@ FairForAll = (calls : List Call) → Fair calls (after_all fresh calls)
 -- and servings lead
 pub data Grown : List Call → List ℕ → Type 0 where
   begun : {t : List ℕ} → Begun t → Grown [] t
-  and_entered : {calls : List Call} {t u : List ℕ} (s : ℕ) (r : Read) (a : Answer) → Grown calls t → Entered s r t a u
+  and_entered : {calls : List Call} {t u : List ℕ} (s : ℕ) (r : Read) (a : Result ⊤ Refusal) → Grown calls t → Entered s r t a u
       → Grown (calls ++ (enter s r ∷ [])) u
   and_served : {calls : List Call} {t u : List ℕ} → Grown calls t → Left t u → Grown (calls ++ (serve ∷ [])) u
 

@@ -9,7 +9,7 @@ ghost use Rattle.station_queue.specs.Table.{next as Table·next};
 ghost use Rattle.station_queue.specs.Words.{table_of};
 ghost use Rattle.station_queue.specs.Post.{turn_of, Begun, Entered, Left};
 
-use answer_types::Answer;
+use answer_types::Refusal;
 use number_types::ChunkNumber;
 
 // Whose turn it is: a station, with the register and the chunk of its read that came first.
@@ -29,7 +29,12 @@ pub fn fresh() -> [u64; 161]
 }
 
 // A read that waits from now on behind those of its station. Only the station and the number of its reads are judged.
-pub fn enter(table: &mut [u64; 161], station: u64, register: u64, chunk: ChunkNumber) -> Answer
+pub fn enter(
+    table: &mut [u64; 161],
+    station: u64,
+    register: u64,
+    chunk: ChunkNumber,
+) -> Result<(), Refusal>
     ensures { Entered station (record { register = register; chunk = chunk.0 }) table.old result table.new }
 {
     words::enter(table, station, register, chunk.0)

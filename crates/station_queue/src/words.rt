@@ -5,7 +5,7 @@ ghost use Rattle.station_queue.specs.Words.{table_words, count_at, first_at, rea
 ghost use Rattle.station_queue.specs.Post.{turn_of, Entered, Left};
 
 use super::Turn;
-use answer_types::Answer;
+use answer_types::Refusal;
 use number_types::ChunkNumber;
 
 // Inner: how many reads wait for a station.
@@ -26,7 +26,7 @@ fn first(table: &[u64], s: usize) -> u64
 }
 
 // Inner: a read that waits from now on behind those of its station.
-pub fn enter(table: &mut [u64], station: u64, register: u64, chunk: u64) -> Answer
+pub fn enter(table: &mut [u64], station: u64, register: u64, chunk: u64) -> Result<(), Refusal>
     requires { length table.old ≡ table_words }
     ensures { Entered station (record { register = register; chunk = chunk }) table.old result table.new }
 {
@@ -43,7 +43,7 @@ pub fn enter(table: &mut [u64], station: u64, register: u64, chunk: u64) -> Answ
     table[32 + at] = register;
     table[96 + at] = chunk;
     table[s] = waiting + 1;
-    Answer::Done
+    Ok(())
 }
 
 // Inner: the turn of a station, with its first read.

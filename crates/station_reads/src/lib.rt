@@ -12,7 +12,7 @@ ghost use Rattle.station_queue.specs.Post.{Entered};
 ghost use Rattle.station_reads.specs.Serving.{number_of, named_by, serving, Serves};
 ghost use Rattle.station_reads.specs.Meaning.{served_of};
 
-use answer_types::Answer;
+use answer_types::Refusal;
 use lookup::Name;
 use number_types::ChunkNumber;
 use station_queue::Turn;
@@ -22,7 +22,7 @@ pub use station_queue::fresh;
 #[derive(Clone, Copy)]
 pub enum Served {
     Nobody,
-    Station(u64, Answer),
+    Station(u64, Result<(), Refusal>),
 }
 
 // The number under which a table keeps the name of a register.
@@ -47,7 +47,12 @@ pub fn named_by(number: u64) -> Name
 }
 
 // A read that waits from now on behind those of its station. Only the station and the number of its reads are judged.
-pub fn enter(table: &mut [u64; 161], station: u64, name: Name, chunk: ChunkNumber) -> Answer
+pub fn enter(
+    table: &mut [u64; 161],
+    station: u64,
+    name: Name,
+    chunk: ChunkNumber,
+) -> Result<(), Refusal>
     ensures { Entered station (record { register = number_of (name_of name); chunk = chunk.0 }) table.old result table.new }
 {
     station_queue::enter(table, station, number_of(name), chunk)

@@ -9,7 +9,7 @@ ghost use Rattle.lookup.specs.Inner.{known_if, FilesIn};
 ghost use Rattle.stored_leaf.specs.StoredLeaf.{leaf_in, leaf_verdict};
 ghost use Rattle.stored_leaf.specs.Post.{LeafPost};
 
-use answer_types::{Answer, Refusal};
+use answer_types::Refusal;
 use number_types::ChunkNumber;
 
 // What a call for a leaf's entry answers: a refusal, or the length that is stored in it.
@@ -20,7 +20,13 @@ pub enum Stored {
 }
 
 // Inner: 9, and in a copy 20 where the leaf's entry is unknown. `partly` says that the files are a copy's.
-fn judge_leaf(tree: &[u8], bitfield: &[u8], partly: bool, n: u64, chunk: ChunkNumber) -> Answer
+fn judge_leaf(
+    tree: &[u8],
+    bitfield: &[u8],
+    partly: bool,
+    n: u64,
+    chunk: ChunkNumber,
+) -> Result<(), Refusal>
     requires { FilesIn partly tree.now bitfield.now n }
     ensures { said result ≡ leaf_in (known_if partly bitfield.now) n chunk.0 }
 {
@@ -28,36 +34,36 @@ fn judge_leaf(tree: &[u8], bitfield: &[u8], partly: bool, n: u64, chunk: ChunkNu
         return answer_types::refuse(9);
     }
     if !partly {
-        return Answer::Done;
+        return Ok(());
     }
     let leaf = tree_index::leaf_index(chunk);
     if bitfield::is_known(bitfield, leaf) {
-        return Answer::Done;
+        return Ok(());
     }
     answer_types::refuse_entry(20, leaf)
 }
 
 // Inner: behind the checks of a call, whose answer is `found`.
 fn judge_behind(
-    found: Answer,
+    found: Result<(), Refusal>,
     tree: &[u8],
     bitfield: &[u8],
     partly: bool,
     n: u64,
     chunk: ChunkNumber,
-) -> Answer
+) -> Result<(), Refusal>
     requires { said found ≡ done → FilesIn partly tree.now bitfield.now n }
     ensures { said result ≡ and_then (said found) (leaf_in (known_if partly bitfield.now) n chunk.0) }
 {
     match found {
-        Answer::Refused(refusal) => Answer::Refused(refusal),
-        Answer::Done => judge_leaf(tree, bitfield, partly, n, chunk),
+        Err(refusal) => Err(refusal),
+        Ok(()) => judge_leaf(tree, bitfield, partly, n, chunk),
     }
 }
 
 // Inner: the entry of a leaf, behind the checks of a call on a register or a copy, whose answer is `found`: its hash into `hash`, and its length.
 pub fn give_leaf(
-    found: Answer,
+    found: Result<(), Refusal>,
     tree: &[u8],
     bitfield: &[u8],
     partly: bool,
@@ -70,8 +76,8 @@ pub fn give_leaf(
         hash.old result hash.new }
 {
     match judge_behind(found, tree, bitfield, partly, n, chunk) {
-        Answer::Refused(refusal) => Stored::Refused(refusal),
-        Answer::Done => {
+        Err(refusal) => Stored::Refused(refusal),
+        Ok(()) => {
             let leaf = tree_index::leaf_index(chunk);
             *hash = file_format::entries::stored_hash(tree, leaf);
             Stored::Length(file_format::entries::stored_size(tree, leaf))

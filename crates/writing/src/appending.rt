@@ -14,12 +14,12 @@ ghost use Rattle.writing.specs.Append.{own_checks, append_verdict, stored_entry,
 ghost use Rattle.writing.specs.Inner.{place, entry_of, with_leaf, NodeFits, AboveFits, FilledFits, StoreFits, StorePost};
 ghost use Rattle.writing.specs.Post.{lent, AppendPost};
 
-use answer_types::Answer;
+use answer_types::Refusal;
 
 // An answer, and beside it the new root hash; zeros after a refusal.
 #[derive(Clone, Copy)]
 pub struct Appended {
-    pub answer: Answer,
+    pub answer: Result<(), Refusal>,
     pub root: [u8; 32],
 }
 
@@ -40,7 +40,7 @@ fn judge_own(
     s: u64,
     size: u64,
     chunk: &[u8],
-) -> Answer
+) -> Result<(), Refusal>
     requires { (n < 1048576) × (size ≤ length content.now) }
     ensures { said result ≡
         judged
@@ -64,7 +64,7 @@ fn judge_own(
     if content.len() < (size as usize) + chunk.len() {
         return answer_types::refuse(14);
     }
-    Answer::Done
+    Ok(())
 }
 
 // All checks of an append: "2. .. or an append finds n at 1,048,576", then 3 to 6, then its own. They only read.
@@ -77,7 +77,7 @@ pub fn judge(
     s: u64,
     size: u64,
     chunk: &[u8],
-) -> Answer
+) -> Result<(), Refusal>
     ensures { said result ≡
         append_verdict
         (register_of tree.now signatures.now bitfield.now content.now n s size)
@@ -88,8 +88,8 @@ pub fn judge(
     }
     let found = checks::judge_later(tree, signatures, bitfield, content, n, s, size);
     match found {
-        Answer::Refused(refusal) => Answer::Refused(refusal),
-        Answer::Done => judge_own(tree, signatures, bitfield, content, n, s, size, chunk),
+        Err(refusal) => Err(refusal),
+        Ok(()) => judge_own(tree, signatures, bitfield, content, n, s, size, chunk),
     }
 }
 
@@ -206,12 +206,12 @@ pub fn append(
 {
     let found = judge(tree, signatures, bitfield, content, n, s, size, chunk);
     match found {
-        Answer::Refused(refusal) => Appended {
-            answer: Answer::Refused(refusal),
+        Err(refusal) => Appended {
+            answer: Err(refusal),
             root: [0u8; 32],
         },
-        Answer::Done => Appended {
-            answer: Answer::Done,
+        Ok(()) => Appended {
+            answer: Ok(()),
             root: store(tree, bitfield, content, n, size, chunk),
         },
     }

@@ -3,12 +3,12 @@ ghost use Rattle.answer_types.specs.Meaning.{said};
 ghost use Rattle.checks.specs.Lent.{register_of};
 ghost use Rattle.writing.specs.Post.{RootPost};
 
-use answer_types::Answer;
+use answer_types::Refusal;
 
 // An answer, and beside it the root hash; zeros after a refusal.
 #[derive(Clone, Copy)]
 pub struct Rooted {
-    pub answer: Answer,
+    pub answer: Result<(), Refusal>,
     pub root: [u8; 32],
 }
 
@@ -28,12 +28,12 @@ pub fn root_hash(
 {
     let found = checks::judge(tree, signatures, bitfield, content, n, s, size);
     match found {
-        Answer::Refused(refusal) => Rooted {
-            answer: Answer::Refused(refusal),
+        Err(refusal) => Rooted {
+            answer: Err(refusal),
             root: [0u8; 32],
         },
-        Answer::Done => Rooted {
-            answer: Answer::Done,
+        Ok(()) => Rooted {
+            answer: Ok(()),
             root: file_format::roots::stored_root_hash(tree, n),
         },
     }

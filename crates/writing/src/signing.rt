@@ -7,10 +7,10 @@ ghost use Rattle.checks.specs.Lent.{register_of};
 ghost use Rattle.writing.specs.Sign.{own_sign_checks, sign_verdict};
 ghost use Rattle.writing.specs.Post.{lent, SignPost};
 
-use answer_types::Answer;
+use answer_types::Refusal;
 
 // Inner: the numbers 8 and 14, of counts that pass 2 and 3.
-fn judge_own(signatures: &[u8], n: u64, s: u64) -> Answer
+fn judge_own(signatures: &[u8], n: u64, s: u64) -> Result<(), Refusal>
     requires { (n ≤ 1048576) × (s ≤ n) }
     ensures { said result ≡ judged (own_sign_checks signatures.now n s) done }
 {
@@ -20,7 +20,7 @@ fn judge_own(signatures: &[u8], n: u64, s: u64) -> Answer
     if signatures.len() < file_format::sizes::used_signatures(s + 1) {
         return answer_types::refuse(14);
     }
-    Answer::Done
+    Ok(())
 }
 
 // All checks of a signature that is offered. They only read.
@@ -32,15 +32,15 @@ fn judge(
     n: u64,
     s: u64,
     size: u64,
-) -> Answer
+) -> Result<(), Refusal>
     ensures { said result ≡
         sign_verdict
         (register_of tree.now signatures.now bitfield.now content.now n s size) }
 {
     let found = checks::judge(tree, signatures, bitfield, content, n, s, size);
     match found {
-        Answer::Refused(refusal) => Answer::Refused(refusal),
-        Answer::Done => judge_own(signatures, n, s),
+        Err(refusal) => Err(refusal),
+        Ok(()) => judge_own(signatures, n, s),
     }
 }
 
@@ -54,7 +54,7 @@ pub fn store_signature(
     s: u64,
     size: u64,
     signature: &[u8; 64],
-) -> Answer
+) -> Result<(), Refusal>
     ensures { SignPost
         (register_of tree.now signatures.old bitfield.now content.now n s size)
         signature.now (said result)
@@ -62,11 +62,11 @@ pub fn store_signature(
 {
     let found = judge(tree, signatures, bitfield, content, n, s, size);
     match found {
-        Answer::Refused(refusal) => Answer::Refused(refusal),
-        Answer::Done => {
+        Err(refusal) => Err(refusal),
+        Ok(()) => {
             let at = file_format::sizes::used_signatures(s);
             byte_strings::copy_to(signatures, at, signature);
-            Answer::Done
+            Ok(())
         }
     }
 }

@@ -4,7 +4,7 @@ ghost use Rattle.answer_types.specs.Meaning.{said};
 ghost use Rattle.writing.specs.Post.{lent, StartPost};
 ghost use Rattle.writing.specs.Inner.{HeadersPut};
 
-use answer_types::Answer;
+use answer_types::Refusal;
 
 // Inner: the three headers, where each file has room for its own.
 fn write_headers(tree: &mut [u8], signatures: &mut [u8], bitfield: &mut [u8])
@@ -21,7 +21,12 @@ fn write_headers(tree: &mut [u8], signatures: &mut [u8], bitfield: &mut [u8])
 }
 
 // A register without chunks in four buffers. The data file has no header, so its buffer may have any length.
-pub fn start(tree: &mut [u8], signatures: &mut [u8], bitfield: &mut [u8], content: &[u8]) -> Answer
+pub fn start(
+    tree: &mut [u8],
+    signatures: &mut [u8],
+    bitfield: &mut [u8],
+    content: &[u8],
+) -> Result<(), Refusal>
     ensures { StartPost (lent tree.old signatures.old bitfield.old content.now) (said result)
         (lent tree.new signatures.new bitfield.new content.now) }
 {
@@ -35,5 +40,5 @@ pub fn start(tree: &mut [u8], signatures: &mut [u8], bitfield: &mut [u8], conten
         return answer_types::refuse(14);
     }
     write_headers(tree, signatures, bitfield);
-    Answer::Done
+    Ok(())
 }

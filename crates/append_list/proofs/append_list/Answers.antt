@@ -7,15 +7,15 @@ use Rattle.append_list.proofs.append_list.Goals as goal
 pub store-requires : goal.store-requires
 store-requires c =
     let given : Register = register_of c.args.tree.now c.args.signatures.now c.args.bitfield.now c.args.content.now c.args.n c.args.s c.args.size in
-    store_fits given c.args.lengths.now c.args.bytes.now c.judge-found.result c.judge-found.ensures c.in-Done.is
+    store_fits given c.args.lengths.now c.args.bytes.now c.judge-found.result c.judge-found.ensures c.in-Ok.is
 
-pub returns-in-Refused : goal.returns-in-Refused
-returns-in-Refused c =
+pub returns-in-Err : goal.returns-in-Err
+returns-in-Err c =
     let given : Register = register_of c.args.tree.now c.args.signatures.now c.args.bitfield.now c.args.content.now c.args.n c.args.s c.args.size in
-    list_not given c.args.lengths.now c.args.bytes.now c.judge-found.result c.judge-found.ensures c.in-Refused.refusal c.in-Refused.is
+    list_not given c.args.lengths.now c.args.bytes.now c.judge-found.result c.judge-found.ensures c.in-Err.refusal c.in-Err.is
 
-pub returns-in-Done : goal.returns-in-Done
-returns-in-Done c =
+pub returns-in-Ok : goal.returns-in-Ok
+returns-in-Ok c =
     let given : Register = register_of c.args.tree.now c.args.signatures.now c.args.bitfield.now c.args.content.now c.args.n c.args.s c.args.size in
     list_done given c.args.lengths.now c.args.bytes.now c.judge-found.result c.judge-found.ensures _ _ _ _ _
-    c.in-Done.is c.store.ensures
+    c.in-Ok.is c.store.ensures

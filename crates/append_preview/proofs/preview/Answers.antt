@@ -8,14 +8,14 @@ use Rattle.append_preview.proofs.preview.Goals as goal
 pub new_root-requires : goal.new_root-requires
 new_root-requires c =
     let given : Register = register_of c.args.tree.now c.args.signatures.now c.args.bitfield.now c.args.content.now c.args.n c.args.s c.args.size in
-    root_fits given c.args.chunk.now c.judge-found.result c.judge-found.ensures c.in-Done.is (omega arith)
+    root_fits given c.args.chunk.now c.judge-found.result c.judge-found.ensures c.in-Ok.is (omega arith)
 
-pub returns-in-Refused : goal.returns-in-Refused
-returns-in-Refused c =
+pub returns-in-Err : goal.returns-in-Err
+returns-in-Err c =
     let given : Register = register_of c.args.tree.now c.args.signatures.now c.args.bitfield.now c.args.content.now c.args.n c.args.s c.args.size in
-    preview_not given c.args.chunk.now c.judge-found.result c.judge-found.ensures c.in-Refused.refusal c.in-Refused.is
+    preview_not given c.args.chunk.now c.judge-found.result c.judge-found.ensures c.in-Err.refusal c.in-Err.is
 
-pub returns-in-Done : goal.returns-in-Done
-returns-in-Done c =
+pub returns-in-Ok : goal.returns-in-Ok
+returns-in-Ok c =
     let given : Register = register_of c.args.tree.now c.args.signatures.now c.args.bitfield.now c.args.content.now c.args.n c.args.s c.args.size in
-    preview_done given c.args.chunk.now c.judge-found.result c.judge-found.ensures c.new_root.result c.in-Done.is c.new_root.ensures
+    preview_done given c.args.chunk.now c.judge-found.result c.judge-found.ensures c.new_root.result c.in-Ok.is c.new_root.ensures

@@ -18,11 +18,11 @@ returns-in_default c =
 pub images-requires : goal.images-requires
 images-requires c =
     let given : Register = register_of c.args.tree.now c.args.signatures.now c.args.bitfield.now c.args.content.now c.args.n c.args.s c.args.size in
-    files_in_lem given done c.judge-checked.result c.judge-checked.ensures (ap said c.in-Done.is)
+    files_in_lem given done c.judge-checked.result c.judge-checked.ensures (ap said c.in-Ok.is)
 
 pub returns : goal.returns
 unfolding audit
 returns c =
     let given : Register = register_of c.args.tree.now c.args.signatures.now c.args.bitfield.now c.args.content.now c.args.n c.args.s c.args.size in
-    checks_pass given _ c.judge-checked.result c.judge-checked.ensures (ap said c.in-Done.is) (said c.images.result)
+    checks_pass given _ c.judge-checked.result c.judge-checked.ensures (ap said c.in-Ok.is) (said c.images.result)
     (c.images.ensures ∙ images_of node_hash given)

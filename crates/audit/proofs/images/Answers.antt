@@ -26,5 +26,5 @@ pub returns : goal.returns
 returns c =
     let a = c.args in
     bitfield_says node_hash (register_of a.tree.now [] a.bitfield.now a.content.now a.n 0 a.size) c.wrong_entry-entry.result
-    c.wrong_entry-entry.ensures (ap said c.in-Done.is) (said c.wrong_byte.result)
+    c.wrong_entry-entry.ensures (ap said c.in-Ok.is) (said c.wrong_byte.result)
     (c.wrong_byte.ensures ∙ ap (λ (right : ℕ → Bool). refused_at 11 bitfield (lowest right 32 (used_bitfield a.n - 32)) done) (whole_right a.bitfield.now a.n))

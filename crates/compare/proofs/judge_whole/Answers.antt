@@ -15,9 +15,9 @@ returns-in_default c =
 pub images-requires : goal.images-requires
 images-requires c =
     let given : Register = register_of c.args.tree.now c.args.signatures.now c.args.bitfield.now c.args.content.now c.args.n c.args.s c.args.size in
-    whole_files node_hash given c.judge_held-held.result c.judge_held-held.ensures (ap said c.in-Done.is)
+    whole_files node_hash given c.judge_held-held.result c.judge_held-held.ensures (ap said c.in-Ok.is)
 
 pub returns : goal.returns
 returns c =
     let given : Register = register_of c.args.tree.now c.args.signatures.now c.args.bitfield.now c.args.content.now c.args.n c.args.s c.args.size in
-    images_say node_hash given c.judge_held-held.result c.judge_held-held.ensures (ap said c.in-Done.is) c.images.ensures
+    images_say node_hash given c.judge_held-held.result c.judge_held-held.ensures (ap said c.in-Ok.is) c.images.ensures

@@ -5,19 +5,19 @@ use Rattle.coordinates.proofs.Calls.{words_room, rest_room, written_none, writte
 use Rattle.coordinates.proofs.group.Goals as goal
 
 pub write_planes-requires : goal.write_planes-requires
-write_planes-requires c = words_room c.args.bytes.now c.args.out.now c.judge.result c.in-Done.is c.judge.ensures
+write_planes-requires c = words_room c.args.bytes.now c.args.out.now c.judge.result c.in-Ok.is c.judge.ensures
 
 pub copy_to-requires : goal.copy_to-requires
 copy_to-requires c =
-    rest_room c.args.bytes.now c.args.out.now c.judge.result c.in-Done.is c.judge.ensures
+    rest_room c.args.bytes.now c.args.out.now c.judge.result c.in-Ok.is c.judge.ensures
     c.write_planes.new.out c.write_planes.auto.out
 
-pub returns-in-Refused : goal.returns-in-Refused
-returns-in-Refused c = written_none grouped c.args.bytes.now c.args.out.now c.in-Refused.refusal c.judge.result c.in-Refused.is c.judge.ensures
+pub returns-in-Err : goal.returns-in-Err
+returns-in-Err c = written_none grouped c.args.bytes.now c.args.out.now c.in-Err.refusal c.judge.result c.in-Err.is c.judge.ensures
 
-pub returns-in-Done : goal.returns-in-Done
+pub returns-in-Ok : goal.returns-in-Ok
 unfolding count
-returns-in-Done c =
+returns-in-Ok c =
     let d = c.args.bytes.now in
-    written_whole d c.args.out.now c.judge.result c.in-Done.is c.judge.ensures
+    written_whole d c.args.out.now c.judge.result c.in-Ok.is c.judge.ensures
     grouped (planes (difference d) (count d)) _ _ (grouped_is d) (length_planes (difference d) (count d)) c.write_planes.ensures c.copy_to.ensures

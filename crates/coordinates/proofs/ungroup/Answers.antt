@@ -5,19 +5,19 @@ use Rattle.coordinates.proofs.Calls.{words_room, rest_room, written_none, writte
 use Rattle.coordinates.proofs.ungroup.Goals as goal
 
 pub write_words-requires : goal.write_words-requires
-write_words-requires c = words_room c.args.bytes.now c.args.out.now c.judge.result c.in-Done.is c.judge.ensures
+write_words-requires c = words_room c.args.bytes.now c.args.out.now c.judge.result c.in-Ok.is c.judge.ensures
 
 pub copy_to-requires : goal.copy_to-requires
 copy_to-requires c =
-    rest_room c.args.bytes.now c.args.out.now c.judge.result c.in-Done.is c.judge.ensures
+    rest_room c.args.bytes.now c.args.out.now c.judge.result c.in-Ok.is c.judge.ensures
     c.write_words.new.out c.write_words.auto.out
 
-pub returns-in-Refused : goal.returns-in-Refused
-returns-in-Refused c = written_none ungrouped c.args.bytes.now c.args.out.now c.in-Refused.refusal c.judge.result c.in-Refused.is c.judge.ensures
+pub returns-in-Err : goal.returns-in-Err
+returns-in-Err c = written_none ungrouped c.args.bytes.now c.args.out.now c.in-Err.refusal c.judge.result c.in-Err.is c.judge.ensures
 
-pub returns-in-Done : goal.returns-in-Done
+pub returns-in-Ok : goal.returns-in-Ok
 unfolding count
-returns-in-Done c =
+returns-in-Ok c =
     let d = c.args.bytes.now in
-    written_whole d c.args.out.now c.judge.result c.in-Done.is c.judge.ensures
+    written_whole d c.args.out.now c.judge.result c.in-Ok.is c.judge.ensures
     ungrouped (words (restored d) (count d)) _ _ (ungrouped_is d) (length_words (restored d) (count d)) c.write_words.ensures c.copy_to.ensures

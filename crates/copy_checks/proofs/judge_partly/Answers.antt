@@ -13,33 +13,33 @@ pub unknown_root-requires : goal.unknown_root-requires
 unknown_root-requires c =
     let given : Copy = copy_of c.args.tree.now c.args.bitfield.now c.args.content.now c.args.n c.args.size in
     -- 2, 4 and 5 are passed
-    let passed : done ≡ judged (lent_checks given) done = sym (ap said c.in-Done.is) ∙ c.judge_lent.ensures in
+    let passed : done ≡ judged (lent_checks given) done = sym (ap said c.in-Ok.is) ∙ c.judge_lent.ensures in
     let lent : Lent given = (lent_passed given _ (sym passed)).0 in
     bits_in given lent
 
 pub judge_size-requires : goal.judge_size-requires
 judge_size-requires c =
     let given : Copy = copy_of c.args.tree.now c.args.bitfield.now c.args.content.now c.args.n c.args.size in
-    let passed : done ≡ judged (lent_checks given) done = sym (ap said c.in-Done.is) ∙ c.judge_lent.ensures in
+    let passed : done ≡ judged (lent_checks given) done = sym (ap said c.in-Ok.is) ∙ c.judge_lent.ensures in
     let lent : Lent given = (lent_passed given _ (sym passed)).0 in
     roots_in given lent
 
-pub returns-in-Refused : goal.returns-in-Refused
-returns-in-Refused c =
+pub returns-in-Err : goal.returns-in-Err
+returns-in-Err c =
     let given : Copy = copy_of c.args.tree.now c.args.bitfield.now c.args.content.now c.args.n c.args.size in
-    partly_refused given c.in-Refused.refusal.number (spot_of c.in-Refused.refusal.place) (sym (ap said c.in-Refused.is) ∙ c.judge_lent.ensures)
+    partly_refused given c.in-Err.refusal.number (spot_of c.in-Err.refusal.place) (sym (ap said c.in-Err.is) ∙ c.judge_lent.ensures)
 
 pub returns-in-At : goal.returns-in-At
 unfolding unknown_root
 returns-in-At c =
     let given : Copy = copy_of c.args.tree.now c.args.bitfield.now c.args.content.now c.args.n c.args.size in
-    let passed : done ≡ judged (lent_checks given) done = sym (ap said c.in-Done.is) ∙ c.judge_lent.ensures in
+    let passed : done ≡ judged (lent_checks given) done = sym (ap said c.in-Ok.is) ∙ c.judge_lent.ensures in
     partly_unknown given passed c.in-At.field-0.0 (sym (ap first_entry c.in-At.is) ∙ c.unknown_root.ensures)
 
 pub returns-in-Nothing : goal.returns-in-Nothing
 unfolding unknown_root
 returns-in-Nothing c =
     let given : Copy = copy_of c.args.tree.now c.args.bitfield.now c.args.content.now c.args.n c.args.size in
-    let passed : done ≡ judged (lent_checks given) done = sym (ap said c.in-Done.is) ∙ c.judge_lent.ensures in
+    let passed : done ≡ judged (lent_checks given) done = sym (ap said c.in-Ok.is) ∙ c.judge_lent.ensures in
     partly_known given passed (said c.judge_size.result)
     (sym (ap first_entry c.in-Nothing.is) ∙ c.unknown_root.ensures) c.judge_size.ensures

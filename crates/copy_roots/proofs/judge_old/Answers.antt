@@ -8,22 +8,22 @@ use Rattle.copy_roots.proofs.judge_old.Goals as goal
 pub roots_known-requires : goal.roots_known-requires
 roots_known-requires c =
     let given : Copy = copy_of c.args.tree.now c.args.bitfield.now c.args.content.now c.args.n c.args.size in
-    old_bits given c.args.m (sym (ap said c.in-Done.is) ∙ c.judge.ensures)
-    (sym (ap said c.in-Done-up_to.is) ∙ c.up_to.ensures)
+    old_bits given c.args.m (sym (ap said c.in-Ok.is) ∙ c.judge.ensures)
+    (sym (ap said c.in-Ok-up_to.is) ∙ c.up_to.ensures)
 
-pub returns-in-Refused : goal.returns-in-Refused
-returns-in-Refused c =
+pub returns-in-Err : goal.returns-in-Err
+returns-in-Err c =
     let given : Copy = copy_of c.args.tree.now c.args.bitfield.now c.args.content.now c.args.n c.args.size in
-    old_refused given c.args.m c.in-Refused.refusal.number (spot_of c.in-Refused.refusal.place) (sym (ap said c.in-Refused.is) ∙ c.judge.ensures)
+    old_refused given c.args.m c.in-Err.refusal.number (spot_of c.in-Err.refusal.place) (sym (ap said c.in-Err.is) ∙ c.judge.ensures)
 
-pub returns-in-Refused-up_to : goal.returns-in-Refused-up_to
-returns-in-Refused-up_to c =
+pub returns-in-Err-up_to : goal.returns-in-Err-up_to
+returns-in-Err-up_to c =
     let given : Copy = copy_of c.args.tree.now c.args.bitfield.now c.args.content.now c.args.n c.args.size in
-    old_above given c.args.m (sym (ap said c.in-Done.is) ∙ c.judge.ensures) c.in-Refused-up_to.refusal.number (spot_of c.in-Refused-up_to.refusal.place)
-    (sym (ap said c.in-Refused-up_to.is) ∙ c.up_to.ensures)
+    old_above given c.args.m (sym (ap said c.in-Ok.is) ∙ c.judge.ensures) c.in-Err-up_to.refusal.number (spot_of c.in-Err-up_to.refusal.place)
+    (sym (ap said c.in-Err-up_to.is) ∙ c.up_to.ensures)
 
-pub returns-in-Done-up_to : goal.returns-in-Done-up_to
-returns-in-Done-up_to c =
+pub returns-in-Ok-up_to : goal.returns-in-Ok-up_to
+returns-in-Ok-up_to c =
     let given : Copy = copy_of c.args.tree.now c.args.bitfield.now c.args.content.now c.args.n c.args.size in
-    old_judged given c.args.m (sym (ap said c.in-Done.is) ∙ c.judge.ensures)
-    (sym (ap said c.in-Done-up_to.is) ∙ c.up_to.ensures) (said c.roots_known.result) c.roots_known.ensures
+    old_judged given c.args.m (sym (ap said c.in-Ok.is) ∙ c.judge.ensures)
+    (sym (ap said c.in-Ok-up_to.is) ∙ c.up_to.ensures) (said c.roots_known.result) c.roots_known.ensures

@@ -7,21 +7,21 @@ use Rattle.copy_checks.specs.Copy.{Copy, copy_of}
 use Rattle.copy_take_in.proofs.Stages.{judge_copy, judge_own_lem}
 use Rattle.copy_take_in.proofs.judge.Goals as goal
 
-pub returns-in-Refused : goal.returns-in-Refused
-returns-in-Refused c =
+pub returns-in-Err : goal.returns-in-Err
+returns-in-Err c =
     let given : Copy = copy_of c.args.tree.now c.args.bitfield.now c.args.content.now c.args.n c.args.size in
     let a = c.args in
-    let e = judge_copy node_hash given a.packet.now a.chunk.0 a.root.now c.in-Refused.refusal.number (spot_of c.in-Refused.refusal.place)
-    (sym (ap said c.in-Refused.is) ∙ c.judge_partly.ensures) in record {
+    let e = judge_copy node_hash given a.packet.now a.chunk.0 a.root.now c.in-Err.refusal.number (spot_of c.in-Err.refusal.place)
+    (sym (ap said c.in-Err.is) ∙ c.judge_partly.ensures) in record {
       judged = ap said c.unhashed.ensures.same ∙ e;
       led = handed_by node_hash a.packet.now a.n a.chunk.0 e c.unhashed.ensures.empty;
     }
 
-pub returns-in-Done : goal.returns-in-Done
-returns-in-Done c =
+pub returns-in-Ok : goal.returns-in-Ok
+returns-in-Ok c =
     let given : Copy = copy_of c.args.tree.now c.args.bitfield.now c.args.content.now c.args.n c.args.size in
     let a = c.args in
-    let e = judge_own_lem node_hash given a.packet.now a.chunk.0 a.root.now (sym (ap said c.in-Done.is) ∙ c.judge_partly.ensures)
+    let e = judge_own_lem node_hash given a.packet.now a.chunk.0 a.root.now (sym (ap said c.in-Ok.is) ∙ c.judge_partly.ensures)
     _ refl in record {
       judged = c.judge_packet.ensures.judged ∙ e;
       led = handed_by node_hash a.packet.now a.n a.chunk.0 e c.judge_packet.ensures.led;

@@ -11,13 +11,13 @@ use Rattle.copy_take_in.proofs.judge_packet.Goals as goal
 pub total_right-requires : goal.total_right-requires
 total_right-requires c =
     let a = c.args in
-    packet_fits node_hash a.packet.now a.n a.size a.chunk.0 a.root.now (sym (ap said c.in-Done.is) ∙ c.check_hashing-checked.ensures.judged)
+    packet_fits node_hash a.packet.now a.n a.size a.chunk.0 a.root.now (sym (ap said c.in-Ok.is) ∙ c.check_hashing-checked.ensures.judged)
 
-pub returns-in-Refused : goal.returns-in-Refused
-returns-in-Refused c =
+pub returns-in-Err : goal.returns-in-Err
+returns-in-Err c =
     let a = c.args in
-    let e = packet_refused node_hash a.packet.now a.n a.size a.chunk.0 a.root.now c.in-Refused.refusal.number (spot_of c.in-Refused.refusal.place)
-    (sym (ap said c.in-Refused.is) ∙ c.check_hashing-checked.ensures.judged) in record {
+    let e = packet_refused node_hash a.packet.now a.n a.size a.chunk.0 a.root.now c.in-Err.refusal.number (spot_of c.in-Err.refusal.place)
+    (sym (ap said c.in-Err.is) ∙ c.check_hashing-checked.ensures.judged) in record {
       judged = ap said c.unhashed.ensures.same ∙ e;
       led = handed_by node_hash a.packet.now a.n a.chunk.0 e c.unhashed.ensures.empty;
     }
@@ -25,7 +25,7 @@ returns-in-Refused c =
 pub returns-then-total_right : goal.returns-then-total_right
 returns-then-total_right c =
     let a = c.args in
-    let told = ap said c.in-Done.is in
+    let told = ap said c.in-Ok.is in
     let e = sym told ∙ c.check_hashing-checked.ensures.judged in
     let w = packet_total_lem node_hash a.packet.now a.n a.size a.chunk.0 a.root.now e done c.total_right.result c.total_right.ensures
     (sym (ap (λ (b : Bool). cond b done (refused 6 none)) c.if-total_right.true)) in record {
@@ -37,7 +37,7 @@ pub returns-else-total_right : goal.returns-else-total_right
 returns-else-total_right c =
     let a = c.args in
     let w = packet_total_lem node_hash a.packet.now a.n a.size a.chunk.0 a.root.now
-    (sym (ap said c.in-Done.is) ∙ c.check_hashing-checked.ensures.judged) (refused 6 none) c.total_right.result
+    (sym (ap said c.in-Ok.is) ∙ c.check_hashing-checked.ensures.judged) (refused 6 none) c.total_right.result
     c.total_right.ensures (sym (ap (λ (b : Bool). cond b done (refused 6 none)) c.if-total_right.false)) in record {
       judged = ap said c.unhashed-else-total_right.ensures.same ∙ c.refuse.ensures ∙ w;
       led = handed_by node_hash a.packet.now a.n a.chunk.0 w c.unhashed-else-total_right.ensures.empty;

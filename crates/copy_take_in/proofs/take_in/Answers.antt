@@ -12,21 +12,21 @@ pub take_checked-requires : goal.take_checked-requires
 take_checked-requires c =
     let given : Copy = copy_of c.args.tree.now c.args.bitfield.now c.args.content.now c.args.n c.args.size in
     let a = c.args in
-    let e = sym (ap said c.in-Done.is) ∙ c.judge-judged.ensures.judged in record {
+    let e = sym (ap said c.in-Ok.is) ∙ c.judge-judged.ensures.judged in record {
       room = room node_hash given a.packet.now a.chunk.0 a.root.now e;
       led = handed_by node_hash a.packet.now a.n a.chunk.0 (sym e) c.judge-judged.ensures.led;
     }
 
-pub returns-in-Refused : goal.returns-in-Refused
-returns-in-Refused c =
+pub returns-in-Err : goal.returns-in-Err
+returns-in-Err c =
     let given : Copy = copy_of c.args.tree.now c.args.bitfield.now c.args.content.now c.args.n c.args.size in
-    take_not node_hash given c.args.packet.now c.args.chunk.0 c.args.root.now c.in-Refused.refusal.number (spot_of c.in-Refused.refusal.place)
-    (sym (ap said c.in-Refused.is) ∙ c.judge-judged.ensures.judged)
+    take_not node_hash given c.args.packet.now c.args.chunk.0 c.args.root.now c.in-Err.refusal.number (spot_of c.in-Err.refusal.place)
+    (sym (ap said c.in-Err.is) ∙ c.judge-judged.ensures.judged)
 
-pub returns-in-Done : goal.returns-in-Done
-returns-in-Done c =
+pub returns-in-Ok : goal.returns-in-Ok
+returns-in-Ok c =
     let given : Copy = copy_of c.args.tree.now c.args.bitfield.now c.args.content.now c.args.n c.args.size in
     let taken = c.take_checked in
     let a = c.args in
-    take_done node_hash given a.packet.now a.chunk.0 a.root.now (said taken.result) _ (sym (ap said c.in-Done.is) ∙ c.judge-judged.ensures.judged)
+    take_done node_hash given a.packet.now a.chunk.0 a.root.now (said taken.result) _ (sym (ap said c.in-Ok.is) ∙ c.judge-judged.ensures.judged)
     (sizeless node_hash a.tree.now a.bitfield.now a.content.now a.packet.now a.n a.size a.chunk.0 _ _ taken.ensures)

@@ -12,38 +12,38 @@ walk-requires c =
     -- the first packet passes
     let first_passes : (packet_verdict node_hash c.args.first.now
     c.args.n c.args.chunk.0 c.args.root.now
-    ≡ done) = sym c.check_answer.ensures ∙ ap said c.in-Done.is in
+    ≡ done) = sym c.check_answer.ensures ∙ ap said c.in-Ok.is in
     -- and the second
     let second-passes : (packet_verdict node_hash c.args.second.now
     c.args.n c.args.chunk.0
     c.args.root.now
-    ≡ done) = sym c.check_answer-in-Done.ensures ∙ ap said c.in-Done-check_answer.is in
+    ≡ done) = sym c.check_answer-in-Ok.ensures ∙ ap said c.in-Ok-check_answer.is in
     record { root = c.args.root.now; first = first_passes; second = second-passes }
 
-pub returns-in-Refused : goal.returns-in-Refused
-returns-in-Refused c =
+pub returns-in-Err : goal.returns-in-Err
+returns-in-Err c =
     let a = c.args in
-    sym (first_refused_lem node_hash a.first.now a.second.now a.n a.chunk.0 a.root.now c.in-Refused.refusal.number (spot_of c.in-Refused.refusal.place)
-    (sym c.check_answer.ensures ∙ ap said c.in-Refused.is))
+    sym (first_refused_lem node_hash a.first.now a.second.now a.n a.chunk.0 a.root.now c.in-Err.refusal.number (spot_of c.in-Err.refusal.place)
+    (sym c.check_answer.ensures ∙ ap said c.in-Err.is))
 
-pub returns-in-Refused-check_answer : goal.returns-in-Refused-check_answer
-returns-in-Refused-check_answer c =
+pub returns-in-Err-check_answer : goal.returns-in-Err-check_answer
+returns-in-Err-check_answer c =
     let first_passes : (packet_verdict node_hash c.args.first.now
     c.args.n c.args.chunk.0 c.args.root.now
-    ≡ done) = sym c.check_answer.ensures ∙ ap said c.in-Done.is in
+    ≡ done) = sym c.check_answer.ensures ∙ ap said c.in-Ok.is in
     let a = c.args in
-    sym (second_refused_lem node_hash a.first.now a.second.now a.n a.chunk.0 a.root.now c.in-Refused-check_answer.refusal.number (spot_of c.in-Refused-check_answer.refusal.place)
-    first_passes (sym c.check_answer-in-Done.ensures ∙ ap said c.in-Refused-check_answer.is))
+    sym (second_refused_lem node_hash a.first.now a.second.now a.n a.chunk.0 a.root.now c.in-Err-check_answer.refusal.number (spot_of c.in-Err-check_answer.refusal.place)
+    first_passes (sym c.check_answer-in-Ok.ensures ∙ ap said c.in-Err-check_answer.is))
 
-pub returns-in-Done-check_answer : goal.returns-in-Done-check_answer
-returns-in-Done-check_answer c =
+pub returns-in-Ok-check_answer : goal.returns-in-Ok-check_answer
+returns-in-Ok-check_answer c =
     let first_passes : (packet_verdict node_hash c.args.first.now
     c.args.n c.args.chunk.0 c.args.root.now
-    ≡ done) = sym c.check_answer.ensures ∙ ap said c.in-Done.is in
+    ≡ done) = sym c.check_answer.ensures ∙ ap said c.in-Ok.is in
     let second-passes : (packet_verdict node_hash c.args.second.now
     c.args.n c.args.chunk.0
     c.args.root.now
-    ≡ done) = sym c.check_answer-in-Done.ensures ∙ ap said c.in-Done-check_answer.is in
+    ≡ done) = sym c.check_answer-in-Ok.ensures ∙ ap said c.in-Ok-check_answer.is in
     let a = c.args in
     c.walk.ensures
     ∙ sym (both_done node_hash a.first.now a.second.now a.n a.chunk.0 a.root.now first_passes second-passes)

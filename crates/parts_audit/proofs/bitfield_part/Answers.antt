@@ -18,7 +18,7 @@ pub row_count-requires : goal.row_count-requires
 row_count-requires c =
     let given : Register = register_of c.args.tree.now c.args.signatures.now c.args.bitfield.now c.args.content.now c.args.n c.args.s c.args.size in
     let judge = c.judge-checked in
-    (files_in_lem given done judge.result judge.ensures (ap said c.in-Done.is)).nodes.count
+    (files_in_lem given done judge.result judge.ensures (ap said c.in-Ok.is)).nodes.count
 
 pub wrong_in_entries-requires : goal.wrong_in_entries-requires
 wrong_in_entries-requires c =
@@ -26,7 +26,7 @@ wrong_in_entries-requires c =
     let judge = c.judge-checked in
     let lesser = c.lesser-end in
     let row_count = c.row_count in (
-      (files_in_lem given done judge.result judge.ensures (ap said c.in-Done.is)).field,
+      (files_in_lem given done judge.result judge.ensures (ap said c.in-Ok.is)).field,
       end_most lesser.result c.args.to row_count.result _ lesser.ensures row_count.ensures,
     )
 
@@ -37,5 +37,5 @@ returns c =
     let wrong-in-entries = c.wrong_in_entries in
     let lesser = c.lesser-end in
     let row_count = c.row_count in
-    bitfield_says given c.args.from c.args.to judge.result judge.ensures (ap said c.in-Done.is) (said wrong-in-entries.result)
+    bitfield_says given c.args.from c.args.to judge.result judge.ensures (ap said c.in-Ok.is) (said wrong-in-entries.result)
     lesser.result row_count.result row_count.ensures lesser.ensures wrong-in-entries.ensures

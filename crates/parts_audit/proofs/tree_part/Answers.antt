@@ -19,7 +19,7 @@ pub entry_count-requires : goal.entry_count-requires
 entry_count-requires c =
     let given : Register = register_of c.args.tree.now c.args.signatures.now c.args.bitfield.now c.args.content.now c.args.n c.args.s c.args.size in
     let judge = c.judge-checked in
-    (files_in_lem given done judge.result judge.ensures (ap said c.in-Done.is)).nodes.count
+    (files_in_lem given done judge.result judge.ensures (ap said c.in-Ok.is)).nodes.count
 
 pub wrong_between-requires : goal.wrong_between-requires
 wrong_between-requires c =
@@ -27,7 +27,7 @@ wrong_between-requires c =
     let judge = c.judge-checked in
     let lesser = c.lesser in
     let entry-count = c.entry_count in (
-      files_in_lem given done judge.result judge.ensures (ap said c.in-Done.is),
+      files_in_lem given done judge.result judge.ensures (ap said c.in-Ok.is),
       end_most lesser.result c.args.to.0 entry-count.result _ lesser.ensures entry-count.ensures,
     )
 
@@ -38,5 +38,5 @@ returns c =
     let wrong-between = c.wrong_between in
     let lesser = c.lesser in
     let entry-count = c.entry_count in
-    tree_says node_hash given c.args.from.0 c.args.to.0 judge.result judge.ensures (ap said c.in-Done.is) (said wrong-between.result)
+    tree_says node_hash given c.args.from.0 c.args.to.0 judge.result judge.ensures (ap said c.in-Ok.is) (said wrong-between.result)
     lesser.result entry-count.result entry-count.ensures lesser.ensures wrong-between.ensures

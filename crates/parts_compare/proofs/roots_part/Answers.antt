@@ -8,20 +8,20 @@ use Rattle.compare.specs.Meaning.{roots_told}
 use Rattle.parts_compare.proofs.Laws.{roots_first, roots_second, roots_room, roots_told_lem}
 use Rattle.parts_compare.proofs.roots_part.Goals as goal
 
-pub returns-in-Refused : goal.returns-in-Refused
-returns-in-Refused c =
+pub returns-in-Err : goal.returns-in-Err
+returns-in-Err c =
     let fst : Register = register_of c.args.tree.now c.args.signatures.now c.args.bitfield.now c.args.content.now c.args.n c.args.s c.args.size in
     let snd : Register = register_of c.args.tree2.now c.args.signatures2.now c.args.bitfield2.now c.args.content2.now c.args.n2 c.args.s2 c.args.size2 in
     let judge = c.judge-first in
-    roots_first node_hash fst snd judge.result judge.ensures _ c.in-Refused.is
+    roots_first node_hash fst snd judge.result judge.ensures _ c.in-Err.is
 
-pub returns-in-Refused-second : goal.returns-in-Refused-second
-returns-in-Refused-second c =
+pub returns-in-Err-second : goal.returns-in-Err-second
+returns-in-Err-second c =
     let fst : Register = register_of c.args.tree.now c.args.signatures.now c.args.bitfield.now c.args.content.now c.args.n c.args.s c.args.size in
     let snd : Register = register_of c.args.tree2.now c.args.signatures2.now c.args.bitfield2.now c.args.content2.now c.args.n2 c.args.s2 c.args.size2 in
     let judge = c.judge-first in
     let judge2 = c.judge-second in
-    roots_second node_hash fst snd judge.result judge.ensures c.in_default.is judge2.result judge2.ensures _ c.in-Refused-second.is
+    roots_second node_hash fst snd judge.result judge.ensures c.in_default.is judge2.result judge2.ensures _ c.in-Err-second.is
 
 pub compare_roots-requires : goal.compare_roots-requires
 compare_roots-requires c =

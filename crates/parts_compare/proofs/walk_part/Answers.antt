@@ -8,20 +8,20 @@ use Rattle.parts_audit.proofs.Laws.{end_most}
 use Rattle.parts_compare.proofs.Laws.{walk_first, walk_second, walk_room, walk_data, walk_none, walk_says}
 use Rattle.parts_compare.proofs.walk_part.Goals as goal
 
-pub returns-in-Refused : goal.returns-in-Refused
-returns-in-Refused c =
+pub returns-in-Err : goal.returns-in-Err
+returns-in-Err c =
     let fst : Register = register_of c.args.tree.now c.args.signatures.now c.args.bitfield.now c.args.content.now c.args.n c.args.s c.args.size in
     let snd : Register = register_of c.args.tree2.now c.args.signatures2.now c.args.bitfield2.now c.args.content2.now c.args.n2 c.args.s2 c.args.size2 in
     let judge = c.judge-first in
-    walk_first fst snd c.args.from.0 c.args.to.0 judge.result judge.ensures _ c.in-Refused.is
+    walk_first fst snd c.args.from.0 c.args.to.0 judge.result judge.ensures _ c.in-Err.is
 
-pub returns-in-Refused-second : goal.returns-in-Refused-second
-returns-in-Refused-second c =
+pub returns-in-Err-second : goal.returns-in-Err-second
+returns-in-Err-second c =
     let fst : Register = register_of c.args.tree.now c.args.signatures.now c.args.bitfield.now c.args.content.now c.args.n c.args.s c.args.size in
     let snd : Register = register_of c.args.tree2.now c.args.signatures2.now c.args.bitfield2.now c.args.content2.now c.args.n2 c.args.s2 c.args.size2 in
     let judge = c.judge-first in
     let judge2 = c.judge-second in
-    walk_second fst snd c.args.from.0 c.args.to.0 judge.result judge.ensures c.in_default.is judge2.result judge2.ensures _ c.in-Refused-second.is
+    walk_second fst snd c.args.from.0 c.args.to.0 judge.result judge.ensures c.in_default.is judge2.result judge2.ensures _ c.in-Err-second.is
 
 pub returns-then-n-n2 : goal.returns-then-n-n2
 returns-then-n-n2 c =

@@ -17,14 +17,14 @@ returns-in_default c =
 pub row_count-requires : goal.row_count-requires
 row_count-requires c =
     let given : Copy = copy_of c.args.tree.now c.args.bitfield.now c.args.content.now c.args.n c.args.size in
-    (files_in_lem node_hash given (sym (ap said c.in-Done.is) ∙ c.judge_partly-checked.ensures)).nodes.count
+    (files_in_lem node_hash given (sym (ap said c.in-Ok.is) ∙ c.judge_partly-checked.ensures)).nodes.count
 
 pub wrong_in_entries-requires : goal.wrong_in_entries-requires
 wrong_in_entries-requires c =
     let given : Copy = copy_of c.args.tree.now c.args.bitfield.now c.args.content.now c.args.n c.args.size in
     let lesser = c.lesser-end in
     let row_count = c.row_count in (
-      (files_in_lem node_hash given (sym (ap said c.in-Done.is) ∙ c.judge_partly-checked.ensures)).field,
+      (files_in_lem node_hash given (sym (ap said c.in-Ok.is) ∙ c.judge_partly-checked.ensures)).field,
       end_most lesser.result c.args.to row_count.result _ lesser.ensures row_count.ensures,
     )
 
@@ -35,5 +35,5 @@ returns c =
     let wrong-in-entries = c.wrong_in_entries in
     let lesser = c.lesser-end in
     let row_count = c.row_count in
-    bits_say given judge-partly.result judge-partly.ensures c.args.from c.args.to (ap said c.in-Done.is) (said wrong-in-entries.result)
+    bits_say given judge-partly.result judge-partly.ensures c.args.from c.args.to (ap said c.in-Ok.is) (said wrong-in-entries.result)
     lesser.result row_count.result row_count.ensures lesser.ensures wrong-in-entries.ensures

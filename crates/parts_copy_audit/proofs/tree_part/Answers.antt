@@ -18,14 +18,14 @@ returns-in_default c =
 pub entry_count-requires : goal.entry_count-requires
 entry_count-requires c =
     let given : Copy = copy_of c.args.tree.now c.args.bitfield.now c.args.content.now c.args.n c.args.size in
-    (files_in_lem node_hash given (sym (ap said c.in-Done.is) ∙ c.judge_partly-checked.ensures)).nodes.count
+    (files_in_lem node_hash given (sym (ap said c.in-Ok.is) ∙ c.judge_partly-checked.ensures)).nodes.count
 
 pub wrong_between-requires : goal.wrong_between-requires
 wrong_between-requires c =
     let given : Copy = copy_of c.args.tree.now c.args.bitfield.now c.args.content.now c.args.n c.args.size in
     let lesser = c.lesser in
     let entry-count = c.entry_count in (
-      files_in_lem node_hash given (sym (ap said c.in-Done.is) ∙ c.judge_partly-checked.ensures),
+      files_in_lem node_hash given (sym (ap said c.in-Ok.is) ∙ c.judge_partly-checked.ensures),
       end_most lesser.result c.args.to.0 entry-count.result _ lesser.ensures entry-count.ensures,
     )
 
@@ -37,7 +37,7 @@ returns-in-At c =
     let lesser = c.lesser in
     let entry-count = c.entry_count in
     c.refuse_entry.ensures
-    ∙ entries_at given judge-partly.result judge-partly.ensures node_hash c.args.from.0 c.args.to.0 (ap said c.in-Done.is)
+    ∙ entries_at given judge-partly.result judge-partly.ensures node_hash c.args.from.0 c.args.to.0 (ap said c.in-Ok.is)
     (first_entry wrong-between.result) lesser.result entry-count.result entry-count.ensures lesser.ensures wrong-between.ensures _ (ap first_entry c.in-At.is)
 
 pub returns-in-Nothing : goal.returns-in-Nothing
@@ -47,5 +47,5 @@ returns-in-Nothing c =
     let wrong-between = c.wrong_between in
     let lesser = c.lesser in
     let entry-count = c.entry_count in
-    entries_none given judge-partly.result judge-partly.ensures node_hash c.args.from.0 c.args.to.0 (ap said c.in-Done.is)
+    entries_none given judge-partly.result judge-partly.ensures node_hash c.args.from.0 c.args.to.0 (ap said c.in-Ok.is)
     (first_entry wrong-between.result) lesser.result entry-count.result entry-count.ensures lesser.ensures wrong-between.ensures (ap first_entry c.in-Nothing.is)

@@ -7,23 +7,23 @@ use Rattle.search.specs.Search.{Sought, answer, sought_unless, first_missing}
 use Rattle.search.proofs.search_behind.Goals as goal
 
 pub by_runs-requires : goal.by_runs-requires
-by_runs-requires c = c.requires (ap said c.in-Done.is)
+by_runs-requires c = c.requires (ap said c.in-Ok.is)
 
-pub returns-in-Refused : goal.returns-in-Refused
-returns-in-Refused c =
+pub returns-in-Err : goal.returns-in-Err
+returns-in-Err c =
     let behind : Verdict → Sought = λ v. sought_unless v (first_missing c.args.bitfield.now c.args.n c.args.from.0) in
-    sym (ap behind (ap said c.in-Refused.is))
+    sym (ap behind (ap said c.in-Err.is))
 
 pub returns-in-At : goal.returns-in-At
 unfolding first_missing
 returns-in-At c =
     let behind : Verdict → Sought = λ v. sought_unless v (first_missing c.args.bitfield.now c.args.n c.args.from.0) in
     ap answer (sym (ap found_at c.in-At.is) ∙ c.by_runs.ensures)
-    ∙ sym (ap behind (ap said c.in-Done.is))
+    ∙ sym (ap behind (ap said c.in-Ok.is))
 
 pub returns-in-Nothing : goal.returns-in-Nothing
 unfolding first_missing
 returns-in-Nothing c =
     let behind : Verdict → Sought = λ v. sought_unless v (first_missing c.args.bitfield.now c.args.n c.args.from.0) in
     ap answer (sym (ap found_at c.in-Nothing.is) ∙ c.by_runs.ensures)
-    ∙ sym (ap behind (ap said c.in-Done.is))
+    ∙ sym (ap behind (ap said c.in-Ok.is))

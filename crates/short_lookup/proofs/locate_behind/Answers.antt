@@ -8,14 +8,14 @@ use Rattle.short_lookup.specs.ShortLookup.{short_byte_in}
 use Rattle.short_lookup.proofs.locate_behind.Goals as goal
 
 pub locate_in-requires : goal.locate_in-requires
-locate_in-requires c = c.requires (ap said c.in-Done.is)
+locate_in-requires c = c.requires (ap said c.in-Ok.is)
 
-pub returns-in-Refused : goal.returns-in-Refused
-returns-in-Refused c =
+pub returns-in-Err : goal.returns-in-Err
+returns-in-Err c =
     let answer : Verdict → Found = λ v. let a = c.args in found_behind v (short_byte_in (known_if a.partly a.bitfield.now) a.tree.now a.n a.size a.offset.0) in
-    sym (ap answer (ap said c.in-Refused.is))
+    sym (ap answer (ap said c.in-Err.is))
 
-pub returns-in-Done : goal.returns-in-Done
-returns-in-Done c =
+pub returns-in-Ok : goal.returns-in-Ok
+returns-in-Ok c =
     let answer : Verdict → Found = λ v. let a = c.args in found_behind v (short_byte_in (known_if a.partly a.bitfield.now) a.tree.now a.n a.size a.offset.0) in
-    c.locate_in.ensures ∙ sym (ap answer (ap said c.in-Done.is))
+    c.locate_in.ensures ∙ sym (ap answer (ap said c.in-Ok.is))

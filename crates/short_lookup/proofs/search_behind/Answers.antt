@@ -10,21 +10,21 @@ use Rattle.search.specs.Search.{Sought, answer, sought_unless}
 use Rattle.short_lookup.proofs.search_behind.Goals as goal
 
 pub first_missing-requires : goal.first_missing-requires
-first_missing-requires c = c.requires (ap said c.in-Done.is)
+first_missing-requires c = c.requires (ap said c.in-Ok.is)
 
-pub returns-in-Refused : goal.returns-in-Refused
-returns-in-Refused c =
+pub returns-in-Err : goal.returns-in-Err
+returns-in-Err c =
     let behind : Verdict → Sought = λ v. let a = c.args in sought_unless v (lowest (stored_held a.bitfield.now) a.from.0 (a.n - a.from.0)) in
-    sym (ap behind (ap said c.in-Refused.is))
+    sym (ap behind (ap said c.in-Err.is))
 
 pub returns-in-At : goal.returns-in-At
 returns-in-At c =
     let behind : Verdict → Sought = λ v. let a = c.args in sought_unless v (lowest (stored_held a.bitfield.now) a.from.0 (a.n - a.from.0)) in
     ap answer (sym (ap found_at c.in-At.is) ∙ c.first_missing.ensures)
-    ∙ sym (ap behind (ap said c.in-Done.is))
+    ∙ sym (ap behind (ap said c.in-Ok.is))
 
 pub returns-in-Nothing : goal.returns-in-Nothing
 returns-in-Nothing c =
     let behind : Verdict → Sought = λ v. let a = c.args in sought_unless v (lowest (stored_held a.bitfield.now) a.from.0 (a.n - a.from.0)) in
     ap answer (sym (ap found_at c.in-Nothing.is) ∙ c.first_missing.ensures)
-    ∙ sym (ap behind (ap said c.in-Done.is))
+    ∙ sym (ap behind (ap said c.in-Ok.is))

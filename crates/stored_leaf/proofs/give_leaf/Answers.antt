@@ -22,7 +22,7 @@ leaf_index-leaf-requires c =
     λ e. leaf_in_lem c.args.chunk.0 (c.requires (done_first (said c.args.found) next (sym e))).roots
     (leaf_below (known_if c.args.partly c.args.bitfield.now) c.args.n c.args.chunk.0
     (then_next (said c.args.found) next (sym e))) in
-    (leaf-lies (sym (ap said c.in-Done.is) ∙ c.judge_behind.ensures)).0
+    (leaf-lies (sym (ap said c.in-Ok.is) ∙ c.judge_behind.ensures)).0
 
 pub stored_hash-requires : goal.stored_hash-requires
 stored_hash-requires c =
@@ -33,7 +33,7 @@ stored_hash-requires c =
     (leaf_below (known_if c.args.partly c.args.bitfield.now) c.args.n c.args.chunk.0
     (then_next (said c.args.found) next (sym e))) in
     subst (EntryIn c.args.tree.now) (sym c.leaf_index-leaf.ensures)
-    (leaf-lies (sym (ap said c.in-Done.is) ∙ c.judge_behind.ensures)).1
+    (leaf-lies (sym (ap said c.in-Ok.is) ∙ c.judge_behind.ensures)).1
 
 pub stored_size-requires : goal.stored_size-requires
 stored_size-requires c =
@@ -44,19 +44,19 @@ stored_size-requires c =
     (leaf_below (known_if c.args.partly c.args.bitfield.now) c.args.n c.args.chunk.0
     (then_next (said c.args.found) next (sym e))) in
     subst (EntryIn c.args.tree.now) (sym c.leaf_index-leaf.ensures)
-    (leaf-lies (sym (ap said c.in-Done.is) ∙ c.judge_behind.ensures)).1
+    (leaf-lies (sym (ap said c.in-Ok.is) ∙ c.judge_behind.ensures)).1
 
-pub returns-in-Refused : goal.returns-in-Refused
-returns-in-Refused c =
+pub returns-in-Err : goal.returns-in-Err
+returns-in-Err c =
     let next : Verdict = leaf_in (known_if c.args.partly c.args.bitfield.now) c.args.n c.args.chunk.0 in
     let whole : Verdict = and_then (said c.args.found) next in
-    post_refused whole c.args.tree.now c.args.chunk.0 c.args.hash.now c.in-Refused.refusal (sym (ap said c.in-Refused.is) ∙ c.judge_behind.ensures)
+    post_refused whole c.args.tree.now c.args.chunk.0 c.args.hash.now c.in-Err.refusal (sym (ap said c.in-Err.is) ∙ c.judge_behind.ensures)
 
-pub returns-in-Done : goal.returns-in-Done
-returns-in-Done c =
+pub returns-in-Ok : goal.returns-in-Ok
+returns-in-Ok c =
     let next : Verdict = leaf_in (known_if c.args.partly c.args.bitfield.now) c.args.n c.args.chunk.0 in
     let whole : Verdict = and_then (said c.args.found) next in
     let at = c.leaf_index-leaf.ensures in
     post_done whole c.args.tree.now c.args.chunk.0 c.args.hash.now c.stored_size.result c.stored_hash.result
-    (sym (ap said c.in-Done.is) ∙ c.judge_behind.ensures)
+    (sym (ap said c.in-Ok.is) ∙ c.judge_behind.ensures)
     (c.stored_size.ensures ∙ ap (stored_size c.args.tree.now) at) (c.stored_hash.ensures ∙ ap (stored_hash c.args.tree.now) at)

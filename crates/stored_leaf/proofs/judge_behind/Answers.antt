@@ -7,14 +7,14 @@ use Rattle.stored_leaf.specs.StoredLeaf.{leaf_in}
 use Rattle.stored_leaf.proofs.judge_behind.Goals as goal
 
 pub judge_leaf-requires : goal.judge_leaf-requires
-judge_leaf-requires c = c.requires (ap said c.in-Done.is)
+judge_leaf-requires c = c.requires (ap said c.in-Ok.is)
 
-pub returns-in-Refused : goal.returns-in-Refused
-returns-in-Refused c =
+pub returns-in-Err : goal.returns-in-Err
+returns-in-Err c =
     let next : Verdict = leaf_in (known_if c.args.partly c.args.bitfield.now) c.args.n c.args.chunk.0 in
-    sym (ap (λ (v : Verdict). and_then v next) (ap said c.in-Refused.is))
+    sym (ap (λ (v : Verdict). and_then v next) (ap said c.in-Err.is))
 
-pub returns-in-Done : goal.returns-in-Done
-returns-in-Done c =
+pub returns-in-Ok : goal.returns-in-Ok
+returns-in-Ok c =
     let next : Verdict = leaf_in (known_if c.args.partly c.args.bitfield.now) c.args.n c.args.chunk.0 in
-    c.judge_leaf.ensures ∙ sym (ap (λ (v : Verdict). and_then v next) (ap said c.in-Done.is))
+    c.judge_leaf.ensures ∙ sym (ap (λ (v : Verdict). and_then v next) (ap said c.in-Ok.is))

@@ -24,18 +24,18 @@ pub judge_own-requires : goal.judge_own-requires
 judge_own-requires c =
     let given : Register = register_of c.args.tree.now c.args.signatures.now c.args.bitfield.now c.args.content.now c.args.n c.args.s c.args.size in (
       omega (arith, c.if-n-ge1048576.false, c.if-n-lengths.false),
-      data_inside given c.in-Done.is
+      data_inside given c.in-Ok.is
           c.judge_later-found.ensures,
     )
 
-pub returns-in-Refused : goal.returns-in-Refused
-returns-in-Refused c =
+pub returns-in-Err : goal.returns-in-Err
+returns-in-Err c =
     let given : Register = register_of c.args.tree.now c.args.signatures.now c.args.bitfield.now c.args.content.now c.args.n c.args.s c.args.size in
     list_within given c.args.lengths.now c.args.bytes.now c.if-n-ge1048576.false (omega (arith, c.if-n-ge1048576.false, c.if-n-lengths.false))
-    (refused_before (later_checks given) (own_verdict given c.args.lengths.now c.args.bytes.now) c.in-Refused.is c.judge_later-found.ensures)
+    (refused_before (later_checks given) (own_verdict given c.args.lengths.now c.args.bytes.now) c.in-Err.is c.judge_later-found.ensures)
 
-pub returns-in-Done : goal.returns-in-Done
-returns-in-Done c =
+pub returns-in-Ok : goal.returns-in-Ok
+returns-in-Ok c =
     let given : Register = register_of c.args.tree.now c.args.signatures.now c.args.bitfield.now c.args.content.now c.args.n c.args.s c.args.size in
     list_within given c.args.lengths.now c.args.bytes.now c.if-n-ge1048576.false (omega (arith, c.if-n-ge1048576.false, c.if-n-lengths.false))
-    (passed_before (later_checks given) c.in-Done.is c.judge_later-found.ensures c.judge_own.ensures)
+    (passed_before (later_checks given) c.in-Ok.is c.judge_later-found.ensures c.judge_own.ensures)

@@ -5,14 +5,14 @@ use Rattle.append_list.proofs.Orders.{some_listed, own_refused, own_passed}
 use Rattle.append_list.proofs.judging.judge_own.Goals as goal
 
 pub judge_room-requires : goal.judge_room-requires
-judge_room-requires c = (some_listed c.args.lengths.now c.args.bytes.now c.in-Done.is c.judge_list-found.ensures, c.requires.0, c.requires.1)
+judge_room-requires c = (some_listed c.args.lengths.now c.args.bytes.now c.in-Ok.is c.judge_list-found.ensures, c.requires.0, c.requires.1)
 
-pub returns-in-Refused : goal.returns-in-Refused
-returns-in-Refused c =
+pub returns-in-Err : goal.returns-in-Err
+returns-in-Err c =
     let given : Register = register_of c.args.tree.now c.args.signatures.now c.args.bitfield.now c.args.content.now c.args.n c.args.s c.args.size in
-    own_refused given c.args.lengths.now c.args.bytes.now c.in-Refused.is c.judge_list-found.ensures
+    own_refused given c.args.lengths.now c.args.bytes.now c.in-Err.is c.judge_list-found.ensures
 
-pub returns-in-Done : goal.returns-in-Done
-returns-in-Done c =
+pub returns-in-Ok : goal.returns-in-Ok
+returns-in-Ok c =
     let given : Register = register_of c.args.tree.now c.args.signatures.now c.args.bitfield.now c.args.content.now c.args.n c.args.s c.args.size in
-    own_passed given c.args.lengths.now c.args.bytes.now c.in-Done.is c.judge_list-found.ensures c.judge_room.ensures
+    own_passed given c.args.lengths.now c.args.bytes.now c.in-Ok.is c.judge_list-found.ensures c.judge_room.ensures

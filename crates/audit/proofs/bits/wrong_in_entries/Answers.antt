@@ -15,7 +15,7 @@ pub returns-in_default : goal.returns-in_default
 returns-in_default c = entering_found c.loop-e.invariant c.loop-e-test.true c.wrong_in_entry-answer.ensures (stops _ _ c.in_default.is)
 
 pub loop-e-preserved : goal.loop-e-preserved
-loop-e-preserved c = entering_next c.loop-e.invariant c.loop-e-test.true c.wrong_in_entry-answer.ensures (ap said c.in-Done.is)
+loop-e-preserved c = entering_next c.loop-e.invariant c.loop-e-test.true c.wrong_in_entry-answer.ensures (ap said c.in-Ok.is)
 
 pub returns : goal.returns
 returns c = entering_done c.loop-e.invariant c.loop-e-test.false

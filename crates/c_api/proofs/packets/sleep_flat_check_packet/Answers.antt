@@ -12,19 +12,19 @@ pub read_be32-length-requires : goal.read_be32-length-requires
 read_be32-length-requires c =
     let a = c.args in
     (passed_shape node_hash a.packet.now a.n a.chunk a.root.now
-    (sym (ap said c.in-Done.is) ∙ c.check_answer-said.ensures)).front
+    (sym (ap said c.in-Ok.is) ∙ c.check_answer-said.ensures)).front
 
-pub returns-in-Refused : goal.returns-in-Refused
-returns-in-Refused c =
+pub returns-in-Err : goal.returns-in-Err
+returns-in-Err c =
     let a = c.args in
-    gives_refused _ c.in-Refused.refusal _ _ c.refused.ensures
-    (packet_refused a.packet.now a.n a.chunk a.root.now c.in-Refused.refusal
-    (sym (ap said c.in-Refused.is) ∙ c.check_answer-said.ensures))
+    gives_refused _ c.in-Err.refusal _ _ c.refused.ensures
+    (packet_refused a.packet.now a.n a.chunk a.root.now c.in-Err.refusal
+    (sym (ap said c.in-Err.is) ∙ c.check_answer-said.ensures))
 
-pub returns-in-Done : goal.returns-in-Done
+pub returns-in-Ok : goal.returns-in-Ok
 unfolding chunk_length
-returns-in-Done c =
+returns-in-Ok c =
     let a = c.args in
     gives_found _ _ _ _ _ c.encode.ensures
     (packet_found a.packet.now a.n a.chunk a.root.now _ c.read_be32-length.ensures
-    (sym (ap said c.in-Done.is) ∙ c.check_answer-said.ensures))
+    (sym (ap said c.in-Ok.is) ∙ c.check_answer-said.ensures))

@@ -3,12 +3,12 @@ use mathlib.Core.Path.{refl}
 use Rattle.c_encoding.proofs.Laws.{on_done, on_refused}
 use Rattle.c_encoding.proofs.answers.give_digest.Goals as goal
 
-pub returns-in-Done : goal.returns-in-Done
-returns-in-Done c =
-    let both = on_done _ _ refl _ _ _ c.in-Done.is refl in
+pub returns-in-Ok : goal.returns-in-Ok
+returns-in-Ok c =
+    let both = on_done _ _ refl _ _ _ c.in-Ok.is refl in
     record { answers = both.0; gives = both.1 }
 
-pub returns-in-Refused : goal.returns-in-Refused
-returns-in-Refused c =
-    let both = on_refused _ _ refl _ _ c.in-Refused.refusal c.in-Refused.is in
+pub returns-in-Err : goal.returns-in-Err
+returns-in-Err c =
+    let both = on_refused _ _ refl _ _ c.in-Err.refusal c.in-Err.is in
     record { answers = both.0; gives = both.1 }

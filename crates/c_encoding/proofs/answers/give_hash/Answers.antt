@@ -2,7 +2,7 @@
 use Rattle.c_encoding.proofs.Laws.{kept}
 use Rattle.c_encoding.proofs.answers.give_hash.Goals as goal
 
-pub returns-in-Refused : goal.returns-in-Refused
-returns-in-Refused c =
-    let both = kept _ _ c.in-Refused.refusal _ _ c.in-Refused.is c.refused.ensures in
+pub returns-in-Err : goal.returns-in-Err
+returns-in-Err c =
+    let both = kept _ _ c.in-Err.refusal _ _ c.in-Err.is c.refused.ensures in
     record { answers = both.0; gives = both.1 }

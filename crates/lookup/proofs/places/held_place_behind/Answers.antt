@@ -7,16 +7,16 @@ use Rattle.lookup.specs.Inner.{known_if}
 use Rattle.lookup.proofs.places.held_place_behind.Goals as goal
 
 pub held_place_in-requires : goal.held_place_in-requires
-held_place_in-requires c = c.requires (ap said c.in-Done.is)
+held_place_in-requires c = c.requires (ap said c.in-Ok.is)
 
-pub returns-in-Refused : goal.returns-in-Refused
-returns-in-Refused c =
+pub returns-in-Err : goal.returns-in-Err
+returns-in-Err c =
     let answer : Verdict → Found =
     λ v. let a = c.args in found_behind v (held_place_in (known_if a.partly a.bitfield.now) a.tree.now a.n a.bitfield.now a.chunk.0) in
-    sym (ap answer (ap said c.in-Refused.is))
+    sym (ap answer (ap said c.in-Err.is))
 
-pub returns-in-Done : goal.returns-in-Done
-returns-in-Done c =
+pub returns-in-Ok : goal.returns-in-Ok
+returns-in-Ok c =
     let answer : Verdict → Found =
     λ v. let a = c.args in found_behind v (held_place_in (known_if a.partly a.bitfield.now) a.tree.now a.n a.bitfield.now a.chunk.0) in
-    c.held_place_in.ensures ∙ sym (ap answer (ap said c.in-Done.is))
+    c.held_place_in.ensures ∙ sym (ap answer (ap said c.in-Ok.is))

@@ -7,14 +7,14 @@ use Rattle.lookup.specs.Inner.{known_if}
 use Rattle.lookup.proofs.places.place_behind.Goals as goal
 
 pub place_in-requires : goal.place_in-requires
-place_in-requires c = c.requires (ap said c.in-Done.is)
+place_in-requires c = c.requires (ap said c.in-Ok.is)
 
-pub returns-in-Refused : goal.returns-in-Refused
-returns-in-Refused c =
+pub returns-in-Err : goal.returns-in-Err
+returns-in-Err c =
     let answer : Verdict → Found = λ v. let a = c.args in found_behind v (place_in (known_if a.partly a.bitfield.now) a.tree.now a.n a.chunk.0) in
-    sym (ap answer (ap said c.in-Refused.is))
+    sym (ap answer (ap said c.in-Err.is))
 
-pub returns-in-Done : goal.returns-in-Done
-returns-in-Done c =
+pub returns-in-Ok : goal.returns-in-Ok
+returns-in-Ok c =
     let answer : Verdict → Found = λ v. let a = c.args in found_behind v (place_in (known_if a.partly a.bitfield.now) a.tree.now a.n a.chunk.0) in
-    c.place_in.ensures ∙ sym (ap answer (ap said c.in-Done.is))
+    c.place_in.ensures ∙ sym (ap answer (ap said c.in-Ok.is))

@@ -11,10 +11,10 @@ use Rattle.record_find.specs.ChunkRecords.{node_after, path_after}
 use Rattle.record_find.proofs.Chunk.{path_none, path_inside, path_compared}
 use Rattle.record_find.proofs.chunks.path_behind.Goals as goal
 
-pub returns-in-Refused : goal.returns-in-Refused
-returns-in-Refused c =
+pub returns-in-Err : goal.returns-in-Err
+returns-in-Err c =
     let verdict : Verdict = verdict_found (verified_of c.args.read) in
-    path_none (verdict) _ _ _ _ c.node_behind-told.ensures c.args.path.now c.in-Refused.is
+    path_none (verdict) _ _ _ _ c.node_behind-told.ensures c.args.path.now c.in-Err.is
 
 pub overflow_add-to : goal.overflow_add-to
 overflow_add-to c =
@@ -23,7 +23,7 @@ overflow_add-to c =
     let told : node_told c.node_behind-told.result.answer c.node_behind-told.result.node ≡ node_after (verdict) c.bytes_of-bytes.result.now c.args.chunk.0 =
     c.node_behind-told.ensures ∙ sym (ap (λ d. node_after (verdict) d c.args.chunk.0) c.bytes_of-bytes.ensures) in
     let inside : c.node_behind-told.result.node.path.at + c.node_behind-told.result.node.path.len ≤ length c.bytes_of-bytes.result.now =
-    path_inside (verdict) _ _ _ _ (told) c.args.path.now c.in-Done.is in
+    path_inside (verdict) _ _ _ _ (told) c.args.path.now c.in-Ok.is in
     omega (arith, inside)
 
 pub slice_bounds-same-end : goal.slice_bounds-same-end
@@ -32,7 +32,7 @@ slice_bounds-same-end c =
     let told : node_told c.node_behind-told.result.answer c.node_behind-told.result.node ≡ node_after (verdict) c.bytes_of-bytes.result.now c.args.chunk.0 =
     c.node_behind-told.ensures ∙ sym (ap (λ d. node_after (verdict) d c.args.chunk.0) c.bytes_of-bytes.ensures) in
     let inside : c.node_behind-told.result.node.path.at + c.node_behind-told.result.node.path.len ≤ length c.bytes_of-bytes.result.now =
-    path_inside (verdict) _ _ _ _ (told) c.args.path.now c.in-Done.is in
+    path_inside (verdict) _ _ _ _ (told) c.args.path.now c.in-Ok.is in
     omega (arith, inside)
 
 pub returns-then-same : goal.returns-then-same
@@ -41,7 +41,7 @@ returns-then-same c =
     let told : node_told c.node_behind-told.result.answer c.node_behind-told.result.node ≡ node_after (verdict) c.bytes_of-bytes.result.now c.args.chunk.0 =
     c.node_behind-told.ensures ∙ sym (ap (λ d. node_after (verdict) d c.args.chunk.0) c.bytes_of-bytes.ensures) in
     let a = c.args in
-    path_compared (verdict) _ _ _ _ (told) a.path.now c.in-Done.is (sym c.if-same.true ∙ c.same.ensures)
+    path_compared (verdict) _ _ _ _ (told) a.path.now c.in-Ok.is (sym c.if-same.true ∙ c.same.ensures)
     ∙ ap (λ d. path_after (verdict) d a.chunk.0 a.path.now) c.bytes_of-bytes.ensures
 
 pub returns-else-same : goal.returns-else-same
@@ -50,5 +50,5 @@ returns-else-same c =
     let told : node_told c.node_behind-told.result.answer c.node_behind-told.result.node ≡ node_after (verdict) c.bytes_of-bytes.result.now c.args.chunk.0 =
     c.node_behind-told.ensures ∙ sym (ap (λ d. node_after (verdict) d c.args.chunk.0) c.bytes_of-bytes.ensures) in
     let a = c.args in
-    path_compared (verdict) _ _ _ _ (told) a.path.now c.in-Done.is (sym c.if-same.false ∙ c.same.ensures)
+    path_compared (verdict) _ _ _ _ (told) a.path.now c.in-Ok.is (sym c.if-same.false ∙ c.same.ensures)
     ∙ ap (λ d. path_after (verdict) d a.chunk.0 a.path.now) c.bytes_of-bytes.ensures

@@ -14,21 +14,21 @@ use Rattle.record_find.proofs.finding.find_behind.Goals as goal
 pub returns-then-n-eq0 : goal.returns-then-n-eq0
 returns-then-n-eq0 c =
     let answer : Verdict → Outcome = λ v. let a = c.args in find_behind a.partly a.tree.now a.bitfield.now a.content.now a.n node_hash v a.path.now in
-    ap (find_among _ _) (sym c.if-n-eq0.true) ∙ sym (ap (answer) (ap said c.in-Done.is))
+    ap (find_among _ _) (sym c.if-n-eq0.true) ∙ sym (ap (answer) (ap said c.in-Ok.is))
 
-pub returns-in-Refused : goal.returns-in-Refused
-returns-in-Refused c =
+pub returns-in-Err : goal.returns-in-Err
+returns-in-Err c =
     let answer : Verdict → Outcome = λ v. let a = c.args in find_behind a.partly a.tree.now a.bitfield.now a.content.now a.n node_hash v a.path.now in
-    sym (ap (answer) (ap said c.in-Refused.is))
+    sym (ap (answer) (ap said c.in-Err.is))
 
-pub returns-in-Refused-header_behind : goal.returns-in-Refused-header_behind
-returns-in-Refused-header_behind c =
+pub returns-in-Err-header_behind : goal.returns-in-Err-header_behind
+returns-in-Err-header_behind c =
     let answer : Verdict → Outcome = λ v. let a = c.args in find_behind a.partly a.tree.now a.bitfield.now a.content.now a.n node_hash v a.path.now in
     let a = c.args in
     -- what follows on what is told of chunk 0
     with_head _ c.if-n-eq0.false
-    (ap (λ x. (header_told x).0) (sym c.in-Refused-header_behind.is) ∙ ap (λ x. x.0) c.header_behind.ensures ∙ ap (λ f. (header_behind a.content.now 0 f).0) c.read_in-read.ensures)
-    ∙ sym (ap (answer) (ap said c.in-Done.is))
+    (ap (λ x. (header_told x).0) (sym c.in-Err-header_behind.is) ∙ ap (λ x. x.0) c.header_behind.ensures ∙ ap (λ f. (header_behind a.content.now 0 f).0) c.read_in-read.ensures)
+    ∙ sym (ap (answer) (ap said c.in-Ok.is))
 
 pub returns-in-Content : goal.returns-in-Content
 returns-in-Content c =
@@ -37,14 +37,14 @@ returns-in-Content c =
     c.search.ensures
     ∙ with_head _ c.if-n-eq0.false
     (ap (λ x. (header_told x).0) (sym c.in-Content.is) ∙ ap (λ x. x.0) c.header_behind.ensures ∙ ap (λ f. (header_behind a.content.now 0 f).0) c.read_in-read.ensures)
-    ∙ sym (ap (answer) (ap said c.in-Done.is))
+    ∙ sym (ap (answer) (ap said c.in-Ok.is))
 
 pub search-requires : goal.search-requires
-search-requires c = c.requires (ap said c.in-Done.is)
+search-requires c = c.requires (ap said c.in-Ok.is)
 
 pub read_in-read-requires : goal.read_in-read-requires
-read_in-read-requires c = c.requires (ap said c.in-Done.is)
+read_in-read-requires c = c.requires (ap said c.in-Ok.is)
 
 pub header_behind-requires : goal.header_behind-requires
 header_behind-requires c =
-    read_placed (c.requires (ap said c.in-Done.is)) node_hash 0 c.read_in-read.ensures
+    read_placed (c.requires (ap said c.in-Ok.is)) node_hash 0 c.read_in-read.ensures

@@ -7,10 +7,10 @@ use Rattle.writing.proofs.appending.append.Goals as goal
 pub store-requires : goal.store-requires
 store-requires c =
     let given : Register = register_of c.args.tree.now c.args.signatures.now c.args.bitfield.now c.args.content.now c.args.n c.args.s c.args.size in
-    store_fits given c.args.chunk.now c.in-Done.is c.judge-found.ensures
+    store_fits given c.args.chunk.now c.in-Ok.is c.judge-found.ensures
 
-pub returns-in-Refused : goal.returns-in-Refused
-returns-in-Refused c = append_not c.in-Refused.is c.judge-found.ensures
+pub returns-in-Err : goal.returns-in-Err
+returns-in-Err c = append_not c.in-Err.is c.judge-found.ensures
 
-pub returns-in-Done : goal.returns-in-Done
-returns-in-Done c = append_done c.in-Done.is c.judge-found.ensures c.store.ensures
+pub returns-in-Ok : goal.returns-in-Ok
+returns-in-Ok c = append_done c.in-Ok.is c.judge-found.ensures c.store.ensures

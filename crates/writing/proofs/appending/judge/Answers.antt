@@ -16,16 +16,16 @@ returns-then-n-ge1048576 c =
 pub judge_own-requires : goal.judge_own-requires
 judge_own-requires c =
     let given : Register = register_of c.args.tree.now c.args.signatures.now c.args.bitfield.now c.args.content.now c.args.n c.args.s c.args.size in
-    (c.if-n-ge1048576.false, data_inside given c.in-Done.is c.judge_later-found.ensures)
+    (c.if-n-ge1048576.false, data_inside given c.in-Ok.is c.judge_later-found.ensures)
 
-pub returns-in-Refused : goal.returns-in-Refused
-returns-in-Refused c =
+pub returns-in-Err : goal.returns-in-Err
+returns-in-Err c =
     let given : Register = register_of c.args.tree.now c.args.signatures.now c.args.bitfield.now c.args.content.now c.args.n c.args.s c.args.size in
     append_within given c.args.chunk.now c.if-n-ge1048576.false
-    (refused_before (later_checks given) (judged (own_checks given c.args.chunk.now) done) c.in-Refused.is c.judge_later-found.ensures)
+    (refused_before (later_checks given) (judged (own_checks given c.args.chunk.now) done) c.in-Err.is c.judge_later-found.ensures)
 
-pub returns-in-Done : goal.returns-in-Done
-returns-in-Done c =
+pub returns-in-Ok : goal.returns-in-Ok
+returns-in-Ok c =
     let given : Register = register_of c.args.tree.now c.args.signatures.now c.args.bitfield.now c.args.content.now c.args.n c.args.s c.args.size in
     append_within given c.args.chunk.now c.if-n-ge1048576.false
-    (passed_before (later_checks given) c.in-Done.is c.judge_later-found.ensures c.judge_own.ensures)
+    (passed_before (later_checks given) c.in-Ok.is c.judge_later-found.ensures c.judge_own.ensures)

@@ -11,17 +11,17 @@ use Rattle.writing.proofs.signing.judge.Goals as goal
 pub judge_own-requires : goal.judge_own-requires
 judge_own-requires c =
     let given : Register = register_of c.args.tree.now c.args.signatures.now c.args.bitfield.now c.args.content.now c.args.n c.args.s c.args.size in
-    counts_right given c.in-Done.is c.judge-found.ensures
+    counts_right given c.in-Ok.is c.judge-found.ensures
 
-pub returns-in-Refused : goal.returns-in-Refused
-returns-in-Refused c =
+pub returns-in-Err : goal.returns-in-Err
+returns-in-Err c =
     let given : Register = register_of c.args.tree.now c.args.signatures.now c.args.bitfield.now c.args.content.now c.args.n c.args.s c.args.size in
     let a = c.args in
     sign_by given
     (refused_before (register_checks given) (judged (own_sign_checks a.signatures.now a.n a.s) done)
-    c.in-Refused.is c.judge-found.ensures)
+    c.in-Err.is c.judge-found.ensures)
 
-pub returns-in-Done : goal.returns-in-Done
-returns-in-Done c =
+pub returns-in-Ok : goal.returns-in-Ok
+returns-in-Ok c =
     let given : Register = register_of c.args.tree.now c.args.signatures.now c.args.bitfield.now c.args.content.now c.args.n c.args.s c.args.size in
-    sign_by given (passed_before (register_checks given) c.in-Done.is c.judge-found.ensures c.judge_own.ensures)
+    sign_by given (passed_before (register_checks given) c.in-Ok.is c.judge-found.ensures c.judge_own.ensures)

@@ -8,17 +8,17 @@ use Rattle.writing.proofs.signing.store_signature.Goals as goal
 pub used_signatures-at-requires : goal.used_signatures-at-requires
 used_signatures-at-requires c =
     let given : Register = register_of c.args.tree.now c.args.signatures.now c.args.bitfield.now c.args.content.now c.args.n c.args.s c.args.size in
-    (sign_fits given c.in-Done.is c.judge-found.ensures).0
+    (sign_fits given c.in-Ok.is c.judge-found.ensures).0
 
 pub copy_to-requires : goal.copy_to-requires
 copy_to-requires c =
     let given : Register = register_of c.args.tree.now c.args.signatures.now c.args.bitfield.now c.args.content.now c.args.n c.args.s c.args.size in
-    omega (arith, c.used_signatures-at.ensures, (sign_fits given c.in-Done.is c.judge-found.ensures).1)
+    omega (arith, c.used_signatures-at.ensures, (sign_fits given c.in-Ok.is c.judge-found.ensures).1)
 
-pub returns-in-Refused : goal.returns-in-Refused
-returns-in-Refused c = sign_not c.in-Refused.is c.judge-found.ensures
+pub returns-in-Err : goal.returns-in-Err
+returns-in-Err c = sign_not c.in-Err.is c.judge-found.ensures
 
-pub returns-in-Done : goal.returns-in-Done
-returns-in-Done c =
-    sign_done c.in-Done.is c.judge-found.ensures
+pub returns-in-Ok : goal.returns-in-Ok
+returns-in-Ok c =
+    sign_done c.in-Ok.is c.judge-found.ensures
     c.used_signatures-at.ensures c.copy_to.ensures

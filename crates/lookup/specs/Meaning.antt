@@ -1,5 +1,5 @@
 -- The number and the values that each case of an answer stands for.
-use Rattle.std.specs.Prelude.{ℕ, ◌+◌, ◌≤◌, ◌<◌, List, length}
+use Rattle.std.specs.Prelude.{ℕ, ◌+◌, ◌≤◌, ◌<◌, List, length, Result, Ok, Err}
 use Rattle.answer_types.specs.Meaning.{spot_of}
 use Rattle.answer_types.specs.declared.Refusal.{Refusal}
 use Rattle.tree_index.specs.Tree.{index}
@@ -7,32 +7,29 @@ use Rattle.file_format.specs.Inner.{EntryIn}
 use Rattle.lookup.specs.Lookup.{Found, refusal, found}
 use Rattle.lookup.specs.Read.{Name, metadata, contents}
 use Rattle.lookup.specs.declared.places.Placed.{Placed}
-use Rattle.lookup.specs.declared.places.Placed.TheVariants.{Refused as NoPlace, At}
 use Rattle.lookup.specs.declared.places.Located.{Located}
-use Rattle.lookup.specs.declared.places.Located.TheVariants.{Refused as NoByte, In}
 use Rattle.lookup.specs.declared.reading.Name.{Name as CodeName}
 use Rattle.lookup.specs.declared.reading.Name.TheVariants.{Metadata, Content}
 use Rattle.lookup.specs.declared.reading.Verified.{Verified}
-use Rattle.lookup.specs.declared.reading.Verified.TheVariants.{Refused as NoPart, Part}
 
 abbrev pub refused_as : Refusal → Found
 refused_as r = refusal r.number (spot_of r.place)
 
-abbrev pub placed_of : Placed → Found
-placed_of (NoPlace r) = refused_as r
-placed_of (At start size) = found start.0 size
+abbrev pub placed_of : Result Placed Refusal → Found
+placed_of (Err r) = refused_as r
+placed_of (Ok p) = found p.start.0 p.length
 
-abbrev pub located_of : Located → Found
-located_of (NoByte r) = refused_as r
-located_of (In chunk rest) = found chunk.0 rest
+abbrev pub located_of : Result Located Refusal → Found
+located_of (Err r) = refused_as r
+located_of (Ok l) = found l.chunk.0 l.rest
 
 abbrev pub name_of : CodeName → Name
 name_of Metadata = metadata
 name_of Content = contents
 
-abbrev pub verified_of : Verified → Found
-verified_of (NoPart r) = refused_as r
-verified_of (Part start end) = found start.0 end.0
+abbrev pub verified_of : Result Verified Refusal → Found
+verified_of (Err r) = refused_as r
+verified_of (Ok v) = found v.start.0 v.end.0
 
 -- a part that is found, from a start to an end, lies within the data
 abbrev pub PartIn : List ℕ → Found → Type 0

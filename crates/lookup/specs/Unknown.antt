@@ -1,9 +1,8 @@
 -- The first entry of a list that is not known, and the entries that a descent reads at a node.
-use Rattle.std.specs.Prelude.{ℕ, zero, suc, Bool, cond, List, [], ◌∷◌}
+use Rattle.std.specs.Prelude.{ℕ, zero, suc, Bool, cond, List, [], ◌∷◌, Option, Some, None}
 use Rattle.byte_strings.specs.Lowest.{Lowest, nowhere, first}
 use Rattle.tree_index.specs.Tree.{left_child, right_child}
-use Rattle.lookup.specs.declared.descent.First.{First}
-use Rattle.lookup.specs.declared.descent.First.TheVariants.{At, Nothing}
+use Rattle.number_types.specs.declared.TreeIndex.{TreeIndex}
 
 -- the first of the indexes is that is not known
 unfoldable pub first_unknown : (ℕ → Bool) → List ℕ → Lowest
@@ -16,6 +15,6 @@ children_read zero i = []
 children_read (suc d) i = left_child i ∷ right_child i ∷ []
 
 -- what each case stands for
-abbrev pub first_entry : First → Lowest
-first_entry (At i) = first i.0
-first_entry Nothing = nowhere
+abbrev pub first_entry : Option TreeIndex → Lowest
+first_entry (Some i) = first i.0
+first_entry None = nowhere

@@ -24,13 +24,6 @@ pub enum Ending {
     Unknown(TreeIndex),
 }
 
-// The first entry that a search finds, by its tree index.
-#[derive(Clone, Copy)]
-pub enum First {
-    At(TreeIndex),
-    Nothing,
-}
-
 // What a visit of one node finds: the descent ends here, or goes on at a child, whose bytes begin at an offset.
 #[derive(Clone, Copy)]
 pub enum Step {
@@ -89,25 +82,25 @@ pub fn is_known(bitfield: &[u8], partly: bool, i: TreeIndex) -> bool
 }
 
 // The first unknown of a node's children, the left before the right; a leaf has none. A register's bits are not asked for.
-fn unknown_child(bitfield: &[u8], partly: bool, i: TreeIndex) -> First
+fn unknown_child(bitfield: &[u8], partly: bool, i: TreeIndex) -> Option<TreeIndex>
     requires { ChildrenIn partly bitfield.now i.0 }
     ensures { first_entry result ≡ first_unknown (known_if partly bitfield.now) (children_read (depth i.0) i.0) }
 {
     if !partly {
-        return First::Nothing;
+        return None;
     }
     if tree_index::depth(i) == 0 {
-        return First::Nothing;
+        return None;
     }
     let left = tree_index::left_child(i);
     if !is_known(bitfield, partly, left) {
-        return First::At(left);
+        return Some(left);
     }
     let right = tree_index::right_child(i);
     if !is_known(bitfield, partly, right) {
-        return First::At(right);
+        return Some(right);
     }
-    First::Nothing
+    None
 }
 
 // From a node down to a leaf: the depth falls at each call.
@@ -124,8 +117,8 @@ fn descend(
         spec.descend (known_if partly bitfield.now) (within_of sought) tree.now (depth i.0) (block i.0) start.0 }
 {
     match unknown_child(bitfield, partly, i) {
-        First::At(child) => Ending::Unknown(child),
-        First::Nothing => match visit(tree, sought, i, start) {
+        Some(child) => Ending::Unknown(child),
+        None => match visit(tree, sought, i, start) {
             Step::End(ending) => ending,
             Step::Down(child, from) => descend(tree, bitfield, partly, sought, child, from),
         },

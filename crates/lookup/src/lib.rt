@@ -5,9 +5,9 @@ mod descent;
 mod places;
 mod reading;
 
-// `Ending`, `First`, `Sought`, `from_roots`, `is_known`, `answer_of`, `bytes_of`, and the functions ending in `_behind` and `_placed`, are inner: a copy's
+// `Ending`, `Sought`, `from_roots`, `is_known`, `answer_of`, `bytes_of`, and the functions ending in `_behind` and `_placed`, are inner: a copy's
 // calls share them.
-pub use descent::{Ending, First, Sought, from_roots, is_known};
+pub use descent::{Ending, Sought, from_roots, is_known};
 pub use places::{
     Located, Placed, held_place, held_place_behind, locate, locate_behind, place, place_behind,
 };

@@ -11,45 +11,51 @@ use super::descent::{Ending, Sought};
 use answer_types::{Place, Refusal};
 use number_types::{ByteOffset, ChunkNumber};
 
-// What a place lookup answers: where the chunk's bytes begin, and how many they are.
+// What a place lookup gives: where the chunk's bytes begin, and how many they are.
 #[derive(Clone, Copy)]
-pub enum Placed {
-    Refused(Refusal),
-    At(ByteOffset, u64),
+pub struct Placed {
+    pub start: ByteOffset,
+    pub length: u64,
 }
 
-// What a byte lookup answers: the chunk whose bytes contain the offset, and the offset less its start; at the data size the count of chunks,
+// What a byte lookup gives: the chunk whose bytes contain the offset, and the offset less its start; at the data size the count of chunks,
 // as the number of the chunk behind the last, and 0.
 #[derive(Clone, Copy)]
-pub enum Located {
-    Refused(Refusal),
-    In(ChunkNumber, u64),
+pub struct Located {
+    pub chunk: ChunkNumber,
+    pub rest: u64,
 }
 
 // The place of a chunk, in a register that passes the checks 2 to 6 or a copy that passes its own.
-fn place_in(tree: &[u8], bitfield: &[u8], partly: bool, n: u64, chunk: ChunkNumber) -> Placed
+fn place_in(
+    tree: &[u8],
+    bitfield: &[u8],
+    partly: bool,
+    n: u64,
+    chunk: ChunkNumber,
+) -> Result<Placed, Refusal>
     requires { Searched partly tree.now bitfield.now n }
     ensures { placed_of result ≡ place_in (known_if partly bitfield.now) tree.now n chunk.0 }
 {
     if n <= chunk.0 {
-        return Placed::Refused(Refusal {
+        return Err(Refusal {
             number: 9,
             place: Place::Nowhere,
         });
     }
     match super::descent::from_roots(tree, bitfield, partly, n, Sought::Chunk(chunk)) {
-        Ending::Stopped(i) => Placed::Refused(Refusal {
+        Ending::Stopped(i) => Err(Refusal {
             number: 10,
             place: Place::Tree(i),
         }),
-        Ending::Unknown(i) => Placed::Refused(Refusal {
+        Ending::Unknown(i) => Err(Refusal {
             number: 20,
             place: Place::Tree(i),
         }),
-        Ending::Reached(_, start) => Placed::At(
+        Ending::Reached(_, start) => Ok(Placed {
             start,
-            file_format::entries::stored_size(tree, tree_index::leaf_index(chunk)),
-        ),
+            length: file_format::entries::stored_size(tree, tree_index::leaf_index(chunk)),
+        }),
     }
 }
 
@@ -61,16 +67,14 @@ pub fn place_behind(
     partly: bool,
     n: u64,
     chunk: ChunkNumber,
-) -> Placed
+) -> Result<Placed, Refusal>
     requires { said checked ≡ done → Searched partly tree.now bitfield.now n }
     ensures { placed_of result ≡
         found_behind (said checked)
         (place_in (known_if partly bitfield.now) tree.now n chunk.0) }
 {
-    match checked {
-        Err(refusal) => Placed::Refused(refusal),
-        Ok(()) => place_in(tree, bitfield, partly, n, chunk),
-    }
+    checked?;
+    place_in(tree, bitfield, partly, n, chunk)
 }
 
 // Start and length of a chunk.
@@ -83,7 +87,7 @@ pub fn place(
     s: u64,
     size: u64,
     chunk: ChunkNumber,
-) -> Placed
+) -> Result<Placed, Refusal>
     ensures { placed_of result ≡
         place_of
         (register_of tree.now signatures.now bitfield.now content.now n s size)
@@ -95,19 +99,25 @@ pub fn place(
 
 // The place of a chunk that is held, in a register that passes the checks 2 to 6 or a copy that passes its own. Its data bit is looked at behind 9,
 // so that it lies within the bitfield file, and before anything is walked.
-fn held_place_in(tree: &[u8], bitfield: &[u8], partly: bool, n: u64, chunk: ChunkNumber) -> Placed
+fn held_place_in(
+    tree: &[u8],
+    bitfield: &[u8],
+    partly: bool,
+    n: u64,
+    chunk: ChunkNumber,
+) -> Result<Placed, Refusal>
     requires { SearchedHeld partly tree.now bitfield.now n }
     ensures { placed_of result ≡
         held_place_in (known_if partly bitfield.now) tree.now n bitfield.now chunk.0 }
 {
     if n <= chunk.0 {
-        return Placed::Refused(Refusal {
+        return Err(Refusal {
             number: 9,
             place: Place::Nowhere,
         });
     }
     if !bitfield::is_held(bitfield, chunk) {
-        return Placed::Refused(Refusal {
+        return Err(Refusal {
             number: 18,
             place: Place::Tree(tree_index::leaf_index(chunk)),
         });
@@ -123,16 +133,14 @@ pub fn held_place_behind(
     partly: bool,
     n: u64,
     chunk: ChunkNumber,
-) -> Placed
+) -> Result<Placed, Refusal>
     requires { said checked ≡ done → SearchedHeld partly tree.now bitfield.now n }
     ensures { placed_of result ≡
         found_behind (said checked)
         (held_place_in (known_if partly bitfield.now) tree.now n bitfield.now chunk.0) }
 {
-    match checked {
-        Err(refusal) => Placed::Refused(refusal),
-        Ok(()) => held_place_in(tree, bitfield, partly, n, chunk),
-    }
+    checked?;
+    held_place_in(tree, bitfield, partly, n, chunk)
 }
 
 // Start and length of a chunk that is held: what a read and a release decide by. The place lookup's refusals, with 18 just after 9.
@@ -145,7 +153,7 @@ pub fn held_place(
     s: u64,
     size: u64,
     chunk: ChunkNumber,
-) -> Placed
+) -> Result<Placed, Refusal>
     ensures { placed_of result ≡
         held_place_of
         (register_of tree.now signatures.now bitfield.now content.now n s size)
@@ -163,29 +171,35 @@ fn locate_in(
     n: u64,
     size: u64,
     offset: ByteOffset,
-) -> Located
+) -> Result<Located, Refusal>
     requires { SearchedFor partly tree.now bitfield.now n size }
     ensures { located_of result ≡ byte_in (known_if partly bitfield.now) tree.now n size offset.0 }
 {
     if size < offset.0 {
-        return Located::Refused(Refusal {
+        return Err(Refusal {
             number: 9,
             place: Place::Nowhere,
         });
     }
     if offset.0 == size {
-        return Located::In(number_types::chunk_behind(n), 0);
+        return Ok(Located {
+            chunk: number_types::chunk_behind(n),
+            rest: 0,
+        });
     }
     match super::descent::from_roots(tree, bitfield, partly, n, Sought::Byte(offset)) {
-        Ending::Stopped(i) => Located::Refused(Refusal {
+        Ending::Stopped(i) => Err(Refusal {
             number: 10,
             place: Place::Tree(i),
         }),
-        Ending::Unknown(i) => Located::Refused(Refusal {
+        Ending::Unknown(i) => Err(Refusal {
             number: 20,
             place: Place::Tree(i),
         }),
-        Ending::Reached(chunk, start) => Located::In(chunk, offset.0 - start.0),
+        Ending::Reached(chunk, start) => Ok(Located {
+            chunk,
+            rest: offset.0 - start.0,
+        }),
     }
 }
 
@@ -198,16 +212,14 @@ pub fn locate_behind(
     n: u64,
     size: u64,
     offset: ByteOffset,
-) -> Located
+) -> Result<Located, Refusal>
     requires { said checked ≡ done → SearchedFor partly tree.now bitfield.now n size }
     ensures { located_of result ≡
         found_behind (said checked)
         (byte_in (known_if partly bitfield.now) tree.now n size offset.0) }
 {
-    match checked {
-        Err(refusal) => Located::Refused(refusal),
-        Ok(()) => locate_in(tree, bitfield, partly, n, size, offset),
-    }
+    checked?;
+    locate_in(tree, bitfield, partly, n, size, offset)
 }
 
 // The chunk whose bytes contain an offset, and the offset less its start; never an empty chunk. At the data size n and 0, also in an empty
@@ -221,7 +233,7 @@ pub fn locate(
     s: u64,
     size: u64,
     offset: ByteOffset,
-) -> Located
+) -> Result<Located, Refusal>
     ensures { located_of result ≡
         byte_at
         (register_of tree.now signatures.now bitfield.now content.now n s size)

@@ -17,36 +17,37 @@ pub enum Name {
     Content,
 }
 
-// What the checks of a read find: a refusal, or where the chunk's bytes begin and end in the data.
+// What the checks of a read give: where the chunk's bytes begin and end in the data.
 #[derive(Clone, Copy)]
-pub enum Verified {
-    Refused(Refusal),
-    Part(ByteOffset, ByteOffset),
+pub struct Verified {
+    pub start: ByteOffset,
+    pub end: ByteOffset,
 }
 
 // Inner: the leaf hash of a chunk, of its bytes where they lie; a chunk without a place keeps its refusal.
-pub fn verify_placed(tree: &[u8], content: &[u8], chunk: ChunkNumber, placed: Placed) -> Verified
+pub fn verify_placed(
+    tree: &[u8],
+    content: &[u8],
+    chunk: ChunkNumber,
+    placed: Result<Placed, Refusal>,
+) -> Result<Verified, Refusal>
     requires { PlacedIn tree.now content.now chunk.0 (placed_of placed) }
     ensures { verified_of result ≡ hash_judged node_hash tree.now content.now chunk.0 (placed_of placed) }
 {
-    match placed {
-        Placed::Refused(refusal) => Verified::Refused(refusal),
-        Placed::At(start, length) => {
-            let end = ByteOffset(start.0 + length);
-            let from = start.0 as usize;
-            let to = end.0 as usize;
-            let leaf = tree_index::leaf_index(chunk);
-            let stored = file_format::entries::stored_hash(tree, leaf);
-            let hash = file_format::hashes::leaf_hash(&content[from..to]);
-            if byte_strings::same(&stored, &hash) {
-                Verified::Part(start, end)
-            } else {
-                Verified::Refused(Refusal {
-                    number: 10,
-                    place: Place::Tree(leaf),
-                })
-            }
-        }
+    let Placed { start, length } = placed?;
+    let end = ByteOffset(start.0 + length);
+    let from = start.0 as usize;
+    let to = end.0 as usize;
+    let leaf = tree_index::leaf_index(chunk);
+    let stored = file_format::entries::stored_hash(tree, leaf);
+    let hash = file_format::hashes::leaf_hash(&content[from..to]);
+    if byte_strings::same(&stored, &hash) {
+        Ok(Verified { start, end })
+    } else {
+        Err(Refusal {
+            number: 10,
+            place: Place::Tree(leaf),
+        })
     }
 }
 
@@ -60,7 +61,7 @@ pub fn verify(
     s: u64,
     size: u64,
     chunk: ChunkNumber,
-) -> Verified
+) -> Result<Verified, Refusal>
     ensures { verified_of result ≡
         read_found node_hash
         (register_of tree.now signatures.now bitfield.now content.now n s size)
@@ -71,28 +72,26 @@ pub fn verify(
 }
 
 // Inner: the bytes of a part that was verified; none after a refusal.
-pub fn bytes_of<'a>(content: &'a [u8], verified: Verified) -> &'a [u8]
+pub fn bytes_of<'a>(content: &'a [u8], verified: Result<Verified, Refusal>) -> &'a [u8]
     requires { PartIn content.now (verified_of verified) }
     ensures { result.now ≡ bytes_found content.now (verified_of verified) }
 {
     match verified {
-        Verified::Part(start, end) => {
-            let from = start.0 as usize;
-            let to = end.0 as usize;
+        Ok(part) => {
+            let from = part.start.0 as usize;
+            let to = part.end.0 as usize;
             &content[from..to]
         }
-        Verified::Refused(_) => &content[0..0],
+        Err(_) => &content[0..0],
     }
 }
 
 // Whether a part was verified, or the refusal.
-pub fn answer_of(verified: Verified) -> Result<(), Refusal>
+pub fn answer_of(verified: Result<Verified, Refusal>) -> Result<(), Refusal>
     ensures { said result ≡ verdict_found (verified_of verified) }
 {
-    match verified {
-        Verified::Part(_, _) => Ok(()),
-        Verified::Refused(refusal) => Err(refusal),
-    }
+    verified?;
+    Ok(())
 }
 
 // A read of one register.

@@ -21,11 +21,11 @@ descend-requires t c =
     let w = subst (Way (within_of a.sought) a.tree.now a.i.0 a.start.0) k.is c.visit.ensures.way in
     (subst (λ (x : ℕ). depth k.child.0 < x) c.decreases l.1, standing_next c.requires (within_of a.sought) k.child.0 k.from.0 w l.0)
 
-pub returns-in-At : goal.returns-in-At
-returns-in-At t c =
+pub returns-in-Some : goal.returns-in-Some
+returns-in-Some t c =
     let a = c.args in
-    at_unknown (known_if a.partly a.bitfield.now) (within_of a.sought) a.tree.now a.start.0 a.i.0 c.in-At.child.0
-    (sym (ap first_entry c.in-At.is) ∙ c.unknown_child.ensures)
+    at_unknown (known_if a.partly a.bitfield.now) (within_of a.sought) a.tree.now a.start.0 a.i.0 c.in-Some.child.0
+    (sym (ap first_entry c.in-Some.is) ∙ c.unknown_child.ensures)
 
 pub returns-in-End : goal.returns-in-End
 returns-in-End t c =
@@ -34,7 +34,7 @@ returns-in-End t c =
     let w = subst (Way (within_of a.sought) a.tree.now a.i.0 a.start.0) k.is c.visit.ensures.way in
     sym (ap (followed (within_of a.sought) a.tree.now) k.is) ∙ c.visit.ensures.same
     ∙ at_end (known_if a.partly a.bitfield.now) (within_of a.sought) a.tree.now a.start.0 a.i.0
-    (sym (ap first_entry c.in-Nothing.is) ∙ c.unknown_child.ensures) w
+    (sym (ap first_entry c.in-None.is) ∙ c.unknown_child.ensures) w
 
 pub returns-in-Down : goal.returns-in-Down
 returns-in-Down t c =
@@ -43,4 +43,4 @@ returns-in-Down t c =
     let w = subst (Way (within_of a.sought) a.tree.now a.i.0 a.start.0) k.is c.visit.ensures.way in
     c.descend.ensures
     ∙ at_down (known_if a.partly a.bitfield.now) (within_of a.sought) a.tree.now a.start.0 a.i.0 k.child.0 k.from.0
-    (sym (ap first_entry c.in-Nothing.is) ∙ c.unknown_child.ensures) w
+    (sym (ap first_entry c.in-None.is) ∙ c.unknown_child.ensures) w

@@ -102,21 +102,18 @@ fn judge_own(
         (register_of tree.now signatures.now bitfield.now content.now n s size)
         lengths.now bytes.now }
 {
-    let found = judge_list(lengths, bytes);
-    match found {
-        Err(refusal) => Err(refusal),
-        Ok(()) => judge_room(
-            tree,
-            signatures,
-            bitfield,
-            content,
-            n,
-            s,
-            size,
-            lengths.len() as u64,
-            bytes.len(),
-        ),
-    }
+    judge_list(lengths, bytes)?;
+    judge_room(
+        tree,
+        signatures,
+        bitfield,
+        content,
+        n,
+        s,
+        size,
+        lengths.len() as u64,
+        bytes.len(),
+    )
 }
 
 // All checks of a list: "2. .. or an append finds n at 1,048,576", "2 also meets a list that would pass 1,048,576 chunks", then 3 to 6, then
@@ -143,11 +140,8 @@ pub fn judge(
     if 1048576 - n < (lengths.len() as u64) {
         return answer_types::refuse(2);
     }
-    let found = checks::judge_later(tree, signatures, bitfield, content, n, s, size);
-    match found {
-        Err(refusal) => Err(refusal),
-        Ok(()) => judge_own(
-            tree, signatures, bitfield, content, n, s, size, lengths, bytes,
-        ),
-    }
+    checks::judge_later(tree, signatures, bitfield, content, n, s, size)?;
+    judge_own(
+        tree, signatures, bitfield, content, n, s, size, lengths, bytes,
+    )
 }

@@ -5,13 +5,14 @@
 mod judging;
 mod storing;
 
+ghost use Rattle.std.specs.Result.{result_unwrap_or};
+ghost use Rattle.byte_strings.specs.Lists.{zeros};
 ghost use Rattle.answer_types.specs.Meaning.{said};
 ghost use Rattle.checks.specs.Lent.{register_of};
 ghost use Rattle.writing.specs.Post.{lent};
 ghost use Rattle.append_list.specs.Post.{ListPost};
 
 use answer_types::Refusal;
-use writing::Appended;
 
 // All chunks of a list, which are then owed one signature: the last one's. The signatures of the others are 64 zero bytes each.
 pub fn append_list(
@@ -24,23 +25,14 @@ pub fn append_list(
     size: u64,
     lengths: &[u64],
     bytes: &[u8],
-) -> Appended
+) -> Result<[u8; 32], Refusal>
     ensures { ListPost
         (register_of tree.old signatures.old bitfield.old content.old n s size)
-        lengths.now bytes.now (said result.answer) result.root
+        lengths.now bytes.now (said result) (result_unwrap_or result (zeros 32))
         (lent tree.new signatures.new bitfield.new content.new) }
 {
-    let found = judging::judge(
+    judging::judge(
         tree, signatures, bitfield, content, n, s, size, lengths, bytes,
-    );
-    match found {
-        Err(refusal) => Appended {
-            answer: Err(refusal),
-            root: [0u8; 32],
-        },
-        Ok(()) => Appended {
-            answer: Ok(()),
-            root: storing::store(tree, signatures, bitfield, content, n, size, lengths, bytes),
-        },
-    }
+    )?;
+    Ok(storing::store(tree, signatures, bitfield, content, n, size, lengths, bytes))
 }

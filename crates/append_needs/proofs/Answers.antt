@@ -9,7 +9,7 @@ use borrow.Author.Tests.{leb-true, lt-leb}
 use lib.Dec.{leb}
 use lib.ListN.{length}
 use Rattle.answer_types.specs.Verdict.{Verdict, none, done, refused, unless_refused}
-use Rattle.answer_types.specs.Meaning.{said}
+use Rattle.answer_types.specs.Meaning.{said, refusal_of}
 use Rattle.answer_types.specs.declared.Refusal.{Refusal}
 use Rattle.byte_strings.specs.Lists.{run, total}
 use Rattle.tree_index.specs.Tree.{completed}
@@ -58,18 +58,18 @@ module _ (n size : ℕ) (ls : List ℕ) where
     asked_of p = asked (sym e ∙ ap said p)
 
     pub need_not : (x : Refusal) → a ≡ Err x
-        → NeedPost n size ls (record { answer = Err x; tree = 0; signatures = 0; bitfield = 0; content = 0; leaves = 0; parents = 0; root = 0; runs = 0 })
+        → NeedPost n size ls (Err x)
     unfolding need_given nothing
     need_not x p =
-        let v : said (Err x) ≡ need_verdict n size ls = sym (ap said p) ∙ e in
+        let v : refusal_of x ≡ need_verdict n size ls = sym (ap said p) ∙ e in
         record { answer = v; numbers = ap (λ (w : Verdict). unless_refused w (need_of n size ls) nothing) v; runs = refl }
 
-    pub need_done : (r : Needed) → a ≡ (Ok tt) → Answered n size ls r → NeedPost n size ls r
+    pub need_done : (r : Needed) → a ≡ (Ok tt) → Answered n size ls r → NeedPost n size ls (Ok r)
     unfolding need_given
     need_done r p w =
         let v : done ≡ need_verdict n size ls = sym (ap said p) ∙ e in
         record {
-          answer = w.answer ∙ v;
+          answer = v;
           numbers = w.numbers ∙ ap (λ (z : Verdict). unless_refused z (need_of n size ls) nothing) v;
           runs = w.runs;
         }

@@ -1,7 +1,5 @@
 -- What the inner functions ask and give.
 use Rattle.std.specs.Prelude.{ℕ, ◌+◌, ◌*◌, ◌≤◌, ◌≡◌, true, List, length}
-use Rattle.answer_types.specs.Verdict.{done}
-use Rattle.answer_types.specs.Meaning.{said}
 use Rattle.file_format.specs.Sizes.{most_chunks, longest_chunk}
 use Rattle.checks.specs.Lengths.{most_listed, all_short}
 use Rattle.append_needs.specs.Needs.{need_of}
@@ -21,6 +19,5 @@ pub record Asked (n size : ℕ) (ls : List ℕ) : Type 0 where
 
 -- all that an answer holds which is not a refusal
 pub record Answered (n size : ℕ) (ls : List ℕ) (r : Needed) : Type 0 where
-  pub answer : said r.answer ≡ done
   pub numbers : numbers_of r ≡ need_of n size ls
   pub runs : r.runs ≡ r.leaves + r.parents + r.root

@@ -1,10 +1,12 @@
 -- What the call ensures.
-use Rattle.std.specs.Prelude.{ℕ, ◌+◌, ◌≡◌, List}
+use Rattle.std.specs.Prelude.{ℕ, ◌+◌, ◌≡◌, List, Result}
+use Rattle.std.specs.Result.{result_unwrap_or}
 use Rattle.answer_types.specs.Meaning.{said}
+use Rattle.answer_types.specs.declared.Refusal.{Refusal}
 use Rattle.append_needs.specs.Needs.{Need, need_verdict, need_given}
 use Rattle.append_needs.specs.declared.Needed.{Needed}
 
--- the numbers beside the answer
+-- the numbers of what is given
 abbrev pub numbers_of : Needed → Need
 numbers_of r =
     record {
@@ -17,8 +19,15 @@ numbers_of r =
       root = r.root;
     }
 
-pub record NeedPost (n size : ℕ) (ls : List ℕ) (r : Needed) : Type 0 where
-  pub answer : said r.answer ≡ need_verdict n size ls
-  pub numbers : numbers_of r ≡ need_given n size ls
+-- what is given, and zeros after a refusal
+abbrev pub none_needed : Needed
+none_needed = record { tree = 0; signatures = 0; bitfield = 0; content = 0; leaves = 0; parents = 0; root = 0; runs = 0 }
+
+abbrev pub given : Result Needed Refusal → Needed
+given r = result_unwrap_or r none_needed
+
+pub record NeedPost (n size : ℕ) (ls : List ℕ) (r : Result Needed Refusal) : Type 0 where
+  pub answer : said r ≡ need_verdict n size ls
+  pub numbers : numbers_of (given r) ≡ need_given n size ls
   -- all runs together
-  pub runs : r.runs ≡ r.leaves + r.parents + r.root
+  pub runs : (given r).runs ≡ (given r).leaves + (given r).parents + (given r).root

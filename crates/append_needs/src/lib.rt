@@ -18,7 +18,6 @@ use answer_types::Refusal;
 // together; zeros after a refusal.
 #[derive(Clone, Copy)]
 pub struct Needed {
-    pub answer: Result<(), Refusal>,
     pub tree: u64,
     pub signatures: u64,
     pub bitfield: u64,
@@ -137,7 +136,6 @@ fn counted(n: u64, size: u64, lengths: &[u64]) -> Needed
     let parents = parent_runs(n, count);
     let root = root_runs(end);
     Needed {
-        answer: Ok(()),
         tree: file_format::sizes::used_tree(end) as u64,
         signatures: file_format::sizes::used_signatures(end) as u64,
         bitfield: file_format::sizes::used_bitfield(end) as u64,
@@ -150,21 +148,9 @@ fn counted(n: u64, size: u64, lengths: &[u64]) -> Needed
 }
 
 // What chunks of these lengths behind n others, with so many data bytes, will need.
-pub fn needs(n: u64, size: u64, lengths: &[u64]) -> Needed
+pub fn needs(n: u64, size: u64, lengths: &[u64]) -> Result<Needed, Refusal>
     ensures { NeedPost n size lengths.now result }
 {
-    match judge(n, size, lengths) {
-        Err(refusal) => Needed {
-            answer: Err(refusal),
-            tree: 0,
-            signatures: 0,
-            bitfield: 0,
-            content: 0,
-            leaves: 0,
-            parents: 0,
-            root: 0,
-            runs: 0,
-        },
-        Ok(()) => counted(n, size, lengths),
-    }
+    judge(n, size, lengths)?;
+    Ok(counted(n, size, lengths))
 }

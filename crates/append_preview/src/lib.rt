@@ -2,6 +2,8 @@
 // its place." All four images and the chunk are lent to be read; none is copied.
 #![tactic(auto)]
 
+ghost use Rattle.std.specs.Result.{result_unwrap_or};
+ghost use Rattle.byte_strings.specs.Lists.{zeros};
 ghost use Rattle.std.specs.Prelude.{◌≡◌, ◌+◌, ◌≤◌, ◌<◌, length};
 ghost use Rattle.answer_types.specs.Meaning.{said};
 ghost use Rattle.tree_index.specs.Tree.{completed};
@@ -16,13 +18,6 @@ ghost use Rattle.append_preview.specs.Preview.{message_with, PreviewPost};
 use answer_types::Refusal;
 use file_format::roots::Roots;
 use writing::Node;
-
-// An answer, and beside it the root hash that the append would give; zeros after a refusal.
-#[derive(Clone, Copy)]
-pub struct Previewed {
-    pub answer: Result<(), Refusal>,
-    pub root: [u8; 32],
-}
 
 // Inner: the node that the chunk n completes last, over its leaf: the leaf itself where it completes no parent.
 fn climbed(tree: &[u8], n: u64, leaf: Node) -> Node
@@ -83,20 +78,11 @@ pub fn preview(
     s: u64,
     size: u64,
     chunk: &[u8],
-) -> Previewed
+) -> Result<[u8; 32], Refusal>
     ensures { PreviewPost
         (register_of tree.now signatures.now bitfield.now content.now n s size)
-        chunk.now (said result.answer) result.root }
+        chunk.now (said result) (result_unwrap_or result (zeros 32)) }
 {
-    let found = writing::judge_append(tree, signatures, bitfield, content, n, s, size, chunk);
-    match found {
-        Err(refusal) => Previewed {
-            answer: Err(refusal),
-            root: [0u8; 32],
-        },
-        Ok(()) => Previewed {
-            answer: Ok(()),
-            root: new_root(tree, n, chunk),
-        },
-    }
+    writing::judge_append(tree, signatures, bitfield, content, n, s, size, chunk)?;
+    Ok(new_root(tree, n, chunk))
 }

@@ -180,26 +180,19 @@ pub fn is_held(xs: &[u8], c: ChunkNumber) -> bool
     bit_is_set(xs, at, data_bit(c))
 }
 
-// What a search for a chunk that is not held finds.
-#[derive(Clone, Copy)]
-pub enum Found {
-    At(ChunkNumber),
-    Nothing,
-}
-
 // Inner: the first chunk from a given number on, below n, that is not held. The data bits are read in order.
-pub fn first_missing(xs: &[u8], from: ChunkNumber, n: u64) -> Found
+pub fn first_missing(xs: &[u8], from: ChunkNumber, n: u64) -> Option<ChunkNumber>
     requires { bits_place (entry_count n) ≤ length xs.now }
     ensures { found_at result ≡ lowest (stored_held xs.now) from.0 (n - from.0) }
 {
     let mut c = from;
     while c.0 < n {
         if !is_held(xs, c) {
-            return Found::At(c);
+            return Some(c);
         }
         c = ChunkNumber(c.0 + 1);
     }
-    Found::Nothing
+    None
 }
 
 // Inner: the data bit of a chunk, whose entry has its room, becomes 0.

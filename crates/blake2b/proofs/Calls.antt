@@ -1,6 +1,6 @@
 -- The public call by the lengths that it is given.
 -- Assumes nothing.
-use Rattle.std.specs.Prelude.{Ok}
+use Rattle.std.specs.Prelude.{Ok, Result}
 use mathlib.Core.Path.{◌≡◌, sym, ap, ap₂, ◌∙◌}
 use mathlib.Core.Bool.{Bool, true, false}
 use mathlib.Core.List.{List, ◌++◌}
@@ -13,7 +13,7 @@ use Rattle.answer_types.specs.Verdict.{Verdict, none, done, refused, unless_refu
 use Rattle.blake2b.specs.Hash.{input, final, bytes, blake2b}
 use Rattle.blake2b.specs.Digest.{length_right, key_right, verdict_if, verdict, digest}
 use Rattle.blake2b.specs.Post.{Refused, HashedAs}
-use Rattle.blake2b.specs.declared.Hashed.{Hashed}
+use Rattle.answer_types.specs.declared.Refusal.{Refusal}
 use Rattle.blake2b.proofs.Output.{over}
 
 -- what is left of `length_right` after its first test
@@ -46,7 +46,7 @@ pub all_right : (nn kk : ℕ) → 1 ≤ nn → nn ≤ 64 → kk ≤ 64 → verdi
 unfolding verdict
 all_right nn kk h k l = ap₂ verdict_if (right nn h k) (le-leb kk 64 l)
 
-pub as_refused : (nn : ℕ) (key d : List ℕ) (m : ℕ) (r : Hashed) → verdict nn (length key) ≡ refused m none → Refused m r → HashedAs nn key d r
+pub as_refused : (nn : ℕ) (key d : List ℕ) (m : ℕ) (r : Result (List ℕ) Refusal) → verdict nn (length key) ≡ refused m none → Refused m r → HashedAs nn key d r
 unfolding digest
 as_refused nn key d m r e f =
     record {
@@ -61,7 +61,7 @@ unfolding blake2b
 hash_from nn key d s t b e f g = g ∙ ap (λ (x : List ℕ). over 64 x nn) (f ∙ ap bytes e)
 
 pub as_done : (nn : ℕ) (key d s t b : List ℕ) → verdict nn (length key) ≡ done → s ≡ final nn (length key) (input key d) → t ≡ bytes s
-    → b ≡ over 64 t nn → HashedAs nn key d (record { digest = b; answer = (Ok tt) })
+    → b ≡ over 64 t nn → HashedAs nn key d (Ok b)
 unfolding digest
 as_done nn key d s t b e f g h =
     record {

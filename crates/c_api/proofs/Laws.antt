@@ -1,5 +1,5 @@
 -- What a call answers to C, from the case that its answer is.
-use Rattle.std.specs.Prelude.{Ok, Err}
+use Rattle.std.specs.Prelude.{Ok, Err, Result}
 use Prim.Native.Nat.{ℕ}
 use mathlib.Core.Path.{◌≡◌, sym, ap, ap₂, ◌∙◌}
 use mathlib.Core.List.{List, [], ◌∷◌}
@@ -13,7 +13,6 @@ use Rattle.lookup.specs.Meaning.{refused_as}
 use Rattle.packet.specs.Check.{chunk_length, packet_verdict}
 use Rattle.packet.specs.Packet.{made_length, after_make}
 use Rattle.packet.specs.Post.{MadeAs, made_verdict, made_bytes}
-use Rattle.packet.specs.declared.making.Made.{Made}
 use Rattle.append_needs.specs.Needs.{need_of, need_verdict, nothing, need_given}
 use Rattle.append_needs.specs.Post.{numbers_of, NeedPost}
 use Rattle.append_needs.specs.declared.Needed.{Needed}
@@ -35,7 +34,7 @@ module _ (p : List ℕ) (n c : ℕ) (root : List ℕ) where
   packet_found l a e = ap (found 4) a ∙ ap (λ (v : Verdict). found_behind v (found 4 (chunk_length p))) e
 
 -- a packet made, from what its maker answers
-pub makes : (r : Register) (c : ℕ) (out : List ℕ) (long : ℕ) (answer : List ℕ) (m : Made) (after : List ℕ) (long_after : ℕ)
+pub makes : (r : Register) (c : ℕ) (out : List ℕ) (long : ℕ) (answer : List ℕ) (m : Result ℕ Refusal) (after : List ℕ) (long_after : ℕ)
     → MadeAs node_hash r c out m after → answer ≡ encoded (made_verdict m) → long_after ≡ unless_refused (made_verdict m) (made_bytes m) long
     → Makes r c out long answer after long_after
 unfolding made_length after_make

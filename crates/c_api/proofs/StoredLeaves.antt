@@ -1,4 +1,5 @@
 -- What a call for a stored leaf entry answers to C, from the case that its answer is.
+use Rattle.std.specs.Prelude.{Result, Ok, Err}
 use Prim.Native.Nat.{ℕ}
 use mathlib.Core.Path.{◌≡◌, sym, ap, ap₂, ◌∙◌}
 use mathlib.Core.List.{List}
@@ -6,24 +7,22 @@ use Rattle.answer_types.specs.Verdict.{Verdict, done, unless_refused}
 use Rattle.answer_types.specs.Meaning.{refusal_of}
 use Rattle.answer_types.specs.declared.Refusal.{Refusal}
 use Rattle.stored_leaf.specs.Post.{stored_verdict, stored_length, LeafPost}
-use Rattle.stored_leaf.specs.declared.Stored.{Stored}
-use Rattle.stored_leaf.specs.declared.Stored.TheVariants.{Refused, Length}
 use Rattle.c_encoding.specs.Encoding.{encoded}
 use Rattle.c_api.specs.Leaves.{TellsLength, GivesLeaf}
 
-module _ (x : Stored) (long : ℕ) (answer : List ℕ) where
-  pub tells_refused : (y : Refusal) → x ≡ Refused y → answer ≡ encoded (refusal_of y) → TellsLength x long answer long
+module _ (x : Result ℕ Refusal) (long : ℕ) (answer : List ℕ) where
+  pub tells_refused : (y : Refusal) → x ≡ Err y → answer ≡ encoded (refusal_of y) → TellsLength x long answer long
   tells_refused y e a =
       record {
-        answers = a ∙ ap (λ (z : Stored). encoded (stored_verdict z)) (sym e);
-        length = ap (λ (z : Stored). unless_refused (stored_verdict z) (stored_length z) long) (sym e);
+        answers = a ∙ ap (λ (z : Result ℕ Refusal). encoded (stored_verdict z)) (sym e);
+        length = ap (λ (z : Result ℕ Refusal). unless_refused (stored_verdict z) (stored_length z) long) (sym e);
       }
 
-  pub tells_length : (k : ℕ) → x ≡ Length k → answer ≡ encoded done → TellsLength x long answer k
+  pub tells_length : (k : ℕ) → x ≡ Ok k → answer ≡ encoded done → TellsLength x long answer k
   tells_length k e a =
       record {
-        answers = a ∙ ap (λ (z : Stored). encoded (stored_verdict z)) (sym e);
-        length = ap (λ (z : Stored). unless_refused (stored_verdict z) (stored_length z) long) (sym e);
+        answers = a ∙ ap (λ (z : Result ℕ Refusal). encoded (stored_verdict z)) (sym e);
+        length = ap (λ (z : Result ℕ Refusal). unless_refused (stored_verdict z) (stored_length z) long) (sym e);
       }
 
 pub gives_leaf : {v : Verdict} {t : List ℕ} {k : ℕ} {out : List ℕ} {long : ℕ} {answer : List ℕ} {x : Stored} {after : List ℕ} {long_after : ℕ}

@@ -16,13 +16,11 @@ pub extern "C" fn sleep_flat_needs(
 )
     ensures { Needs n size lengths.now out.old answer.new out.new }
 {
-    let needed = append_needs::needs(n, size, lengths);
-    let said = needed.answer;
-    match said {
+    match append_needs::needs(n, size, lengths) {
         Err(refusal) => {
             *answer = c_encoding::refused(refusal);
         }
-        Ok(()) => {
+        Ok(needed) => {
             *out = [
                 needed.tree,
                 needed.signatures,

@@ -8,15 +8,14 @@ ghost use Rattle.c_api.specs.Leaves.{TellsLength, GivesLeaf};
 
 use answer_types::Refusal;
 use number_types::ChunkNumber;
-use stored_leaf::Stored;
 
 // The three numbers of the answer, and the length into `length` where there is one.
-fn tell_length(found: Stored, length: &mut u64) -> [u64; 3]
+fn tell_length(found: Result<u64, Refusal>, length: &mut u64) -> [u64; 3]
     ensures { TellsLength found length.old result length.new }
 {
     match found {
-        Stored::Refused(refusal) => c_encoding::refused(refusal),
-        Stored::Length(bytes) => {
+        Err(refusal) => c_encoding::refused(refusal),
+        Ok(bytes) => {
             *length = bytes;
             c_encoding::encode(Ok(()))
         }

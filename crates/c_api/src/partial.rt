@@ -117,9 +117,7 @@ pub extern "C" fn sleep_flat_copy_root_hash(
         (copy_root_answer node_hash (copy_of tree.now bitfield.now content.now n size)) root.old }
 {
     let rooted = copy_roots::root_hash(tree, bitfield, content, n, size);
-    let hash = rooted.root;
-    let said = rooted.answer;
-    *answer = c_encoding::give_hash(said, hash, root);
+    *answer = c_encoding::give_hash(rooted, root);
 }
 
 // The root hash of the first `m` chunks, from the stored entries, in `root`.
@@ -139,9 +137,7 @@ pub extern "C" fn sleep_flat_copy_old_root(
         (copy_prefix_root node_hash (copy_of tree.now bitfield.now content.now n size) m) root.old }
 {
     let rooted = copy_roots::prefix_root_hash(tree, bitfield, content, n, size, m);
-    let hash = rooted.root;
-    let said = rooted.answer;
-    *answer = c_encoding::give_hash(said, hash, root);
+    *answer = c_encoding::give_hash(rooted, root);
 }
 
 // The packet of a chunk at the front of `out`, the rest as it was, and the packet's length in `length`. Both are as they were after a

@@ -11,8 +11,6 @@ use Rattle.answer_types.specs.declared.Refusal.{Refusal}
 use Rattle.lookup.specs.Lookup.{Found, found}
 use Rattle.lookup.specs.Meaning.{refused_as}
 use Rattle.packet.specs.Post.{made_verdict, made_bytes}
-use Rattle.packet.specs.declared.making.Made.{Made}
-use Rattle.packet.specs.declared.making.Made.TheVariants.{Err as NotMade, Length}
 use Rattle.c_encoding.specs.Number.{number_of}
 use Rattle.c_encoding.specs.Encoding.{encoded, verdict_of, numbers_unless, Gives}
 
@@ -90,12 +88,12 @@ pub numbered : (r : List ℕ) (a v : Verdict) → r ≡ encoded a → a ≡ v �
 numbered r a v e p = ap (λ (x : List ℕ). get_or x 0 0) e ∙ encoded_number a ∙ ap number_of p
 
 -- a packet made, from the case that the answer is
-pub made_refused : (m : Made) (x : Refusal) (long : ℕ) (r : List ℕ) → m ≡ NotMade x → r ≡ encoded (refusal_of x)
+pub made_refused : (m : Result ℕ Refusal) (x : Refusal) (long : ℕ) (r : List ℕ) → m ≡ Ok x → r ≡ encoded (refusal_of x)
     → (r ≡ encoded (made_verdict m)) × (long ≡ unless_refused (made_verdict m) (made_bytes m) long)
 made_refused m x long r e a =
-    (a ∙ ap (λ (y : Made). encoded (made_verdict y)) (sym e), ap (λ (y : Made). unless_refused (made_verdict y) (made_bytes y) long) (sym e))
+    (a ∙ ap (λ (y : Result ℕ Refusal). encoded (made_verdict y)) (sym e), ap (λ (y : Result ℕ Refusal). unless_refused (made_verdict y) (made_bytes y) long) (sym e))
 
-pub made_length_lem : (m : Made) (k long : ℕ) (r : List ℕ) → m ≡ Length k → r ≡ encoded done
+pub made_length_lem : (m : Result ℕ Refusal) (k long : ℕ) (r : List ℕ) → m ≡ Ok k → r ≡ encoded done
     → (r ≡ encoded (made_verdict m)) × (k ≡ unless_refused (made_verdict m) (made_bytes m) long)
 made_length_lem m k long r e a =
-    (a ∙ ap (λ (y : Made). encoded (made_verdict y)) (sym e), ap (λ (y : Made). unless_refused (made_verdict y) (made_bytes y) long) (sym e))
+    (a ∙ ap (λ (y : Result ℕ Refusal). encoded (made_verdict y)) (sym e), ap (λ (y : Result ℕ Refusal). unless_refused (made_verdict y) (made_bytes y) long) (sym e))

@@ -1,5 +1,7 @@
 // What C is answered: three numbers.
 ghost use Rattle.std.specs.Prelude.{◌≡◌};
+ghost use Rattle.std.specs.Result.{result_unwrap_or};
+ghost use Rattle.byte_strings.specs.Lists.{zeros};
 ghost use Rattle.answer_types.specs.Verdict.{unless_refused};
 ghost use Rattle.answer_types.specs.Meaning.{said, refusal_of};
 ghost use Rattle.c_encoding.specs.Encoding.{encoded};
@@ -31,13 +33,13 @@ pub fn encode(answer: Result<(), Refusal>) -> [u64; 3]
     }
 }
 
-// The three numbers of an answer, and the hash beside it into `out` where the call is done.
-pub fn give_hash(answer: Result<(), Refusal>, hash: [u8; 32], out: &mut [u8; 32]) -> [u64; 3]
-    ensures answers { result ≡ encoded (said answer) }
-    ensures gives { out.new ≡ unless_refused (said answer) hash out.old }
+// The three numbers of an answer, and the hash into `out` where one is given.
+pub fn give_hash(given: Result<[u8; 32], Refusal>, out: &mut [u8; 32]) -> [u64; 3]
+    ensures answers { result ≡ encoded (said given) }
+    ensures gives { out.new ≡ unless_refused (said given) (result_unwrap_or given (zeros 32)) out.old }
 {
-    match answer {
-        Ok(()) => {
+    match given {
+        Ok(hash) => {
             *out = hash;
             encode(Ok(()))
         }
@@ -45,13 +47,13 @@ pub fn give_hash(answer: Result<(), Refusal>, hash: [u8; 32], out: &mut [u8; 32]
     }
 }
 
-// The number of an answer whose refusal has no place, and the digest beside it into `out` where the call is done.
-pub fn give_digest(answer: Result<(), Refusal>, digest: [u8; 64], out: &mut [u8; 64]) -> u64
-    ensures answers { result ≡ number_of (said answer) }
-    ensures gives { out.new ≡ unless_refused (said answer) digest out.old }
+// The number of an answer whose refusal has no place, and the digest into `out` where one is given.
+pub fn give_digest(given: Result<[u8; 64], Refusal>, out: &mut [u8; 64]) -> u64
+    ensures answers { result ≡ number_of (said given) }
+    ensures gives { out.new ≡ unless_refused (said given) (result_unwrap_or given (zeros 64)) out.old }
 {
-    match answer {
-        Ok(()) => {
+    match given {
+        Ok(digest) => {
             *out = digest;
             0
         }

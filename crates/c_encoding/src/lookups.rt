@@ -3,46 +3,47 @@ ghost use Rattle.lookup.specs.Meaning.{placed_of, located_of, verified_of};
 ghost use Rattle.search.specs.Meaning.{searched_of};
 ghost use Rattle.c_encoding.specs.Encoding.{Gives, Ordered, as_part, as_found};
 
+use answer_types::Refusal;
 use lookup::{Located, Placed, Verified};
-use search::Searched;
+use number_types::ChunkNumber;
 
 // What a place lookup found: start and length.
-pub fn give_place(found: Placed, out: &mut [u64; 2]) -> [u64; 3]
+pub fn give_place(found: Result<Placed, Refusal>, out: &mut [u64; 2]) -> [u64; 3]
     ensures { Gives (placed_of found) out.old result out.new }
 {
     match found {
-        Placed::Refused(refusal) => super::answers::refused(refusal),
-        Placed::At(start, length) => {
-            *out = [start.0, length];
+        Err(refusal) => super::answers::refused(refusal),
+        Ok(placed) => {
+            *out = [placed.start.0, placed.length];
             super::answers::encode(Ok(()))
         }
     }
 }
 
 // What a byte lookup found: the chunk, and the offset less its start.
-pub fn give_byte(found: Located, out: &mut [u64; 2]) -> [u64; 3]
+pub fn give_byte(found: Result<Located, Refusal>, out: &mut [u64; 2]) -> [u64; 3]
     ensures { Gives (located_of found) out.old result out.new }
 {
     match found {
-        Located::Refused(refusal) => super::answers::refused(refusal),
-        Located::In(chunk, rest) => {
-            *out = [chunk.0, rest];
+        Err(refusal) => super::answers::refused(refusal),
+        Ok(located) => {
+            *out = [located.chunk.0, located.rest];
             super::answers::encode(Ok(()))
         }
     }
 }
 
 // What a search found: 1 and the chunk, or 0 and 0.
-pub fn give_search(found: Searched, out: &mut [u64; 2]) -> [u64; 3]
+pub fn give_search(found: Result<Option<ChunkNumber>, Refusal>, out: &mut [u64; 2]) -> [u64; 3]
     ensures { Gives (as_found (searched_of found)) out.old result out.new }
 {
     match found {
-        Searched::Refused(refusal) => super::answers::refused(refusal),
-        Searched::At(chunk) => {
+        Err(refusal) => super::answers::refused(refusal),
+        Ok(Some(chunk)) => {
             *out = [1, chunk.0];
             super::answers::encode(Ok(()))
         }
-        Searched::Nothing => {
+        Ok(None) => {
             *out = [0, 0];
             super::answers::encode(Ok(()))
         }
@@ -50,14 +51,14 @@ pub fn give_search(found: Searched, out: &mut [u64; 2]) -> [u64; 3]
 }
 
 // What a verified read found: where the part begins, and how many bytes it has. Inner: a part ends where it begins or behind.
-pub fn give_part(found: Verified, out: &mut [u64; 2]) -> [u64; 3]
+pub fn give_part(found: Result<Verified, Refusal>, out: &mut [u64; 2]) -> [u64; 3]
     requires { Ordered (verified_of found) }
     ensures { Gives (as_part (verified_of found)) out.old result out.new }
 {
     match found {
-        Verified::Refused(refusal) => super::answers::refused(refusal),
-        Verified::Part(start, end) => {
-            *out = [start.0, end.0 - start.0];
+        Err(refusal) => super::answers::refused(refusal),
+        Ok(part) => {
+            *out = [part.start.0, part.end.0 - part.start.0];
             super::answers::encode(Ok(()))
         }
     }

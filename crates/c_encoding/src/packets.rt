@@ -5,16 +5,15 @@ ghost use Rattle.packet.specs.Post.{made_verdict, made_bytes};
 ghost use Rattle.c_encoding.specs.Encoding.{encoded};
 
 use answer_types::Refusal;
-use packet::Made;
 
 // The three numbers of the answer, and the packet's length into `length` where it is made.
-pub fn give_length(made: Made, length: &mut u64) -> [u64; 3]
+pub fn give_length(made: Result<u64, Refusal>, length: &mut u64) -> [u64; 3]
     ensures answers { result ≡ encoded (made_verdict made) }
     ensures gives { length.new ≡ unless_refused (made_verdict made) (made_bytes made) length.old }
 {
     match made {
-        Made::Refused(refusal) => super::answers::refused(refusal),
-        Made::Length(bytes) => {
+        Err(refusal) => super::answers::refused(refusal),
+        Ok(bytes) => {
             *length = bytes;
             super::answers::encode(Ok(()))
         }

@@ -17,7 +17,6 @@ ghost use Rattle.compare.specs.Meaning.{compared, roots_told};
 ghost use Rattle.compare.specs.Inner.{collides_at};
 
 use answer_types::Refusal;
-use bitfield::Found;
 use number_types::{ChunkNumber, TreeIndex};
 
 // What the walk answers: a refusal and which register it is of, "roots differ", a collision at the roots or at a tree index, or "equal".
@@ -131,7 +130,7 @@ pub fn judge_held(
         return checked;
     };
     let missing = bitfield::first_missing(bitfield, ChunkNumber(0), n);
-    if let Found::At(c) = missing {
+    if let Some(c) = missing {
         return answer_types::refuse_entry(18, tree_index::leaf_index(c));
     }
     Ok(())

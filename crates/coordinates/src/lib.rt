@@ -73,30 +73,22 @@ fn write_words(bytes: &[u8], n: usize, out: &mut [u8])
 pub fn group(bytes: &[u8], out: &mut [u8]) -> Result<(), Refusal>
     ensures { Written grouped bytes.now out.old result out.new }
 {
-    match judge(bytes.len(), out.len()) {
-        Err(refusal) => Err(refusal),
-        Ok(()) => {
-            let n = bytes.len() / 4;
-            let end = 4 * n;
-            write_planes(bytes, n, out);
-            byte_strings::copy_to(out, end, &bytes[end..]);
-            Ok(())
-        }
-    }
+    judge(bytes.len(), out.len())?;
+    let n = bytes.len() / 4;
+    let end = 4 * n;
+    write_planes(bytes, n, out);
+    byte_strings::copy_to(out, end, &bytes[end..]);
+    Ok(())
 }
 
 // Grouped bytes as they were before, at the front of the buffer, the rest as it was.
 pub fn ungroup(bytes: &[u8], out: &mut [u8]) -> Result<(), Refusal>
     ensures { Written ungrouped bytes.now out.old result out.new }
 {
-    match judge(bytes.len(), out.len()) {
-        Err(refusal) => Err(refusal),
-        Ok(()) => {
-            let n = bytes.len() / 4;
-            let end = 4 * n;
-            write_words(bytes, n, out);
-            byte_strings::copy_to(out, end, &bytes[end..]);
-            Ok(())
-        }
-    }
+    judge(bytes.len(), out.len())?;
+    let n = bytes.len() / 4;
+    let end = 4 * n;
+    write_words(bytes, n, out);
+    byte_strings::copy_to(out, end, &bytes[end..]);
+    Ok(())
 }

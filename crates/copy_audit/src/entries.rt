@@ -14,17 +14,17 @@ ghost use Rattle.lookup.specs.Unknown.{first_entry};
 ghost use Rattle.copy_audit.specs.Audit.{held_leaf, wrong_unless, wrong_by_leaf, wrong_by, wrong_entry_of_copy};
 ghost use Rattle.copy_audit.specs.Inner.{AtNode, AtChunk, AtFamily};
 
-use lookup::{Ending, First, Sought};
+use lookup::{Ending, Sought};
 use number_types::{ByteOffset, ChunkNumber, TreeIndex};
 
 // A tree index, where a test finds its entry wrong.
-fn wrong_unless(right: bool, i: TreeIndex) -> First
+fn wrong_unless(right: bool, i: TreeIndex) -> Option<TreeIndex>
     ensures { first_entry result ≡ wrong_unless right i.0 }
 {
     if right {
-        return First::Nothing;
+        return None;
     }
-    First::At(i)
+    Some(i)
 }
 
 // Whether a tree index is the leaf of a chunk that is held.
@@ -94,14 +94,14 @@ fn wrong_by_leaf(
     n: u64,
     size: u64,
     c: ChunkNumber,
-) -> First
+) -> Option<TreeIndex>
     requires { AtChunk tree.now bitfield.now content.now n size c.0 }
     ensures { first_entry result ≡ wrong_by_leaf node_hash (copy_of tree.now bitfield.now content.now n size) c.0 }
 {
     let leaf = tree_index::leaf_index(c);
     match lookup::from_roots(tree, bitfield, true, n, Sought::Chunk(c)) {
-        Ending::Stopped(i) => First::At(i),
-        Ending::Unknown(_) => First::At(leaf),
+        Ending::Stopped(i) => Some(i),
+        Ending::Unknown(_) => Some(leaf),
         Ending::Reached(_, start) => {
             let right = leaf_right(tree, bitfield, content, n, size, c, start);
             wrong_unless(right, leaf)
@@ -110,7 +110,14 @@ fn wrong_by_leaf(
 }
 
 // What is found wrong when the audit comes to an entry: this one, or the one at which the descent to it stops.
-fn wrong_by(tree: &[u8], bitfield: &[u8], content: &[u8], n: u64, size: u64, i: TreeIndex) -> First
+fn wrong_by(
+    tree: &[u8],
+    bitfield: &[u8],
+    content: &[u8],
+    n: u64,
+    size: u64,
+    i: TreeIndex,
+) -> Option<TreeIndex>
     requires { FilesIn tree.now bitfield.now content.now n size × (i.0 < entries_of n) }
     ensures { first_entry result ≡ wrong_by node_hash (copy_of tree.now bitfield.now content.now n size) i.0 }
 {
@@ -143,14 +150,14 @@ pub fn wrong_between(
     size: u64,
     from: TreeIndex,
     end: TreeIndex,
-) -> First
+) -> Option<TreeIndex>
     requires { FilesIn tree.now bitfield.now content.now n size × (end.0 ≤ entries_of n) }
     ensures { first_entry result ≡
         least_of
         (run (wrong_by node_hash (copy_of tree.now bitfield.now content.now n size)) from.0
         (end.0 - from.0)) }
 {
-    let mut found = First::Nothing;
+    let mut found = None;
     let mut i = from;
     while i.0 < end.0 {
         let here = wrong_by(tree, bitfield, content, n, size, i);
@@ -161,7 +168,13 @@ pub fn wrong_between(
 }
 
 // Inner: the lowest of all.
-pub fn wrong_entry(tree: &[u8], bitfield: &[u8], content: &[u8], n: u64, size: u64) -> First
+pub fn wrong_entry(
+    tree: &[u8],
+    bitfield: &[u8],
+    content: &[u8],
+    n: u64,
+    size: u64,
+) -> Option<TreeIndex>
     requires { FilesIn tree.now bitfield.now content.now n size }
     ensures { first_entry result ≡ wrong_entry_of_copy node_hash (copy_of tree.now bitfield.now content.now n size) }
 {

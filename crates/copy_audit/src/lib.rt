@@ -12,18 +12,15 @@ ghost use Rattle.copy_audit.specs.Audit.{audit_copy};
 
 use answer_types::Refusal;
 pub use entries::wrong_between;
-use lookup::First;
 
 // The checks 2, 4, 5 and 6, which is passed over while a root is unknown, then 10 at the lowest wrong tree entry, then 11 at the lowest wrong byte of
 // the bitfield file.
 pub fn audit(tree: &[u8], bitfield: &[u8], content: &[u8], n: u64, size: u64) -> Result<(), Refusal>
     ensures { said result ≡ audit_copy node_hash (copy_of tree.now bitfield.now content.now n size) }
 {
-    match copy_checks::judge_partly(tree, bitfield, content, n, size) {
-        Err(refusal) => Err(refusal),
-        Ok(()) => match entries::wrong_entry(tree, bitfield, content, n, size) {
-            First::At(i) => answer_types::refuse_entry(10, i),
-            First::Nothing => audit::wrong_byte(bitfield, n, true),
-        },
+    copy_checks::judge_partly(tree, bitfield, content, n, size)?;
+    match entries::wrong_entry(tree, bitfield, content, n, size) {
+        Some(i) => answer_types::refuse_entry(10, i),
+        None => audit::wrong_byte(bitfield, n, true),
     }
 }

@@ -17,29 +17,23 @@ ghost use Rattle.copy_checks.specs.Checks.{lent_checks, size_check, copy_judged,
 ghost use Rattle.copy_checks.specs.Meaning.{long_right, heads_right};
 
 use answer_types::Refusal;
-use lookup::First;
+use number_types::TreeIndex;
 
 // The lower of two.
-pub fn lower_of(a: First, b: First) -> First
+pub fn lower_of(a: Option<TreeIndex>, b: Option<TreeIndex>) -> Option<TreeIndex>
     ensures { first_entry result ≡ lower_of (first_entry a) (first_entry b) }
 {
     match a {
-        First::Nothing => b,
-        First::At(i) => match b {
-            First::Nothing => First::At(i),
-            First::At(j) => {
-                if i.0 < j.0 {
-                    First::At(i)
-                } else {
-                    First::At(j)
-                }
-            }
+        None => b,
+        Some(i) => match b {
+            None => Some(i),
+            Some(j) => { if i.0 < j.0 { Some(i) } else { Some(j) } }
         },
     }
 }
 
 // Inner: the first of the roots of n chunks, from the left, that is not known.
-pub fn unknown_root(bitfield: &[u8], n: u64) -> First
+pub fn unknown_root(bitfield: &[u8], n: u64) -> Option<TreeIndex>
     requires { BitsIn bitfield.now n }
     ensures { first_entry result ≡ first_unknown (stored_known bitfield.now) (roots n) }
 {
@@ -49,11 +43,11 @@ pub fn unknown_root(bitfield: &[u8], n: u64) -> First
     while j < count {
         let i = indexes[j];
         if !bitfield::is_known(bitfield, i) {
-            return First::At(i);
+            return Some(i);
         }
         j += 1;
     }
-    First::Nothing
+    None
 }
 
 // "4. A buffer is shorter than its used size." Inner: n is no larger than check 2 lets pass.
@@ -120,12 +114,10 @@ fn judge_size(tree: &[u8], n: u64, size: u64) -> Result<(), Refusal>
 pub fn judge(tree: &[u8], bitfield: &[u8], content: &[u8], n: u64, size: u64) -> Result<(), Refusal>
     ensures { said result ≡ copy_judged (copy_of tree.now bitfield.now content.now n size) done }
 {
-    match judge_lent(tree, bitfield, content, n, size) {
-        Err(refusal) => Err(refusal),
-        Ok(()) => match unknown_root(bitfield, n) {
-            First::At(i) => answer_types::refuse_entry(20, i),
-            First::Nothing => judge_size(tree, n, size),
-        },
+    judge_lent(tree, bitfield, content, n, size)?;
+    match unknown_root(bitfield, n) {
+        Some(i) => answer_types::refuse_entry(20, i),
+        None => judge_size(tree, n, size),
     }
 }
 
@@ -139,11 +131,9 @@ pub fn judge_partly(
 ) -> Result<(), Refusal>
     ensures { said result ≡ partly_judged (copy_of tree.now bitfield.now content.now n size) done }
 {
-    match judge_lent(tree, bitfield, content, n, size) {
-        Err(refusal) => Err(refusal),
-        Ok(()) => match unknown_root(bitfield, n) {
-            First::At(_) => Ok(()),
-            First::Nothing => judge_size(tree, n, size),
-        },
+    judge_lent(tree, bitfield, content, n, size)?;
+    match unknown_root(bitfield, n) {
+        Some(_) => Ok(()),
+        None => judge_size(tree, n, size),
     }
 }

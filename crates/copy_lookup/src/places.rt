@@ -5,6 +5,7 @@ ghost use Rattle.lookup.specs.Meaning.{placed_of, located_of};
 ghost use Rattle.copy_checks.specs.Copy.{copy_of};
 ghost use Rattle.copy_lookup.specs.Lookups.{copy_place_of, copy_held_place_of, copy_byte_at};
 
+use answer_types::Refusal;
 use lookup::{Located, Placed};
 use number_types::{ByteOffset, ChunkNumber};
 
@@ -16,7 +17,7 @@ pub fn place(
     n: u64,
     size: u64,
     chunk: ChunkNumber,
-) -> Placed
+) -> Result<Placed, Refusal>
     ensures { placed_of result ≡
         copy_place_of (copy_of tree.now bitfield.now content.now n size) chunk.0 }
 {
@@ -32,7 +33,7 @@ pub fn held_place(
     n: u64,
     size: u64,
     chunk: ChunkNumber,
-) -> Placed
+) -> Result<Placed, Refusal>
     ensures { placed_of result ≡
         copy_held_place_of (copy_of tree.now bitfield.now content.now n size) chunk.0 }
 {
@@ -48,7 +49,7 @@ pub fn locate(
     n: u64,
     size: u64,
     offset: ByteOffset,
-) -> Located
+) -> Result<Located, Refusal>
     ensures { located_of result ≡
         copy_byte_at (copy_of tree.now bitfield.now content.now n size) offset.0 }
 {

@@ -18,7 +18,7 @@ pub fn verify(
     n: u64,
     size: u64,
     chunk: ChunkNumber,
-) -> Verified
+) -> Result<Verified, Refusal>
     ensures { verified_of result ≡
         copy_read_found node_hash (copy_of tree.now bitfield.now content.now n size) chunk.0 }
 {

@@ -55,12 +55,7 @@ pub fn make_copy(
     ensures { MakePost (copy_of tree.old bitfield.old content.old n size) (said result)
         (files_lent tree.new bitfield.new content.new) }
 {
-    let answer = judge(tree, bitfield, content, n, size);
-    match answer {
-        Err(refusal) => Err(refusal),
-        Ok(()) => {
-            write_files(tree, bitfield, content, n, size);
-            Ok(())
-        }
-    }
+    judge(tree, bitfield, content, n, size)?;
+    write_files(tree, bitfield, content, n, size);
+    Ok(())
 }

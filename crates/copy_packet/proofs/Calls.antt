@@ -1,4 +1,5 @@
 -- What the code of making a packet from a copy needs of the definitions: what the read found, p, may go into a packet. Assumes nothing.
+use Rattle.std.specs.Prelude.{Result, Ok, Err}
 use Prim.Native.Nat.{ℕ}
 use mathlib.Core.Path.{◌≡◌, sym, ap, ◌∙◌}
 use mathlib.Core.List.{List}
@@ -9,7 +10,7 @@ use Rattle.lookup.proofs.Lookups.{found_done}
 use Rattle.packet.specs.Packet.{packet_of, packet_with}
 use Rattle.packet.specs.Inner.{ReadIn}
 use Rattle.packet.specs.Post.{MadeBehind}
-use Rattle.packet.specs.declared.making.Made.{Made}
+use Rattle.answer_types.specs.declared.Refusal.{Refusal}
 use Rattle.packet.proofs.Makes.{readable, made_alike, part_bytes as register-bytes}
 use Rattle.copy_checks.specs.Copy.{Copy, unsigned}
 use Rattle.copy_checks.proofs.Signed.{signed}

@@ -1,10 +1,10 @@
 -- The making of a packet from a copy.
-use Rattle.std.specs.Prelude.{ℕ, List, length}
+use Rattle.std.specs.Prelude.{ℕ, List, length, Result, Ok, Err}
 use Rattle.answer_types.specs.Verdict.{Verdict, unless_refused}
 use Rattle.byte_strings.specs.Lists.{put}
 use Rattle.packet.specs.Packet.{packet_of, make_behind}
 use Rattle.packet.specs.Post.{MadeFor}
-use Rattle.packet.specs.declared.making.Made.{Made}
+use Rattle.answer_types.specs.declared.Refusal.{Refusal}
 use Rattle.copy_checks.specs.Copy.{Copy, unsigned}
 use Rattle.copy_lookup.specs.Reading.{copy_read_verdict}
 
@@ -21,5 +21,5 @@ module _ (F : List ℕ → List ℕ) where
   copy_made_length c i out = unless_refused (copy_make_verdict c i out) (length (packet_of (unsigned c) i)) 0
 
   -- what it ensures, on every input
-  abbrev pub CopyMadeAs : Copy → ℕ → List ℕ → Made → List ℕ → Type 0
+  abbrev pub CopyMadeAs : Copy → ℕ → List ℕ → Result ℕ Refusal → List ℕ → Type 0
   CopyMadeAs c i out = MadeFor (copy_make_verdict c i out) (packet_of (unsigned c) i) out

@@ -5,8 +5,8 @@ ghost use Rattle.blake2b.specs.Hash.{node_hash};
 ghost use Rattle.copy_checks.specs.Copy.{copy_of};
 ghost use Rattle.copy_packet.specs.Making.{CopyMadeAs};
 
+use answer_types::Refusal;
 use number_types::ChunkNumber;
-use packet::Made;
 
 // The packet of a chunk of a copy at the front of a buffer, the rest as it was. "Making one does the read of chunk i first, with its refusals."
 pub fn make(
@@ -17,7 +17,7 @@ pub fn make(
     size: u64,
     chunk: ChunkNumber,
     out: &mut [u8],
-) -> Made
+) -> Result<u64, Refusal>
     ensures { CopyMadeAs node_hash (copy_of tree.now bitfield.now content.now n size) chunk.0
         out.old result out.new }
 {

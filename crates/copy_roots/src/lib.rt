@@ -1,6 +1,8 @@
 // The root hash, root hashes of earlier years and the search on a partial copy. Its files are lent to be read.
 #![tactic(auto)]
 
+ghost use Rattle.std.specs.Result.{result_unwrap_or};
+ghost use Rattle.byte_strings.specs.Lists.{zeros};
 ghost use Rattle.std.specs.Prelude.{◌≡◌};
 ghost use Rattle.answer_types.specs.Verdict.{tree, done};
 ghost use Rattle.answer_types.specs.Meaning.{said};
@@ -15,14 +17,17 @@ ghost use Rattle.copy_roots.specs.Roots.{copy_prefix_verdict, copy_search};
 ghost use Rattle.copy_roots.specs.Post.{RootPost, PrefixRootPost};
 
 use answer_types::Refusal;
-use lookup::First;
 use number_types::ChunkNumber;
-use search::Searched;
-use writing::Rooted;
 
 // The root hash that the stored roots of a copy give.
-pub fn root_hash(tree: &[u8], bitfield: &[u8], content: &[u8], n: u64, size: u64) -> Rooted
-    ensures { RootPost (copy_of tree.now bitfield.now content.now n size) (said result.answer) result.root }
+pub fn root_hash(
+    tree: &[u8],
+    bitfield: &[u8],
+    content: &[u8],
+    n: u64,
+    size: u64,
+) -> Result<[u8; 32], Refusal>
+    ensures { RootPost (copy_of tree.now bitfield.now content.now n size) (said result) (result_unwrap_or result (zeros 32)) }
 {
     let found = copy_checks::judge(tree, bitfield, content, n, size);
     prefix_root::rooted(found, tree, n)
@@ -34,8 +39,8 @@ fn roots_known(bitfield: &[u8], m: u64) -> Result<(), Refusal>
     ensures { said result ≡ refused_at 20 tree (first_unknown (stored_known bitfield.now) (roots m)) done }
 {
     match copy_checks::unknown_root(bitfield, m) {
-        First::At(i) => answer_types::refuse_entry(20, i),
-        First::Nothing => Ok(()),
+        Some(i) => answer_types::refuse_entry(20, i),
+        None => Ok(()),
     }
 }
 
@@ -50,12 +55,10 @@ fn judge_old(
 ) -> Result<(), Refusal>
     ensures { said result ≡ copy_prefix_verdict (copy_of tree.now bitfield.now content.now n size) m }
 {
-    match copy_checks::judge(tree, bitfield, content, n, size) {
+    copy_checks::judge(tree, bitfield, content, n, size)?;
+    match prefix_root::up_to(n, m) {
         Err(refusal) => Err(refusal),
-        Ok(()) => match prefix_root::up_to(n, m) {
-            Err(refusal) => Err(refusal),
-            Ok(()) => roots_known(bitfield, m),
-        },
+        Ok(()) => roots_known(bitfield, m),
     }
 }
 
@@ -67,8 +70,8 @@ pub fn prefix_root_hash(
     n: u64,
     size: u64,
     m: u64,
-) -> Rooted
-    ensures { PrefixRootPost (copy_of tree.now bitfield.now content.now n size) m (said result.answer) result.root }
+) -> Result<[u8; 32], Refusal>
+    ensures { PrefixRootPost (copy_of tree.now bitfield.now content.now n size) m (said result) (result_unwrap_or result (zeros 32)) }
 {
     let found = judge_old(tree, bitfield, content, n, size, m);
     prefix_root::rooted(found, tree, m)
@@ -82,7 +85,7 @@ pub fn search(
     n: u64,
     size: u64,
     from: ChunkNumber,
-) -> Searched
+) -> Result<Option<ChunkNumber>, Refusal>
     ensures { searched_of result ≡ copy_search (copy_of tree.now bitfield.now content.now n size) from.0 }
 {
     let checked = copy_checks::judge(tree, bitfield, content, n, size);

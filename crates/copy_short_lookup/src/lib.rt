@@ -7,9 +7,9 @@ ghost use Rattle.search.specs.Meaning.{searched_of};
 ghost use Rattle.copy_checks.specs.Copy.{copy_of};
 ghost use Rattle.copy_short_lookup.specs.Short.{copy_short_place_of, copy_short_byte_at, copy_short_search};
 
+use answer_types::Refusal;
 use lookup::{Located, Placed};
 use number_types::{ByteOffset, ChunkNumber};
-use search::Searched;
 
 // Start and length of a chunk of a copy, by adding up leaf lengths.
 pub fn place(
@@ -19,7 +19,7 @@ pub fn place(
     n: u64,
     size: u64,
     chunk: ChunkNumber,
-) -> Placed
+) -> Result<Placed, Refusal>
     ensures { placed_of result ≡
         copy_short_place_of (copy_of tree.now bitfield.now content.now n size) chunk.0 }
 {
@@ -35,7 +35,7 @@ pub fn locate(
     n: u64,
     size: u64,
     offset: ByteOffset,
-) -> Located
+) -> Result<Located, Refusal>
     ensures { located_of result ≡
         copy_short_byte_at (copy_of tree.now bitfield.now content.now n size) offset.0 }
 {
@@ -51,7 +51,7 @@ pub fn search(
     n: u64,
     size: u64,
     from: ChunkNumber,
-) -> Searched
+) -> Result<Option<ChunkNumber>, Refusal>
     ensures { searched_of result ≡
         copy_short_search (copy_of tree.now bitfield.now content.now n size) from.0 }
 {

@@ -5,8 +5,8 @@ ghost use Rattle.copy_checks.specs.Copy.{copy_of};
 ghost use Rattle.stored_leaf.specs.Post.{LeafPost};
 ghost use Rattle.copy_stored_leaf.specs.StoredLeaf.{copy_leaf_verdict};
 
+use answer_types::Refusal;
 use number_types::ChunkNumber;
-use stored_leaf::Stored;
 
 // The entry that is stored for a chunk's leaf, where it is known: its hash into `hash`, which is as it was after a refusal, and its length.
 pub fn stored_leaf(
@@ -17,7 +17,7 @@ pub fn stored_leaf(
     size: u64,
     chunk: ChunkNumber,
     hash: &mut [u8; 32],
-) -> Stored
+) -> Result<u64, Refusal>
     ensures { LeafPost
         (copy_leaf_verdict (copy_of tree.now bitfield.now content.now n size) chunk.0)
         tree.now chunk.0 hash.old result hash.new }

@@ -19,8 +19,7 @@ ghost use Rattle.copy_take_in.specs.Inner.{WayOf, WithGiven, Fits, Room, Held, R
 ghost use Rattle.copy_take_in.specs.Post.{TakePost, OwnPost, total_verdict, size_verdict};
 
 use answer_types::Refusal;
-use lookup::First;
-use number_types::ChunkNumber;
+use number_types::{ChunkNumber, TreeIndex};
 use packet::{Checked, Node};
 use way::Way;
 
@@ -117,19 +116,19 @@ fn bytes_contradiction(
     chunk: ChunkNumber,
     start: usize,
     bytes: &[u8],
-) -> First
+) -> Option<TreeIndex>
     requires { Held bitfield.now content.now chunk.0 start bytes.now }
     ensures { first_entry result ≡
         index_if (bytes_contradicted bitfield.now content.now chunk.0 start bytes.now) (index 0 chunk.0) }
 {
     if !bitfield::is_held(bitfield, chunk) {
-        return First::Nothing;
+        return None;
     }
     let end = start + bytes.len();
     if byte_strings::same(&content[start..end], bytes) {
-        return First::Nothing;
+        return None;
     }
-    First::At(tree_index::leaf_index(chunk))
+    Some(tree_index::leaf_index(chunk))
 }
 
 // Inner: the lowest tree index at which a packet contradicts what a copy knows.
@@ -144,7 +143,7 @@ fn contradiction_of(
     start: usize,
     row: &[u8],
     path: &[u8],
-) -> First
+) -> Option<TreeIndex>
     requires { Ready tree.now bitfield.now content.now packet.now n chunk.0 way start row.now path.now }
     ensures { first_entry result ≡
         contradiction node_hash (copy_of tree.now bitfield.now content.now n 0) packet.now chunk.0 }
@@ -246,8 +245,8 @@ fn take_checked(
         tree, bitfield, content, n, packet, chunk, way, start, &row, path,
     );
     match found {
-        First::At(i) => answer_types::refuse_entry(19, i),
-        First::Nothing => {
+        Some(i) => answer_types::refuse_entry(19, i),
+        None => {
             write_all(
                 tree, bitfield, content, n, packet, chunk, way, start, &row, path,
             );
@@ -274,8 +273,6 @@ pub fn take_in(
     let answer = judged.answer;
     let leaf = judged.leaf;
     let path = judged.row;
-    match answer {
-        Err(refusal) => Err(refusal),
-        Ok(()) => take_checked(tree, bitfield, content, n, packet, chunk, leaf, &path),
-    }
+    answer?;
+    take_checked(tree, bitfield, content, n, packet, chunk, leaf, &path)
 }

@@ -8,24 +8,29 @@ ghost use Rattle.lookup.specs.Unknown.{first_entry};
 ghost use Rattle.copy_take_in.specs.TakeIn.{contradicts, left_size};
 ghost use Rattle.copy_take_in.specs.Inner.{lies, row_given, KnowableIn, RowFor, WithGiven, Addable};
 
-use lookup::First;
 use number_types::TreeIndex;
 
 // Whether the entry at a place of a row contradicts the known entry of a tree index.
-pub fn contradiction_at(tree: &[u8], bitfield: &[u8], i: TreeIndex, row: &[u8], at: usize) -> First
+pub fn contradiction_at(
+    tree: &[u8],
+    bitfield: &[u8],
+    i: TreeIndex,
+    row: &[u8],
+    at: usize,
+) -> Option<TreeIndex>
     requires { KnowableIn tree.now bitfield.now i.0 × at + 40 ≤ length row.now }
     ensures { first_entry result ≡ contradicts tree.now bitfield.now (lies row.now at i.0) }
 {
     if !bitfield::is_known(bitfield, i) {
-        return First::Nothing;
+        return None;
     }
     let start = file_format::entries::entry_place(i);
     let end = start + 40;
     let to = at + 40;
     if byte_strings::same(&tree[start..end], &row[at..to]) {
-        return First::Nothing;
+        return None;
     }
-    First::At(i)
+    Some(i)
 }
 
 // The lowest index of a row whose entry contradicts, or what was found before, if that is lower.
@@ -36,8 +41,8 @@ pub fn lowest_in_row(
     at: usize,
     indexes: [TreeIndex; 20],
     count: usize,
-    before: First,
-) -> First
+    before: Option<TreeIndex>,
+) -> Option<TreeIndex>
     requires { RowFor tree.now bitfield.now row.now at (numbers indexes) count }
     ensures { first_entry result ≡
         lower_of (first_entry before)

@@ -2,7 +2,7 @@
 // fullest register with an empty list, each refusal, and each two of them at once.
 #![tactic(auto)]
 
-use answer_types::Refusal;
+use answer_types::{Refusal, Refusal};
 use append_needs::Needed;
 use gate_printing::named;
 
@@ -117,22 +117,21 @@ fn row(n: u64, size: u64, lengths: &[u64]) {
     gate_printing::text(b"\n");
 }
 
-fn answer(r: Needed) {
-    let said = r.answer;
-    match said {
+fn answer(r: Result<Needed, Refusal>) {
+    match r {
         Err(refusal) => {
             gate_printing::text(b" ");
             gate_printing::refusal(refusal);
         }
-        Ok(()) => {
-            named(b" tree ", r.tree);
-            named(b" signatures ", r.signatures);
-            named(b" bitfield ", r.bitfield);
-            named(b" data ", r.content);
-            named(b" leaves ", r.leaves);
-            named(b" parents ", r.parents);
-            named(b" root ", r.root);
-            named(b" runs ", r.runs);
+        Ok(needed) => {
+            named(b" tree ", needed.tree);
+            named(b" signatures ", needed.signatures);
+            named(b" bitfield ", needed.bitfield);
+            named(b" data ", needed.content);
+            named(b" leaves ", needed.leaves);
+            named(b" parents ", needed.parents);
+            named(b" root ", needed.root);
+            named(b" runs ", needed.runs);
         }
     }
 }

@@ -4,37 +4,24 @@ use compare::Compared;
 use gate_printing::{hex, number, refusal, text};
 use lookup::{Located, Placed};
 use number_types::{ChunkNumber, TreeIndex};
-use packet::Made;
 use packet_compare::Walked;
 use record_find::Found;
-use search::Searched;
-use stored_leaf::Stored;
-use writing::{Appended, Rooted};
 
-// An answer, and the root hash beside it.
-pub fn rooted(answer: Result<(), Refusal>, root: [u8; 32]) {
-    gate_printing::answer(answer);
+// An answer, and behind it the root hash, or zeros after a refusal.
+pub fn root(given: Result<[u8; 32], Refusal>) {
+    match given {
+        Ok(_) => text(b"done"),
+        Err(r) => refusal(r),
+    }
     text(b":");
-    hex(&root);
+    hex(&given.unwrap_or([0u8; 32]));
 }
 
-pub fn root(r: Rooted) {
-    let answer = r.answer;
-    let root = r.root;
-    rooted(answer, root);
-}
-
-pub fn appended(a: Appended) {
-    let answer = a.answer;
-    let root = a.root;
-    rooted(answer, root);
-}
-
-pub fn search(answer: Searched) {
+pub fn search(answer: Result<Option<ChunkNumber>, Refusal>) {
     match answer {
-        Searched::Refused(r) => refusal(r),
-        Searched::At(chunk) => number(chunk.0),
-        Searched::Nothing => text(b"none"),
+        Err(r) => refusal(r),
+        Ok(Some(chunk)) => number(chunk.0),
+        Ok(None) => text(b"none"),
     }
 }
 
@@ -46,17 +33,17 @@ pub fn found(answer: Found) {
     }
 }
 
-pub fn place(answer: Placed) {
+pub fn place(answer: Result<Placed, Refusal>) {
     match answer {
-        Placed::Refused(r) => refusal(r),
-        Placed::At(start, length) => pair(start.0, length),
+        Err(r) => refusal(r),
+        Ok(placed) => pair(placed.start.0, placed.length),
     }
 }
 
-pub fn byte(answer: Located) {
+pub fn byte(answer: Result<Located, Refusal>) {
     match answer {
-        Located::Refused(r) => refusal(r),
-        Located::In(chunk, less) => pair(chunk.0, less),
+        Err(r) => refusal(r),
+        Ok(located) => pair(located.chunk.0, located.rest),
     }
 }
 
@@ -66,10 +53,10 @@ fn pair(a: u64, b: u64) {
 }
 
 // The length in a leaf's stored entry, or why none is told, and what the bytes lent for its hash then hold.
-pub fn leaf(found: Stored, hash: &[u8; 32]) {
+pub fn leaf(found: Result<u64, Refusal>, hash: &[u8; 32]) {
     match found {
-        Stored::Refused(r) => refusal(r),
-        Stored::Length(length) => number(length),
+        Err(r) => refusal(r),
+        Ok(length) => number(length),
     }
     text(b":");
     hex(hash);
@@ -111,21 +98,27 @@ fn collision(index: TreeIndex) {
 }
 
 // The length of a packet, or why none was made.
-pub fn made(answer: Made) {
+pub fn made(answer: Result<u64, Refusal>) {
     match answer {
-        Made::Refused(r) => refusal(r),
-        Made::Length(length) => number(length),
+        Err(r) => refusal(r),
+        Ok(length) => number(length),
     }
 }
 
 // A packet that was made in the front of a buffer, a sum of the buffer, and the packet's check. Where none was made no byte is checked.
-pub fn packet(answer: Made, out: &[u8], n: u64, chunk: ChunkNumber, root: &[u8; 32]) {
+pub fn packet(
+    answer: Result<u64, Refusal>,
+    out: &[u8],
+    n: u64,
+    chunk: ChunkNumber,
+    root: &[u8; 32],
+) {
     made(answer);
     sum(out);
     text(b" ");
     match answer {
-        Made::Refused(_) => check(super::parts::bytes(out, 0, 0), n, chunk, root),
-        Made::Length(length) => check(super::parts::bytes(out, 0, length), n, chunk, root),
+        Err(_) => check(super::parts::bytes(out, 0, 0), n, chunk, root),
+        Ok(length) => check(super::parts::bytes(out, 0, length), n, chunk, root),
     }
 }
 

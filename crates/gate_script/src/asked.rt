@@ -69,9 +69,7 @@ fn shown(t: &[u8], g: &[u8], b: &[u8], d: &[u8], text: &[u8], x: [u64; 16]) {
 // An append that is only previewed.
 fn previewed(t: &[u8], g: &[u8], b: &[u8], d: &[u8], told: Told, chunk: &[u8]) {
     let r = append_preview::preview(t, g, b, d, told.n, told.s, told.size, chunk);
-    let answer = r.answer;
-    let root = r.root;
-    answers::rooted(answer, root);
+    answers::root(r);
 }
 
 // The stored entry of a leaf.
@@ -90,6 +88,6 @@ fn packed(t: &[u8], g: &[u8], b: &[u8], d: &[u8], told: Told, chunk: ChunkNumber
     let lent = parts::of_mut(&mut out, parts::between(0, room));
     let made = packet::make(t, g, b, d, n, s, size, chunk, lent);
     let r = writing::root_hash(t, g, b, d, n, s, size);
-    let root = r.root;
+    let root = r.unwrap_or([0u8; 32]);
     answers::packet(made, &out, n, chunk, &root);
 }

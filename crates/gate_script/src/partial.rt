@@ -49,7 +49,7 @@ fn packed(t: &[u8], b: &[u8], d: &[u8], n: u64, size: u64, chunk: ChunkNumber, r
     let lent = parts::of_mut(&mut out, parts::between(0, room));
     let made = copy_packet::make(t, b, d, n, size, chunk, lent);
     let r = copy_roots::root_hash(t, b, d, n, size);
-    let root = r.root;
+    let root = r.unwrap_or([0u8; 32]);
     answers::packet(made, &out, n, chunk, &root);
 }
 

@@ -5,7 +5,6 @@ use gate_printing::text;
 use gate_samples::Told;
 use lookup::{Located, Placed};
 use number_types::{ByteOffset, ChunkNumber};
-use search::Searched;
 
 // A number, and how many from there on.
 pub fn all(t: &[u8], g: &[u8], b: &[u8], d: &[u8], line: Line, told: Told) {
@@ -55,21 +54,24 @@ fn one(t: &[u8], g: &[u8], b: &[u8], d: &[u8], word: u64, told: Told, number: u6
     }
 }
 
-fn places(quick: Placed, short: Placed) {
+fn places(quick: Result<Placed, Refusal>, short: Result<Placed, Refusal>) {
     answers::place(quick);
     text(b"|");
     answers::place(short);
     text(b";");
 }
 
-fn bytes(quick: Located, short: Located) {
+fn bytes(quick: Result<Located, Refusal>, short: Result<Located, Refusal>) {
     answers::byte(quick);
     text(b"|");
     answers::byte(short);
     text(b";");
 }
 
-fn searches(quick: Searched, short: Searched) {
+fn searches(
+    quick: Result<Option<ChunkNumber>, Refusal>,
+    short: Result<Option<ChunkNumber>, Refusal>,
+) {
     answers::search(quick);
     text(b"|");
     answers::search(short);

@@ -55,7 +55,7 @@ fn called(
     match word {
         words::START => answer(writing::start(t, g, b, d)),
         words::GROW => grown(t, g, b, d, told, x[1], x[2]),
-        words::APPEND => answers::appended(writing::append(t, g, b, d, n, s, size, lent)),
+        words::APPEND => answers::root(writing::append(t, g, b, d, n, s, size, lent)),
         words::LIST => listed(t, g, b, d, lent, told, x),
         words::SIGN => signed(t, g, b, d, text, told, x[1]),
         words::RELEASE => answer(release::release(t, g, b, d, n, s, size, chunk)),
@@ -110,7 +110,7 @@ fn listed(
     let lengths = front(&all, x[3]);
     let n = told.n;
     let a = append_list::append_list(t, g, b, d, n, told.s, told.size, lengths, lent);
-    answers::appended(a);
+    answers::root(a);
 }
 
 fn lengths_in(x: [u64; 16]) -> [u64; 257] {

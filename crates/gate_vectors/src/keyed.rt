@@ -51,7 +51,7 @@ fn digest(kk: usize, count: usize, output: usize)
     let message = filled(count, 5, 13);
     let hashed = blake2b::hash(output, part(&key, 0, kk), part(&message, 0, count));
     text(b" ");
-    gate_printing::front(&hashed.digest, output);
+    gate_printing::front(&hashed.unwrap_or([0u8; 64]), output);
 }
 
 // Keys that are too long, alone and beside output lengths that are none.
@@ -72,8 +72,10 @@ fn refusal(output: usize, kk: usize)
 {
     let key = filled(kk, 1, 7);
     let hashed = blake2b::hash(output, part(&key, 0, kk), b"");
-    let answer = hashed.answer;
-    gate_printing::answer(answer);
+    match hashed {
+        Ok(_) => text(b"done"),
+        Err(refusal) => gate_printing::refusal(refusal),
+    }
     text(b"\n");
 }
 
@@ -94,9 +96,8 @@ fn label(kk: usize)
     text(b": ");
     let key = filled(kk, 1, 7);
     let labelled = root_label::label(&root(), part(&key, 0, kk));
-    let answer = labelled.answer;
-    match answer {
-        Ok(()) => gate_printing::hex(&labelled.bytes),
+    match labelled {
+        Ok(bytes) => gate_printing::hex(&bytes),
         Err(refusal) => gate_printing::refusal(refusal),
     }
     text(b"\n");

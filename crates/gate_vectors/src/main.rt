@@ -83,7 +83,7 @@ fn line(message: &[u8], output: usize) {
 // The hash, and the line's end.
 fn hash_line(message: &[u8], output: usize) {
     let hashed = blake2b::hash(output, b"", message);
-    gate_printing::front(&hashed.digest, output);
+    gate_printing::front(&hashed.unwrap_or([0u8; 64]), output);
     text(b"\n");
 }
 
@@ -104,8 +104,7 @@ fn parts(prefix: usize, body: usize)
 // What an output length that is none is refused with.
 fn refusal(output: usize) {
     let hashed = blake2b::hash(output, b"", b"");
-    let answer = hashed.answer;
-    if let Err(refusal) = answer {
+    if let Err(refusal) = hashed {
         text(b"refused ");
         number(output);
         gate_printing::number(refusal.number);

@@ -1,5 +1,6 @@
 -- What making a packet answers and writes.
 -- Assumes nothing.
+use Rattle.std.specs.Prelude.{Result, Ok, Err}
 use Prim.Native.Nat.{ℕ, ◌≤◌, ◌<◌}
 use mathlib.Core.Path.{◌≡◌, refl, sym, ap, ◌∙◌, subst}
 use mathlib.Core.Bool.{true, false}
@@ -22,8 +23,7 @@ use Rattle.lookup.proofs.Calls.{reading, read_in_lem as part_in_lem, read_says_l
 use Rattle.packet.specs.Packet.{packet_of, make_verdict, packet_with}
 use Rattle.packet.specs.Inner.{Readable, ReadIn}
 use Rattle.packet.specs.Post.{MadeAs, MadeBehind}
-use Rattle.packet.specs.declared.making.Made.{Made}
-use Rattle.packet.specs.declared.making.Made.TheVariants.{Refused, Length}
+use Rattle.answer_types.specs.declared.Refusal.{Refusal}
 
 -- ---- a chunk that is read may go into a packet
 
@@ -53,12 +53,12 @@ made_alike {v = done} e f m = rw (← e, ← f refl) m
 made_alike {v = refused k at} e f m = rw (← e) (record { verdict = m.verdict; long = m.long; written = m.written })
 
 module _ (p out : List ℕ) (needed : ℕ) (e : needed ≡ length p) where
-  pub no_room : length out < needed → MadeBehind done p out (Refused (record { number = 14; place = Nowhere })) out
+  pub no_room : length out < needed → MadeBehind done p out (Err (record { number = 14; place = Nowhere })) out
   no_room h =
       let f : holds out (length p) ≡ false = lt-leb (length p) (length out) (omega arith) in
       record { verdict = rw f; long = rw f; written = rw f }
 
-  pub made_whole : needed ≤ length out → (after : List ℕ) → after ≡ put out 0 p → MadeBehind done p out (Length needed) after
+  pub made_whole : needed ≤ length out → (after : List ℕ) → after ≡ put out 0 p → MadeBehind done p out (Ok needed) after
   made_whole h after g =
       let f : holds out (length p) ≡ true = le-leb (length p) (length out) (omega arith) in
       record { verdict = rw f; long = rw f e; written = rw f g }

@@ -17,13 +17,6 @@ use answer_types::{Place, Refusal};
 use lookup::Verified;
 use number_types::{ChunkNumber, TreeIndex};
 
-// What making a packet answers: a refusal, or the packet's length.
-#[derive(Clone, Copy)]
-pub enum Made {
-    Refused(Refusal),
-    Length(u64),
-}
-
 // Inner: stored entries one behind the other, at a place of the buffer that has room for them.
 fn write_entries(tree: &[u8], indexes: [TreeIndex; 20], count: usize, out: &mut [u8], at: usize)
     requires { EntriesIn tree.now (numbers indexes) count × at + 40 * count ≤ length out.old }
@@ -77,42 +70,44 @@ fn write_packet(tree: &[u8], n: u64, chunk: ChunkNumber, bytes: &[u8], out: &mut
 }
 
 // Inner: the packet of a chunk that is read, where the buffer has room for it.
-fn make_read(tree: &[u8], n: u64, chunk: ChunkNumber, bytes: &[u8], out: &mut [u8]) -> Made
+fn make_read(
+    tree: &[u8],
+    n: u64,
+    chunk: ChunkNumber,
+    bytes: &[u8],
+    out: &mut [u8],
+) -> Result<u64, Refusal>
     requires { Readable tree.now n chunk.0 bytes.now }
     ensures { MadeBehind done (packet_with tree.now n chunk.0 bytes.now) out.old result out.new }
 {
     let needed = packet_length(tree, n, chunk, bytes);
     if out.len() < needed {
-        return Made::Refused(Refusal {
+        return Err(Refusal {
             number: 14,
             place: Place::Nowhere,
         });
     }
     write_packet(tree, n, chunk, bytes, out);
-    Made::Length(needed as u64)
+    Ok(needed as u64)
 }
 
 // Inner: the packet of what a read found, its refusal first.
 pub fn make_behind(
-    read: Verified,
+    read: Result<Verified, Refusal>,
     tree: &[u8],
     content: &[u8],
     n: u64,
     chunk: ChunkNumber,
     out: &mut [u8],
-) -> Made
+) -> Result<u64, Refusal>
     requires { ReadIn tree.now content.now n chunk.0 (verified_of read) }
     ensures { MadeBehind (verdict_found (verified_of read))
         (packet_with tree.now n chunk.0 (bytes_found content.now (verified_of read))) out.old result out.new }
 {
-    match read {
-        Verified::Refused(refusal) => Made::Refused(refusal),
-        Verified::Part(start, end) => {
-            let from = start.0 as usize;
-            let to = end.0 as usize;
-            make_read(tree, n, chunk, &content[from..to], out)
-        }
-    }
+    let part = read?;
+    let from = part.start.0 as usize;
+    let to = part.end.0 as usize;
+    make_read(tree, n, chunk, &content[from..to], out)
 }
 
 // The packet of a chunk at the front of a buffer, the rest as it was. "Making one does the read of chunk i first, with its refusals."
@@ -126,7 +121,7 @@ pub fn make(
     size: u64,
     chunk: ChunkNumber,
     out: &mut [u8],
-) -> Made
+) -> Result<u64, Refusal>
     ensures { MadeAs node_hash
         (register_of tree.now signatures.now bitfield.now content.now n s size)
         chunk.0 out.old result out.new }

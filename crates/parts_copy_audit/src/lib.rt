@@ -8,7 +8,6 @@ ghost use Rattle.copy_checks.specs.Copy.{copy_of};
 ghost use Rattle.parts_copy_audit.specs.Part.{copy_tree_part, copy_bitfield_part};
 
 use answer_types::Refusal;
-use lookup::First;
 use number_types::TreeIndex;
 
 // The checks of a copy's audit, then 10 at the lowest that is found wrong when it comes to the tree entries from `from` on and before `to`. The place may
@@ -31,8 +30,8 @@ pub fn tree_part(
     };
     let end = TreeIndex(parts_audit::lesser(to.0, audit::entry_count(n)));
     match copy_audit::wrong_between(tree, bitfield, content, n, size, from, end) {
-        First::At(i) => answer_types::refuse_entry(10, i),
-        First::Nothing => Ok(()),
+        Some(i) => answer_types::refuse_entry(10, i),
+        None => Ok(()),
     }
 }
 

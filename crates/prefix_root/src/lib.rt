@@ -2,6 +2,8 @@
 // without an audit". All four images are lent to be read; of the tree entries only the roots of n, for the checks, and those of m are read.
 #![tactic(auto)]
 
+ghost use Rattle.std.specs.Result.{result_unwrap_or};
+ghost use Rattle.byte_strings.specs.Lists.{zeros};
 ghost use Rattle.std.specs.Prelude.{◌≡◌};
 ghost use Rattle.answer_types.specs.Verdict.{done};
 ghost use Rattle.answer_types.specs.Meaning.{said};
@@ -10,7 +12,6 @@ ghost use Rattle.checks.specs.Lent.{register_of};
 ghost use Rattle.prefix_root.specs.PrefixRoot.{own_verdict, prefix_verdict, RootedPost, PrefixRootPost};
 
 use answer_types::Refusal;
-use writing::Rooted;
 
 // "9 is given for m above n".
 pub fn up_to(n: u64, m: u64) -> Result<(), Refusal>
@@ -38,27 +39,17 @@ fn judge(
         (register_of tree.now signatures.now bitfield.now content.now n s size)
         m }
 {
-    match checks::judge(tree, signatures, bitfield, content, n, s, size) {
-        Err(refusal) => Err(refusal),
-        Ok(()) => up_to(n, m),
-    }
+    checks::judge(tree, signatures, bitfield, content, n, s, size)?;
+    up_to(n, m)
 }
 
 // Inner: an answer, and beside it, where it is done, the root hash that the stored roots of the first m chunks give; zeros after a refusal.
-pub fn rooted(found: Result<(), Refusal>, tree: &[u8], m: u64) -> Rooted
+pub fn rooted(found: Result<(), Refusal>, tree: &[u8], m: u64) -> Result<[u8; 32], Refusal>
     requires { said found ≡ done → RootsIn tree.now m }
-    ensures { RootedPost (said found) tree.now m (said result.answer) result.root }
+    ensures { RootedPost (said found) tree.now m (said result) (result_unwrap_or result (zeros 32)) }
 {
-    match found {
-        Err(refusal) => Rooted {
-            answer: Err(refusal),
-            root: [0u8; 32],
-        },
-        Ok(()) => Rooted {
-            answer: Ok(()),
-            root: file_format::roots::stored_root_hash(tree, m),
-        },
-    }
+    found?;
+    Ok(file_format::roots::stored_root_hash(tree, m))
 }
 
 // The root hash of the first m chunks, from the stored entries; zeros after a refusal.
@@ -71,10 +62,10 @@ pub fn prefix_root(
     s: u64,
     size: u64,
     m: u64,
-) -> Rooted
+) -> Result<[u8; 32], Refusal>
     ensures { PrefixRootPost
         (register_of tree.now signatures.now bitfield.now content.now n s size)
-        m (said result.answer) result.root }
+        m (said result) (result_unwrap_or result (zeros 32)) }
 {
     let found = judge(tree, signatures, bitfield, content, n, s, size, m);
     rooted(found, tree, m)

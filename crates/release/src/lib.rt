@@ -33,19 +33,15 @@ pub fn release_placed(
     bitfield: &mut [u8],
     content: &mut [u8],
     chunk: ChunkNumber,
-    placed: Placed,
+    placed: Result<Placed, Refusal>,
 ) -> Result<(), Refusal>
     requires { ClearsAt bitfield.old content.old chunk.0 (placed_of placed) }
     ensures { ReleasedPost bitfield.old content.old chunk.0 (placed_of placed) (said result)
         bitfield.new content.new }
 {
-    match placed {
-        Placed::Refused(refusal) => Err(refusal),
-        Placed::At(start, length) => {
-            clear_chunk(bitfield, content, chunk, start, length);
-            Ok(())
-        }
-    }
+    let placed = placed?;
+    clear_chunk(bitfield, content, chunk, placed.start, placed.length);
+    Ok(())
 }
 
 // A chunk that is held makes room: it is held no longer, and its bytes are zeros.

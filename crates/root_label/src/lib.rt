@@ -3,26 +3,17 @@
 
 ghost use Rattle.root_label.specs.Post.{LabelledAs};
 
-// What `label` gives: its answer, and the label, or zeros after a refusal.
-#[derive(Clone, Copy)]
-pub struct Labelled {
-    pub bytes: [u8; 32],
-    pub answer: Result<(), answer_types::Refusal>,
-}
+use answer_types::{Place, Refusal};
 
 // The 32-byte hash of a root hash under a key, or refusal 17 where the key has more than 64 bytes.
-pub fn label(root: &[u8; 32], key: &[u8]) -> Labelled
+pub fn label(root: &[u8; 32], key: &[u8]) -> Result<[u8; 32], Refusal>
     ensures { LabelledAs root.now key.now result }
 {
     if 64 < key.len() {
-        return Labelled {
-            bytes: [0u8; 32],
-            answer: answer_types::refuse(17),
-        };
+        return Err(Refusal {
+            number: 17,
+            place: Place::Nowhere,
+        });
     }
-    let bytes = blake2b::hash_parts(key, b"", root);
-    Labelled {
-        bytes,
-        answer: Ok(()),
-    }
+    Ok(blake2b::hash_parts(key, b"", root))
 }

@@ -15,8 +15,7 @@ use Rattle.bitfield.specs.Image.{entry_count}
 use Rattle.bitfield.specs.Append.{bits_place}
 use Rattle.bitfield.specs.Release.{stored_held}
 use Rattle.bitfield.specs.Missing.{found_at}
-use Rattle.bitfield.specs.declared.Found.{Found}
-use Rattle.bitfield.specs.declared.Found.TheVariants.{At, Nothing}
+use Rattle.std.specs.Prelude.{Option, Some, None}
 use Rattle.file_format.specs.Sizes.{most_chunks, used_bitfield}
 use Rattle.search.specs.Search.{tuples_place, stored_tuples, tuple_in, stored_tuple, passed_over, not_missing}
 use Rattle.search.specs.Inner.{DataIn, InGroup, InRun}
@@ -75,12 +74,12 @@ all_ones g = ones (g % 4) (omega arith)
 
 -- ---- one part of a search behind another
 
-module _ (f : ℕ → Bool) (m : Found) (from k next end : ℕ) (up : k < next) (to : next ≤ end) (e : found_at m ≡ lowest f k (next - k))
+module _ (f : ℕ → Bool) (m : Option ChunkNumber) (from k next end : ℕ) (up : k < next) (to : next ≤ end) (e : found_at m ≡ lowest f k (next - k))
     (so_far : lowest f from (end - from) ≡ lowest f k (end - k)) where
-  pub found_here : (c : ChunkNumber) → m ≡ At c → found_at m ≡ lowest f from (end - from)
+  pub found_here : (c : ChunkNumber) → m ≡ Some c → found_at m ≡ lowest f from (end - from)
   found_here c g = ap found_at g ∙ cut_found f k next end (omega arith) to c.0 (sym (ap found_at g) ∙ e) ∙ sym so_far
 
-  pub none_here : m ≡ Nothing → lowest f from (end - from) ≡ lowest f next (end - next)
+  pub none_here : m ≡ None → lowest f from (end - from) ≡ lowest f next (end - next)
   none_here g = so_far ∙ cut_none f k next end (omega arith) to (sym (ap found_at g) ∙ e)
 
 -- ---- what is not missing
@@ -127,3 +126,8 @@ module _ (xs : List ℕ) where
   -- a run, from one of its chunks on
   pub run_in : (n k next : ℕ) → n ≤ most_chunks → DataIn xs n → next ≤ (k / 64 + 1) * 64 → next ≤ n → InRun xs (stored_tuples xs (k / 64)) k next
   run_in n k next few p a b = record { room = data_below xs n next p b; few = omega arith; same = a; is = refl }
+
+-- what a search that is not refused answers, by what it finds
+pub answered : (m : Option ChunkNumber) → searched_of (Ok m) ≡ answer (found_at m)
+answered (Some c) = refl
+answered None = refl

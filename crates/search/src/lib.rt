@@ -12,16 +12,7 @@ ghost use Rattle.search.specs.Inner.{DataIn};
 ghost use Rattle.search.specs.Meaning.{searched_of};
 
 use answer_types::Refusal;
-use bitfield::Found;
 use number_types::ChunkNumber;
-
-// What a search answers: a refusal, the chunk, or that there is none.
-#[derive(Clone, Copy)]
-pub enum Searched {
-    Refused(Refusal),
-    At(ChunkNumber),
-    Nothing,
-}
 
 // Inner: the first chunk that is not held, from a given number on, behind the answer of a register's checks 2 to 6 or of a copy's own.
 pub fn search_behind(
@@ -29,17 +20,12 @@ pub fn search_behind(
     bitfield: &[u8],
     n: u64,
     from: ChunkNumber,
-) -> Searched
+) -> Result<Option<ChunkNumber>, Refusal>
     requires { said checked ≡ done → (n ≤ 1048576) × DataIn bitfield.now n }
     ensures { searched_of result ≡ sought_unless (said checked) (first_missing bitfield.now n from.0) }
 {
-    match checked {
-        Err(refusal) => Searched::Refused(refusal),
-        Ok(()) => match runs::by_runs(bitfield, from.0, n) {
-            Found::At(chunk) => Searched::At(chunk),
-            Found::Nothing => Searched::Nothing,
-        },
-    }
+    checked?;
+    Ok(runs::by_runs(bitfield, from.0, n))
 }
 
 // The first chunk that is not held, from a given number on.
@@ -52,7 +38,7 @@ pub fn search(
     s: u64,
     size: u64,
     from: ChunkNumber,
-) -> Searched
+) -> Result<Option<ChunkNumber>, Refusal>
     ensures { searched_of result ≡
         search_for
         (register_of tree.now signatures.now bitfield.now content.now n s size)

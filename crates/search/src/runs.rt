@@ -7,7 +7,6 @@ ghost use Rattle.bitfield.specs.Missing.{found_at};
 ghost use Rattle.search.specs.Search.{tuples_place, stored_tuples, tuple_in, not_missing};
 ghost use Rattle.search.specs.Inner.{Smaller, DataIn, InGroup, InRun};
 
-use bitfield::Found;
 use number_types::{ByteOffset, ChunkNumber};
 
 // Where the Index byte of the run of 64 chunks that has a chunk stands in the bitfield file.
@@ -48,18 +47,18 @@ fn smaller_of(a: u64, b: u64) -> u64
 }
 
 // Inner: the first chunk that is not passed over and not held, from one up to an end, within a group, which is passed over where its tuple is 11.
-fn in_group(xs: &[u8], tuple: u8, from: u64, end: u64) -> Found
+fn in_group(xs: &[u8], tuple: u8, from: u64, end: u64) -> Option<ChunkNumber>
     requires { InGroup xs.now tuple from end }
     ensures { found_at result ≡ lowest (not_missing xs.now) from (end - from) }
 {
     if tuple == 3 {
-        return Found::Nothing;
+        return None;
     }
     bitfield::first_missing(xs, number_types::chunk_behind(from), end)
 }
 
 // Inner: the same within a run, group by group.
-fn by_groups(xs: &[u8], tuples: u8, from: u64, end: u64) -> Found
+fn by_groups(xs: &[u8], tuples: u8, from: u64, end: u64) -> Option<ChunkNumber>
     requires { InRun xs.now tuples from end }
     ensures { found_at result ≡ lowest (not_missing xs.now) from (end - from) }
 {
@@ -68,28 +67,28 @@ fn by_groups(xs: &[u8], tuples: u8, from: u64, end: u64) -> Found
         let next = smaller_of((k / 16 + 1) * 16, end);
         let tuple = group_tuple(tuples, number_types::chunk_behind(k));
         let found = in_group(xs, tuple, k, next);
-        let Found::Nothing = found else {
+        if found.is_some() {
             return found;
-        };
+        }
         k = next;
     }
-    Found::Nothing
+    None
 }
 
 // Inner: the same within a run, all of which is passed over at once where each of its tuples is 11.
-fn in_run(xs: &[u8], from: u64, end: u64) -> Found
+fn in_run(xs: &[u8], from: u64, end: u64) -> Option<ChunkNumber>
     requires { (from < end) × InRun xs.now (stored_tuples xs.now (from / 64)) from end }
     ensures { found_at result ≡ lowest (not_missing xs.now) from (end - from) }
 {
     let tuples = run_tuples(xs, number_types::chunk_behind(from));
     if tuples == 255 {
-        return Found::Nothing;
+        return None;
     }
     by_groups(xs, tuples, from, end)
 }
 
 // Inner: the same among n chunks, run by run.
-pub fn by_runs(xs: &[u8], from: u64, n: u64) -> Found
+pub fn by_runs(xs: &[u8], from: u64, n: u64) -> Option<ChunkNumber>
     requires { (n ≤ 1048576) × DataIn xs.now n }
     ensures { found_at result ≡ lowest (not_missing xs.now) from (n - from) }
 {
@@ -97,10 +96,10 @@ pub fn by_runs(xs: &[u8], from: u64, n: u64) -> Found
     while k < n {
         let next = smaller_of((k / 64 + 1) * 64, n);
         let found = in_run(xs, k, next);
-        let Found::Nothing = found else {
+        if found.is_some() {
             return found;
-        };
+        }
         k = next;
     }
-    Found::Nothing
+    None
 }

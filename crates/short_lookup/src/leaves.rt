@@ -10,12 +10,18 @@ use lookup::{Located, Placed};
 use number_types::{ByteOffset, ChunkNumber, TreeIndex};
 
 // Inner: start and length of a chunk. The files hold the entries of n chunks.
-pub fn place_in(tree: &[u8], bitfield: &[u8], partly: bool, n: u64, chunk: ChunkNumber) -> Placed
+pub fn place_in(
+    tree: &[u8],
+    bitfield: &[u8],
+    partly: bool,
+    n: u64,
+    chunk: ChunkNumber,
+) -> Result<Placed, Refusal>
     requires { FilesIn partly tree.now bitfield.now n }
     ensures { placed_of result ≡ short_place_in (known_if partly bitfield.now) tree.now n chunk.0 }
 {
     if n <= chunk.0 {
-        return Placed::Refused(Refusal {
+        return Err(Refusal {
             number: 9,
             place: Place::Nowhere,
         });
@@ -25,20 +31,20 @@ pub fn place_in(tree: &[u8], bitfield: &[u8], partly: bool, n: u64, chunk: Chunk
     loop {
         let leaf = tree_index::leaf_index(k);
         if !lookup::is_known(bitfield, partly, leaf) {
-            return Placed::Refused(Refusal {
+            return Err(Refusal {
                 number: 20,
                 place: Place::Tree(leaf),
             });
         }
         let length = file_format::entries::stored_size(tree, leaf);
         if 65536 < length {
-            return Placed::Refused(Refusal {
+            return Err(Refusal {
                 number: 10,
                 place: Place::Tree(leaf),
             });
         }
         if k.0 == chunk.0 {
-            return Placed::At(start, length);
+            return Ok(Placed { start, length });
         }
         start = ByteOffset(start.0 + length);
         k = ChunkNumber(k.0 + 1);
@@ -53,18 +59,21 @@ pub fn locate_in(
     n: u64,
     size: u64,
     offset: ByteOffset,
-) -> Located
+) -> Result<Located, Refusal>
     requires { FilesIn partly tree.now bitfield.now n }
     ensures { located_of result ≡ short_byte_in (known_if partly bitfield.now) tree.now n size offset.0 }
 {
     if size < offset.0 {
-        return Located::Refused(Refusal {
+        return Err(Refusal {
             number: 9,
             place: Place::Nowhere,
         });
     }
     if offset.0 == size {
-        return Located::In(number_types::chunk_behind(n), 0);
+        return Ok(Located {
+            chunk: number_types::chunk_behind(n),
+            rest: 0,
+        });
     }
     let mut k = ChunkNumber(0);
     let mut start = ByteOffset(0);
@@ -72,25 +81,28 @@ pub fn locate_in(
     while k.0 < n {
         leaf = tree_index::leaf_index(k);
         if !lookup::is_known(bitfield, partly, leaf) {
-            return Located::Refused(Refusal {
+            return Err(Refusal {
                 number: 20,
                 place: Place::Tree(leaf),
             });
         }
         let length = file_format::entries::stored_size(tree, leaf);
         if 65536 < length {
-            return Located::Refused(Refusal {
+            return Err(Refusal {
                 number: 10,
                 place: Place::Tree(leaf),
             });
         }
         if offset.0 < start.0 + length {
-            return Located::In(k, offset.0 - start.0);
+            return Ok(Located {
+                chunk: k,
+                rest: offset.0 - start.0,
+            });
         }
         start = ByteOffset(start.0 + length);
         k = ChunkNumber(k.0 + 1);
     }
-    Located::Refused(Refusal {
+    Err(Refusal {
         number: 10,
         place: Place::Tree(leaf),
     })

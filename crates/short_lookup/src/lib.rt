@@ -19,10 +19,8 @@ ghost use Rattle.search.specs.Meaning.{searched_of};
 ghost use Rattle.short_lookup.specs.ShortLookup.{short_place_in, short_byte_in, short_place_of, short_byte_at, short_search_for};
 
 use answer_types::Refusal;
-use bitfield::Found;
 use lookup::{Located, Placed};
 use number_types::{ByteOffset, ChunkNumber};
-use search::Searched;
 
 // Inner: start and length of a chunk, behind the answer of a register's checks 2 to 6 or of a copy's own. `partly` says that the files
 // are a copy's.
@@ -33,16 +31,14 @@ pub fn place_behind(
     partly: bool,
     n: u64,
     chunk: ChunkNumber,
-) -> Placed
+) -> Result<Placed, Refusal>
     requires { said checked ≡ done → FilesIn partly tree.now bitfield.now n }
     ensures { placed_of result ≡
         found_behind (said checked)
         (short_place_in (known_if partly bitfield.now) tree.now n chunk.0) }
 {
-    match checked {
-        Err(refusal) => Placed::Refused(refusal),
-        Ok(()) => leaves::place_in(tree, bitfield, partly, n, chunk),
-    }
+    checked?;
+    leaves::place_in(tree, bitfield, partly, n, chunk)
 }
 
 // Inner: the chunk whose bytes contain an offset, and the offset less its start.
@@ -54,16 +50,14 @@ pub fn locate_behind(
     n: u64,
     size: u64,
     offset: ByteOffset,
-) -> Located
+) -> Result<Located, Refusal>
     requires { said checked ≡ done → FilesIn partly tree.now bitfield.now n }
     ensures { located_of result ≡
         found_behind (said checked)
         (short_byte_in (known_if partly bitfield.now) tree.now n size offset.0) }
 {
-    match checked {
-        Err(refusal) => Located::Refused(refusal),
-        Ok(()) => leaves::locate_in(tree, bitfield, partly, n, size, offset),
-    }
+    checked?;
+    leaves::locate_in(tree, bitfield, partly, n, size, offset)
 }
 
 // Inner: the first chunk that is not held, from a given number on.
@@ -72,18 +66,13 @@ pub fn search_behind(
     bitfield: &[u8],
     n: u64,
     from: ChunkNumber,
-) -> Searched
+) -> Result<Option<ChunkNumber>, Refusal>
     requires { said checked ≡ done → bits_place (entry_count n) ≤ length bitfield.now }
     ensures { searched_of result ≡
         sought_unless (said checked) (lowest (stored_held bitfield.now) from.0 (n - from.0)) }
 {
-    match checked {
-        Err(refusal) => Searched::Refused(refusal),
-        Ok(()) => match bitfield::first_missing(bitfield, from, n) {
-            Found::At(chunk) => Searched::At(chunk),
-            Found::Nothing => Searched::Nothing,
-        },
-    }
+    checked?;
+    Ok(bitfield::first_missing(bitfield, from, n))
 }
 
 // Start and length of a chunk, by adding up leaf lengths.
@@ -96,7 +85,7 @@ pub fn place(
     s: u64,
     size: u64,
     chunk: ChunkNumber,
-) -> Placed
+) -> Result<Placed, Refusal>
     ensures { placed_of result ≡
         short_place_of
         (register_of tree.now signatures.now bitfield.now content.now n s size)
@@ -116,7 +105,7 @@ pub fn locate(
     s: u64,
     size: u64,
     offset: ByteOffset,
-) -> Located
+) -> Result<Located, Refusal>
     ensures { located_of result ≡
         short_byte_at
         (register_of tree.now signatures.now bitfield.now content.now n s size)
@@ -136,7 +125,7 @@ pub fn search(
     s: u64,
     size: u64,
     from: ChunkNumber,
-) -> Searched
+) -> Result<Option<ChunkNumber>, Refusal>
     ensures { searched_of result ≡
         short_search_for
         (register_of tree.now signatures.now bitfield.now content.now n s size)

@@ -1,4 +1,5 @@
 -- The answer, from the case that it is. Assumes nothing.
+use Rattle.std.specs.Prelude.{Result, Ok, Err}
 use Prim.Native.Nat.{ℕ, ◌+◌, ◌/◌, ◌≤◌, ◌<◌}
 use mathlib.Core.Path.{◌≡◌, refl, ap, ◌∙◌, subst}
 use mathlib.Core.Bool.{Bool, true, false, cond}
@@ -24,8 +25,6 @@ use Rattle.checks.proofs.Passed.{passed}
 use Rattle.lookup.specs.Inner.{FilesIn}
 use Rattle.stored_leaf.specs.StoredLeaf.{leaf_in, leaf_hash, leaf_length}
 use Rattle.stored_leaf.specs.Post.{LeafPost}
-use Rattle.stored_leaf.specs.declared.Stored.{Stored}
-use Rattle.stored_leaf.specs.declared.Stored.TheVariants.{Refused, Length}
 
 -- ---- behind the checks of a call
 
@@ -76,7 +75,7 @@ then_next (refused m at) x e = let z : ◌≡◌ {A = ℕ} 0 1 = cc in absurd (o
 -- ---- the answer and the lent bytes
 
 module _ (v : Verdict) (t : List ℕ) (k : ℕ) (out : List ℕ) where
-  pub post_refused : (x : Refusal) → refusal_of x ≡ v → LeafPost v t k out (Refused x) out
+  pub post_refused : (x : Refusal) → refusal_of x ≡ v → LeafPost v t k out (Err x) out
   unfolding leaf_hash leaf_length
   post_refused x e =
       record {
@@ -85,7 +84,7 @@ module _ (v : Verdict) (t : List ℕ) (k : ℕ) (out : List ℕ) where
         hash = ap (λ (w : Verdict). unless_refused w (stored_hash t (index 0 k)) out) e;
       }
 
-  pub post_done : (z : ℕ) (h : List ℕ) → done ≡ v → z ≡ stored_size t (index 0 k) → h ≡ stored_hash t (index 0 k) → LeafPost v t k out (Length z) h
+  pub post_done : (z : ℕ) (h : List ℕ) → done ≡ v → z ≡ stored_size t (index 0 k) → h ≡ stored_hash t (index 0 k) → LeafPost v t k out (Ok z) h
   unfolding leaf_hash leaf_length
   post_done z h e p q =
       record {

@@ -12,13 +12,6 @@ ghost use Rattle.stored_leaf.specs.Post.{LeafPost};
 use answer_types::Refusal;
 use number_types::ChunkNumber;
 
-// What a call for a leaf's entry answers: a refusal, or the length that is stored in it.
-#[derive(Clone, Copy)]
-pub enum Stored {
-    Refused(Refusal),
-    Length(u64),
-}
-
 // Inner: 9, and in a copy 20 where the leaf's entry is unknown. `partly` says that the files are a copy's.
 fn judge_leaf(
     tree: &[u8],
@@ -55,10 +48,8 @@ fn judge_behind(
     requires { said found ≡ done → FilesIn partly tree.now bitfield.now n }
     ensures { said result ≡ and_then (said found) (leaf_in (known_if partly bitfield.now) n chunk.0) }
 {
-    match found {
-        Err(refusal) => Err(refusal),
-        Ok(()) => judge_leaf(tree, bitfield, partly, n, chunk),
-    }
+    found?;
+    judge_leaf(tree, bitfield, partly, n, chunk)
 }
 
 // Inner: the entry of a leaf, behind the checks of a call on a register or a copy, whose answer is `found`: its hash into `hash`, and its length.
@@ -70,19 +61,15 @@ pub fn give_leaf(
     n: u64,
     chunk: ChunkNumber,
     hash: &mut [u8; 32],
-) -> Stored
+) -> Result<u64, Refusal>
     requires { said found ≡ done → FilesIn partly tree.now bitfield.now n }
     ensures { LeafPost (and_then (said found) (leaf_in (known_if partly bitfield.now) n chunk.0)) tree.now chunk.0
         hash.old result hash.new }
 {
-    match judge_behind(found, tree, bitfield, partly, n, chunk) {
-        Err(refusal) => Stored::Refused(refusal),
-        Ok(()) => {
-            let leaf = tree_index::leaf_index(chunk);
-            *hash = file_format::entries::stored_hash(tree, leaf);
-            Stored::Length(file_format::entries::stored_size(tree, leaf))
-        }
-    }
+    judge_behind(found, tree, bitfield, partly, n, chunk)?;
+    let leaf = tree_index::leaf_index(chunk);
+    *hash = file_format::entries::stored_hash(tree, leaf);
+    Ok(file_format::entries::stored_size(tree, leaf))
 }
 
 // The entry that is stored for a chunk's leaf: its hash into `hash`, which is as it was after a refusal, and its length.
@@ -96,7 +83,7 @@ pub fn stored_leaf(
     size: u64,
     chunk: ChunkNumber,
     hash: &mut [u8; 32],
-) -> Stored
+) -> Result<u64, Refusal>
     ensures { LeafPost
         (leaf_verdict
         (register_of tree.now signatures.now bitfield.now content.now n s size)

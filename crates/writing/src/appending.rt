@@ -1,7 +1,8 @@
 // An append: "adds one chunk, writes the leaf, every completed parent and the new hole, if any, sets the bits, regenerates the
 // Index of the new chunk's bitfield entry (zeroed first if it is new), and answers the new root hash".
+ghost use Rattle.std.specs.Result.{result_unwrap_or};
 ghost use Rattle.std.specs.Prelude.{◌≡◌, ◌+◌, ◌≤◌, ◌<◌, length};
-ghost use Rattle.byte_strings.specs.Lists.{put};
+ghost use Rattle.byte_strings.specs.Lists.{put, zeros};
 ghost use Rattle.tree_index.specs.Tree.{completed, filled_by};
 ghost use Rattle.blake2b.specs.Hash.{node_hash};
 ghost use Rattle.file_format.specs.Sizes.{entry_place, used_tree};
@@ -15,13 +16,6 @@ ghost use Rattle.writing.specs.Inner.{place, entry_of, with_leaf, NodeFits, Abov
 ghost use Rattle.writing.specs.Post.{lent, AppendPost};
 
 use answer_types::Refusal;
-
-// An answer, and beside it the new root hash; zeros after a refusal.
-#[derive(Clone, Copy)]
-pub struct Appended {
-    pub answer: Result<(), Refusal>,
-    pub root: [u8; 32],
-}
 
 // A tree entry by value.
 #[derive(Clone, Copy)]
@@ -86,11 +80,8 @@ pub fn judge(
     if 1048576 <= n {
         return answer_types::refuse(2);
     }
-    let found = checks::judge_later(tree, signatures, bitfield, content, n, s, size);
-    match found {
-        Err(refusal) => Err(refusal),
-        Ok(()) => judge_own(tree, signatures, bitfield, content, n, s, size, chunk),
-    }
+    checks::judge_later(tree, signatures, bitfield, content, n, s, size)?;
+    judge_own(tree, signatures, bitfield, content, n, s, size, chunk)
 }
 
 // Inner: the new hole, if any. The parent before the leaf of the chunk n is new; it is a hole where the chunk does not complete it.
@@ -198,21 +189,12 @@ pub fn append(
     s: u64,
     size: u64,
     chunk: &[u8],
-) -> Appended
+) -> Result<[u8; 32], Refusal>
     ensures { AppendPost
         (register_of tree.old signatures.now bitfield.old content.old n s size)
-        chunk.now (said result.answer) result.root
+        chunk.now (said result) (result_unwrap_or result (zeros 32))
         (lent tree.new signatures.now bitfield.new content.new) }
 {
-    let found = judge(tree, signatures, bitfield, content, n, s, size, chunk);
-    match found {
-        Err(refusal) => Appended {
-            answer: Err(refusal),
-            root: [0u8; 32],
-        },
-        Ok(()) => Appended {
-            answer: Ok(()),
-            root: store(tree, bitfield, content, n, size, chunk),
-        },
-    }
+    judge(tree, signatures, bitfield, content, n, s, size, chunk)?;
+    Ok(store(tree, bitfield, content, n, size, chunk))
 }

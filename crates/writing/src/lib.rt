@@ -6,8 +6,8 @@ mod root;
 mod signing;
 mod starting;
 
-pub use appending::{Appended, append};
-pub use root::{Rooted, root_hash};
+pub use appending::append;
+pub use root::root_hash;
 pub use signing::store_signature;
 pub use starting::start;
 

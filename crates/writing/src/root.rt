@@ -1,16 +1,11 @@
 // The root hash of a register.
+ghost use Rattle.std.specs.Result.{result_unwrap_or};
+ghost use Rattle.byte_strings.specs.Lists.{zeros};
 ghost use Rattle.answer_types.specs.Meaning.{said};
 ghost use Rattle.checks.specs.Lent.{register_of};
 ghost use Rattle.writing.specs.Post.{RootPost};
 
 use answer_types::Refusal;
-
-// An answer, and beside it the root hash; zeros after a refusal.
-#[derive(Clone, Copy)]
-pub struct Rooted {
-    pub answer: Result<(), Refusal>,
-    pub root: [u8; 32],
-}
 
 // The root hash that the stored roots of a register give.
 pub fn root_hash(
@@ -21,20 +16,11 @@ pub fn root_hash(
     n: u64,
     s: u64,
     size: u64,
-) -> Rooted
+) -> Result<[u8; 32], Refusal>
     ensures { RootPost
         (register_of tree.now signatures.now bitfield.now content.now n s size)
-        (said result.answer) result.root }
+        (said result) (result_unwrap_or result (zeros 32)) }
 {
-    let found = checks::judge(tree, signatures, bitfield, content, n, s, size);
-    match found {
-        Err(refusal) => Rooted {
-            answer: Err(refusal),
-            root: [0u8; 32],
-        },
-        Ok(()) => Rooted {
-            answer: Ok(()),
-            root: file_format::roots::stored_root_hash(tree, n),
-        },
-    }
+    checks::judge(tree, signatures, bitfield, content, n, s, size)?;
+    Ok(file_format::roots::stored_root_hash(tree, n))
 }

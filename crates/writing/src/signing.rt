@@ -37,11 +37,8 @@ fn judge(
         sign_verdict
         (register_of tree.now signatures.now bitfield.now content.now n s size) }
 {
-    let found = checks::judge(tree, signatures, bitfield, content, n, s, size);
-    match found {
-        Err(refusal) => Err(refusal),
-        Ok(()) => judge_own(signatures, n, s),
-    }
+    checks::judge(tree, signatures, bitfield, content, n, s, size)?;
+    judge_own(signatures, n, s)
 }
 
 // The signature of the newest chunk, which is owed where s is n - 1.
@@ -60,13 +57,8 @@ pub fn store_signature(
         signature.now (said result)
         (lent tree.now signatures.new bitfield.now content.now) }
 {
-    let found = judge(tree, signatures, bitfield, content, n, s, size);
-    match found {
-        Err(refusal) => Err(refusal),
-        Ok(()) => {
-            let at = file_format::sizes::used_signatures(s);
-            byte_strings::copy_to(signatures, at, signature);
-            Ok(())
-        }
-    }
+    judge(tree, signatures, bitfield, content, n, s, size)?;
+    let at = file_format::sizes::used_signatures(s);
+    byte_strings::copy_to(signatures, at, signature);
+    Ok(())
 }

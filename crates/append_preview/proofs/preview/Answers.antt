@@ -1,4 +1,5 @@
 -- `append_preview::preview` meets its contract. Assumes nothing.
+use Rattle.std.proofs.lemmas.Result.{err_from_is_err_and}
 use native.Mathlib.Omega.{arith}
 use Rattle.file_format.specs.Belongs.{Register}
 use Rattle.checks.specs.Lent.{register_of}
@@ -8,14 +9,15 @@ use Rattle.append_preview.proofs.preview.Goals as goal
 pub new_root-requires : goal.new_root-requires
 new_root-requires c =
     let given : Register = register_of c.args.tree.now c.args.signatures.now c.args.bitfield.now c.args.content.now c.args.n c.args.s c.args.size in
-    root_fits given c.args.chunk.now c.judge-found.result c.judge-found.ensures c.in-Ok.is (omega arith)
+    root_fits given c.args.chunk.now c.judge-found.result c.judge-found.ensures c.in_ok-judge_append.was (omega arith)
 
-pub returns-in-Err : goal.returns-in-Err
-returns-in-Err c =
-    let given : Register = register_of c.args.tree.now c.args.signatures.now c.args.bitfield.now c.args.content.now c.args.n c.args.s c.args.size in
-    preview_not given c.args.chunk.now c.judge-found.result c.judge-found.ensures c.in-Err.refusal c.in-Err.is
+pub returns-in_err-judge_append : goal.returns-in_err-judge_append
+returns-in_err-judge_append c =
+    let p = err_from_is_err_and c.from_residual.result c.from_residual.ensures.1 in
+    rw (p.1, p.2) (let given : Register = register_of c.args.tree.now c.args.signatures.now c.args.bitfield.now c.args.content.now c.args.n c.args.s c.args.size in
+    preview_not given c.args.chunk.now c.judge-found.result c.judge-found.ensures c.in_err-judge_append.field-0.0 c.in_err-judge_append.was)
 
-pub returns-in-Ok : goal.returns-in-Ok
-returns-in-Ok c =
+pub returns : goal.returns
+returns c =
     let given : Register = register_of c.args.tree.now c.args.signatures.now c.args.bitfield.now c.args.content.now c.args.n c.args.s c.args.size in
-    preview_done given c.args.chunk.now c.judge-found.result c.judge-found.ensures c.new_root.result c.in-Ok.is c.new_root.ensures
+    preview_done given c.args.chunk.now c.judge-found.result c.judge-found.ensures c.new_root.result c.in_ok-judge_append.was c.new_root.ensures

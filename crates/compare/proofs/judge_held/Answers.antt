@@ -21,16 +21,16 @@ pub leaf_index-requires : goal.leaf_index-requires
 leaf_index-requires c =
     let given : Register = register_of c.args.tree.now c.args.signatures.now c.args.bitfield.now c.args.content.now c.args.n c.args.s c.args.size in
     let first-missing = c.first_missing-missing in
-    missing_below given c.judge-checked.result c.judge-checked.ensures (ap said c.in-Ok.is) first-missing.ensures (ap found_at c.in-At.is)
+    missing_below given c.judge-checked.result c.judge-checked.ensures (ap said c.in-Ok.is) first-missing.ensures (ap found_at c.in-Some.is)
 
-pub returns-in-At : goal.returns-in-At
-returns-in-At c =
+pub returns-in-Some : goal.returns-in-Some
+returns-in-Some c =
     let given : Register = register_of c.args.tree.now c.args.signatures.now c.args.bitfield.now c.args.content.now c.args.n c.args.s c.args.size in
     let judge = c.judge-checked in
     let first-missing = c.first_missing-missing in
     let leaf-index = c.leaf_index in
     let refuse-entry = c.refuse_entry in
-    missing_refuses given judge.result judge.ensures (ap said c.in-Ok.is) first-missing.ensures (ap found_at c.in-At.is) leaf-index.ensures refuse-entry.ensures
+    missing_refuses given judge.result judge.ensures (ap said c.in-Ok.is) first-missing.ensures (ap found_at c.in-Some.is) leaf-index.ensures refuse-entry.ensures
 
 pub returns : goal.returns
 returns c =

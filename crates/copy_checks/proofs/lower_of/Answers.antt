@@ -8,23 +8,23 @@ use Rattle.copy_checks.proofs.Least.{lower_nowhere}
 use Rattle.lookup.specs.Unknown.{first_entry}
 use Rattle.copy_checks.proofs.lower_of.Goals as goal
 
-pub returns-in-Nothing : goal.returns-in-Nothing
+pub returns-in-None : goal.returns-in-None
 unfolding lower_of
-returns-in-Nothing c = sym (ap (λ (x : Lowest). lower_of x (first_entry c.args.b)) (ap first_entry c.in-Nothing.is))
+returns-in-None c = sym (ap (λ (x : Lowest). lower_of x (first_entry c.args.b)) (ap first_entry c.in-None.is))
 
-pub returns-in-Nothing-b : goal.returns-in-Nothing-b
-returns-in-Nothing-b c = sym (ap₂ lower_of (ap first_entry c.in-At.is) (ap first_entry c.in-Nothing-b.is) ∙ lower_nowhere _)
+pub returns-in-None-b : goal.returns-in-None-b
+returns-in-None-b c = sym (ap₂ lower_of (ap first_entry c.in-Some.is) (ap first_entry c.in-None-b.is) ∙ lower_nowhere _)
 
 pub returns-then-i-j : goal.returns-then-i-j
 unfolding lower_of
 returns-then-i-j c =
-    let i = c.in-At.i.0 in
-    let j = c.in-At-b.j.0 in
-    sym (ap₂ lower_of (ap first_entry c.in-At.is) (ap first_entry c.in-At-b.is) ∙ ap (λ (x : Bool). cond x (first i) (first j)) (lt-ltb i j c.if-i-j.true))
+    let i = c.in-Some.i.0 in
+    let j = c.in-Some-b.j.0 in
+    sym (ap₂ lower_of (ap first_entry c.in-Some.is) (ap first_entry c.in-Some-b.is) ∙ ap (λ (x : Bool). cond x (first i) (first j)) (lt-ltb i j c.if-i-j.true))
 
 pub returns-else-i-j : goal.returns-else-i-j
 unfolding lower_of
 returns-else-i-j c =
-    let i = c.in-At.i.0 in
-    let j = c.in-At-b.j.0 in
-    sym (ap₂ lower_of (ap first_entry c.in-At.is) (ap first_entry c.in-At-b.is) ∙ ap (λ (x : Bool). cond x (first i) (first j)) (le-ltb i j c.if-i-j.false))
+    let i = c.in-Some.i.0 in
+    let j = c.in-Some-b.j.0 in
+    sym (ap₂ lower_of (ap first_entry c.in-Some.is) (ap first_entry c.in-Some-b.is) ∙ ap (λ (x : Bool). cond x (first i) (first j)) (le-ltb i j c.if-i-j.false))

@@ -6,10 +6,10 @@ use Rattle.audit.specs.Audit.{refused_at}
 use Rattle.lookup.specs.Unknown.{first_entry}
 use Rattle.copy_roots.proofs.roots_known.Goals as goal
 
-pub returns-in-At : goal.returns-in-At
+pub returns-in-Some : goal.returns-in-Some
 unfolding refused_at
-returns-in-At c = c.refuse_entry.ensures ∙ ap (λ (l : Lowest). refused_at 20 tree l done) (sym (ap first_entry c.in-At.is) ∙ c.unknown_root.ensures)
+returns-in-Some c = c.refuse_entry.ensures ∙ ap (λ (l : Lowest). refused_at 20 tree l done) (sym (ap first_entry c.in-Some.is) ∙ c.unknown_root.ensures)
 
-pub returns-in-Nothing : goal.returns-in-Nothing
+pub returns-in-None : goal.returns-in-None
 unfolding refused_at
-returns-in-Nothing c = ap (λ (l : Lowest). refused_at 20 tree l done) (sym (ap first_entry c.in-Nothing.is) ∙ c.unknown_root.ensures)
+returns-in-None c = ap (λ (l : Lowest). refused_at 20 tree l done) (sym (ap first_entry c.in-None.is) ∙ c.unknown_root.ensures)

@@ -35,14 +35,14 @@ write_all-requires c =
     } in
     ready
 
-pub returns-in-At : goal.returns-in-At
-returns-in-At c =
+pub returns-in-Some : goal.returns-in-Some
+returns-in-Some c =
     let given : Copy = copy_of c.args.tree.now c.args.bitfield.now c.args.content.now c.args.n 0 in
-    own_refused node_hash given c.args.packet.now c.args.chunk.0 (said c.refuse_entry.result) c.in-At.i.0
-    (sym (ap first_entry c.in-At.is) ∙ c.contradiction_of-found.ensures) c.refuse_entry.ensures
+    own_refused node_hash given c.args.packet.now c.args.chunk.0 (said c.refuse_entry.result) c.in-Some.i.0
+    (sym (ap first_entry c.in-Some.is) ∙ c.contradiction_of-found.ensures) c.refuse_entry.ensures
 
-pub returns-in-Nothing : goal.returns-in-Nothing
-returns-in-Nothing c =
+pub returns-in-None : goal.returns-in-None
+returns-in-None c =
     let given : Copy = copy_of c.args.tree.now c.args.bitfield.now c.args.content.now c.args.n 0 in
     own_done node_hash given c.args.packet.now c.args.chunk.0 _
-    (sym (ap first_entry c.in-Nothing.is) ∙ c.contradiction_of-found.ensures) c.write_all.ensures
+    (sym (ap first_entry c.in-None.is) ∙ c.contradiction_of-found.ensures) c.write_all.ensures

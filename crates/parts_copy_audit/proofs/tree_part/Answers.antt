@@ -29,8 +29,8 @@ wrong_between-requires c =
       end_most lesser.result c.args.to.0 entry-count.result _ lesser.ensures entry-count.ensures,
     )
 
-pub returns-in-At : goal.returns-in-At
-returns-in-At c =
+pub returns-in-Some : goal.returns-in-Some
+returns-in-Some c =
     let given : Copy = copy_of c.args.tree.now c.args.bitfield.now c.args.content.now c.args.n c.args.size in
     let judge-partly = c.judge_partly-checked in
     let wrong-between = c.wrong_between in
@@ -38,14 +38,14 @@ returns-in-At c =
     let entry-count = c.entry_count in
     c.refuse_entry.ensures
     ∙ entries_at given judge-partly.result judge-partly.ensures node_hash c.args.from.0 c.args.to.0 (ap said c.in-Ok.is)
-    (first_entry wrong-between.result) lesser.result entry-count.result entry-count.ensures lesser.ensures wrong-between.ensures _ (ap first_entry c.in-At.is)
+    (first_entry wrong-between.result) lesser.result entry-count.result entry-count.ensures lesser.ensures wrong-between.ensures _ (ap first_entry c.in-Some.is)
 
-pub returns-in-Nothing : goal.returns-in-Nothing
-returns-in-Nothing c =
+pub returns-in-None : goal.returns-in-None
+returns-in-None c =
     let given : Copy = copy_of c.args.tree.now c.args.bitfield.now c.args.content.now c.args.n c.args.size in
     let judge-partly = c.judge_partly-checked in
     let wrong-between = c.wrong_between in
     let lesser = c.lesser in
     let entry-count = c.entry_count in
     entries_none given judge-partly.result judge-partly.ensures node_hash c.args.from.0 c.args.to.0 (ap said c.in-Ok.is)
-    (first_entry wrong-between.result) lesser.result entry-count.result entry-count.ensures lesser.ensures wrong-between.ensures (ap first_entry c.in-Nothing.is)
+    (first_entry wrong-between.result) lesser.result entry-count.result entry-count.ensures lesser.ensures wrong-between.ensures (ap first_entry c.in-None.is)

@@ -1,4 +1,5 @@
 -- `stored_leaf::give_leaf` meets its contract. Assumes nothing.
+use Rattle.std.proofs.lemmas.Result.{err_from_is_err_and}
 use Prim.Native.Nat.{◌<◌}
 use mathlib.Core.Path.{◌≡◌, sym, ap, ◌∙◌, subst}
 use Rattle.answer_types.specs.Verdict.{Verdict, done, and_then}
@@ -22,7 +23,7 @@ leaf_index-leaf-requires c =
     λ e. leaf_in_lem c.args.chunk.0 (c.requires (done_first (said c.args.found) next (sym e))).roots
     (leaf_below (known_if c.args.partly c.args.bitfield.now) c.args.n c.args.chunk.0
     (then_next (said c.args.found) next (sym e))) in
-    (leaf-lies (sym (ap said c.in-Ok.is) ∙ c.judge_behind.ensures)).0
+    (leaf-lies (sym (ap said c.in_ok-judge_behind.was) ∙ c.judge_behind.ensures)).0
 
 pub stored_hash-requires : goal.stored_hash-requires
 stored_hash-requires c =
@@ -33,7 +34,7 @@ stored_hash-requires c =
     (leaf_below (known_if c.args.partly c.args.bitfield.now) c.args.n c.args.chunk.0
     (then_next (said c.args.found) next (sym e))) in
     subst (EntryIn c.args.tree.now) (sym c.leaf_index-leaf.ensures)
-    (leaf-lies (sym (ap said c.in-Ok.is) ∙ c.judge_behind.ensures)).1
+    (leaf-lies (sym (ap said c.in_ok-judge_behind.was) ∙ c.judge_behind.ensures)).1
 
 pub stored_size-requires : goal.stored_size-requires
 stored_size-requires c =
@@ -44,19 +45,20 @@ stored_size-requires c =
     (leaf_below (known_if c.args.partly c.args.bitfield.now) c.args.n c.args.chunk.0
     (then_next (said c.args.found) next (sym e))) in
     subst (EntryIn c.args.tree.now) (sym c.leaf_index-leaf.ensures)
-    (leaf-lies (sym (ap said c.in-Ok.is) ∙ c.judge_behind.ensures)).1
+    (leaf-lies (sym (ap said c.in_ok-judge_behind.was) ∙ c.judge_behind.ensures)).1
 
-pub returns-in-Err : goal.returns-in-Err
-returns-in-Err c =
+pub returns-in_err-judge_behind : goal.returns-in_err-judge_behind
+returns-in_err-judge_behind c =
     let next : Verdict = leaf_in (known_if c.args.partly c.args.bitfield.now) c.args.n c.args.chunk.0 in
     let whole : Verdict = and_then (said c.args.found) next in
-    post_refused whole c.args.tree.now c.args.chunk.0 c.args.hash.now c.in-Err.refusal (sym (ap said c.in-Err.is) ∙ c.judge_behind.ensures)
+    let p = err_from_is_err_and c.from_residual.result c.from_residual.ensures.1 in
+    rw (p.1, p.2) (post_refused whole c.args.tree.now c.args.chunk.0 c.args.hash.now c.in_err-judge_behind.field-0.0 (sym (ap said c.in_err-judge_behind.was) ∙ c.judge_behind.ensures))
 
-pub returns-in-Ok : goal.returns-in-Ok
-returns-in-Ok c =
+pub returns : goal.returns
+returns c =
     let next : Verdict = leaf_in (known_if c.args.partly c.args.bitfield.now) c.args.n c.args.chunk.0 in
     let whole : Verdict = and_then (said c.args.found) next in
     let at = c.leaf_index-leaf.ensures in
     post_done whole c.args.tree.now c.args.chunk.0 c.args.hash.now c.stored_size.result c.stored_hash.result
-    (sym (ap said c.in-Ok.is) ∙ c.judge_behind.ensures)
+    (sym (ap said c.in_ok-judge_behind.was) ∙ c.judge_behind.ensures)
     (c.stored_size.ensures ∙ ap (stored_size c.args.tree.now) at) (c.stored_hash.ensures ∙ ap (stored_hash c.args.tree.now) at)

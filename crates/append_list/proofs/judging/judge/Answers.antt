@@ -1,4 +1,5 @@
 -- `append_list::judging::judge` meets its contract. Assumes nothing.
+use Rattle.std.proofs.lemmas.Result.{err_from_is_err_and}
 use native.Mathlib.Omega.{arith}
 use Rattle.file_format.specs.Belongs.{Register}
 use Rattle.checks.specs.Checks.{later_checks}
@@ -24,18 +25,19 @@ pub judge_own-requires : goal.judge_own-requires
 judge_own-requires c =
     let given : Register = register_of c.args.tree.now c.args.signatures.now c.args.bitfield.now c.args.content.now c.args.n c.args.s c.args.size in (
       omega (arith, c.if-n-ge1048576.false, c.if-n-lengths.false),
-      data_inside given c.in-Ok.is
-          c.judge_later-found.ensures,
+      data_inside given c.in_ok-judge_later.was
+          c.judge_later.ensures,
     )
 
-pub returns-in-Err : goal.returns-in-Err
-returns-in-Err c =
-    let given : Register = register_of c.args.tree.now c.args.signatures.now c.args.bitfield.now c.args.content.now c.args.n c.args.s c.args.size in
+pub returns-in_err-judge_later : goal.returns-in_err-judge_later
+returns-in_err-judge_later c =
+    let p = err_from_is_err_and c.from_residual.result c.from_residual.ensures.1 in
+    rw (p.1, p.2) (let given : Register = register_of c.args.tree.now c.args.signatures.now c.args.bitfield.now c.args.content.now c.args.n c.args.s c.args.size in
     list_within given c.args.lengths.now c.args.bytes.now c.if-n-ge1048576.false (omega (arith, c.if-n-ge1048576.false, c.if-n-lengths.false))
-    (refused_before (later_checks given) (own_verdict given c.args.lengths.now c.args.bytes.now) c.in-Err.is c.judge_later-found.ensures)
+    (refused_before (later_checks given) (own_verdict given c.args.lengths.now c.args.bytes.now) c.in_err-judge_later.was c.judge_later.ensures))
 
-pub returns-in-Ok : goal.returns-in-Ok
-returns-in-Ok c =
+pub returns : goal.returns
+returns c =
     let given : Register = register_of c.args.tree.now c.args.signatures.now c.args.bitfield.now c.args.content.now c.args.n c.args.s c.args.size in
     list_within given c.args.lengths.now c.args.bytes.now c.if-n-ge1048576.false (omega (arith, c.if-n-ge1048576.false, c.if-n-lengths.false))
-    (passed_before (later_checks given) c.in-Ok.is c.judge_later-found.ensures c.judge_own.ensures)
+    (passed_before (later_checks given) c.in_ok-judge_later.was c.judge_later.ensures c.judge_own.ensures)

@@ -4,8 +4,8 @@ use Rattle.lookup.specs.Meaning.{located_of}
 use Rattle.c_encoding.proofs.Laws.{gives_refused, gives_found}
 use Rattle.c_encoding.proofs.lookups.give_byte.Goals as goal
 
-pub returns-in-Refused : goal.returns-in-Refused
-returns-in-Refused c = gives_refused _ c.in-Refused.refusal _ _ c.refused.ensures (sym (ap located_of c.in-Refused.is))
+pub returns-in-Err : goal.returns-in-Err
+returns-in-Err c = gives_refused _ c.in-Err.refusal _ _ c.refused.ensures (sym (ap located_of c.in-Err.is))
 
-pub returns-in-In : goal.returns-in-In
-returns-in-In c = gives_found _ c.in-In.chunk.0 c.in-In.rest _ _ c.encode.ensures (sym (ap located_of c.in-In.is))
+pub returns-in-Ok : goal.returns-in-Ok
+returns-in-Ok c = gives_found _ c.in-Ok.located.chunk.0 c.in-Ok.located.rest _ _ c.encode.ensures (sym (ap located_of c.in-Ok.is))

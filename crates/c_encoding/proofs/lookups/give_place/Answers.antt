@@ -4,8 +4,8 @@ use Rattle.lookup.specs.Meaning.{placed_of}
 use Rattle.c_encoding.proofs.Laws.{gives_refused, gives_found}
 use Rattle.c_encoding.proofs.lookups.give_place.Goals as goal
 
-pub returns-in-Refused : goal.returns-in-Refused
-returns-in-Refused c = gives_refused _ c.in-Refused.refusal _ _ c.refused.ensures (sym (ap placed_of c.in-Refused.is))
+pub returns-in-Err : goal.returns-in-Err
+returns-in-Err c = gives_refused _ c.in-Err.refusal _ _ c.refused.ensures (sym (ap placed_of c.in-Err.is))
 
-pub returns-in-At : goal.returns-in-At
-returns-in-At c = gives_found _ c.in-At.start.0 c.in-At.length _ _ c.encode.ensures (sym (ap placed_of c.in-At.is))
+pub returns-in-Ok : goal.returns-in-Ok
+returns-in-Ok c = gives_found _ c.in-Ok.placed.start.0 c.in-Ok.placed.length _ _ c.encode.ensures (sym (ap placed_of c.in-Ok.is))

@@ -5,11 +5,11 @@ use Rattle.c_encoding.specs.Encoding.{as_found}
 use Rattle.c_encoding.proofs.Laws.{gives_refused, gives_found}
 use Rattle.c_encoding.proofs.lookups.give_search.Goals as goal
 
-pub returns-in-Refused : goal.returns-in-Refused
-returns-in-Refused c = gives_refused _ c.in-Refused.refusal _ _ c.refused.ensures (ap as_found (sym (ap searched_of c.in-Refused.is)))
+pub returns-in-Err : goal.returns-in-Err
+returns-in-Err c = gives_refused _ c.in-Err.refusal _ _ c.refused.ensures (ap as_found (sym (ap searched_of c.in-Err.is)))
 
-pub returns-in-At : goal.returns-in-At
-returns-in-At c = gives_found _ 1 c.in-At.chunk.0 _ _ c.encode.ensures (ap as_found (sym (ap searched_of c.in-At.is)))
+pub returns-in-Ok-Some : goal.returns-in-Ok-Some
+returns-in-Ok-Some c = gives_found _ 1 c.in-Ok-Some.chunk.0 _ _ c.encode.ensures (ap as_found (sym (ap searched_of c.in-Ok-Some.is)))
 
-pub returns-in-Nothing : goal.returns-in-Nothing
-returns-in-Nothing c = gives_found _ 0 0 _ _ c.encode-in-Nothing.ensures (ap as_found (sym (ap searched_of c.in-Nothing.is)))
+pub returns-in-Ok-None : goal.returns-in-Ok-None
+returns-in-Ok-None c = gives_found _ 0 0 _ _ c.encode-in-Ok-None.ensures (ap as_found (sym (ap searched_of c.in-Ok-None.is)))

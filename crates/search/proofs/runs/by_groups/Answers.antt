@@ -37,7 +37,7 @@ loop-k-preserved c =
       omega (arith, s.above k (omega arith) c.loop-k-test.true, c.loop-k.invariant.0),
       none_here (not_missing a.xs.now) c.in_group-found.result a.from k c.smaller_of-next.result a.end
           (s.above k (omega arith) c.loop-k-test.true) s.right
-          c.in_group-found.ensures c.loop-k.invariant.1 c.in-Nothing.is,
+          c.in_group-found.ensures c.loop-k.invariant.1 c.in-None.is,
     )
 
 pub returns : goal.returns

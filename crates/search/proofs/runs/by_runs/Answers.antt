@@ -35,7 +35,7 @@ loop-k-preserved c =
     let s = c.smaller_of-next.ensures in
     let k = c.loop-k.k in
     none_here (not_missing a.xs.now) c.in_run-found.result a.from k c.smaller_of-next.result a.n (s.above k (omega arith) c.loop-k-test.true) s.right
-    c.in_run-found.ensures c.loop-k.invariant c.in-Nothing.is
+    c.in_run-found.ensures c.loop-k.invariant c.in-None.is
 
 pub returns : goal.returns
 returns c =

@@ -1,4 +1,5 @@
 -- `writing::appending::append` meets its contract. Assumes nothing.
+use Rattle.std.proofs.lemmas.Result.{err_from_is_err_and}
 use Rattle.file_format.specs.Belongs.{Register}
 use Rattle.checks.specs.Lent.{register_of}
 use Rattle.writing.proofs.Answers.{store_fits, append_not, append_done}
@@ -7,10 +8,12 @@ use Rattle.writing.proofs.appending.append.Goals as goal
 pub store-requires : goal.store-requires
 store-requires c =
     let given : Register = register_of c.args.tree.now c.args.signatures.now c.args.bitfield.now c.args.content.now c.args.n c.args.s c.args.size in
-    store_fits given c.args.chunk.now c.in-Ok.is c.judge-found.ensures
+    store_fits given c.args.chunk.now c.in_ok-judge.was c.judge.ensures
 
-pub returns-in-Err : goal.returns-in-Err
-returns-in-Err c = append_not c.in-Err.is c.judge-found.ensures
+pub returns-in_err-judge : goal.returns-in_err-judge
+returns-in_err-judge c =
+    let p = err_from_is_err_and c.from_residual.result c.from_residual.ensures.1 in
+    rw (p.1, p.2) (append_not c.in_err-judge.was c.judge.ensures)
 
-pub returns-in-Ok : goal.returns-in-Ok
-returns-in-Ok c = append_done c.in-Ok.is c.judge-found.ensures c.store.ensures
+pub returns : goal.returns
+returns c = append_done c.in_ok-judge.was c.judge.ensures c.store.ensures

@@ -1,4 +1,5 @@
 -- `writing::appending::judge` meets its contract. Assumes nothing.
+use Rattle.std.proofs.lemmas.Result.{err_from_is_err_and}
 use Rattle.answer_types.specs.Verdict.{done}
 use Rattle.file_format.specs.Belongs.{Register}
 use Rattle.checks.specs.Checks.{judged, later_checks}
@@ -16,16 +17,17 @@ returns-then-n-ge1048576 c =
 pub judge_own-requires : goal.judge_own-requires
 judge_own-requires c =
     let given : Register = register_of c.args.tree.now c.args.signatures.now c.args.bitfield.now c.args.content.now c.args.n c.args.s c.args.size in
-    (c.if-n-ge1048576.false, data_inside given c.in-Ok.is c.judge_later-found.ensures)
+    (c.if-n-ge1048576.false, data_inside given c.in_ok-judge_later.was c.judge_later.ensures)
 
-pub returns-in-Err : goal.returns-in-Err
-returns-in-Err c =
+pub returns-in_err-judge_later : goal.returns-in_err-judge_later
+returns-in_err-judge_later c =
+    let p = err_from_is_err_and c.from_residual.result c.from_residual.ensures.1 in
+    rw (p.1, p.2) (let given : Register = register_of c.args.tree.now c.args.signatures.now c.args.bitfield.now c.args.content.now c.args.n c.args.s c.args.size in
+    append_within given c.args.chunk.now c.if-n-ge1048576.false
+    (refused_before (later_checks given) (judged (own_checks given c.args.chunk.now) done) c.in_err-judge_later.was c.judge_later.ensures))
+
+pub returns : goal.returns
+returns c =
     let given : Register = register_of c.args.tree.now c.args.signatures.now c.args.bitfield.now c.args.content.now c.args.n c.args.s c.args.size in
     append_within given c.args.chunk.now c.if-n-ge1048576.false
-    (refused_before (later_checks given) (judged (own_checks given c.args.chunk.now) done) c.in-Err.is c.judge_later-found.ensures)
-
-pub returns-in-Ok : goal.returns-in-Ok
-returns-in-Ok c =
-    let given : Register = register_of c.args.tree.now c.args.signatures.now c.args.bitfield.now c.args.content.now c.args.n c.args.s c.args.size in
-    append_within given c.args.chunk.now c.if-n-ge1048576.false
-    (passed_before (later_checks given) c.in-Ok.is c.judge_later-found.ensures c.judge_own.ensures)
+    (passed_before (later_checks given) c.in_ok-judge_later.was c.judge_later.ensures c.judge_own.ensures)

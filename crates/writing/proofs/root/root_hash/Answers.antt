@@ -1,4 +1,5 @@
 -- `writing::root::root_hash` meets its contract. Assumes nothing.
+use Rattle.std.proofs.lemmas.Result.{err_from_is_err_and}
 use Rattle.file_format.specs.Belongs.{Register}
 use Rattle.checks.specs.Lent.{register_of}
 use Rattle.writing.proofs.Answers.{root_fits, root_not, root_done_lem}
@@ -7,10 +8,12 @@ use Rattle.writing.proofs.root.root_hash.Goals as goal
 pub stored_root_hash-requires : goal.stored_root_hash-requires
 stored_root_hash-requires c =
     let given : Register = register_of c.args.tree.now c.args.signatures.now c.args.bitfield.now c.args.content.now c.args.n c.args.s c.args.size in
-    root_fits given c.in-Ok.is c.judge-found.ensures
+    root_fits given c.in_ok-judge.was c.judge.ensures
 
-pub returns-in-Err : goal.returns-in-Err
-returns-in-Err c = root_not c.in-Err.is c.judge-found.ensures
+pub returns-in_err-judge : goal.returns-in_err-judge
+returns-in_err-judge c =
+    let p = err_from_is_err_and c.from_residual.result c.from_residual.ensures.1 in
+    rw (p.1, p.2) (root_not c.in_err-judge.was c.judge.ensures)
 
-pub returns-in-Ok : goal.returns-in-Ok
-returns-in-Ok c = root_done_lem c.in-Ok.is c.judge-found.ensures c.stored_root_hash.ensures
+pub returns : goal.returns
+returns c = root_done_lem c.in_ok-judge.was c.judge.ensures c.stored_root_hash.ensures

@@ -1,4 +1,5 @@
 -- `writing::signing::store_signature` meets its contract. Assumes nothing.
+use Rattle.std.proofs.lemmas.Result.{err_from_is_err_and}
 use native.Mathlib.Omega.{arith}
 use Rattle.file_format.specs.Belongs.{Register}
 use Rattle.checks.specs.Lent.{register_of}
@@ -8,17 +9,19 @@ use Rattle.writing.proofs.signing.store_signature.Goals as goal
 pub used_signatures-at-requires : goal.used_signatures-at-requires
 used_signatures-at-requires c =
     let given : Register = register_of c.args.tree.now c.args.signatures.now c.args.bitfield.now c.args.content.now c.args.n c.args.s c.args.size in
-    (sign_fits given c.in-Ok.is c.judge-found.ensures).0
+    (sign_fits given c.in_ok-judge.was c.judge.ensures).0
 
 pub copy_to-requires : goal.copy_to-requires
 copy_to-requires c =
     let given : Register = register_of c.args.tree.now c.args.signatures.now c.args.bitfield.now c.args.content.now c.args.n c.args.s c.args.size in
-    omega (arith, c.used_signatures-at.ensures, (sign_fits given c.in-Ok.is c.judge-found.ensures).1)
+    omega (arith, c.used_signatures-at.ensures, (sign_fits given c.in_ok-judge.was c.judge.ensures).1)
 
-pub returns-in-Err : goal.returns-in-Err
-returns-in-Err c = sign_not c.in-Err.is c.judge-found.ensures
+pub returns-in_err-judge : goal.returns-in_err-judge
+returns-in_err-judge c =
+    let p = err_from_is_err_and c.from_residual.result c.from_residual.ensures.1 in
+    rw (p.1, p.2) (sign_not c.in_err-judge.was c.judge.ensures)
 
-pub returns-in-Ok : goal.returns-in-Ok
-returns-in-Ok c =
-    sign_done c.in-Ok.is c.judge-found.ensures
+pub returns : goal.returns
+returns c =
+    sign_done c.in_ok-judge.was c.judge.ensures
     c.used_signatures-at.ensures c.copy_to.ensures

@@ -25,4 +25,4 @@ pub returns : goal.returns
 returns c =
     let a = c.args in
     as_done a.nn a.key.now a.message.now _ _ _ (all_right a.nn (length a.key.now) (omega arith) (omega arith) (omega arith))
-    c.final_state.ensures c.state_bytes-d.ensures c.cut-digest.ensures
+    c.final_state.ensures c.state_bytes-d.ensures c.cut.ensures

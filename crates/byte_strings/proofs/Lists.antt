@@ -3,15 +3,17 @@ use mathlib.Core.Path.{◌≡◌, refl, sym, ap, ap₂, ◌∙◌, subst}
 use Prim.Native.Nat.{ℕ, zero, suc, ◌+◌, ◌-◌, ◌*◌, ◌<◌, ◌≤◌}
 use native.Mathlib.Nat.{add-zero, zero-add, add-suc, suc-add, add_assoc, le_refl, le_of_suc-le-suc, not-suc-le-zero, suc-mul, zero-mul, mul-zero, mul-suc}
 use native.Mathlib.Omega.{arith}
-use mathlib.Core.Bool.{true, false}
+use mathlib.Core.Bool.{Bool, true, ◌&&◌}
 use mathlib.Core.List.{List, [], ◌∷◌, ◌++◌, append_assoc, append-nil}
 use lib.ListN.{length, get_or, set, take, drop, length-append, length-drop, length-replicate, take-append-drop, drop_of_length-le}
 use lib.Seq.{length-take-le, take_at, drop_at, take-append-le, drop-append-le, get_or-take, get_or-drop, get_or-append-add, drop-append-add, take-append-add}
-use lib.Seq.{take-take, drop-drop, take-add, set_split, ext_get_or, take-nil, take-suc, drop-cons}
-use native.Mathlib.Numerals.{add-one}
+use lib.Seq.{take-take, drop-drop, take-add, set_split, ext_get_or, take-nil}
 use lib.Dec.{eqb}
-use borrow.Author.Tests.{eqb-true, eq-eqb, ne_eqb}
-use Rattle.byte_strings.proofs.Bools.{both_true, and_false}
+use borrow.Author.Tests.{eqb-true, eq-eqb}
+use borrow.Rule.Slice.PartMut.{put_mid}
+use Rattle.std.specs.Cmp.Lexicographic.{pointwise}
+use Rattle.std.specs.List.{list_all}
+use Rattle.byte_strings.proofs.Bools.{both_true}
 use Rattle.byte_strings.specs.Lists.{part, put, run, joined, total, Bytes, zeros, same_list, all_zero}
 
 module _ {A : Type 0} where
@@ -142,22 +144,6 @@ module _ {A : Type 0} where
   pub put_one : (xs : List A) (at : ℕ) (a : A) → at < length xs → set xs at a ≡ put xs at (a ∷ [])
   unfolding put
   put_one xs at a h = set_split xs at a h ∙ ap (λ (i : ℕ). take at xs ++ (a ∷ drop i xs)) (sym (add-suc at 0 ∙ ap suc (add-zero at)))
-
-  -- a turn of a loop that stores: one element more behind those that stand there
-  pub put_snoc : (xs : List A) (at : ℕ) (ys : List A) (a : A) → at + length ys < length xs
-      → set (put xs at ys) (at + length ys) a ≡ put xs at (ys ++ (a ∷ []))
-  put_snoc xs at ys a h =
-      put_one (put xs at ys) (at + length ys) a (subst (λ (k : ℕ). at + length ys < k) (sym (length_put xs at ys (omega arith))) h)
-      ∙ put_append xs at ys (a ∷ []) (omega arith)
-
-  -- the same, where the elements come from another list
-  pub put_take : (xs : List A) (at : ℕ) (ys : List A) (i : ℕ) (d : A) → at + length ys ≤ length xs → i < length ys
-      → set (put xs at (take i ys)) (at + i) (get_or ys i d) ≡ put xs at (take (i + 1) ys)
-  put_take xs at ys i d h l =
-      let e : length (take i ys) ≡ i = length-take-le i ys (omega arith) in
-      ap (λ (k : ℕ). set (put xs at (take i ys)) (at + k) (get_or ys i d)) (sym e)
-      ∙ put_snoc xs at (take i ys) (get_or ys i d) (omega (arith, e))
-      ∙ ap (put xs at) (sym (take-suc ys i d l) ∙ ap (λ (k : ℕ). take k ys) (sym (add-one i)))
 
   -- ---- runs
 
@@ -311,13 +297,6 @@ pub zeros_suc : (k : ℕ) → zeros k ++ (0 ∷ []) ≡ zeros (suc k)
 zeros_suc zero = refl
 zeros_suc (suc k) = ap {B = List ℕ} (λ r. 0 ∷ r) (zeros_suc k)
 
--- a turn of a loop that clears
-pub put_zeros : (xs : List ℕ) (at i : ℕ) → at + i < length xs → set (put xs at (zeros i)) (at + i) 0 ≡ put xs at (zeros (i + 1))
-put_zeros xs at i h =
-    let e : length (zeros i) ≡ i = length-replicate i 0 in
-    ap (λ (k : ℕ). set (put xs at (zeros i)) (at + k) 0) (sym e) ∙ put_snoc xs at (zeros i) 0 (omega (arith, e))
-    ∙ ap (put xs at) (zeros_suc i ∙ ap zeros (sym (add-one i)))
-
 pub get_or_zeros : (k j : ℕ) → get_or (zeros k) j 0 ≡ 0
 get_or_zeros zero j = refl
 get_or_zeros (suc k) zero = refl
@@ -374,54 +353,22 @@ same_eq (x ∷ xs) (y ∷ ys) e =
     let h = both_true (eqb x y) (same_list xs ys) e in
     ap (λ (t : ℕ). t ∷ xs) (eqb-true x y h.0) ∙ ap (λ (r : List ℕ). y ∷ r) (same_eq xs ys h.1)
 
-pub same_length : (xs ys : List ℕ) → (length xs ≡ length ys → ⊥) → same_list xs ys ≡ false
+-- what `==` says of two slices, and what is said of one where each byte is tested
+pub pairs_same : (xs ys : List ℕ) → pointwise eqb xs ys ≡ same_list xs ys
 unfolding same_list
-same_length [] [] h = absurd (h refl)
-same_length [] (y ∷ ys) h = refl
-same_length (x ∷ xs) [] h = refl
-same_length (x ∷ xs) (y ∷ ys) h = rw (same_length xs ys (λ e. h (ap suc e))) (and_false (eqb x y))
+pairs_same [] [] = refl
+pairs_same [] (y ∷ ys) = refl
+pairs_same (x ∷ xs) [] = refl
+pairs_same (x ∷ xs) (y ∷ ys) = ap (λ (b : Bool). eqb x y && b) (pairs_same xs ys)
 
--- a turn of the loop that compares: what is left decides
-same_step : (x y : ℕ) (xs ys : List ℕ) → x ≡ y → same_list (x ∷ xs) (y ∷ ys) ≡ same_list xs ys
-unfolding same_list
-same_step x y xs ys e = rw (eq-eqb x y e)
-
-same_stop : (x y : ℕ) (xs ys : List ℕ) → (x ≡ y → ⊥) → same_list (x ∷ xs) (y ∷ ys) ≡ false
-unfolding same_list
-same_stop x y xs ys e = rw (ne_eqb x y e)
-
-pub same_on : (xs ys : List ℕ) (i : ℕ) → i < length xs → i < length ys → get_or xs i 0 ≡ get_or ys i 0
-    → same_list (drop i xs) (drop i ys) ≡ same_list (drop (i + 1) xs) (drop (i + 1) ys)
-same_on xs ys i h l e =
-    ap (λ (r : List ℕ). same_list r (drop i ys)) (drop-cons xs i 0 h) ∙ ap (same_list (get_or xs i 0 ∷ drop (suc i) xs)) (drop-cons ys i 0 l)
-    ∙ same_step (get_or xs i 0) (get_or ys i 0) (drop (suc i) xs) (drop (suc i) ys) e
-    ∙ ap (λ (k : ℕ). same_list (drop k xs) (drop k ys)) (sym (add-one i))
-
-pub same_off : (xs ys : List ℕ) (i : ℕ) → i < length xs → i < length ys → (get_or xs i 0 ≡ get_or ys i 0 → ⊥)
-    → same_list (drop i xs) (drop i ys) ≡ false
-same_off xs ys i h l e =
-    ap (λ (r : List ℕ). same_list r (drop i ys)) (drop-cons xs i 0 h) ∙ ap (same_list (get_or xs i 0 ∷ drop (suc i) xs)) (drop-cons ys i 0 l)
-    ∙ same_stop (get_or xs i 0) (get_or ys i 0) (drop (suc i) xs) (drop (suc i) ys) e
-
-pub same_end : (xs ys : List ℕ) (i : ℕ) → length xs ≤ i → length xs ≡ length ys → same_list (drop i xs) (drop i ys) ≡ true
-same_end xs ys i h e =
-    ap (λ (r : List ℕ). same_list r (drop i ys)) (drop_of_length-le xs h) ∙ ap (same_list []) (drop_of_length-le ys {i = i} (omega arith)) ∙ same_refl []
-
-zero_step : (x : ℕ) (xs : List ℕ) → x ≡ 0 → all_zero (x ∷ xs) ≡ all_zero xs
+pub each_zero : (xs : List ℕ) → list_all (λ (x : ℕ). eqb x 0) xs ≡ all_zero xs
 unfolding all_zero
-zero_step x xs e = rw (eq-eqb x 0 e)
+each_zero [] = refl
+each_zero (x ∷ xs) = ap (λ (b : Bool). eqb x 0 && b) (each_zero xs)
 
-zero_stop : (x : ℕ) (xs : List ℕ) → (x ≡ 0 → ⊥) → all_zero (x ∷ xs) ≡ false
-unfolding all_zero
-zero_stop x xs e = rw (ne_eqb x 0 e)
-
-pub zero_on : (xs : List ℕ) (i : ℕ) → i < length xs → get_or xs i 0 ≡ 0 → all_zero (drop i xs) ≡ all_zero (drop (i + 1) xs)
-zero_on xs i h e =
-    ap all_zero (drop-cons xs i 0 h) ∙ zero_step (get_or xs i 0) (drop (suc i) xs) e ∙ ap (λ (k : ℕ). all_zero (drop k xs)) (sym (add-one i))
-
-pub zero_off : (xs : List ℕ) (i : ℕ) → i < length xs → (get_or xs i 0 ≡ 0 → ⊥) → all_zero (drop i xs) ≡ false
-zero_off xs i h e = ap all_zero (drop-cons xs i 0 h) ∙ zero_stop (get_or xs i 0) (drop (suc i) xs) e
-
-pub zero_end : (xs : List ℕ) (i : ℕ) → length xs ≤ i → all_zero (drop i xs) ≡ true
-unfolding all_zero
-zero_end xs i h = ap all_zero (drop_of_length-le xs h)
+-- a slice whose part from a place to an end was lent, when the part is back
+pub put_back : (xs ys : List ℕ) (at k : ℕ) → length ys ≡ k → put_mid at (at + k - at) xs ys ≡ put xs at ys
+unfolding put
+put_back xs ys at k e =
+    let f : at + k - at ≡ length ys = omega arith in
+    ap (λ (m : ℕ). take at xs ++ (ys ++ drop m (drop at xs))) f ∙ ap (λ (r : List ℕ). take at xs ++ (ys ++ r)) (drop-drop (length ys) at xs)

@@ -1,19 +1,18 @@
 -- Laws of big-endian numbers. Assumes nothing.
-use mathlib.Core.Path.{◌≡◌, refl, sym, ap, ap₂, ◌∙◌, subst}
-use mathlib.Core.Bool.{Bool, true, false}
-use borrow.Author.Tests.{eq-eqb}
-use Prim.Native.Nat.{ℕ, zero, suc, ◌+◌, ◌*◌, ◌/◌, ◌%◌, ◌^◌, ◌<◌, ◌≤◌}
+use mathlib.Core.Path.{◌≡◌, refl, sym, ap, ◌∙◌, subst}
+use Prim.Native.Nat.{ℕ, zero, suc, ◌+◌, ◌-◌, ◌*◌, ◌/◌, ◌%◌, ◌^◌, ◌<◌, ◌≤◌}
 use native.Mathlib.Nat.{add_assoc, mul_assoc, zero-add, add-mul, pow-suc, pow-succ', suc_inj, div-add-mod', div-lt_iff_lt-mul, suc-ne-zero}
 use native.Mathlib.Omega.{arith}
 use mathlib.Core.List.{List, [], ◌∷◌, ◌++◌}
-use lib.ListN.{length, get_or, take, drop, length-append, take-append-drop}
-use lib.Seq.{drop-drop}
-use native.Mathlib.Numerals.{add-one, add-two, add-three}
+use lib.ListN.{length, get_or, take, drop, length-append}
+use lib.Seq.{take-take}
 use lib.Dec.{lit<}
 use lib.Arith.{digits_div, digits_mod, digits_lt}
-use Rattle.byte_strings.specs.Lists.{Bytes, part, run, same_list}
+use Rattle.std.specs.Int.{w32, w64, from_be_bytes, to_be_bytes, bytes_high_first}
+use Rattle.std.proofs.lemmas.Nat.{from_be_bytes-to_be_bytes_4, from_be_bytes-to_be_bytes_8}
+use Rattle.byte_strings.specs.Lists.{Bytes, part, run}
 use Rattle.byte_strings.specs.Numbers.{be, number, number_from}
-use Rattle.byte_strings.proofs.Lists.{bytes_append, bytes_part, length_part, part_add, part_run, same_eq}
+use Rattle.byte_strings.proofs.Lists.{bytes_append, bytes_part, length_part, run_get_or}
 
 -- ---- the bytes of a number
 
@@ -103,21 +102,50 @@ pub number_append : (xs ys : List ℕ) → number (xs ++ ys) ≡ number xs * 256
 unfolding number
 number_append xs ys = from_append 0 xs ys ∙ from_eq (number_from 0 xs) ys
 
-four_of_lem : (xs : List ℕ) (at : ℕ) → number (run (λ j. get_or xs j 0) at 4)
-    ≡ ((get_or xs at 0 * 256 + get_or xs (at + 1) 0) * 256 + get_or xs (at + 2) 0) * 256 + get_or xs (at + 3) 0
+-- what std reads from four bytes and from eight, and writes as them
+front_of_rest : (xs : List ℕ) (at k : ℕ) → at + k ≤ length xs → take k (take (length xs - at) (drop at xs)) ≡ part xs at k
+unfolding part
+front_of_rest xs at k h = take-take k (length xs - at) (drop at xs) (omega arith)
+
+bytes_high : (k x : ℕ) → Bytes (bytes_high_first k x)
+bytes_high zero x i = omega arith
+bytes_high (suc zero) x zero = omega arith
+bytes_high (suc (suc k)) x zero = omega arith
+bytes_high (suc k) x (suc i) = bytes_high k x i
+
+worth_4 : (xs : List ℕ) → from_be_bytes w32 xs ≡ number (run (λ j. get_or xs j 0) 0 4)
 unfolding number number_from run
-four_of_lem xs at = simp (zero-add, add-one, add-two, add-three)
+worth_4 xs = omega arith
 
--- the number in the four bytes at a place
-pub number_four : (xs : List ℕ) (at : ℕ) → at + 4 ≤ length xs
-    → number (part xs at 4)
-    ≡ ((get_or xs at 0 * 256 + get_or xs (at + 1) 0) * 256 + get_or xs (at + 2) 0) * 256 + get_or xs (at + 3) 0
-number_four xs at h = ap number (part_run xs at 4 0 h) ∙ four_of_lem xs at
+from_4 : (xs : List ℕ) → length xs ≡ 4 → from_be_bytes w32 xs ≡ number xs
+from_4 xs e = worth_4 xs ∙ ap number (run_get_or xs 4 0 e)
 
-pub number_eight : (xs : List ℕ) (at : ℕ) → at + 8 ≤ length xs → number (part xs at 8) ≡ number (part xs at 4) * 4294967296 + number (part xs (at + 4) 4)
-number_eight xs at h =
-    ap number (part_add xs at 4 4) ∙ number_append (part xs at 4) (part xs (at + 4) 4)
-    ∙ ap (λ (k : ℕ). number (part xs at 4) * 256 ^ k + number (part xs (at + 4) 4)) (length_part xs (at + 4) 4 (omega arith))
+pub read_4 : (xs ys : List ℕ) (at : ℕ) → at + 4 ≤ length xs → ys ≡ take 4 (take (length xs - at) (drop at xs)) → from_be_bytes w32 ys ≡ number (part xs at 4)
+read_4 xs ys at h e =
+    let f : ys ≡ part xs at 4 = e ∙ front_of_rest xs at 4 h in
+    from_4 ys (ap length f ∙ length_part xs at 4 h) ∙ ap number f
+
+pub written_4 : (x : ℕ) → x < 2 ^ 32 → to_be_bytes w32 x ≡ be 4 x
+written_4 x h =
+    let xs : List ℕ = to_be_bytes w32 x in
+    sym (be_number 4 xs (bytes_high 4 x) refl) ∙ ap (be 4) (sym (from_4 xs refl) ∙ from_be_bytes-to_be_bytes_4 x h)
+
+worth_8 : (xs : List ℕ) → from_be_bytes w64 xs ≡ number (run (λ j. get_or xs j 0) 0 8)
+unfolding number number_from run
+worth_8 xs = omega arith
+
+from_8 : (xs : List ℕ) → length xs ≡ 8 → from_be_bytes w64 xs ≡ number xs
+from_8 xs e = worth_8 xs ∙ ap number (run_get_or xs 8 0 e)
+
+pub read_8 : (xs ys : List ℕ) (at : ℕ) → at + 8 ≤ length xs → ys ≡ take 8 (take (length xs - at) (drop at xs)) → from_be_bytes w64 ys ≡ number (part xs at 8)
+read_8 xs ys at h e =
+    let f : ys ≡ part xs at 8 = e ∙ front_of_rest xs at 8 h in
+    from_8 ys (ap length f ∙ length_part xs at 8 h) ∙ ap number f
+
+pub written_8 : (x : ℕ) → x < 2 ^ 64 → to_be_bytes w64 x ≡ be 8 x
+written_8 x h =
+    let xs : List ℕ = to_be_bytes w64 x in
+    sym (be_number 8 xs (bytes_high 8 x) refl) ∙ ap (be 8) (sym (from_8 xs refl) ∙ from_be_bytes-to_be_bytes_8 x h)
 
 pub four_lt : (xs : List ℕ) (at : ℕ) → Bytes xs → at + 4 ≤ length xs → number (part xs at 4) < 4294967296
 four_lt xs at p h =
@@ -126,30 +154,3 @@ four_lt xs at p h =
 pub eight_lt : (xs : List ℕ) (at : ℕ) → Bytes xs → at + 8 ≤ length xs → number (part xs at 8) < 2 ^ 64
 eight_lt xs at p h =
     subst (λ (k : ℕ). number (part xs at 8) < 256 ^ k) (length_part xs at 8 h) (number_lt (part xs at 8) (bytes_part xs at 8 p))
-
--- ---- the same bytes, eight at a time
-
-same_append : (ps xs ys : List ℕ) → same_list (ps ++ xs) (ps ++ ys) ≡ same_list xs ys
-unfolding same_list
-same_append [] xs ys = refl
-same_append (p ∷ ps) xs ys = rw (eq-eqb p p refl) (same_append ps xs ys)
-
-module _ (xs ys : List ℕ) (i : ℕ) (p : Bytes xs) (q : Bytes ys) (h : i + 8 ≤ length xs) (l : i + 8 ≤ length ys) where
-  eight_and_rest : (zs : List ℕ) → drop i zs ≡ part zs i 8 ++ drop (i + 8) zs
-  unfolding part
-  eight_and_rest zs = sym (take-append-drop 8 (drop i zs)) ∙ ap (λ (r : List ℕ). take 8 (drop i zs) ++ r) (drop-drop 8 i zs)
-
-  -- eight bytes with one number are the same, and what is left behind them decides
-  pub eight_on : number (part xs i 8) ≡ number (part ys i 8) → same_list (drop i xs) (drop i ys) ≡ same_list (drop (i + 8) xs) (drop (i + 8) ys)
-  eight_on e =
-      let same : part xs i 8 ≡ part ys i 8 =
-      number_inj (part xs i 8) (part ys i 8) (bytes_part xs i 8 p) (bytes_part ys i 8 q) (length_part xs i 8 h ∙ sym (length_part ys i 8 l)) e in
-      ap₂ same_list (eight_and_rest xs) (eight_and_rest ys ∙ ap (λ (r : List ℕ). r ++ drop (i + 8) ys) (sym same)) ∙ same_append (part xs i 8) (drop (i + 8) xs) (drop (i + 8) ys)
-
-  pub eight_off : (number (part xs i 8) ≡ number (part ys i 8) → ⊥) → same_list (drop i xs) (drop i ys) ≡ false
-  unfolding part
-  eight_off e = other (same_list (drop i xs) (drop i ys)) (λ t. e (ap (λ (r : List ℕ). number (take 8 r)) (same_eq (drop i xs) (drop i ys) t)))
-    where
-      other : (b : Bool) → (b ≡ true → ⊥) → b ≡ false
-      other true f = absurd (f refl)
-      other false f = refl

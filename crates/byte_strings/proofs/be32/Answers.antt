@@ -1,8 +1,6 @@
--- The bytes of a number are what the definition computes.
-use mathlib.Core.Path.{refl}
-use Rattle.byte_strings.specs.Numbers.{be}
+use mathlib.Core.Path.{◌∙◌}
+use Rattle.byte_strings.proofs.Numbers.{written_4}
 use Rattle.byte_strings.proofs.be32.Goals as goal
 
 pub returns : goal.returns
-unfolding be
-returns c = refl
+returns c = c.to_be_bytes.ensures ∙ written_4 c.args.x c.ranges.x.fits

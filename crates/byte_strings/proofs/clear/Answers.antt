@@ -1,24 +1,17 @@
-use borrow.Author.Rules.{rules}
-use mathlib.Core.Path.{sym, ap, ◌∙◌}
-use mathlib.Core.List.{List}
-use Prim.Native.Nat.{ℕ, ◌+◌, ◌-◌}
-use native.Mathlib.Nat.{le_antisymm}
+use Rattle.byte_strings.proofs.Lists.{put_back}
 use native.Mathlib.Omega.{arith}
-use lib.ListN.{set, length-set}
-use Rattle.byte_strings.specs.Lists.{put, zeros}
-use Rattle.byte_strings.proofs.Lists.{put_nil, put_zeros}
+use mathlib.Core.Path.{◌≡◌, ap, ◌∙◌}
+use borrow.Rule.Slice.PartMut.{put_mid, mid_len}
+use Prim.Native.Nat.{◌+◌, ◌-◌}
+use lib.ListN.{length-replicate}
+use Rattle.byte_strings.specs.Lists.{zeros}
 use Rattle.byte_strings.proofs.clear.Goals as goal
 
-pub loop-i-init : goal.loop-i-init
-loop-i-init c = (search rules, sym (put_nil _ _), search rules)
-
-pub loop-i-preserved : goal.loop-i-preserved
-loop-i-preserved c = (
-  search rules,
-  ap (λ (l : List ℕ). set l (c.args.at + c.loop-i.i) 0) c.loop-i.invariant.1
-      ∙ put_zeros c.args.dst.now c.args.at c.loop-i.i (omega arith),
-  length-set c.loop-i.dst (c.args.at + c.loop-i.i) 0 ∙ c.loop-i.invariant.2,
-)
-
 pub returns : goal.returns
-returns c = c.loop-i.invariant.1 ∙ ap (λ (k : ℕ). put c.args.dst.now c.args.at (zeros k)) (le_antisymm c.loop-i.invariant.0 c.loop-i-test.false)
+returns c =
+    let at = c.args.at in
+    let n = c.args.count in
+    let dst = c.args.dst.now in
+    let e : at + n - at ≡ n = omega arith in
+    ap (put_mid at (at + n - at) dst) (c.fill.ensures.after (λ y e. e) ∙ ap zeros (mid_len at (at + n) dst c.requires ∙ e))
+    ∙ put_back dst (zeros n) at n (length-replicate n 0)

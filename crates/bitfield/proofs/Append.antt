@@ -75,9 +75,12 @@ next_bit xs n d =
     ∙ sym (set_tree_bits_append xs (run f 0 d) (f (0 + d) ∷ []))
     ∙ ap (set_tree_bits xs) (sym (run_suc f 0 d) ∙ ap (run f 0) (sym (add-one d)))
 
-pub all_bits : (n : ℕ) → filled_first n (completed n + 1) ≡ filled_by n
+all_nodes : (n : ℕ) → filled_first n (completed n + 1) ≡ filled_by n
 unfolding filled_first filled_by
-all_bits n = refl
+all_nodes n = refl
+
+pub all_bits : (xs : List ℕ) (n d : ℕ) → d ≡ completed n → set_tree_bits xs (filled_first n (d + 1)) ≡ set_tree_bits xs (filled_by n)
+all_bits xs n d e = ap (λ (k : ℕ). set_tree_bits xs (filled_first n (k + 1))) e ∙ ap (set_tree_bits xs) (all_nodes n)
 
 -- ---- the bits of a file that holds the entries of n chunks
 

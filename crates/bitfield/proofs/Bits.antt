@@ -4,12 +4,15 @@ use mathlib.Core.Logic.{◌⊎◌, inl, inr, ⊎_elim}
 use mathlib.Core.Bool.{Bool, true, false, not, ◌&&◌, ◌||◌}
 use mathlib.Core.List.{List, [], ◌∷◌, ◌++◌}
 use Prim.Native.Nat.{ℕ, zero, suc, ◌+◌, ◌-◌, ◌*◌, ◌/◌, ◌%◌, ◌^◌, ◌<◌, ◌≤◌}
-use native.Mathlib.Nat.{add-zero, zero-add, add_assoc, suc-add, le_trans, mul-le-mul_left, mod-le, mul-div-le}
+use native.Mathlib.Nat.{add-zero, zero-add, add_assoc, suc-add, zero-mul, one-mul, le_trans, mul-le-mul_left, mod-le, mul-div-le}
 use native.Mathlib.Omega.{arith}
 use lib.Dec.{T, eqb, ltb, eqb→eq}
 use lib.ListN.{length, get_or, set, get_or-append}
 use lib.Seq.{set-append_left}
 use lib.Pow.{pow_pos}
+use lib.Bits.{bit_and}
+use Rattle.std.proofs.lemmas.Nat.{and-not, and_comm}
+use Rattle.std.proofs.lemmas.Nat.Bits.{and_pow}
 use borrow.Author.Tests.{eqb-true, eqb-false, eq-eqb, ne_eqb, ltb-true, ltb-false}
 use Rattle.byte_strings.specs.Lists.{part, Bytes}
 use Rattle.byte_strings.proofs.Lists.{get_or_behind, get_d_part}
@@ -37,6 +40,26 @@ positive r h = pow_pos (7 - r)
 -- a digit's share of a number is no more than it
 pub digit_le : (x m : ℕ) → m * (x / m % 2) ≤ x
 digit_le x m = le_trans (mul-le-mul_left m (mod-le (x / m) 2)) (mul-div-le x m)
+
+-- a byte's digit as the code reads it, by the mask of the bit
+pub read_digit : (x m r : ℕ) → m ≡ 2 ^ r → bit_and x m ≡ digit x r * m
+unfolding digit
+read_digit x m r e = ap (bit_and x) e ∙ and_pow x r ∙ ap (λ (t : ℕ). digit x r * t) (sym e)
+
+-- whether the mask leaves anything is whether the digit is 1
+left_of : (d m : ℕ) → d < 2 → 0 < m → not (eqb (d * m) 0) ≡ eqb d 1
+left_of zero m h p = rw (zero-mul m) refl
+left_of (suc zero) m h p = rw (one-mul m, ne_eqb m 0 (λ e. omega (arith, e))) refl
+left_of (suc (suc d)) m h p = absurd (omega arith)
+
+pub read_bit : (x m r : ℕ) → m ≡ 2 ^ r → 0 < m → not (eqb (bit_and x m) 0) ≡ eqb (digit x r) 1
+unfolding digit
+read_bit x m r e p = ap (λ (t : ℕ). not (eqb t 0)) (read_digit x m r e) ∙ left_of (x / 2 ^ r % 2) m (omega arith) p
+
+-- and a byte without the bit, by the mask's complement
+pub masked_off : (x m r : ℕ) → x < 256 → m ≡ 2 ^ r → m < 256 → bit_and x (255 - m) ≡ without_digit x r
+unfolding digit
+masked_off x m r h e l = omega (arith, and-not 8 m x l h, and_comm x (255 - m), and_comm m x, ap (bit_and x) e, and_pow x r)
 
 -- ---- one byte: a test computed at every byte and every bit
 

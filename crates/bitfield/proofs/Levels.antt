@@ -2,7 +2,7 @@
 use mathlib.Core.Path.{◌≡◌, refl, sym, ap, ◌∙◌, subst}
 use mathlib.Core.Logic.{◌⊎◌, inl, inr, ⊎_elim}
 use Prim.Native.Nat.{ℕ, zero, suc, ◌+◌, ◌-◌, ◌*◌, ◌/◌, ◌%◌, ◌<◌, ◌≤◌}
-use native.Mathlib.Nat.{zero-add, mul_comm, mul-zero, mul-suc, add-mul, one-mul, mul-le-mul_right, div-add-mod'}
+use native.Mathlib.Nat.{zero-add, mul_comm, mul-le-mul_right, div-add-mod'}
 use native.Mathlib.Omega.{arith}
 use native.Mathlib.Numerals.{add-one}
 use mathlib.Core.Bool.{Bool, true, false, ◌&&◌}
@@ -155,24 +155,11 @@ level_zero xs half e =
     sym (run_get_or xs 256 0 e)
     ∙ run_ext (λ j. get_or xs j 0) (level_byte xs half 0) 0 256 (λ j a b. sym (rw (none_first half j)))
 
-pub half_le : (half count : ℕ) → 4 * half * count ≡ 256 → half ≤ 64
-half_le half zero e = omega (arith, mul-zero (4 * half))
-half_le half (suc c) e = omega (arith, mul-suc (4 * half) c)
-
--- the next place of a level
-pub next_place : (half k p : ℕ) → p + 1 ≡ k * (4 * half) + 2 * half → p + 4 * half + 1 ≡ (k + 1) * (4 * half) + 2 * half
-next_place half k p e =
-    let b : (k + 1) * (4 * half) ≡ k * (4 * half) + 4 * half = add-mul k 1 (4 * half) ∙ ap (λ (t : ℕ). k * (4 * half) + t) (one-mul (4 * half)) in
-    omega (arith, b, e)
-
-module _ (half count k p : ℕ) (pos : 0 < half) (fits : 4 * half * count ≡ 256) (more : k < count) (place : p + 1 ≡ k * (4 * half) + 2 * half) where
-  -- within the 256 bytes
-  pub within : (p + half < 256) × (half ≤ p) × (half ≤ 64)
-  within =
-      let a : (k + 1) * (4 * half) ≤ count * (4 * half) = mul-le-mul_right (4 * half) (omega arith) in
-      let b : (k + 1) * (4 * half) ≡ k * (4 * half) + 4 * half = add-mul k 1 (4 * half) ∙ ap (λ (t : ℕ). k * (4 * half) + t) (one-mul (4 * half)) in
-      let c : count * (4 * half) ≡ 256 = mul_comm count (4 * half) ∙ fits in
-      omega (arith, a, b, c, place)
+-- a byte of a level that is not the last stands within the 256, with the two that it combines
+pub room : (half count k : ℕ) → 4 * half * count ≡ 256 → k < count → 4 * half * k + 4 * half ≤ 256
+room half count k fits more =
+    let a : (k + 1) * (4 * half) ≤ count * (4 * half) = mul-le-mul_right (4 * half) (omega arith) in
+    omega (arith, a, fits)
 
 module _ (xs : List ℕ) (half k p : ℕ) (pos : 0 < half) (back : half ≤ p) (room : p + half < 256) (place : p + 1 ≡ k * (4 * half) + 2 * half) where
   rest_of : (i r : ℕ) → i + 1 ≡ k * (4 * half) + r → r < 4 * half → (i + 1) % (4 * half) ≡ r

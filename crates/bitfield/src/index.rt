@@ -8,22 +8,17 @@ fn uniform_of(a: u8, b: u8, ones: u8) -> u8
     requires { 0 < ones }
     ensures { (result ≡ uniform (eqb a ones && eqb b ones) (eqb a 0 && eqb b 0)) × (result < 4) }
 {
-    if a == ones {
-        if b == ones {
-            return 3;
-        }
-        return 2;
+    if a == ones && b == ones {
+        3
+    } else if a == 0 && b == 0 {
+        0
+    } else {
+        2
     }
-    if a == 0 {
-        if b == 0 {
-            return 0;
-        }
-        return 2;
-    }
-    2
 }
 
 // Inner: four tuples in a byte, the first highest.
+#[tactic(auto, unfolding(crate::specs::Index::four))]
 fn four_of(t: u8, u: u8, v: u8, w: u8) -> u8
     requires { (t < 4) × (u < 4) × (v < 4) × (w < 4) }
     ensures { result ≡ four t u v w }
@@ -32,6 +27,7 @@ fn four_of(t: u8, u: u8, v: u8, w: u8) -> u8
 }
 
 // Two Index bytes combined tuple by tuple at the same position.
+#[tactic(auto, using(crate::proofs::Levels::four_cong), unfolding(crate::specs::Index::combined, crate::specs::Index::combine))]
 fn combined_of(x: u8, y: u8) -> u8
     ensures { result ≡ combined x y }
 {
@@ -44,6 +40,7 @@ fn combined_of(x: u8, y: u8) -> u8
 }
 
 // The four tuples of the data bytes 8k to 8k + 7.
+#[tactic(auto, using(crate::proofs::Levels::four_cong), unfolding(crate::specs::Index::tuples, crate::specs::Index::tuple))]
 fn tuples_of(s: &[u8], k: usize) -> u8
     requires { 8 * k + 8 ≤ length s.now }
     ensures { result ≡ tuples s.now k }
@@ -58,34 +55,32 @@ fn tuples_of(s: &[u8], k: usize) -> u8
 }
 
 // The even Index bytes, with zeros between them.
+#[tactic(auto, using(crate::proofs::Levels::leaves_zero, crate::proofs::Levels::leaves_step, crate::proofs::Levels::leaves_end))]
 fn leaves_of(s: &[u8]) -> [u8; 256]
     requires { length s.now ≡ 1024 }
     ensures { result ≡ leaves s.now 128 }
 {
     let mut out = [0u8; 256];
-    let mut k = 0;
-    while k < 128 {
+    for k in 0..128 {
         out[2 * k] = tuples_of(s, k);
-        k += 1;
     }
     out
 }
 
 // Inner: the bytes of one level, count of them, each from the two that stand half before and half behind it.
+#[tactic(auto, using(crate::proofs::Levels::room, crate::proofs::Levels::level_zero, crate::proofs::Levels::level_next))]
 fn make_level(out: &mut [u8; 256], half: usize, count: usize)
     requires { (0 < half) × (4 * half * count ≡ 256) × (length out.old ≡ 256) }
     ensures { out.new ≡ level out.old half count }
 {
-    let mut k = 0;
-    let mut p = 2 * half - 1;
-    while k < count {
+    for k in 0..count {
+        let p = 4 * half * k + 2 * half - 1;
         out[p] = combined_of(out[p - half], out[p + half]);
-        p += 4 * half;
-        k += 1;
     }
 }
 
 // Inner: the Index of the data bytes of one entry.
+#[tactic(auto, using(crate::proofs::Levels::levels, crate::proofs::Levels::length_leaves, crate::proofs::Levels::length_level))]
 pub fn index_of(s: &[u8]) -> [u8; 256]
     requires { length s.now ≡ 1024 }
     ensures { result ≡ index_bytes s.now }

@@ -10,6 +10,7 @@ ghost use Rattle.tree_index.specs.Numbers.{numbers};
 use number_types::{ChunkNumber, TreeIndex};
 
 // The leaf of a chunk. Inner.
+#[tactic(auto, unfolding(crate::specs::Tree::index))]
 pub fn leaf_index(c: ChunkNumber) -> TreeIndex
     requires { c.0 < 2097152 }
     ensures { result.0 ≡ tree.index 0 c.0 }
@@ -26,6 +27,7 @@ pub fn parent_before(c: ChunkNumber) -> TreeIndex
 }
 
 // The chunk of a leaf. Inner.
+#[tactic(auto, using(crate::proofs::Words::leaf_block))]
 pub fn chunk_of_leaf(i: TreeIndex) -> ChunkNumber
     requires { i.0 % 2 ≡ 0 }
     ensures { result.0 ≡ tree.block i.0 }
@@ -34,14 +36,16 @@ pub fn chunk_of_leaf(i: TreeIndex) -> ChunkNumber
 }
 
 // How many chunks the block of an index has, as a power of two: the trailing ones of the index. Inner.
+#[tactic(auto, using(crate::proofs::Index::trailing_depth))]
 pub fn depth(i: TreeIndex) -> u32
     requires { i.0 < 4194304 }
     ensures { result ≡ tree.depth i.0 }
 {
-    u64::trailing_zeros(i.0 + 1)
+    (i.0 + 1).trailing_zeros()
 }
 
 // Which block of that many chunks an index stands for. Inner.
+#[tactic(auto, using(crate::proofs::Words::depth_small, crate::proofs::Words::block_word))]
 pub fn block(i: TreeIndex) -> u64
     requires { i.0 < 4194304 }
     ensures { result ≡ tree.block i.0 }
@@ -51,6 +55,7 @@ pub fn block(i: TreeIndex) -> u64
 }
 
 // The index of the block k of 2^d chunks. Inner.
+#[tactic(auto, using(crate::proofs::Words::node_word))]
 pub fn node_index(d: u32, k: u64) -> TreeIndex
     requires { (d < 32) × (k < 8388608) }
     ensures { result.0 ≡ tree.index d k }
@@ -60,6 +65,7 @@ pub fn node_index(d: u32, k: u64) -> TreeIndex
 }
 
 // The left child of a parent. Inner.
+#[tactic(auto, using(crate::proofs::Words::depth_small, crate::proofs::Words::half_small, crate::proofs::Words::left_word))]
 pub fn left_child(i: TreeIndex) -> TreeIndex
     requires { (i.0 < 4194304) × (0 < tree.depth i.0) }
     ensures { result.0 ≡ tree.left_child i.0 }
@@ -69,6 +75,7 @@ pub fn left_child(i: TreeIndex) -> TreeIndex
 }
 
 // The right child of a parent. Inner.
+#[tactic(auto, using(crate::proofs::Words::depth_small, crate::proofs::Words::half_small, crate::proofs::Words::right_word))]
 pub fn right_child(i: TreeIndex) -> TreeIndex
     requires { (i.0 < 4194304) × (0 < tree.depth i.0) }
     ensures { result.0 ≡ tree.right_child i.0 }
@@ -78,6 +85,7 @@ pub fn right_child(i: TreeIndex) -> TreeIndex
 }
 
 // Whether all chunks of an index's block are among n. Inner.
+#[tactic(auto, using(crate::proofs::Words::depth_small, crate::proofs::Words::size_small, crate::proofs::Words::filled_word))]
 pub fn is_filled(n: u64, i: TreeIndex) -> bool
     requires { i.0 < 4194304 }
     ensures { result ≡ tree.filled n i.0 }
@@ -95,11 +103,12 @@ pub fn ends_before(i: TreeIndex, c: ChunkNumber) -> bool
 }
 
 // How many roots n chunks have: a root for each one bit of n. Inner.
+#[tactic(auto, using(crate::proofs::Roots::length_roots))]
 pub fn root_count(n: u64) -> usize
     requires { n ≤ 1048576 }
     ensures { result ≡ length (tree.roots n) }
 {
-    u64::count_ones(n) as usize
+    n.count_ones() as usize
 }
 
 // Which block of 2^d chunks a chunk is in. Inner.
@@ -111,11 +120,12 @@ pub fn block_over(c: ChunkNumber, d: u32) -> u64
 }
 
 // How many parents a chunk completes. Inner.
+#[tactic(auto, unfolding(crate::specs::Tree::completed))]
 pub fn completed(c: ChunkNumber) -> u32
     requires { c.0 < 1048576 }
     ensures { result ≡ tree.completed c.0 }
 {
-    u64::trailing_zeros(c.0 + 1)
+    (c.0 + 1).trailing_zeros()
 }
 
 // The node of the 2^d chunks that end with a chunk: its leaf, or a parent that it completes. Inner.
@@ -128,15 +138,14 @@ pub fn node_ending(c: ChunkNumber, d: u32) -> TreeIndex
 }
 
 // The roots of n chunks, largest first, and zeros behind them. Inner.
+#[tactic(auto, using(crate::proofs::Gathered::gathered_room, crate::proofs::Gathered::gathered_all))]
 pub fn root_indexes(n: u64) -> [TreeIndex; 20]
     requires { n ≤ 1048576 }
     ensures { numbers result ≡ tree.roots n ++ replicate (20 - length (tree.roots n)) 0 }
 {
     let mut found = [TreeIndex(0); 20];
     let mut count: usize = 0;
-    let mut d: u32 = 21;
-    while 0 < d {
-        d -= 1;
+    for d in (0..21).rev() {
         let high = n >> d;
         if high % 2 == 1 {
             found[count] = node_index(d, high - 1);

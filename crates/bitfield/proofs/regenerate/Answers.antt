@@ -3,11 +3,10 @@ use native.Mathlib.Omega.{arith}
 use mathlib.Core.Path.{◌≡◌, ap, ◌∙◌}
 use mathlib.Core.List.{List}
 use Prim.Native.Nat.{ℕ, ◌+◌, ◌-◌}
-use lib.ListN.{length, take, drop}
+use lib.ListN.{take, drop}
 use Rattle.byte_strings.specs.Lists.{part, put}
 use Rattle.bitfield.specs.Index.{index_bytes}
 use Rattle.bitfield.specs.Append.{regenerated, bits_place}
-use Rattle.bitfield.proofs.Levels.{length_index}
 use Rattle.bitfield.proofs.regenerate.Goals as goal
 
 together : (xs zs bs : List ℕ) (e at : ℕ) → at ≡ bits_place e → zs ≡ put xs (at + 3072) bs
@@ -17,26 +16,6 @@ together xs zs bs e at f p q =
     let r : at + 1024 - at ≡ 1024 = omega arith in
     p ∙ ap (put xs (at + 3072)) (q ∙ ap (λ (k : ℕ). index_bytes (take k (drop at xs))) r)
     ∙ ap (λ (x : ℕ). put xs (x + 3072) (index_bytes (take 1024 (drop x xs)))) f
-
-pub entry_place-at-requires : goal.entry_place-at-requires
-unfolding bits_place
-entry_place-at-requires c = omega arith
-
-pub overflow_add-end : goal.overflow_add-end
-unfolding bits_place
-overflow_add-end c = omega arith
-
-pub slice_bounds-index_of-end : goal.slice_bounds-index_of-end
-unfolding bits_place
-slice_bounds-index_of-end c = omega arith
-
-pub overflow_add-at : goal.overflow_add-at
-unfolding bits_place
-overflow_add-at c = omega arith
-
-pub copy_to-requires : goal.copy_to-requires
-unfolding bits_place
-copy_to-requires c = omega (arith, ap length c.index_of-bytes.ensures ∙ length_index _)
 
 pub returns : goal.returns
 returns c = together _ _ _ _ _ c.entry_place-at.ensures c.copy_to.ensures c.index_of-bytes.ensures

@@ -1,33 +1,14 @@
-use Prim.Native.Nat.{◌-◌, ◌+◌, ◌<◌}
+use Prim.Native.Nat.{◌-◌, ◌+◌}
 use mathlib.Core.Path.{sym, subst}
 use native.Mathlib.Omega.{arith}
-use lib.Pow.{shr_le}
 use Rattle.tree_index.specs.Numbers.{numbers}
 use Rattle.tree_index.proofs.Numbers.{numbers_set}
-use Rattle.tree_index.proofs.Gathered.{Gathered, gathered_none, gathered_skip, gathered_room, gathered_root, gathered_all}
+use Rattle.tree_index.proofs.Gathered.{Gathered, gathered_none, gathered_skip, gathered_root}
 use Rattle.tree_index.proofs.root_indexes.Goals as goal
 
 pub loop-d-init : goal.loop-d-init
 unfolding numbers
 loop-d-init c = gathered_none
-
-pub node_index-requires : goal.node_index-requires
-node_index-requires c = omega (arith, shr_le c.args.n (c.loop-d.d - 1))
-
-pub offset_bounds-found-count : goal.offset_bounds-found-count
-offset_bounds-found-count c =
-    let room : c.loop-d.count < 20 = gathered_room c.loop-d.invariant c.requires c.loop-d-test.true c.if-high-eq1.true in
-    omega (arith, room)
-
-pub bounds-found-count : goal.bounds-found-count
-bounds-found-count c =
-    let room : c.loop-d.count < 20 = gathered_room c.loop-d.invariant c.requires c.loop-d-test.true c.if-high-eq1.true in
-    room
-
-pub overflow_add-count : goal.overflow_add-count
-overflow_add-count c =
-    let room : c.loop-d.count < 20 = gathered_room c.loop-d.invariant c.requires c.loop-d-test.true c.if-high-eq1.true in
-    omega (arith, room)
 
 pub loop-d-preserved-then-high-eq1 : goal.loop-d-preserved-then-high-eq1
 loop-d-preserved-then-high-eq1 c =
@@ -37,6 +18,3 @@ loop-d-preserved-then-high-eq1 c =
 
 pub loop-d-preserved : goal.loop-d-preserved
 loop-d-preserved c = gathered_skip c.loop-d.invariant c.loop-d-test.true (omega arith)
-
-pub returns : goal.returns
-returns c = gathered_all c.loop-d.invariant c.loop-d-test.false

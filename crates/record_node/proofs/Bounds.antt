@@ -1,7 +1,9 @@
 -- When the fields of a Node are within the bounds. Assumes nothing.
 use Prim.Native.Nat.{ℕ, ◌+◌, ◌<◌, ◌≤◌}
-use mathlib.Core.Path.{◌≡◌, sym, ap, ◌∙◌, subst}
-use mathlib.Core.Bool.{Bool}
+use mathlib.Core.Path.{◌≡◌, refl, sym, ap, ◌∙◌, subst}
+use mathlib.Core.Bool.{Bool, true, false}
+use lib.Dec.{eqb}
+use borrow.Author.Tests.{eqb-true, eqb-false}
 use mathlib.Core.Logic.{⊎_elim}
 use mathlib.Core.List.{List}
 use native.Mathlib.Omega.{arith}
@@ -43,14 +45,15 @@ module _ (d : List ℕ) (p : Part) (h : Inside d p) where
     pub path_first : p.at < length d
     path_first = omega (arith, h, some)
 
-    pub path_other : (get_or d p.at 0 ≡ 47 → ⊥) → PathLies d p → ⊥
-    path_other n w = n (sym (first (omega (arith, some))) ∙ w.within.slash)
-
-    pub path_right : p.len ≤ 255 → get_or d p.at 0 ≡ 47 → PathLies d p
-    path_right l e = record {
-      inside = h;
-      within = record { some = omega (arith, long, some); short = omega (arith, long); slash = first (omega (arith, some)) ∙ e };
-    }
+    pub path_decided : p.len ≤ 255 → Decides (PathLies d p) (eqb (get_or d p.at 0) 47)
+    path_decided l = go (eqb (get_or d p.at 0) 47) refl
+      where
+        go : (b : Bool) → eqb (get_or d p.at 0) 47 ≡ b → Decides (PathLies d p) b
+        go true e = record {
+          inside = h;
+          within = record { some = omega (arith, long, some); short = omega (arith, long); slash = first (omega (arith, some)) ∙ eqb-true (get_or d p.at 0) 47 e };
+        }
+        go false e = λ w. eqb-false (get_or d p.at 0) 47 e (sym (first (omega (arith, some))) ∙ w.within.slash)
 
 -- ---- parts
 

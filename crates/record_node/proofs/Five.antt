@@ -219,9 +219,9 @@ module _ (d : List ℕ) (field : Maybe Part) where
         let y : stat_bytes s ≡ part_of d p = cc in
         g s w (y ∙ sym cut ∙ sym q)
 
-    pub value_right : {b : List ℕ} {s : CodeStat} → b ≡ take (p.at + p.len - p.at) (drop p.at d) → StatReadAs b (Some s)
+    pub value_right : {b : List ℕ} (s : CodeStat) → b ≡ take (p.at + p.len - p.at) (drop p.at d) → StatReadAs b (Some s)
         → ValueReadAs d field (Some (Some s))
-    value_right {b} q a =
+    value_right {b} s q a =
         (a.within, ap {B = Option (List ℕ)} some (a.bytes ∙ q ∙ cut) ∙ sym (ap (bytes_of d) e))
 
   pub value_none : field ≡ None → ValueReadAs d field (Some None)

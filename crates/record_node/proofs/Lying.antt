@@ -5,7 +5,6 @@ use mathlib.Core.List.{List, [], ◌∷◌, ◌++◌, append_assoc}
 use mathlib.Core.Option.{Option, none, some}
 use native.Mathlib.Omega.{arith}
 use lib.ListN.{length, get_or, replicate, length-append, get_or-append}
-use Rattle.std.specs.Prelude.{Option as Maybe, None, Some}
 use Rattle.answer_types.specs.Verdict as verdicts
 use Rattle.byte_strings.specs.Lists.{put}
 use Rattle.byte_strings.proofs.Lists.{run_ext, run_get_or}

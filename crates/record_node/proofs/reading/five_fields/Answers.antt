@@ -2,9 +2,6 @@
 use Rattle.record_node.proofs.Five.{raw_first, raw_tail, raw_read}
 use Rattle.record_node.proofs.reading.five_fields.Goals as goal
 
-pub last_fields-tail-requires : goal.last_fields-tail-requires
-last_fields-tail-requires c = c.in_ok-parts.ensures.read.inside
-
 pub returns-in_err-parts : goal.returns-in_err-parts
 returns-in_err-parts c = rw c.from_residual.ensures (raw_first c.args.d.now c.in_err-parts.ensures)
 

@@ -2,12 +2,6 @@
 use Rattle.record_node.proofs.Five.{no_path, no_value, all_right}
 use Rattle.record_node.proofs.reading.judged.Goals as goal
 
-pub with_path-path-requires : goal.with_path-path-requires
-with_path-path-requires c = c.requires.parts.0
-
-pub read_value-value-requires : goal.read_value-value-requires
-read_value-value-requires c = c.requires.parts.1.0
-
 pub returns-in_err-path : goal.returns-in_err-path
 returns-in_err-path c = rw c.from_residual.ensures (no_path c.args.raw.tail.sequence c.requires c.in_err-path.ensures)
 

@@ -1,10 +1,6 @@
 -- The Writers, behind them the sequence, and nothing behind that.
-use native.Mathlib.Omega.{arith}
 use Rattle.record_node.proofs.Five.{tail_writers, tail_number, tail_left, tail_read}
 use Rattle.record_node.proofs.reading.last_fields.Goals as goal
-
-pub number_row-sequence-requires : goal.number_row-sequence-requires
-number_row-sequence-requires c = (c.in_ok-writers.ensures.read.inside, omega arith)
 
 pub returns-in_err-writers : goal.returns-in_err-writers
 returns-in_err-writers c = rw c.from_residual.ensures (tail_writers c.args.d.now c.args.at c.in_err-writers.ensures)

@@ -7,14 +7,14 @@ use Rattle.record_node.proofs.reading.read_value.Goals as goal
 pub overflow_add-to : goal.overflow_add-to
 overflow_add-to c = omega (arith, value_inside _ _ c.in-Some.is c.requires)
 
-pub slice_bounds-read_stat-stat-end : goal.slice_bounds-read_stat-stat-end
-slice_bounds-read_stat-stat-end c = omega (arith, value_inside _ _ c.in-Some.is c.requires)
+pub slice_bounds-read_stat-end : goal.slice_bounds-read_stat-end
+slice_bounds-read_stat-end c = omega (arith, value_inside _ _ c.in-Some.is c.requires)
 
 pub returns-in-None : goal.returns-in-None
 returns-in-None c = value_none _ _ c.in-None.is
 
-pub returns-in_err-stat : goal.returns-in_err-stat
-returns-in_err-stat c = rw c.from_residual.ensures (value_wrong _ _ c.in-Some.is c.requires refl c.in_err-stat.ensures)
+pub returns-in_err-stat-in-Some : goal.returns-in_err-stat-in-Some
+returns-in_err-stat-in-Some c = rw c.from_residual.ensures (value_wrong _ _ c.in-Some.is c.requires refl c.in_err-stat-in-Some.ensures)
 
-pub returns-in-Some : goal.returns-in-Some
-returns-in-Some c = value_right _ _ c.in-Some.is c.requires refl c.in_ok-stat.ensures
+pub returns-in_ok-stat-in-Some : goal.returns-in_ok-stat-in-Some
+returns-in_ok-stat-in-Some c = value_right _ _ c.in-Some.is c.requires _ refl c.in_ok-stat-in-Some.ensures

@@ -11,11 +11,5 @@ returns-in_err-value c = rw c.from_residual-in_err-value.ensures (parts_second c
 pub returns-in_err-trie : goal.returns-in_err-trie
 returns-in_err-trie c = rw c.from_residual-in_err-trie.ensures (parts_third c.args.d.now c.in_ok-path.ensures c.in_ok-value.ensures c.in_err-trie.ensures)
 
-pub bytes_row-trie-requires : goal.bytes_row-trie-requires
-bytes_row-trie-requires c = (c.in_ok-value.ensures.read.inside, omega arith)
-
-pub bytes_row-value-requires : goal.bytes_row-value-requires
-bytes_row-value-requires c = (c.in_ok-path.ensures.read.inside, omega arith)
-
 pub returns : goal.returns
 returns c = parts_read c.args.d.now c.in_ok-path.ensures c.in_ok-value.ensures c.in_ok-trie.ensures

@@ -1,4 +1,5 @@
 -- The field decides, and then the bytes of its part.
+use Prim.Native.Nat.{◌+◌}
 use native.Mathlib.Omega.{arith}
 use Rattle.record_node.proofs.Keyed.{one_bad, one_end, part_inside, one_none, one_read, from_front}
 use Rattle.record_node.proofs.writers.one_writer.Goals as goal
@@ -12,16 +13,16 @@ returns-in-None c = one_end c.args.d.now c.args.at c.in_ok-field.ensures c.in-No
 pub overflow_add-to : goal.overflow_add-to
 overflow_add-to c = omega (arith, part_inside _ c.args.at c.in_ok-field.ensures c.in-Some.is)
 
-pub slice_bounds-read_writer-writer-end : goal.slice_bounds-read_writer-writer-end
-slice_bounds-read_writer-writer-end c = omega (arith, part_inside _ c.args.at c.in_ok-field.ensures c.in-Some.is)
+pub slice_bounds-read_writer-end : goal.slice_bounds-read_writer-end
+slice_bounds-read_writer-end c = omega (arith, part_inside _ c.args.at c.in_ok-field.ensures c.in-Some.is)
 
-pub returns-in_err-writer : goal.returns-in_err-writer
-returns-in_err-writer c =
+pub returns-in_err-writer-in-Some : goal.returns-in_err-writer-in-Some
+returns-in_err-writer-in-Some c =
     let p = c.in-Some.part in
-    rw c.from_residual-in_err-writer.ensures
-    (one_none c.args.d.now c.args.at c.in_ok-field.ensures c.in-Some.is (from_front c.args.d.now (p.at + p.len)) c.in_err-writer.ensures)
+    rw c.from_residual-in_err-writer-in-Some.ensures
+    (one_none c.args.d.now c.args.at c.in_ok-field.ensures c.in-Some.is (from_front c.args.d.now (p.at + p.len)) c.in_err-writer-in-Some.ensures)
 
-pub returns-in-Some : goal.returns-in-Some
-returns-in-Some c =
+pub returns-in_ok-writer-in-Some : goal.returns-in_ok-writer-in-Some
+returns-in_ok-writer-in-Some c =
     let p = c.in-Some.part in
-    one_read c.args.d.now c.args.at c.in_ok-field.ensures c.in-Some.is c.requires (from_front c.args.d.now (p.at + p.len)) c.in_ok-writer.ensures
+    one_read c.args.d.now c.args.at c.in_ok-field.ensures c.in-Some.is c.requires (from_front c.args.d.now (p.at + p.len)) c.in_ok-writer-in-Some.ensures

@@ -1,10 +1,6 @@
 -- The key, behind it the permission, and nothing behind that.
-use native.Mathlib.Omega.{arith}
 use Rattle.record_node.proofs.Keyed.{writer_first, writer_second, writer_left, writer_whole}
 use Rattle.record_node.proofs.writers.read_writer.Goals as goal
-
-pub bytes_row-permission-requires : goal.bytes_row-permission-requires
-bytes_row-permission-requires c = (c.in_ok-key.ensures.read.inside, omega arith)
 
 pub returns-in_err-key : goal.returns-in_err-key
 returns-in_err-key c = rw c.from_residual.ensures (writer_first c.args.d.now c.args.at c.in_err-key.ensures)

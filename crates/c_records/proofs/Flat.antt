@@ -5,18 +5,13 @@ use mathlib.Core.List.{List, [], ◌∷◌}
 use native.Mathlib.Nat.{zero-add}
 use native.Mathlib.Omega.{arith}
 use lib.ListN.{length, get_or}
+use Rattle.std.specs.Prelude.{Option, None, Some}
 use Rattle.byte_strings.specs.Lists.{run}
 use Rattle.byte_strings.proofs.Lists.{run_ext, run_get_or, get_or_run}
-use Rattle.record_fields.specs.declared.rows.Number.{Number}
-use Rattle.record_fields.specs.declared.rows.Number.TheVariants.{Absent as NoNumber, Given as GivenNumber}
 use Rattle.record_fields.specs.declared.rows.Part.{Part}
-use Rattle.record_fields.specs.declared.rows.Bytes.{Bytes}
-use Rattle.record_fields.specs.declared.rows.Bytes.TheVariants.{Absent as NoBytes, Given as GivenBytes}
 use Rattle.record_format.specs.declared.stats.Stat.{Stat}
 use Rattle.record_node.specs.Post.{no_writer}
 use Rattle.record_node.specs.declared.writers.Writer.{Writer}
-use Rattle.record_node.specs.declared.reading.Value.{Value}
-use Rattle.record_node.specs.declared.reading.Value.TheVariants.{Absent as NoValue, Given as GivenValue}
 use Rattle.record_node.specs.declared.reading.Node.{Node}
 use Rattle.c_records.specs.Flat.{flat_number, flat_part, flat_bytes, flat_writer, flat_writers, flat_stat, flat_value, flat_node, number_in, bytes_in, writer_in}
 use Rattle.c_records.specs.Flat.{writers_in, no_flat, stat_in, value_in, node_in, FlatRestored}
@@ -27,19 +22,19 @@ use Rattle.c_records.specs.declared.FlatWriter.{FlatWriter}
 abbrev with_part : FlatPart → FlatBytes
 with_part p = record { given = 1; part = p }
 
-pub given_part : (f : FlatPart) (p : Part) → f ≡ flat_part p → with_part f ≡ flat_bytes (GivenBytes p)
+pub given_part : (f : FlatPart) (p : Part) → f ≡ flat_part p → with_part f ≡ flat_bytes (Some p)
 given_part f p e = ap with_part e
 
-number_back : (o : Number) → number_in (flat_number o) ≡ o
-number_back NoNumber = refl
-number_back (GivenNumber x) = refl
+number_back : (o : Option ℕ) → number_in (flat_number o) ≡ o
+number_back None = refl
+number_back (Some x) = refl
 
-bytes_back : (o : Bytes) → bytes_in (flat_bytes o) ≡ o
-bytes_back NoBytes = refl
-bytes_back (GivenBytes p) = refl
+bytes_back : (o : Option Part) → bytes_in (flat_bytes o) ≡ o
+bytes_back None = refl
+bytes_back (Some p) = refl
 
 writer_back : (w : Writer) → writer_in (flat_writer w) ≡ w
-writer_back w = ap (λ (o : Bytes). record { key = w.key; permission = o }) (bytes_back w.permission)
+writer_back w = ap (λ (o : Option Part). record { key = w.key; permission = o }) (bytes_back w.permission)
 
 -- a Stat, field by field
 abbrev stat_with : Stat → Stat
@@ -72,9 +67,9 @@ stat_back s =
     (number_back s.mtime)
     (number_back s.ctime)
 
-value_back : (v : Value) → value_in (flat_value v) ≡ v
-value_back NoValue = refl
-value_back (GivenValue s) = ap (λ (x : Stat). GivenValue x) (stat_back s)
+value_back : (v : Option Stat) → value_in (flat_value v) ≡ v
+value_back None = refl
+value_back (Some s) = ap (λ (x : Stat). Some x) (stat_back s)
 
 writers_back : (ws : List Writer) → length ws ≡ 8 → writers_in (flat_writers ws) ≡ ws
 unfolding writers_in flat_writers

@@ -1,16 +1,10 @@
 -- The numbers that stand for the fields of a Node: a field that may be absent is 0 and no value, or 1 and its value.
-use Rattle.std.specs.Prelude.{◌≡◌, cond, List, eqb, length, get_or}
+use Rattle.std.specs.Prelude.{Option, None, Some, ℕ, ◌≡◌, cond, List, eqb, length, get_or}
 use Rattle.byte_strings.specs.Lists.{run}
-use Rattle.record_fields.specs.declared.rows.Number.{Number}
-use Rattle.record_fields.specs.declared.rows.Number.TheVariants.{Absent as NoNumber, Given as GivenNumber}
 use Rattle.record_fields.specs.declared.rows.Part.{Part}
-use Rattle.record_fields.specs.declared.rows.Bytes.{Bytes}
-use Rattle.record_fields.specs.declared.rows.Bytes.TheVariants.{Absent as NoBytes, Given as GivenBytes}
 use Rattle.record_format.specs.declared.stats.Stat.{Stat}
 use Rattle.record_node.specs.Post.{no_writer}
 use Rattle.record_node.specs.declared.writers.Writer.{Writer}
-use Rattle.record_node.specs.declared.reading.Value.{Value}
-use Rattle.record_node.specs.declared.reading.Value.TheVariants.{Absent as NoValue, Given as GivenValue}
 use Rattle.record_node.specs.declared.reading.Node.{Node}
 use Rattle.c_records.specs.declared.FlatNumber.{FlatNumber}
 use Rattle.c_records.specs.declared.FlatPart.{FlatPart}
@@ -21,16 +15,16 @@ use Rattle.c_records.specs.declared.FlatNode.{FlatNode}
 
 -- ---- from fields to numbers
 
-abbrev pub flat_number : Number → FlatNumber
-flat_number NoNumber = record { given = 0; value = 0 }
-flat_number (GivenNumber x) = record { given = 1; value = x }
+abbrev pub flat_number : Option ℕ → FlatNumber
+flat_number None = record { given = 0; value = 0 }
+flat_number (Some x) = record { given = 1; value = x }
 
 abbrev pub flat_part : Part → FlatPart
 flat_part p = record { at = p.at; length = p.len }
 
-abbrev pub flat_bytes : Bytes → FlatBytes
-flat_bytes NoBytes = record { given = 0; part = record { at = 0; length = 0 } }
-flat_bytes (GivenBytes p) = record { given = 1; part = flat_part p }
+abbrev pub flat_bytes : Option Part → FlatBytes
+flat_bytes None = record { given = 0; part = record { at = 0; length = 0 } }
+flat_bytes (Some p) = record { given = 1; part = flat_part p }
 
 abbrev pub flat_writer : Writer → FlatWriter
 flat_writer w = record { key = flat_part w.key; permission = flat_bytes w.permission }
@@ -66,9 +60,9 @@ flat_stat s = record {
   ctime = flat_number s.ctime;
 }
 
-abbrev pub flat_value : Value → FlatStat
-flat_value NoValue = no_stat
-flat_value (GivenValue s) = flat_stat s
+abbrev pub flat_value : Option Stat → FlatStat
+flat_value None = no_stat
+flat_value (Some s) = flat_stat s
 
 abbrev pub flat_node : Node → FlatNode
 flat_node n = record {
@@ -82,14 +76,14 @@ flat_node n = record {
 
 -- ---- and back: any number but 0 says that a field is there
 
-abbrev pub number_in : FlatNumber → Number
-number_in f = cond (eqb f.given 0) NoNumber (GivenNumber f.value)
+abbrev pub number_in : FlatNumber → Option ℕ
+number_in f = cond (eqb f.given 0) None (Some f.value)
 
 abbrev pub part_in : FlatPart → Part
 part_in f = record { at = f.at; len = f.length }
 
-abbrev pub bytes_in : FlatBytes → Bytes
-bytes_in f = cond (eqb f.given 0) NoBytes (GivenBytes (part_in f.part))
+abbrev pub bytes_in : FlatBytes → Option Part
+bytes_in f = cond (eqb f.given 0) None (Some (part_in f.part))
 
 abbrev pub writer_in : FlatWriter → Writer
 writer_in f = record { key = part_in f.key; permission = bytes_in f.permission }
@@ -114,8 +108,8 @@ stat_in f = record {
   ctime = number_in f.ctime;
 }
 
-abbrev pub value_in : FlatStat → Value
-value_in f = cond (eqb f.given 0) NoValue (GivenValue (stat_in f))
+abbrev pub value_in : FlatStat → Option Stat
+value_in f = cond (eqb f.given 0) None (Some (stat_in f))
 
 abbrev pub node_in : FlatNode → Node
 node_in f = record {

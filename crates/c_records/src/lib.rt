@@ -5,13 +5,13 @@
 mod numbers;
 
 ghost use Rattle.std.specs.Prelude.{◌≡◌};
-ghost use Rattle.c_records.specs.Flat.{flat_number, flat_part, flat_bytes, flat_writer, flat_writers, no_stat, flat_stat, flat_value, flat_node};
+ghost use Rattle.c_records.specs.Flat.{flat_number, flat_part, flat_bytes, flat_writer, flat_writers, flat_value, flat_node};
 ghost use Rattle.c_records.specs.Flat.{number_in, part_in, bytes_in, writer_in, writers_in, stat_in, value_in, node_in};
 
 pub use numbers::{answered, flat_at};
-use record_fields::{Bytes, Number, Part};
+use record_fields::Part;
 use record_format::Stat;
-use record_node::{Node, Value, Writer, Writers};
+use record_node::{Node, Writer, Writers};
 
 // A number's field: `given` is 0 where it is absent, and `value` is 0 then.
 #[derive(Clone, Copy)]
@@ -66,242 +66,208 @@ pub struct FlatNode {
     pub sequence: FlatNumber,
 }
 
-fn flat_number(field: Number) -> FlatNumber
-    ensures { result ≡ flat_number field }
-{
-    match field {
-        Number::Absent => FlatNumber { given: 0, value: 0 },
-        Number::Given(value) => FlatNumber { given: 1, value },
-    }
-}
+impl From<Option<u64>> for FlatNumber {
+    ghost from_gives = { λ field flat. flat ≡ flat_number field };
 
-fn flat_part(part: Part) -> FlatPart
-    ensures { result ≡ flat_part part }
-{
-    FlatPart {
-        at: part.at as u64,
-        length: part.len as u64,
-    }
-}
-
-fn flat_bytes(field: Bytes) -> FlatBytes
-    ensures { result ≡ flat_bytes field }
-{
-    match field {
-        Bytes::Absent => FlatBytes {
-            given: 0,
-            part: FlatPart { at: 0, length: 0 },
-        },
-        Bytes::Given(p) => {
-            let part = flat_part(p);
-            FlatBytes { given: 1, part }
+    fn from(field: Option<u64>) -> FlatNumber {
+        match field {
+            None => FlatNumber { given: 0, value: 0 },
+            Some(value) => FlatNumber { given: 1, value },
         }
     }
 }
 
-fn flat_writer(writer: Writer) -> FlatWriter
-    ensures { result ≡ flat_writer writer }
-{
-    let key = writer.key;
-    let permission = writer.permission;
-    FlatWriter {
-        key: flat_part(key),
-        permission: flat_bytes(permission),
+impl From<Part> for FlatPart {
+    ghost from_gives = { λ part flat. flat ≡ flat_part part };
+
+    fn from(part: Part) -> FlatPart {
+        FlatPart {
+            at: part.at as u64,
+            length: part.len as u64,
+        }
+    }
+}
+
+impl From<Option<Part>> for FlatBytes {
+    ghost from_gives = { λ field flat. flat ≡ flat_bytes field };
+
+    fn from(field: Option<Part>) -> FlatBytes {
+        match field {
+            None => FlatBytes {
+                given: 0,
+                part: FlatPart { at: 0, length: 0 },
+            },
+            Some(part) => FlatBytes {
+                given: 1,
+                part: FlatPart::from(part),
+            },
+        }
+    }
+}
+
+impl From<Writer> for FlatWriter {
+    ghost from_gives = { λ writer flat. flat ≡ flat_writer writer };
+
+    fn from(writer: Writer) -> FlatWriter {
+        FlatWriter {
+            key: FlatPart::from(writer.key),
+            permission: FlatBytes::from(writer.permission),
+        }
     }
 }
 
 fn flat_writers(list: [Writer; 8]) -> [FlatWriter; 8]
     ensures { result ≡ flat_writers list }
 {
-    [
-        flat_writer(list[0]),
-        flat_writer(list[1]),
-        flat_writer(list[2]),
-        flat_writer(list[3]),
-        flat_writer(list[4]),
-        flat_writer(list[5]),
-        flat_writer(list[6]),
-        flat_writer(list[7]),
-    ]
+    list.map(FlatWriter::from)
 }
+
+const NO_NUMBER: FlatNumber = FlatNumber { given: 0, value: 0 };
 
 // A Stat that is absent.
-fn no_stat() -> FlatStat
-    ensures { result ≡ no_stat }
-{
-    let none = FlatNumber { given: 0, value: 0 };
-    FlatStat {
-        given: 0,
-        mode: none,
-        uid: none,
-        gid: none,
-        size: none,
-        blocks: none,
-        offset: none,
-        byte_offset: none,
-        mtime: none,
-        ctime: none,
-    }
-}
+const NO_STAT: FlatStat = FlatStat {
+    given: 0,
+    mode: NO_NUMBER,
+    uid: NO_NUMBER,
+    gid: NO_NUMBER,
+    size: NO_NUMBER,
+    blocks: NO_NUMBER,
+    offset: NO_NUMBER,
+    byte_offset: NO_NUMBER,
+    mtime: NO_NUMBER,
+    ctime: NO_NUMBER,
+};
 
-fn flat_stat(stat: Stat) -> FlatStat
-    ensures { result ≡ flat_stat stat }
-{
-    let mode = stat.mode;
-    let uid = stat.uid;
-    let gid = stat.gid;
-    let size = stat.size;
-    let blocks = stat.blocks;
-    let offset = stat.offset;
-    let byte_offset = stat.byte_offset;
-    let mtime = stat.mtime;
-    let ctime = stat.ctime;
-    FlatStat {
-        given: 1,
-        mode: flat_number(mode),
-        uid: flat_number(uid),
-        gid: flat_number(gid),
-        size: flat_number(size),
-        blocks: flat_number(blocks),
-        offset: flat_number(offset),
-        byte_offset: flat_number(byte_offset),
-        mtime: flat_number(mtime),
-        ctime: flat_number(ctime),
-    }
-}
+impl From<Option<Stat>> for FlatStat {
+    ghost from_gives = { λ value flat. flat ≡ flat_value value };
 
-fn flat_value(value: Value) -> FlatStat
-    ensures { result ≡ flat_value value }
-{
-    match value {
-        Value::Absent => no_stat(),
-        Value::Given(stat) => flat_stat(stat),
+    fn from(value: Option<Stat>) -> FlatStat {
+        match value {
+            None => NO_STAT,
+            Some(stat) => FlatStat {
+                given: 1,
+                mode: FlatNumber::from(stat.mode),
+                uid: FlatNumber::from(stat.uid),
+                gid: FlatNumber::from(stat.gid),
+                size: FlatNumber::from(stat.size),
+                blocks: FlatNumber::from(stat.blocks),
+                offset: FlatNumber::from(stat.offset),
+                byte_offset: FlatNumber::from(stat.byte_offset),
+                mtime: FlatNumber::from(stat.mtime),
+                ctime: FlatNumber::from(stat.ctime),
+            },
+        }
     }
 }
 
 // The fields of a Node as numbers.
-pub fn flat_node(node: Node) -> FlatNode
-    ensures { result ≡ flat_node node }
-{
-    let path = node.path;
-    let value = node.value;
-    let trie = node.trie;
-    let several = node.writers;
-    let list = several.list;
-    let writers = flat_writers(list);
-    let sequence = node.sequence;
-    FlatNode {
-        path: flat_part(path),
-        value: flat_value(value),
-        trie: flat_bytes(trie),
-        count: several.count as u64,
-        writers,
-        sequence: flat_number(sequence),
+impl From<Node> for FlatNode {
+    ghost from_gives = { λ node flat. flat ≡ flat_node node };
+
+    fn from(node: Node) -> FlatNode {
+        FlatNode {
+            path: FlatPart::from(node.path),
+            value: FlatStat::from(node.value),
+            trie: FlatBytes::from(node.trie),
+            count: node.writers.count as u64,
+            writers: flat_writers(node.writers.list),
+            sequence: FlatNumber::from(node.sequence),
+        }
     }
 }
 
-fn number_in(flat: FlatNumber) -> Number
-    ensures { result ≡ number_in flat }
-{
-    if flat.given == 0 {
-        return Number::Absent;
+impl From<FlatNumber> for Option<u64> {
+    ghost from_gives = { λ flat field. field ≡ number_in flat };
+
+    fn from(flat: FlatNumber) -> Option<u64> {
+        if flat.given == 0 {
+            return None;
+        }
+        Some(flat.value)
     }
-    Number::Given(flat.value)
 }
 
 // A part by its numbers.
-pub fn part_in(flat: FlatPart) -> Part
-    ensures { result ≡ part_in flat }
-{
-    Part {
-        at: flat.at as usize,
-        len: flat.length as usize,
+impl From<FlatPart> for Part {
+    ghost from_gives = { λ flat part. part ≡ part_in flat };
+
+    fn from(flat: FlatPart) -> Part {
+        Part {
+            at: flat.at as usize,
+            len: flat.length as usize,
+        }
     }
 }
 
-fn bytes_in(flat: FlatBytes) -> Bytes
-    ensures { result ≡ bytes_in flat }
-{
-    if flat.given == 0 {
-        return Bytes::Absent;
+impl From<FlatBytes> for Option<Part> {
+    ghost from_gives = { λ flat field. field ≡ bytes_in flat };
+
+    fn from(flat: FlatBytes) -> Option<Part> {
+        if flat.given == 0 {
+            return None;
+        }
+        Some(Part::from(flat.part))
     }
-    Bytes::Given(part_in(flat.part))
 }
 
-fn writer_in(flat: FlatWriter) -> Writer
-    ensures { result ≡ writer_in flat }
-{
-    let key = part_in(flat.key);
-    let permission = bytes_in(flat.permission);
-    Writer { key, permission }
+impl From<FlatWriter> for Writer {
+    ghost from_gives = { λ flat writer. writer ≡ writer_in flat };
+
+    fn from(flat: FlatWriter) -> Writer {
+        Writer {
+            key: Part::from(flat.key),
+            permission: Option::<Part>::from(flat.permission),
+        }
+    }
 }
 
 fn writers_in(list: [FlatWriter; 8]) -> [Writer; 8]
     ensures { result ≡ writers_in list }
 {
-    [
-        writer_in(list[0]),
-        writer_in(list[1]),
-        writer_in(list[2]),
-        writer_in(list[3]),
-        writer_in(list[4]),
-        writer_in(list[5]),
-        writer_in(list[6]),
-        writer_in(list[7]),
-    ]
+    list.map(Writer::from)
 }
 
 fn stat_in(flat: FlatStat) -> Stat
     ensures { result ≡ stat_in flat }
 {
-    let mode = number_in(flat.mode);
-    let uid = number_in(flat.uid);
-    let gid = number_in(flat.gid);
-    let size = number_in(flat.size);
-    let blocks = number_in(flat.blocks);
-    let offset = number_in(flat.offset);
-    let byte_offset = number_in(flat.byte_offset);
-    let mtime = number_in(flat.mtime);
-    let ctime = number_in(flat.ctime);
     Stat {
-        mode,
-        uid,
-        gid,
-        size,
-        blocks,
-        offset,
-        byte_offset,
-        mtime,
-        ctime,
+        mode: Option::<u64>::from(flat.mode),
+        uid: Option::<u64>::from(flat.uid),
+        gid: Option::<u64>::from(flat.gid),
+        size: Option::<u64>::from(flat.size),
+        blocks: Option::<u64>::from(flat.blocks),
+        offset: Option::<u64>::from(flat.offset),
+        byte_offset: Option::<u64>::from(flat.byte_offset),
+        mtime: Option::<u64>::from(flat.mtime),
+        ctime: Option::<u64>::from(flat.ctime),
     }
 }
 
-fn value_in(flat: FlatStat) -> Value
-    ensures { result ≡ value_in flat }
-{
-    if flat.given == 0 {
-        return Value::Absent;
+impl From<FlatStat> for Option<Stat> {
+    ghost from_gives = { λ flat value. value ≡ value_in flat };
+
+    fn from(flat: FlatStat) -> Option<Stat> {
+        if flat.given == 0 {
+            return None;
+        }
+        Some(stat_in(flat))
     }
-    Value::Given(stat_in(flat))
 }
 
 // The Node whose fields these numbers are.
-pub fn node_in(flat: FlatNode) -> Node
-    ensures { result ≡ node_in flat }
-{
-    let path = part_in(flat.path);
-    let value = value_in(flat.value);
-    let trie = bytes_in(flat.trie);
-    let count = flat.count as usize;
-    let several = flat.writers;
-    let list = writers_in(several);
-    let writers = Writers { count, list };
-    let sequence = number_in(flat.sequence);
-    Node {
-        path,
-        value,
-        trie,
-        writers,
-        sequence,
+impl From<FlatNode> for Node {
+    ghost from_gives = { λ flat node. node ≡ node_in flat };
+
+    fn from(flat: FlatNode) -> Node {
+        Node {
+            path: Part::from(flat.path),
+            value: Option::<Stat>::from(flat.value),
+            trie: Option::<Part>::from(flat.trie),
+            writers: Writers {
+                count: flat.count as usize,
+                list: writers_in(flat.writers),
+            },
+            sequence: Option::<u64>::from(flat.sequence),
+        }
     }
 }

@@ -1,12 +1,12 @@
 -- Laws of fields: what a tag leads to, and what may stand behind a field. Assumes nothing.
-use Prim.Native.Nat.{ℕ, ◌+◌, ◌-◌, ◌*◌, ◌^◌, ◌<◌, ◌≤◌}
+use Prim.Native.Nat.{ℕ, ◌+◌, ◌*◌, ◌^◌, ◌<◌, ◌≤◌}
 use mathlib.Core.Path.{◌≡◌, refl, sym, ap, ◌∙◌, subst}
 use mathlib.Core.List.{List, [], ◌∷◌, ◌++◌, append_assoc}
 use mathlib.Core.Option.{Option, none, some}
 use native.Mathlib.Omega.{arith}
 use lib.ListN.{length, take, drop, length-append, take-append-drop}
 use lib.Seq.{take_at, drop_at, length-take-le}
-use Rattle.record_fields.specs.Varints.{digits, varint, Fits}
+use Rattle.record_fields.specs.Varints.{varint, Fits}
 use Rattle.record_fields.specs.Reading.{Begins, BeginsNot, Any}
 use Rattle.record_fields.specs.Fields.{number_field, part_field, Most, Longest, Later}
 use Rattle.record_fields.specs.Inner.{NoPart}

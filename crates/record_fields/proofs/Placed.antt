@@ -1,5 +1,5 @@
 -- Where the parts that were read lie, and that they are the bytes written there. Assumes nothing.
-use Prim.Native.Nat.{ℕ, ◌+◌, ◌-◌, ◌*◌, ◌≤◌}
+use Prim.Native.Nat.{ℕ, ◌+◌, ◌*◌, ◌≤◌}
 use mathlib.Core.Path.{◌≡◌, refl, sym, ap, ◌∙◌}
 use mathlib.Core.List.{List, ◌++◌, append_assoc}
 use mathlib.Core.Option.{Option, none, some}
@@ -11,8 +11,7 @@ use Rattle.record_fields.specs.Varints.{varint}
 use Rattle.record_fields.specs.Fields.{part_field}
 use Rattle.record_fields.specs.Inner.{Upto, PartUpto, part_of, bytes_of, Inside, BytesInside, head_of, part_placed, bytes_placed}
 use Rattle.record_fields.specs.declared.rows.Part.{Part}
-use Rattle.record_fields.specs.declared.rows.Bytes.{Bytes}
-use Rattle.record_fields.specs.declared.rows.Bytes.TheVariants.{Absent as NoBytes, Given as GivenBytes}
+use Rattle.std.specs.Prelude.{Option as Maybe, None, Some}
 
 -- ---- what was read at a place
 
@@ -29,20 +28,20 @@ pub field_head : (k : ℕ) (bs : List ℕ) → part_field k (some bs) ≡ head_o
 unfolding part_field
 field_head k bs = sym (append_assoc (varint (8 * k + 2)) (varint (length bs)) bs)
 
-pub part_placed_lem : (d : List ℕ) (at k longest : ℕ) (p : Part) (next : ℕ) → at ≤ length d → PartUpto d at k longest (GivenBytes p) next → p ≡ part_placed at k (part_of d p)
+pub part_placed_lem : (d : List ℕ) (at k longest : ℕ) (p : Part) (next : ℕ) → at ≤ length d → PartUpto d at k longest (Some p) next → p ≡ part_placed at k (part_of d p)
 part_placed_lem d at k longest p next h g =
     let long : length (part_of d p) ≡ p.len = length_part d p.at p.len g.inside in
     part_is p (at + length (head_of k (part_of d p))) (length (part_of d p))
     (omega (arith, g.ends, upto_next h g.read, ap length (field_head k (part_of d p)), length-append (head_of k (part_of d p)) (part_of d p), long)) (sym long)
 
-pub bytes_placed_lem : (d : List ℕ) (at k longest : ℕ) (o : Bytes) (next : ℕ) → at ≤ length d → PartUpto d at k longest o next → o ≡ bytes_placed at k (bytes_of d o)
-bytes_placed_lem d at k longest NoBytes next h g = refl
-bytes_placed_lem d at k longest (GivenBytes p) next h g = ap {B = Bytes} GivenBytes (part_placed_lem d at k longest p next h g)
+pub bytes_placed_lem : (d : List ℕ) (at k longest : ℕ) (o : Maybe Part) (next : ℕ) → at ≤ length d → PartUpto d at k longest o next → o ≡ bytes_placed at k (bytes_of d o)
+bytes_placed_lem d at k longest None next h g = refl
+bytes_placed_lem d at k longest (Some p) next h g = ap {B = Maybe Part} Some (part_placed_lem d at k longest p next h g)
 
 -- ---- what was written at a place
 
 -- a part lies within the bytes, and is the bytes written
-pub record Lying (d : List ℕ) (o : Bytes) (bs : Option (List ℕ)) : Type 0 where
+pub record Lying (d : List ℕ) (o : Maybe Part) (bs : Option (List ℕ)) : Type 0 where
   pub inside : BytesInside d o
   pub bytes : bytes_of d o ≡ bs
 

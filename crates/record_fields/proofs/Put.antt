@@ -12,10 +12,7 @@ use Rattle.record_fields.specs.Varints.{digits, varint, Fits}
 use Rattle.record_fields.specs.Fields.{number_field, part_field}
 use Rattle.record_fields.specs.Inner.{number_of, bytes_of, BytesInside, size_of, PutAt, Roomy, BytesRoomy}
 use Rattle.record_fields.specs.declared.rows.Part.{Part}
-use Rattle.record_fields.specs.declared.rows.Number.{Number}
-use Rattle.record_fields.specs.declared.rows.Number.TheVariants.{Absent, Given}
-use Rattle.record_fields.specs.declared.rows.Bytes.{Bytes}
-use Rattle.record_fields.specs.declared.rows.Bytes.TheVariants.{Absent as NoBytes, Given as GivenBytes}
+use Rattle.std.specs.Prelude.{Option as Maybe, None, Some}
 use Rattle.record_fields.proofs.Digits.{small, large, some_digits, above_last, fits_rest}
 use Rattle.record_fields.proofs.Fields.{word_fits}
 use Rattle.record_fields.proofs.Unique.{digits_size}
@@ -109,19 +106,19 @@ put_byte out at b h = record { ends = refl; holds = put_one out at b h }
 
 -- ---- a field that is a number
 
-module _ (k : ℕ) (out : List ℕ) (at : ℕ) (field : Number) where
-  pub number_absent : field ≡ Absent → PutAt (number_field k (number_of field)) out at at out
+module _ (k : ℕ) (out : List ℕ) (at : ℕ) (field : Maybe ℕ) where
+  pub number_absent : field ≡ None → PutAt (number_field k (number_of field)) out at at out
   unfolding number_field
-  number_absent e = subst (λ (f : Number). PutAt (number_field k (number_of f)) out at at out) (sym e) (put_nothing out at)
+  number_absent e = subst (λ (f : Maybe ℕ). PutAt (number_field k (number_of f)) out at at out) (sym e) (put_nothing out at)
 
-  module _ (x : ℕ) (e : field ≡ Given x) (kind : k < 16) (room : at + 11 ≤ length out) where
+  module _ (x : ℕ) (e : field ≡ Some x) (kind : k < 16) (room : at + 11 ≤ length out) where
     pub number_roomy : x < 2 ^ 64 → Roomy 9 x (set out at (8 * k)) (at + 1)
     number_roomy f = record { fits = word_fits x f; room = simp length-set (omega (arith, digits_size 9 x)) }
 
     pub number_put : (next : ℕ) (after : List ℕ) → PutAt (varint x) (set out at (8 * k)) (at + 1) next after → PutAt (number_field k (number_of field)) out at next after
     unfolding number_field
     number_put next after p =
-        subst (λ (f : Number). PutAt (number_field k (number_of f)) out at next after) (sym e)
+        subst (λ (f : Maybe ℕ). PutAt (number_field k (number_of f)) out at next after) (sym e)
         (subst (λ (t : List ℕ). PutAt (t ++ varint x) out at next after) (sym (small 9 (8 * k) (omega arith)))
         (put_then ((8 * k) ∷ []) (varint x) out at (at + 1) next (set out at (8 * k)) after (omega arith) (put_byte out at (8 * k) (omega arith)) p))
 
@@ -160,12 +157,12 @@ module _ (k : ℕ) (out : List ℕ) (at : ℕ) (bytes : List ℕ) (kind : k < 16
 
 -- ---- a part of the bytes lent, or none
 
-module _ (d : List ℕ) (field : Bytes) (k : ℕ) (out : List ℕ) (at : ℕ) (w : BytesRoomy d field k out at) where
-  pub bytes_absent : field ≡ NoBytes → PutAt (part_field k (bytes_of d field)) out at at out
+module _ (d : List ℕ) (field : Maybe Part) (k : ℕ) (out : List ℕ) (at : ℕ) (w : BytesRoomy d field k out at) where
+  pub bytes_absent : field ≡ None → PutAt (part_field k (bytes_of d field)) out at at out
   unfolding part_field
-  bytes_absent e = subst (λ (f : Bytes). PutAt (part_field k (bytes_of d f)) out at at out) (sym e) (put_nothing out at)
+  bytes_absent e = subst (λ (f : Maybe Part). PutAt (part_field k (bytes_of d f)) out at at out) (sym e) (put_nothing out at)
 
-  module _ (q : Part) (e : field ≡ GivenBytes q) where
+  module _ (q : Part) (e : field ≡ Some q) where
     pub given_inside : q.at + q.len ≤ length d
     given_inside = subst (BytesInside d) e w.inside
 
@@ -183,5 +180,5 @@ module _ (d : List ℕ) (field : Bytes) (k : ℕ) (out : List ℕ) (at : ℕ) (w
         → PutAt (part_field k (bytes_of d field)) out at next after
     unfolding part
     given_put bytes next after b p =
-        subst (λ (f : Bytes). PutAt (part_field k (bytes_of d f)) out at next after) (sym e)
+        subst (λ (f : Maybe Part). PutAt (part_field k (bytes_of d f)) out at next after) (sym e)
         (subst (λ (t : List ℕ). PutAt (part_field k (some t)) out at next after) (b ∙ ap (λ (n : ℕ). take n (drop q.at d)) taken) p)

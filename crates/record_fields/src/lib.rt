@@ -6,4 +6,5 @@ mod rows;
 mod varints;
 
 pub use putting::{put_bytes, put_number, put_part};
-pub use rows::{Bytes, BytesRow, Number, NumberRow, Part, bytes_row, number_row};
+pub use rows::{Part, bytes_row, number_row};
+pub use varints::Read;

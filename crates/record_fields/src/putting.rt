@@ -4,16 +4,16 @@ ghost use Rattle.std.specs.Prelude.{◌+◌, ◌≤◌, ◌<◌, length};
 ghost use Rattle.record_fields.specs.Fields.{number_field, part_field};
 ghost use Rattle.record_fields.specs.Inner.{number_of, bytes_of, PutAt, BytesRoomy};
 
-use super::rows::{Bytes, Number};
+use super::rows::Part;
 
 // Inner: the field of number k, a number, at a place; nothing of an absent one. Where it ends.
-pub fn put_number(out: &mut [u8], at: usize, k: u8, field: Number) -> usize
+pub fn put_number(out: &mut [u8], at: usize, k: u8, field: Option<u64>) -> usize
     requires { (k < 16) × (at + 11 ≤ length out.old) }
     ensures { PutAt (number_field k (number_of field)) out.old at result out.new }
 {
     match field {
-        Number::Absent => at,
-        Number::Given(x) => {
+        None => at,
+        Some(x) => {
             out[at] = 8 * k;
             super::varints::put_digits(out, at + 1, x, 9)
         }
@@ -32,13 +32,13 @@ pub fn put_part(out: &mut [u8], at: usize, k: u8, bytes: &[u8]) -> usize
 }
 
 // Inner: the field of number k, a part of d, at a place; nothing of an absent one. Where it ends.
-pub fn put_bytes(out: &mut [u8], at: usize, k: u8, d: &[u8], field: Bytes) -> usize
+pub fn put_bytes(out: &mut [u8], at: usize, k: u8, d: &[u8], field: Option<Part>) -> usize
     requires { BytesRoomy d.now field k out.old at }
     ensures { PutAt (part_field k (bytes_of d.now field)) out.old at result out.new }
 {
     match field {
-        Bytes::Absent => at,
-        Bytes::Given(part) => {
+        None => at,
+        Some(part) => {
             let from = part.at;
             let to = from + part.len;
             put_part(out, at, k, &d[from..to])

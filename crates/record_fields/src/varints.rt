@@ -3,54 +3,49 @@ ghost use Rattle.std.specs.Prelude.{◌≡◌, ◌≤◌, ◌<◌, length};
 ghost use Rattle.record_fields.specs.Varints as varint;
 ghost use Rattle.record_fields.specs.Inner.{DigitsRead, joined_of, PutAt, Roomy};
 
-// A number and where it ends, or that none below 2^64 stands there in its shortest form.
+// What was read at a place, and where it ends.
 #[derive(Clone, Copy)]
-pub enum Varint {
-    Bad,
-    Is(u64, usize),
-}
-
-// A byte as a number.
-fn wide(x: u8) -> u64
-    ensures { result ≡ x }
-{
-    x as u64
+pub struct Read<T> {
+    pub value: T,
+    pub next: usize,
 }
 
 // The number whose lowest seven bits are those of a byte that says that more follow, behind which the rest of the number was read.
 #[tactic(auto, using(crate::proofs::Found::joined_is, crate::proofs::Found::joined_zero, crate::proofs::Found::joined_large))]
-fn joined(low: u64, high: Varint) -> Varint
+fn joined(low: u64, high: Option<Read<u64>>) -> Option<Read<u64>>
     requires { low < 128 }
     ensures { result ≡ joined_of low high }
 {
-    match high {
-        Varint::Bad => Varint::Bad,
-        Varint::Is(rest, next) => {
-            if rest == 0 {
-                return Varint::Bad;
-            }
-            if rest < 144115188075855872 {
-                return Varint::Is(low + 128 * rest, next);
-            }
-            Varint::Bad
-        }
+    let rest = high?;
+    if rest.value == 0 {
+        return None;
     }
+    if 144115188075855872 <= rest.value {
+        return None;
+    }
+    Some(Read {
+        value: low + 128 * rest.value,
+        next: rest.next,
+    })
 }
 
-// Inner: the number that stands in at most k + 1 bytes at a place.
-pub fn digits(d: &[u8], at: usize, k: usize) -> Varint
+// Inner: the number that stands in at most k + 1 bytes at a place; none where no number below 2^64 stands there in its shortest form.
+pub fn digits(d: &[u8], at: usize, k: usize) -> Option<Read<u64>>
     requires { at ≤ length d.now }
     ensures { DigitsRead d.now k at result }
 {
     if d.len() <= at {
-        return Varint::Bad;
+        return None;
     }
-    let low = wide(d[at]);
+    let low = u64::from(d[at]);
     if low < 128 {
-        return Varint::Is(low, at + 1);
+        return Some(Read {
+            value: low,
+            next: at + 1,
+        });
     }
     if k == 0 {
-        return Varint::Bad;
+        return None;
     }
     joined(low - 128, digits(d, at + 1, k - 1))
 }

@@ -11,16 +11,10 @@ use Rattle.record_format.specs.Records.{Stat, StatWithin, stat_bytes, rows_of, r
 use Rattle.record_format.specs.Theorems.{Rejected}
 use Rattle.record_fields.specs.Inner.{Upto, number_of, NumberRead}
 use Rattle.record_format.specs.Post.{stat_of, StatReadAs}
-use Rattle.record_format.specs.Inner.{three_fields, ThreeMost, ThreeRead, with_mode, with_mode_of}
-use Rattle.record_fields.specs.declared.rows.Number.{Number}
-use Rattle.record_fields.specs.declared.rows.Number.TheVariants.{Absent, Given as GivenNumber}
-use Rattle.record_fields.specs.declared.rows.NumberRow.{NumberRow}
-use Rattle.record_fields.specs.declared.rows.NumberRow.TheVariants.{Bad as BadNumber, Read as ReadNumber}
+use Rattle.record_format.specs.Inner.{three_fields, three_of, ThreeMost, ThreeRead, with_mode, with_mode_of}
+use Rattle.std.specs.Prelude.{Option as Maybe, None, Some}
+use Rattle.record_fields.specs.declared.varints.Read.{Read}
 use Rattle.record_format.specs.declared.stats.Stat.{Stat as CodeStat}
-use Rattle.record_format.specs.declared.stats.Three.{Three}
-use Rattle.record_format.specs.declared.stats.Three.TheVariants.{Bad as BadThree, Read as ReadThree}
-use Rattle.record_format.specs.declared.stats.StatRead.{StatRead}
-use Rattle.record_format.specs.declared.stats.StatRead.TheVariants.{Bad as BadStat, Read as ReadStat}
 use Rattle.record_fields.proofs.Reading.{Leads, first_not, then_not, then_read}
 use Rattle.record_fields.proofs.Fields.{later_nil, later_number}
 
@@ -36,9 +30,6 @@ three_later k m p t g h f =
     subst (Later k) (sym (append_assoc (number_field m p.0) (both (number_field (m + 1)) (number_field (m + 2)) p.1) t))
     (later_number k m p.0 (both (number_field (m + 1)) (number_field (m + 2)) p.1 ++ t) g (omega arith) (two_later m (m + 1) (m + 2) p.1 t (omega arith) (omega arith) (omega arith) f))
 
-pub number_next : (d : List ℕ) (at k most : ℕ) {v : NumberRow} {a : Number} {next : ℕ} → v ≡ ReadNumber a next → NumberRead d at k most v → next ≤ length d
-number_next d at k most e g = (subst (NumberRead d at k most) e g).inside
-
 module _ (d : List ℕ) (at k most : ℕ) (kind : k < 14) where
   second_leads : Leads (number_field (k + 1)) (Most most) (Later (k + 1)) (number_field (k + 2)) (Most most) (Later (k + 2))
   second_leads o t w f = later_number (k + 1) (k + 2) o t (omega arith) (omega arith) f
@@ -46,32 +37,31 @@ module _ (d : List ℕ) (at k most : ℕ) (kind : k < 14) where
   first_leads : Leads (number_field k) (Most most) (Later k) (both (number_field (k + 1)) (number_field (k + 2))) (Both (Most most) (Most most)) (Later (k + 2))
   first_leads p t w f = two_later k (k + 1) (k + 2) p t (omega arith) (omega arith) (omega arith) f
 
-  pub three_first : {v : NumberRow} → v ≡ BadNumber → NumberRead d at k most v → ThreeRead d at k most BadThree
-  three_first e g =
-      first_not (number_field k) (Most most) (Later k) (both (number_field (k + 1)) (number_field (k + 2))) (Both (Most most) (Most most)) (Later (k + 2)) first_leads (subst
-      (NumberRead d at k most) e g)
+  pub three_first : NumberRead d at k most None → ThreeRead d at k most None
+  three_first g =
+      first_not (number_field k) (Most most) (Later k) (both (number_field (k + 1)) (number_field (k + 2))) (Both (Most most) (Most most)) (Later (k + 2)) first_leads g
 
-  module _ {v : NumberRow} {a : Number} {second : ℕ} (e : v ≡ ReadNumber a second) (g : NumberRead d at k most v) where
-    pub three_second : {u : NumberRow} → u ≡ BadNumber → NumberRead d second (k + 1) most u → ThreeRead d at k most BadThree
-    three_second f h =
+  module _ (a : Read (Maybe ℕ)) (g : NumberRead d at k most (Some a)) where
+    pub three_second : NumberRead d a.next (k + 1) most None → ThreeRead d at k most None
+    three_second h =
         then_not (number_field k) (Most most) (Later k) (both (number_field (k + 1)) (number_field (k + 2))) (Both (Most most) (Most most)) (Later (k + 2)) first_leads d at
-        (subst (NumberRead d at k most) e g)
-        (first_not (number_field (k + 1)) (Most most) (Later (k + 1)) (number_field (k + 2)) (Most most) (Later (k + 2)) second_leads (subst (NumberRead d second (k + 1) most) f h))
+        g
+        (first_not (number_field (k + 1)) (Most most) (Later (k + 1)) (number_field (k + 2)) (Most most) (Later (k + 2)) second_leads h)
 
-    module _ {u : NumberRow} {b : Number} {third : ℕ} (f : u ≡ ReadNumber b third) (h : NumberRead d second (k + 1) most u) where
-      pub three_third : {q : NumberRow} → q ≡ BadNumber → NumberRead d third (k + 2) most q → ThreeRead d at k most BadThree
-      three_third i j =
+    module _ (b : Read (Maybe ℕ)) (h : NumberRead d a.next (k + 1) most (Some b)) where
+      pub three_third : NumberRead d b.next (k + 2) most None → ThreeRead d at k most None
+      three_third j =
           then_not (number_field k) (Most most) (Later k) (both (number_field (k + 1)) (number_field (k + 2))) (Both (Most most) (Most most)) (Later (k + 2)) first_leads d at
-          (subst (NumberRead d at k most) e g)
-          (then_not (number_field (k + 1)) (Most most) (Later (k + 1)) (number_field (k + 2)) (Most most) (Later (k + 2)) second_leads d second
-          (subst (NumberRead d second (k + 1) most) f h) (subst (NumberRead d third (k + 2) most) i j))
+          g
+          (then_not (number_field (k + 1)) (Most most) (Later (k + 1)) (number_field (k + 2)) (Most most) (Later (k + 2)) second_leads d a.next
+          h j)
 
-      pub three_read : {q : NumberRow} {c : Number} {end : ℕ} → q ≡ ReadNumber c end → NumberRead d third (k + 2) most q → ThreeRead d at k most (ReadThree a b c end)
-      three_read i j =
+      pub three_read : (c : Read (Maybe ℕ)) → NumberRead d b.next (k + 2) most (Some c) → ThreeRead d at k most (Some (record { value = (a.value, b.value, c.value); next = c.next }))
+      three_read c j =
           then_read (number_field k) (Most most) (Later k) (both (number_field (k + 1)) (number_field (k + 2))) (Both (Most most) (Most most)) (Later (k + 2)) first_leads d at
-          (subst (NumberRead d at k most) e g)
-          (then_read (number_field (k + 1)) (Most most) (Later (k + 1)) (number_field (k + 2)) (Most most) (Later (k + 2)) second_leads d second
-          (subst (NumberRead d second (k + 1) most) f h) (subst (NumberRead d third (k + 2) most) i j))
+          g
+          (then_read (number_field (k + 1)) (Most most) (Later (k + 1)) (number_field (k + 2)) (Most most) (Later (k + 2)) second_leads d a.next
+          h j)
 
 -- ---- nine fields
 
@@ -124,74 +114,70 @@ nine_rejected : (d : List ℕ) → BeginsNot nine NineMost (Later 9) d → Rejec
 nine_rejected d n s w e =
     n (nine_of s) [] (nine_most s w) (later_nil 9 (omega arith)) (sym e ∙ nine_bytes s ∙ sym (append-nil (nine (nine_of s))))
 
-pub three_next : (d : List ℕ) (at k most : ℕ) {v : Three} {a b c : Number} {next : ℕ} → v ≡ ReadThree a b c next → ThreeRead d at k most v → next ≤ length d
-three_next d at k most e g = (subst (ThreeRead d at k most) e g).inside
+abbrev Threes : Type 0
+Threes = Maybe ℕ × Maybe ℕ × Maybe ℕ
 
 module _ (d : List ℕ) where
-  pub stat_first : {v : Three} → v ≡ BadThree → ThreeRead d 0 1 4294967295 v → StatReadAs d BadStat
-  stat_first e g =
-      nine_rejected d (first_not (three_fields 1) (ThreeMost 4294967295) (Later 3) later LaterMost (Later 9) fourth_leads (subst (ThreeRead d 0 1 4294967295) e g))
+  pub stat_first : ThreeRead d 0 1 4294967295 None → StatReadAs d None
+  stat_first g =
+      nine_rejected d (first_not (three_fields 1) (ThreeMost 4294967295) (Later 3) later LaterMost (Later 9) fourth_leads g)
 
-  module _ {v : Three} {mode uid gid : Number} {fourth : ℕ} (e : v ≡ ReadThree mode uid gid fourth) (g : ThreeRead d 0 1 4294967295 v) where
-    pub stat_second : {u : Three} → u ≡ BadThree → ThreeRead d fourth 4 18446744073709551615 u → StatReadAs d BadStat
-    stat_second f h =
+  module _ (a : Read Threes) (g : ThreeRead d 0 1 4294967295 (Some a)) where
+    pub stat_second : ThreeRead d a.next 4 18446744073709551615 None → StatReadAs d None
+    stat_second h =
         nine_rejected d
-        (then_not (three_fields 1) (ThreeMost 4294967295) (Later 3) later LaterMost (Later 9) fourth_leads d 0 (subst (ThreeRead d 0 1 4294967295) e g)
+        (then_not (three_fields 1) (ThreeMost 4294967295) (Later 3) later LaterMost (Later 9) fourth_leads d 0 g
         (first_not (three_fields 4) (ThreeMost 18446744073709551615) (Later 6) (three_fields 7) (ThreeMost 18446744073709551615) (Later 9) seventh_leads
-        (subst (ThreeRead d fourth 4 18446744073709551615) f h)))
+        h))
 
-    module _ {u : Three} {size blocks offset : Number} {seventh : ℕ} (f : u ≡ ReadThree size blocks offset seventh) (h : ThreeRead d fourth 4 18446744073709551615 u) where
-      pub stat_third : {q : Three} → q ≡ BadThree → ThreeRead d seventh 7 18446744073709551615 q → StatReadAs d BadStat
-      stat_third i j =
+    module _ (b : Read Threes) (h : ThreeRead d a.next 4 18446744073709551615 (Some b)) where
+      pub stat_third : ThreeRead d b.next 7 18446744073709551615 None → StatReadAs d None
+      stat_third j =
           nine_rejected d
-          (then_not (three_fields 1) (ThreeMost 4294967295) (Later 3) later LaterMost (Later 9) fourth_leads d 0 (subst (ThreeRead d 0 1 4294967295) e g)
-          (then_not (three_fields 4) (ThreeMost 18446744073709551615) (Later 6) (three_fields 7) (ThreeMost 18446744073709551615) (Later 9) seventh_leads d fourth
-          (subst (ThreeRead d fourth 4 18446744073709551615) f h) (subst (ThreeRead d seventh 7 18446744073709551615) i j)))
+          (then_not (three_fields 1) (ThreeMost 4294967295) (Later 3) later LaterMost (Later 9) fourth_leads d 0 g
+          (then_not (three_fields 4) (ThreeMost 18446744073709551615) (Later 6) (three_fields 7) (ThreeMost 18446744073709551615) (Later 9) seventh_leads d a.next
+          h j))
 
-      module _ {q : Three} {byte_offset mtime ctime : Number} {end : ℕ} (i : q ≡ ReadThree byte_offset mtime ctime end) (j : ThreeRead d seventh 7 18446744073709551615 q) where
+      module _ (c : Read Threes) (j : ThreeRead d b.next 7 18446744073709551615 (Some c)) where
         abbrev read : Trio × (Trio × Trio)
-        read =
-            ((number_of mode, (number_of uid, number_of gid)), ((number_of size, (number_of blocks, number_of offset)), (number_of byte_offset, (number_of mtime, number_of ctime))))
+        read = (three_of a.value, (three_of b.value, three_of c.value))
 
-        all : Upto nine NineMost (Later 9) d 0 read end
+        -- the Stat of these fields
+        abbrev pub stat : CodeStat
+        stat = record {
+          mode = a.value.0;
+          uid = a.value.1;
+          gid = a.value.2;
+          size = b.value.0;
+          blocks = b.value.1;
+          offset = b.value.2;
+          byte_offset = c.value.0;
+          mtime = c.value.1;
+          ctime = c.value.2;
+        }
+
+        all : Upto nine NineMost (Later 9) d 0 read c.next
         all =
-            then_read (three_fields 1) (ThreeMost 4294967295) (Later 3) later LaterMost (Later 9) fourth_leads d 0 (subst (ThreeRead d 0 1 4294967295) e g)
-            (then_read (three_fields 4) (ThreeMost 18446744073709551615) (Later 6) (three_fields 7) (ThreeMost 18446744073709551615) (Later 9) seventh_leads d fourth
-            (subst (ThreeRead d fourth 4 18446744073709551615) f h) (subst (ThreeRead d seventh 7 18446744073709551615) i j))
+            then_read (three_fields 1) (ThreeMost 4294967295) (Later 3) later LaterMost (Later 9) fourth_leads d 0 g
+            (then_read (three_fields 4) (ThreeMost 18446744073709551615) (Later 6) (three_fields 7) (ThreeMost 18446744073709551615) (Later 9) seventh_leads d a.next
+            h j)
 
         -- any Stat whose bytes these are has the fields that were read, and nothing is left
-        alone : (s : Stat) → StatWithin s → stat_bytes s ≡ d → (nine_of s ≡ read) × ([] ≡ drop end d)
+        alone : (s : Stat) → StatWithin s → stat_bytes s ≡ d → (nine_of s ≡ read) × ([] ≡ drop c.next d)
         alone s w p = all.begins.only (nine_of s) [] (nine_most s w) (later_nil 9 (omega arith)) (sym p ∙ nine_bytes s ∙ sym (append-nil (nine (nine_of s))))
 
-        pub stat_left : end < length d → StatReadAs d BadStat
-        stat_left l s w p = omega (arith, ap length (alone s w p).1, length-drop end d)
+        pub stat_left : c.next < length d → StatReadAs d None
+        stat_left l s w p = omega (arith, ap length (alone s w p).1, length-drop c.next d)
 
-        pub stat_whole : length d ≤ end → (r : StatRead)
-            → r ≡ with_mode (record { mode = mode; uid = uid; gid = gid; size = size; blocks = blocks; offset = offset; byte_offset = byte_offset; mtime = mtime; ctime = ctime })
-            → StatReadAs d r
-        stat_whole l r x = subst (StatReadAs d) (sym x) (go mode refl)
+        pub stat_whole : length d ≤ c.next → (r : Maybe CodeStat) → r ≡ with_mode stat → StatReadAs d r
+        stat_whole l r x = subst (StatReadAs d) (sym x) (go a.value.0 refl)
           where
             bytes : d ≡ nine read
             bytes = all.begins.made ∙ ap (λ (t : List ℕ). nine read ++ t) (drop_of_length-le d l) ∙ append-nil (nine read)
 
-            go : (m : Number) → m ≡ mode
-                → StatReadAs d (with_mode_of m (record { mode = mode; uid = uid; gid = gid; size = size; blocks = blocks; offset = offset; byte_offset = byte_offset; mtime = mtime; ctime = ctime }))
-            go Absent k = λ s w p. subst Given (ap (λ (z : Trio × (Trio × Trio)). z.0.0) (alone s w p).0 ∙ ap number_of (sym k)) w.mode
-            go (GivenNumber n) k =
-                let fields : Stat = stat_of (record {
-                  mode = mode;
-                  uid = uid;
-                  gid = gid;
-                  size = size;
-                  blocks = blocks;
-                  offset = offset;
-                  byte_offset = byte_offset;
-                  mtime = mtime;
-                  ctime = ctime;
-                }) in record {
-                  within = record { mode = subst Given (ap number_of k) tt; rows = nine_rows fields all.begins.within };
-                  bytes = nine_bytes fields ∙ sym bytes;
-                }
-
-pub mode_given : (s : CodeStat) (x : ℕ) → s.mode ≡ GivenNumber x → ReadStat s ≡ with_mode s
-mode_given s x e = sym (ap (λ (m : Number). with_mode_of m s) e)
+            go : (m : Maybe ℕ) → m ≡ a.value.0 → StatReadAs d (with_mode_of m stat)
+            go None k = λ s w p. subst Given (ap (λ (z : Trio × (Trio × Trio)). z.0.0) (alone s w p).0 ∙ ap number_of (sym k)) w.mode
+            go (Some n) k = record {
+              within = record { mode = subst Given (ap number_of k) tt; rows = nine_rows (stat_of stat) all.begins.within };
+              bytes = nine_bytes (stat_of stat) ∙ sym bytes;
+            }

@@ -8,8 +8,7 @@ use native.Mathlib.Omega.{arith}
 use lib.ListN.{length, length-append}
 use Rattle.record_fields.specs.Fields.{number_field, Most}
 use Rattle.record_fields.specs.Inner.{number_of, PutAt}
-use Rattle.record_fields.specs.declared.rows.Number.{Number}
-use Rattle.record_fields.specs.declared.rows.Number.TheVariants.{Absent, Given}
+use Rattle.std.specs.Prelude.{Option as Maybe, None, Some}
 use Rattle.record_fields.proofs.Unique.{number_size}
 use Rattle.record_fields.proofs.Put.{put_next, put_three}
 use Rattle.record_format.specs.Records.{Stat, StatWithin, stat_bytes, rows_of, RowsWithin}
@@ -33,25 +32,25 @@ carried A W false f g d = λ w. d (g w)
 
 -- ---- bounds
 
-module _ (field : Number) (most : ℕ) where
-  pub fits_absent : field ≡ Absent → Most most (number_of field)
-  fits_absent e = subst (λ (f : Number). Most most (number_of f)) (sym e) tt
+module _ (field : Maybe ℕ) (most : ℕ) where
+  pub fits_absent : field ≡ None → Most most (number_of field)
+  fits_absent e = subst (λ (f : Maybe ℕ). Most most (number_of f)) (sym e) tt
 
-  pub fits_given : (x : ℕ) → field ≡ Given x → x ≤ most → Most most (number_of field)
-  fits_given x e h = subst (λ (f : Number). Most most (number_of f)) (sym e) h
+  pub fits_given : (x : ℕ) → field ≡ Some x → x ≤ most → Most most (number_of field)
+  fits_given x e h = subst (λ (f : Maybe ℕ). Most most (number_of f)) (sym e) h
 
-  pub fits_over : (x : ℕ) → field ≡ Given x → most < x → Most most (number_of field) → ⊥
-  fits_over x e h w = let u : x ≤ most = subst (λ (f : Number). Most most (number_of f)) e w in omega arith
+  pub fits_over : (x : ℕ) → field ≡ Some x → most < x → Most most (number_of field) → ⊥
+  fits_over x e h w = let u : x ≤ most = subst (λ (f : Maybe ℕ). Most most (number_of f)) e w in omega arith
 
 -- the mode must be there
 module _ (s : CodeStat) where
-  pub no_mode : s.mode ≡ Absent → StatWithin (stat_of s) → ⊥
-  no_mode e w = subst (λ (f : Number). fields.Given (number_of f)) e w.mode
+  pub no_mode : s.mode ≡ None → StatWithin (stat_of s) → ⊥
+  no_mode e w = subst (λ (f : Maybe ℕ). fields.Given (number_of f)) e w.mode
 
-  pub with_mode_lem : (x : ℕ) (r : Bool) → s.mode ≡ Given x → Decides (RowsWithin 1 (rows_of (stat_of s))) r → Decides (StatWithin (stat_of s)) r
+  pub with_mode_lem : (x : ℕ) (r : Bool) → s.mode ≡ Some x → Decides (RowsWithin 1 (rows_of (stat_of s))) r → Decides (StatWithin (stat_of s)) r
   with_mode_lem x r e d =
       carried (RowsWithin 1 (rows_of (stat_of s))) (StatWithin (stat_of s)) r
-      (λ w. record { mode = subst (λ (f : Number). fields.Given (number_of f)) (sym e) tt; rows = w }) (λ w. w.rows) d
+      (λ w. record { mode = subst (λ (f : Maybe ℕ). fields.Given (number_of f)) (sym e) tt; rows = w }) (λ w. w.rows) d
 
 -- ---- three fields put
 

@@ -1,16 +1,11 @@
 -- What the inner functions find at a place of the bytes lent, and what they put there.
-use Rattle.std.specs.Prelude.{ℕ, ◌+◌, List, drop}
+use Rattle.std.specs.Prelude.{Option as Maybe, None, Some, ℕ, ◌+◌, List, drop}
 use Rattle.std.proofs.Math.Option.{Option}
 use Rattle.record_fields.specs.Reading.{BeginsNot, both, Both}
 use Rattle.record_fields.specs.Fields.{number_field, Most, Later}
 use Rattle.record_fields.specs.Inner.{Upto, number_of}
-use Rattle.record_fields.specs.declared.rows.Number.{Number}
-use Rattle.record_fields.specs.declared.rows.Number.TheVariants.{Absent, Given}
+use Rattle.record_fields.specs.declared.varints.Read.{Read}
 use Rattle.record_format.specs.declared.stats.Stat.{Stat}
-use Rattle.record_format.specs.declared.stats.StatRead.{StatRead}
-use Rattle.record_format.specs.declared.stats.StatRead.TheVariants.{Bad as BadStat, Read as ReadStat}
-use Rattle.record_format.specs.declared.stats.Three.{Three}
-use Rattle.record_format.specs.declared.stats.Three.TheVariants.{Bad as BadThree, Read as ReadThree}
 
 -- three numbers' fields one behind the other, the first of number k
 abbrev pub three_fields : ℕ → Option ℕ × (Option ℕ × Option ℕ) → List ℕ
@@ -19,15 +14,18 @@ three_fields k = both (number_field k) (both (number_field (k + 1)) (number_fiel
 abbrev pub ThreeMost : ℕ → Option ℕ × (Option ℕ × Option ℕ) → Type 0
 ThreeMost most = Both (Most most) (Both (Most most) (Most most))
 
-abbrev pub ThreeRead : List ℕ → ℕ → ℕ → ℕ → Three → Type 0
-ThreeRead d at k most BadThree = BeginsNot (three_fields k) (ThreeMost most) (Later (k + 2)) (drop at d)
-ThreeRead d at k most (ReadThree a b c next) =
-    Upto (three_fields k) (ThreeMost most) (Later (k + 2)) d at (number_of a, (number_of b, number_of c)) next
+-- the fields that three cases stand for
+abbrev pub three_of : Maybe ℕ × Maybe ℕ × Maybe ℕ → Option ℕ × (Option ℕ × Option ℕ)
+three_of t = (number_of t.0, (number_of t.1, number_of t.2))
+
+abbrev pub ThreeRead : List ℕ → ℕ → ℕ → ℕ → Maybe (Read (Maybe ℕ × Maybe ℕ × Maybe ℕ)) → Type 0
+ThreeRead d at k most None = BeginsNot (three_fields k) (ThreeMost most) (Later (k + 2)) (drop at d)
+ThreeRead d at k most (Some r) = Upto (three_fields k) (ThreeMost most) (Later (k + 2)) d at (three_of r.value) r.next
 
 -- a Stat whose mode is there
-abbrev pub with_mode_of : Number → Stat → StatRead
-with_mode_of Absent s = BadStat
-with_mode_of (Given x) s = ReadStat s
+abbrev pub with_mode_of : Maybe ℕ → Stat → Maybe Stat
+with_mode_of None s = None
+with_mode_of (Some x) s = Some s
 
-abbrev pub with_mode : Stat → StatRead
+abbrev pub with_mode : Stat → Maybe Stat
 with_mode s = with_mode_of s.mode s

@@ -1,5 +1,5 @@
 -- The calls on records: what they answer, and what stands in the lent buffer afterwards.
-use Rattle.std.specs.Prelude.{ℕ, ◌≤◌, ◌≡◌, Bool, true, false, cond, List, [], ◌∷◌, ◌++◌, length, leb}
+use Rattle.std.specs.Prelude.{Option as Maybe, None, Some, ℕ, ◌≤◌, ◌≡◌, Bool, true, false, cond, List, [], ◌∷◌, ◌++◌, length, leb}
 use Rattle.std.proofs.Math.Option.{Option, none as absent, some}
 use Rattle.answer_types.specs.Verdict.{Spot, Verdict, none, done, refused}
 use Rattle.answer_types.specs.Meaning.{refusal_of}
@@ -12,8 +12,6 @@ use Rattle.record_fields.specs.declared.rows.Part.{Part}
 use Rattle.record_format.specs.declared.answers.Written.{Written}
 use Rattle.record_format.specs.declared.answers.Written.TheVariants.{Refused, Length}
 use Rattle.record_format.specs.declared.stats.Stat.{Stat}
-use Rattle.record_format.specs.declared.stats.StatRead.{StatRead}
-use Rattle.record_format.specs.declared.stats.StatRead.TheVariants.{Bad as BadStat, Read as ReadStat}
 use Rattle.record_format.specs.declared.headers.HeaderRead.{HeaderRead}
 use Rattle.record_format.specs.declared.headers.HeaderRead.TheVariants.{Refused as NoHeader, Content}
 
@@ -132,6 +130,6 @@ stat_told s = record {
   ctime = number_told s.ctime;
 }
 
-abbrev pub StatReadAs : List ℕ → StatRead → Type 0
-StatReadAs d BadStat = Rejected stat_bytes StatWithin d
-StatReadAs d (ReadStat s) = Accepted stat_bytes StatWithin d (stat_of s)
+abbrev pub StatReadAs : List ℕ → Maybe Stat → Type 0
+StatReadAs d None = Rejected stat_bytes StatWithin d
+StatReadAs d (Some s) = Accepted stat_bytes StatWithin d (stat_of s)

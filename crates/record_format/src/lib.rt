@@ -7,4 +7,4 @@ mod stats;
 
 pub use answers::{Written, give, refusal};
 pub use headers::{HeaderRead, read_header, write_header};
-pub use stats::{Stat, StatRead, number_fits, put_stat, read_stat, stat_fits};
+pub use stats::{Stat, number_fits, put_stat, read_stat, stat_fits};

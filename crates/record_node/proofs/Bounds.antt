@@ -1,18 +1,19 @@
 -- When the fields of a Node are within the bounds. Assumes nothing.
 use Prim.Native.Nat.{ℕ, ◌+◌, ◌<◌, ◌≤◌}
-use mathlib.Core.Path.{◌≡◌, sym, ap, ◌∙◌, subst}
-use mathlib.Core.Bool.{Bool}
+use mathlib.Core.Path.{◌≡◌, refl, sym, ap, ◌∙◌, subst}
+use mathlib.Core.Bool.{Bool, true, false}
+use lib.Dec.{eqb}
+use borrow.Author.Tests.{eqb-true, eqb-false}
 use mathlib.Core.Logic.{⊎_elim}
 use mathlib.Core.List.{List}
 use native.Mathlib.Omega.{arith}
 use native.Mathlib.Nat.{add-zero}
 use lib.ListN.{length, get_or}
+use Rattle.std.specs.Prelude.{Option as Maybe, None, Some}
 use Rattle.byte_strings.proofs.Lists.{get_d_part, length_part, length_run}
 use Rattle.record_fields.specs.Fields.{Most}
 use Rattle.record_fields.specs.Inner.{part_of, number_of, Inside}
 use Rattle.record_fields.specs.declared.rows.Part.{Part}
-use Rattle.record_fields.specs.declared.rows.Bytes.{Bytes}
-use Rattle.record_fields.specs.declared.rows.Bytes.TheVariants.{Absent as NoBytes, Given as GivenBytes}
 use Rattle.record_fields.proofs.Digits.{two}
 use Rattle.record_format.specs.Records.{StatWithin}
 use Rattle.record_format.specs.Post.{Decides, stat_of}
@@ -22,8 +23,6 @@ use Rattle.record_node.specs.Post.{no_writer, writer_at, NodeFits}
 use Rattle.record_node.specs.Inner.{Lies, PathLies, BytesLie, WriterLies, WritersLie, ValueFits}
 use Rattle.record_node.specs.declared.writers.Writer.{Writer as CodeWriter}
 use Rattle.record_node.specs.declared.writers.Writers.{Writers}
-use Rattle.record_node.specs.declared.reading.Value.{Value}
-use Rattle.record_node.specs.declared.reading.Value.TheVariants.{Absent as NoValue, Given as GivenValue}
 use Rattle.record_node.specs.declared.reading.Node.{Node as CodeNode}
 use Rattle.record_node.proofs.Listed.{within_all, all_within, listed}
 
@@ -46,34 +45,35 @@ module _ (d : List ℕ) (p : Part) (h : Inside d p) where
     pub path_first : p.at < length d
     path_first = omega (arith, h, some)
 
-    pub path_other : (get_or d p.at 0 ≡ 47 → ⊥) → PathLies d p → ⊥
-    path_other n w = n (sym (first (omega (arith, some))) ∙ w.within.slash)
-
-    pub path_right : p.len ≤ 255 → get_or d p.at 0 ≡ 47 → PathLies d p
-    path_right l e = record {
-      inside = h;
-      within = record { some = omega (arith, long, some); short = omega (arith, long); slash = first (omega (arith, some)) ∙ e };
-    }
+    pub path_decided : p.len ≤ 255 → Decides (PathLies d p) (eqb (get_or d p.at 0) 47)
+    path_decided l = go (eqb (get_or d p.at 0) 47) refl
+      where
+        go : (b : Bool) → eqb (get_or d p.at 0) 47 ≡ b → Decides (PathLies d p) b
+        go true e = record {
+          inside = h;
+          within = record { some = omega (arith, long, some); short = omega (arith, long); slash = first (omega (arith, some)) ∙ eqb-true (get_or d p.at 0) 47 e };
+        }
+        go false e = λ w. eqb-false (get_or d p.at 0) 47 e (sym (first (omega (arith, some))) ∙ w.within.slash)
 
 -- ---- parts
 
-pub lie_absent : {d : List ℕ} {field : Bytes} {longest : ℕ} → field ≡ NoBytes → BytesLie d field longest
-lie_absent {d} {longest = longest} e = subst (λ (o : Bytes). BytesLie d o longest) (sym e) (record { inside = tt; within = tt })
+pub lie_absent : {d : List ℕ} {field : Maybe Part} {longest : ℕ} → field ≡ None → BytesLie d field longest
+lie_absent {d} {longest = longest} e = subst (λ (o : Maybe Part). BytesLie d o longest) (sym e) (record { inside = tt; within = tt })
 
-module _ (d : List ℕ) {field : Bytes} (longest : ℕ) {p : Part} (e : field ≡ GivenBytes p) where
+module _ (d : List ℕ) {field : Maybe Part} (longest : ℕ) {p : Part} (e : field ≡ Some p) where
   pub lie_long : longest < p.len → BytesLie d field longest → ⊥
   lie_long l w =
-      let v : BytesLie d (GivenBytes p) longest = subst (λ (o : Bytes). BytesLie d o longest) e w in
+      let v : BytesLie d (Some p) longest = subst (λ (o : Maybe Part). BytesLie d o longest) e w in
       omega (arith, length_part d p.at p.len v.inside, v.within)
 
   pub lie_given : p.len ≤ longest → (r : Bool) → Decides (Lies d p) r → Decides (BytesLie d field longest) r
   lie_given l r h = carried (Lies d p) (BytesLie d field longest) r to from h
     where
       to : Lies d p → BytesLie d field longest
-      to i = subst (λ (o : Bytes). BytesLie d o longest) (sym e) (record { inside = i; within = omega (arith, length_part d p.at p.len i) })
+      to i = subst (λ (o : Maybe Part). BytesLie d o longest) (sym e) (record { inside = i; within = omega (arith, length_part d p.at p.len i) })
 
       from : BytesLie d field longest → Lies d p
-      from w = (subst (λ (o : Bytes). BytesLie d o longest) e w).inside
+      from w = (subst (λ (o : Maybe Part). BytesLie d o longest) e w).inside
 
 -- ---- Writers
 
@@ -120,11 +120,11 @@ module _ {d : List ℕ} {ws : Writers} where
 
 -- ---- the Stat
 
-pub value_absent : {v : Value} → v ≡ NoValue → ValueFits v
+pub value_absent : {v : Maybe CodeStat} → v ≡ None → ValueFits v
 value_absent e = subst ValueFits (sym e) tt
 
-pub value_given : {v : Value} {s : CodeStat} → v ≡ GivenValue s → (r : Bool) → Decides (StatWithin (stat_of s)) r → Decides (ValueFits v) r
-value_given e r h = subst (λ (x : Value). Decides (ValueFits x) r) (sym e) h
+pub value_given : {v : Maybe CodeStat} {s : CodeStat} → v ≡ Some s → (r : Bool) → Decides (StatWithin (stat_of s)) r → Decides (ValueFits v) r
+value_given e r h = subst (λ (x : Maybe CodeStat). Decides (ValueFits x) r) (sym e) h
 
 -- ---- all fields
 

@@ -7,6 +7,7 @@ use mathlib.Core.List.{List, [], ◌++◌, append_assoc, append-nil}
 use mathlib.Core.Option.{Option, none, some}
 use native.Mathlib.Omega.{arith}
 use lib.ListN.{length, take, drop, length-append, length-drop, drop_of_length-le}
+use Rattle.std.specs.Prelude.{Option as Maybe, None, Some}
 use Rattle.answer_types.specs.Verdict.{Verdict, refused}
 use Rattle.answer_types.specs.Verdict as verdicts
 use Rattle.byte_strings.specs.Lists.{part}
@@ -14,14 +15,6 @@ use Rattle.record_fields.specs.Reading.{BeginsNot, both, Both}
 use Rattle.record_fields.specs.Fields.{number_field, part_field, Most, Longest, Later}
 use Rattle.record_fields.specs.Inner.{Upto, PartUpto, BytesRead, NumberRead, number_of, number_told, part_of, bytes_of, BytesInside, bytes_placed}
 use Rattle.record_fields.specs.declared.rows.Part.{Part}
-use Rattle.record_fields.specs.declared.rows.Number.{Number}
-use Rattle.record_fields.specs.declared.rows.Number.TheVariants.{Absent as NoNumber, Given as GivenNumber}
-use Rattle.record_fields.specs.declared.rows.Bytes.{Bytes}
-use Rattle.record_fields.specs.declared.rows.Bytes.TheVariants.{Absent as NoBytes, Given as GivenBytes}
-use Rattle.record_fields.specs.declared.rows.BytesRow.{BytesRow}
-use Rattle.record_fields.specs.declared.rows.BytesRow.TheVariants.{Bad as BadBytes, Read as ReadBytes}
-use Rattle.record_fields.specs.declared.rows.NumberRow.{NumberRow}
-use Rattle.record_fields.specs.declared.rows.NumberRow.TheVariants.{Bad as BadNumber, Read as ReadNumber}
 use Rattle.record_fields.proofs.Reading.{Leads, first_not, then_not, then_read}
 use Rattle.record_fields.proofs.Fields.{later_nil, later_part, later_number}
 use Rattle.record_fields.proofs.Placed.{upto_next, bytes_placed_lem}
@@ -29,8 +22,6 @@ use Rattle.record_format.specs.Records.{Stat, stat_bytes, writers_bytes, Node, N
 use Rattle.record_format.specs.Theorems.{Rejected}
 use Rattle.record_format.specs.Post.{stat_of, stat_told, told_of, StatReadAs}
 use Rattle.record_format.specs.declared.stats.Stat.{Stat as CodeStat}
-use Rattle.record_format.specs.declared.stats.StatRead.{StatRead}
-use Rattle.record_format.specs.declared.stats.StatRead.TheVariants.{Bad as BadStat, Read as ReadStat}
 use Rattle.record_format.proofs.Unique.{stat_size, writers_later}
 use Rattle.record_format.proofs.From.{each_read}
 use Rattle.record_node.specs.Post.{writers_of, value_of, node_of, all_placed, value_told, node_placed, no_node, node_told, read_node}
@@ -38,20 +29,7 @@ use Rattle.record_node.specs.Inner.{WritersFew, WritersUpto, WritersRead, three_
 use Rattle.record_node.specs.Inner.{TailRead, RawFields, raw_bytes, RawWithin, RawAt, RawRead, PathLies, WithPathAs, ValueReadAs, NodeAt}
 use Rattle.record_node.proofs.Keyed.{given_part}
 use Rattle.record_node.specs.declared.writers.Writers.{Writers}
-use Rattle.record_node.specs.declared.writers.Row.{Row}
-use Rattle.record_node.specs.declared.writers.Row.TheVariants.{Bad as BadWriters, Upto as ReadWriters}
-use Rattle.record_node.specs.declared.reading.Value.{Value}
-use Rattle.record_node.specs.declared.reading.Value.TheVariants.{Absent as NoValue, Given as GivenValue}
 use Rattle.record_node.specs.declared.reading.Node.{Node as CodeNode}
-use Rattle.record_node.specs.declared.reading.Parts.{Parts}
-use Rattle.record_node.specs.declared.reading.Parts.TheVariants.{Bad as BadParts, Read as ReadParts}
-use Rattle.record_node.specs.declared.reading.Last.{Last}
-use Rattle.record_node.specs.declared.reading.Last.TheVariants.{Bad as BadTail, Read as ReadTail}
-use Rattle.record_node.specs.declared.reading.Plain.TheVariants.{Bad as BadRaw, Read as ReadRaw}
-use Rattle.record_node.specs.declared.reading.PathRead.{PathRead}
-use Rattle.record_node.specs.declared.reading.PathRead.TheVariants.{Bad as BadPath, Read as ReadPath}
-use Rattle.record_node.specs.declared.reading.ValueRead.{ValueRead}
-use Rattle.record_node.specs.declared.reading.ValueRead.TheVariants.{Bad as BadValue, Read as ReadValue}
 
 -- ---- the first three fields
 
@@ -70,30 +48,24 @@ first_leads p t w f =
     (later_part 1 2 p.0 (part_field 3 p.1 ++ t) (omega arith) (omega arith) (later_part 2 3 p.1 t (omega arith) (omega arith) f))
 
 module _ (d : List ℕ) where
-  pub parts_first : {v : BytesRow} → v ≡ BadBytes → BytesRead d 0 1 255 v → PartsRead d BadParts
-  parts_first e g = first_not (part_field 1) (Longest 255) (Later 1) last_two LastLongest (Later 3) first_leads (subst (BytesRead d 0 1 255) e g).none
+  pub parts_first : BytesRead d 0 1 255 None → PartsRead d None
+  parts_first g = first_not (part_field 1) (Longest 255) (Later 1) last_two LastLongest (Later 3) first_leads g.none
 
-  module _ {v : BytesRow} {path : Bytes} {second : ℕ} (e : v ≡ ReadBytes path second) (g : BytesRead d 0 1 255 v) where
-    one : PartUpto d 0 1 255 path second
-    one = subst (BytesRead d 0 1 255) e g
-
-    pub parts_second : {u : BytesRow} → u ≡ BadBytes → BytesRead d second 2 99 u → PartsRead d BadParts
-    parts_second f h =
+  module _ {path : Maybe Part} {second : ℕ} (one : PartUpto d 0 1 255 path second) where
+    pub parts_second : BytesRead d second 2 99 None → PartsRead d None
+    parts_second h =
         then_not (part_field 1) (Longest 255) (Later 1) last_two LastLongest (Later 3) first_leads d 0 one.read
-        (first_not (part_field 2) (Longest 99) (Later 2) (part_field 3) (Longest 1024) (Later 3) second_leads (subst (BytesRead d second 2 99) f h).none)
+        (first_not (part_field 2) (Longest 99) (Later 2) (part_field 3) (Longest 1024) (Later 3) second_leads h.none)
 
-    module _ {u : BytesRow} {value : Bytes} {third : ℕ} (f : u ≡ ReadBytes value third) (h : BytesRead d second 2 99 u) where
-      two : PartUpto d second 2 99 value third
-      two = subst (BytesRead d second 2 99) f h
-
-      pub parts_third : {q : BytesRow} → q ≡ BadBytes → BytesRead d third 3 1024 q → PartsRead d BadParts
-      parts_third i j =
+    module _ {value : Maybe Part} {third : ℕ} (two : PartUpto d second 2 99 value third) where
+      pub parts_third : BytesRead d third 3 1024 None → PartsRead d None
+      parts_third j =
           then_not (part_field 1) (Longest 255) (Later 1) last_two LastLongest (Later 3) first_leads d 0 one.read
-          (then_not (part_field 2) (Longest 99) (Later 2) (part_field 3) (Longest 1024) (Later 3) second_leads d second two.read (subst (BytesRead d third 3 1024) i j).none)
+          (then_not (part_field 2) (Longest 99) (Later 2) (part_field 3) (Longest 1024) (Later 3) second_leads d second two.read j.none)
 
-      pub parts_read : {q : BytesRow} {trie : Bytes} {fourth : ℕ} → q ≡ ReadBytes trie fourth → BytesRead d third 3 1024 q → PartsRead d (ReadParts path value trie fourth)
-      parts_read {q} {trie} {fourth} i j =
-          let three = subst (BytesRead d third 3 1024) i j in record {
+      pub parts_read : {trie : Maybe Part} {fourth : ℕ} → PartUpto d third 3 1024 trie fourth → PartsUpto d path value trie fourth
+      parts_read {trie} {fourth} three =
+          record {
             inside = (one.inside, (two.inside, three.inside));
             read =
                 then_read (part_field 1) (Longest 255) (Later 1) last_two LastLongest (Later 3) first_leads d 0 one.read
@@ -116,37 +88,31 @@ fifth_leads o t w f = later_number 4 5 o t (omega arith) (omega arith) f
 ends : {A : Type 0} (write : A → List ℕ) (Within : A → Type 0) (k : ℕ) (s : List ℕ) → k < 16 → BeginsNot write Within (Later k) s → (a : A) → Within a → s ≡ write a → ⊥
 ends write Within k s h n a w e = n a [] w (later_nil k h) (e ∙ sym (append-nil (write a)))
 
-module _ (d : List ℕ) (at : ℕ) (ws : Writers) where
-  pub tail_writers : {v : Row} → v ≡ BadWriters → WritersRead d at v ws → TailRead d at BadTail ws
-  tail_writers e g =
+module _ (d : List ℕ) (at : ℕ) where
+  pub tail_writers : WritersRead d at None → TailRead d at None
+  tail_writers g =
       ends tail_bytes TailWithin 5 (drop at d) (omega arith)
-      (first_not writers_bytes WritersFew (Later 4) (number_field 5) (Most 18446744073709551615) (Later 5) fifth_leads (subst (λ (r : Row). WritersRead d at r ws) e g))
+      (first_not writers_bytes WritersFew (Later 4) (number_field 5) (Most 18446744073709551615) (Later 5) fifth_leads g)
 
-  module _ {v : Row} {fifth : ℕ} (e : v ≡ ReadWriters fifth) (g : WritersRead d at v ws) where
-    read : WritersUpto d at ws fifth
-    read = subst (λ (r : Row). WritersRead d at r ws) e g
-
-    pub tail_fifth : fifth ≤ length d
-    tail_fifth = read.read.inside
-
-    pub tail_number : {u : NumberRow} → u ≡ BadNumber → NumberRead d fifth 5 18446744073709551615 u → TailRead d at BadTail ws
-    tail_number f h =
+  module _ {ws : Writers} {fifth : ℕ} (read : WritersUpto d at ws fifth) where
+    pub tail_number : NumberRead d fifth 5 18446744073709551615 None → TailRead d at None
+    tail_number h =
         ends tail_bytes TailWithin 5 (drop at d) (omega arith)
-        (then_not writers_bytes WritersFew (Later 4) (number_field 5) (Most 18446744073709551615) (Later 5) fifth_leads d at read.read (subst (NumberRead d fifth 5 18446744073709551615) f h))
+        (then_not writers_bytes WritersFew (Later 4) (number_field 5) (Most 18446744073709551615) (Later 5) fifth_leads d at read.read h)
 
-    module _ {u : NumberRow} {sequence : Number} {end : ℕ} (f : u ≡ ReadNumber sequence end) (h : NumberRead d fifth 5 18446744073709551615 u) where
-      both_of : Upto tail_bytes TailWithin (Later 5) d at (writers_of d ws, number_of sequence) end
+    module _ {sequence : Option ℕ} {end : ℕ} (h : Upto (number_field 5) (Most 18446744073709551615) (Later 5) d fifth sequence end) where
+      both_of : Upto tail_bytes TailWithin (Later 5) d at (writers_of d ws, sequence) end
       both_of =
-          then_read writers_bytes WritersFew (Later 4) (number_field 5) (Most 18446744073709551615) (Later 5) fifth_leads d at read.read (subst (NumberRead d fifth 5 18446744073709551615) f h)
+          then_read writers_bytes WritersFew (Later 4) (number_field 5) (Most 18446744073709551615) (Later 5) fifth_leads d at read.read h
 
-      pub tail_left : end < length d → TailRead d at BadTail ws
+      pub tail_left : end < length d → TailRead d at None
       tail_left l t w q =
           omega (arith, ap length (both_of.begins.only t [] w (later_nil 5 (omega arith)) (q ∙ sym (append-nil (tail_bytes t)))).1, length-drop end d)
 
-      pub tail_read : length d ≤ end → TailRead d at (ReadTail sequence) ws
+      pub tail_read : length d ≤ end → TailAt d at ws sequence
       tail_read l =
           let q : end ≡ length d = omega (arith, both_of.inside) in
-          record { inside = read.inside; read = subst (λ (n : ℕ). Upto tail_bytes TailWithin (Later 5) d at (writers_of d ws, number_of sequence) n) q both_of; placed = read.placed }
+          record { inside = read.inside; read = subst (λ (n : ℕ). Upto tail_bytes TailWithin (Later 5) d at (writers_of d ws, sequence) n) q both_of; placed = read.placed }
 
 -- ---- all five
 
@@ -156,27 +122,20 @@ tail_leads p t w f =
     (writers_later 3 p.0 (number_field 5 p.1 ++ t) (omega arith) (later_number 4 5 p.1 t (omega arith) (omega arith) f))
 
 module _ (d : List ℕ) where
-  pub raw_first : {v : Parts} (ws : Writers) → v ≡ BadParts → PartsRead d v → RawRead d BadRaw ws
-  raw_first ws e g r w q =
+  pub raw_first : PartsRead d None → RawRead d None
+  raw_first g r w q =
       ends raw_bytes RawWithin 5 d (omega arith)
-      (first_not three_parts PartsLongest (Later 3) tail_bytes TailWithin (Later 5) tail_leads (subst (PartsRead d) e g)) r w (sym q)
+      (first_not three_parts PartsLongest (Later 3) tail_bytes TailWithin (Later 5) tail_leads g) r w (sym q)
 
-  module _ {v : Parts} {path value trie : Bytes} {fourth : ℕ} (e : v ≡ ReadParts path value trie fourth) (g : PartsRead d v) where
-    three : PartsUpto d path value trie fourth
-    three = subst (PartsRead d) e g
-
-    pub raw_fourth : fourth ≤ length d
-    raw_fourth = three.read.inside
-
-    pub raw_tail : {u : Last} (ws : Writers) → u ≡ BadTail → TailRead d fourth u ws → RawRead d BadRaw ws
-    raw_tail ws f h r w q =
-        let n = subst (λ (x : Last). TailRead d fourth x ws) f h in
+  module _ {path value trie : Maybe Part} {fourth : ℕ} (three : PartsUpto d path value trie fourth) where
+    pub raw_tail : TailRead d fourth None → RawRead d None
+    raw_tail n r w q =
         let o = three.read.begins.only r.0 (tail_bytes r.1) w.0
         (subst (Later 3) (append-nil (tail_bytes r.1)) (tail_leads r.1 [] w.1 (later_nil 5 (omega arith)))) (sym q) in
         n r.1 w.1 (sym o.1)
 
-    pub raw_read : {u : Last} {sequence : Number} (ws : Writers) → u ≡ ReadTail sequence → TailRead d fourth u ws → RawRead d (ReadRaw path value trie sequence) ws
-    raw_read {u} {sequence} ws f h =
+    pub raw_read : {ws : Writers} {sequence : Option ℕ} → TailAt d fourth ws sequence → RawAt d path value trie ws sequence
+    raw_read {ws} {sequence} tail =
         record {
           parts =
               three.inside;
@@ -188,11 +147,8 @@ module _ (d : List ℕ) where
           fourth = placed;
         }
       where
-        tail : TailAt d fourth ws (number_of sequence)
-        tail = subst (λ (x : Last). TailRead d fourth x ws) f h
-
         found : RawFields
-        found = ((bytes_of d path, (bytes_of d value, bytes_of d trie)), (writers_of d ws, number_of sequence))
+        found = ((bytes_of d path, (bytes_of d value, bytes_of d trie)), (writers_of d ws, sequence))
 
         all : Upto raw_bytes RawWithin (Later 5) d 0 found (length d)
         all = then_read three_parts PartsLongest (Later 3) tail_bytes TailWithin (Later 5) tail_leads d 0 three.read tail.read
@@ -234,21 +190,21 @@ raw_rejected x n w e = x (raw_of n) (raw_within n w) (raw_bytes_lem n ∙ e)
 
 -- ---- the path and the Stat judged
 
-module _ (d : List ℕ) (field : Bytes) where
-  pub path_absent : field ≡ NoBytes → WithPathAs d field BadPath
+module _ (d : List ℕ) (field : Maybe Part) where
+  pub path_absent : field ≡ None → WithPathAs d field None
   path_absent e p w q = let z : none ≡ some p = ap (bytes_of d) (sym e) ∙ q in let y : ◌≡◌ {A = ℕ} 0 1 = cc in omega arith
 
-  module _ {p : Part} (e : field ≡ GivenBytes p) where
-    pub path_given : PathLies d p → WithPathAs d field (ReadPath p)
+  module _ {p : Part} (e : field ≡ Some p) where
+    pub path_given : PathLies d p → WithPathAs d field (Some p)
     path_given w = (w, e)
 
-    pub path_wrong : BytesInside d field → (PathLies d p → ⊥) → WithPathAs d field BadPath
+    pub path_wrong : BytesInside d field → (PathLies d p → ⊥) → WithPathAs d field None
     path_wrong i n q w f =
         let z : some (part_of d p) ≡ some q = ap (bytes_of d) (sym e) ∙ f in
         let y : q ≡ part_of d p = cc in
         n (record { inside = subst (BytesInside d) e i; within = subst PathWithin y w })
 
-  module _ {p : Part} (e : field ≡ GivenBytes p) (i : BytesInside d field) where
+  module _ {p : Part} (e : field ≡ Some p) (i : BytesInside d field) where
     pub value_inside : p.at + p.len ≤ length d
     value_inside = subst (BytesInside d) e i
 
@@ -256,23 +212,22 @@ module _ (d : List ℕ) (field : Bytes) where
     unfolding part
     cut = let n : p.at + p.len - p.at ≡ p.len = omega arith in ap (λ (k : ℕ). take k (drop p.at d)) n
 
-    pub value_wrong : {b : List ℕ} {r : StatRead} → b ≡ take (p.at + p.len - p.at) (drop p.at d) → r ≡ BadStat → StatReadAs b r → ValueReadAs d field BadValue
-    value_wrong q f g none w h = let z : none ≡ some (part_of d p) = h ∙ ap (bytes_of d) e in let y : ◌≡◌ {A = ℕ} 0 1 = cc in omega arith
-    value_wrong {b} q f g (some s) w h =
+    pub value_wrong : {b : List ℕ} → b ≡ take (p.at + p.len - p.at) (drop p.at d) → StatReadAs b None → ValueReadAs d field None
+    value_wrong q g none w h = let z : none ≡ some (part_of d p) = h ∙ ap (bytes_of d) e in let y : ◌≡◌ {A = ℕ} 0 1 = cc in omega arith
+    value_wrong {b} q g (some s) w h =
         let z : some (stat_bytes s) ≡ some (part_of d p) = h ∙ ap (bytes_of d) e in
         let y : stat_bytes s ≡ part_of d p = cc in
-        subst (StatReadAs b) f g s w (y ∙ sym cut ∙ sym q)
+        g s w (y ∙ sym cut ∙ sym q)
 
-    pub value_right : {b : List ℕ} {r : StatRead} {s : CodeStat} → b ≡ take (p.at + p.len - p.at) (drop p.at d) → r ≡ ReadStat s → StatReadAs b r
-        → ValueReadAs d field (ReadValue (GivenValue s))
-    value_right {b} q f g =
-        let a = subst (StatReadAs b) f g in
+    pub value_right : {b : List ℕ} (s : CodeStat) → b ≡ take (p.at + p.len - p.at) (drop p.at d) → StatReadAs b (Some s)
+        → ValueReadAs d field (Some (Some s))
+    value_right {b} s q a =
         (a.within, ap {B = Option (List ℕ)} some (a.bytes ∙ q ∙ cut) ∙ sym (ap (bytes_of d) e))
 
-  pub value_none : field ≡ NoBytes → ValueReadAs d field (ReadValue NoValue)
+  pub value_none : field ≡ None → ValueReadAs d field (Some None)
   value_none e = (tt, sym (ap (bytes_of d) e))
 
-code_node : Part → Value → Bytes → Writers → Number → CodeNode
+code_node : Part → Maybe CodeStat → Maybe Part → Writers → Maybe ℕ → CodeNode
 code_node p v t w s = record { path = p; value = v; trie = t; writers = w; sequence = s }
 
 same_fields : (n m : CodeNode) → n.path ≡ m.path → n.value ≡ m.value → n.trie ≡ m.trie → n.writers ≡ m.writers → n.sequence ≡ m.sequence → n ≡ m
@@ -282,11 +237,11 @@ same_fields n m a b c d e = go
     go : code_node n.path n.value n.trie n.writers n.sequence ≡ code_node m.path m.value m.trie m.writers m.sequence
     go = cc
 
-number_back : (o : Number) → number_told (number_of o) ≡ o
-number_back NoNumber = refl
-number_back (GivenNumber x) = refl
+number_back : (o : Maybe ℕ) → number_told (number_of o) ≡ o
+number_back None = refl
+number_back (Some x) = refl
 
-code_stat : (a b c d e f g h i : Number) → CodeStat
+code_stat : (a b c d e f g h i : Maybe ℕ) → CodeStat
 code_stat a b c d e f g h i = record { mode = a; uid = b; gid = c; size = d; blocks = e; offset = f; byte_offset = g; mtime = h; ctime = i }
 
 stat_back : (s : CodeStat) → stat_told (stat_of s) ≡ s
@@ -294,34 +249,32 @@ unfolding code_stat
 stat_back s = go (number_back s.mode) (number_back s.uid) (number_back s.gid) (number_back s.size) (number_back s.blocks) (number_back s.offset)
     (number_back s.byte_offset) (number_back s.mtime) (number_back s.ctime)
   where
-    go : {a b c d e f g h i j k l m n o p q r : Number} → a ≡ j → b ≡ k → c ≡ l → d ≡ m → e ≡ n → f ≡ o → g ≡ p → h ≡ q → i ≡ r → code_stat a b c d e f g h i ≡ code_stat j k l m n o p q r
+    go : {a b c d e f g h i j k l m n o p q r : Maybe ℕ} → a ≡ j → b ≡ k → c ≡ l → d ≡ m → e ≡ n → f ≡ o → g ≡ p → h ≡ q → i ≡ r → code_stat a b c d e f g h i ≡ code_stat j k l m n o p q r
     go t1 t2 t3 t4 t5 t6 t7 t8 t9 = cc
 
-value_back : (v : Value) → value_told (value_of v) ≡ v
-value_back NoValue = refl
-value_back (GivenValue s) = ap {B = Value} GivenValue (stat_back s)
+value_back : (v : Maybe CodeStat) → value_told (value_of v) ≡ v
+value_back None = refl
+value_back (Some s) = ap {B = Maybe CodeStat} Some (stat_back s)
 
-module _ {d : List ℕ} {path value trie : Bytes} {ws : Writers} (sequence : Number) (g : RawAt d path value trie ws (number_of sequence)) where
+module _ {d : List ℕ} {path value trie : Maybe Part} {ws : Writers} (sequence : Maybe ℕ) (g : RawAt d path value trie ws (number_of sequence)) where
   same : (n : Node) → NodeWithin n → node_bytes n ≡ d → raw_of n ≡ ((bytes_of d path, (bytes_of d value, bytes_of d trie)), (writers_of d ws, number_of sequence))
   same n w e = g.only (raw_of n) (raw_within n w) (raw_bytes_lem n ∙ e)
 
-  pub no_path : {r : PathRead} → r ≡ BadPath → WithPathAs d path r → Rejected node_bytes NodeWithin d
+  pub no_path : WithPathAs d path None → Rejected node_bytes NodeWithin d
   unfolding raw_of
-  no_path f h n w e =
-      subst (WithPathAs d path) f h n.path w.path (sym (ap (λ (x : RawFields). x.0.0) (same n w e)))
+  no_path h n w e =
+      h n.path w.path (sym (ap (λ (x : RawFields). x.0.0) (same n w e)))
 
-  module _ {r : PathRead} {q : Part} (f : r ≡ ReadPath q) (h : WithPathAs d path r) where
-    pub no_value : {u : ValueRead} → u ≡ BadValue → ValueReadAs d value u → Rejected node_bytes NodeWithin d
+  module _ (q : Part) (p : WithPathAs d path (Some q)) where
+    pub no_value : ValueReadAs d value None → Rejected node_bytes NodeWithin d
     unfolding raw_of
-    no_value i j n w e =
-        subst (ValueReadAs d value) i j n.value w.value (ap (λ (x : RawFields). x.0.1.0) (same n w e))
+    no_value j n w e =
+        j n.value w.value (ap (λ (x : RawFields). x.0.1.0) (same n w e))
 
-    pub all_right : {u : ValueRead} {v : Value} → u ≡ ReadValue v → ValueReadAs d value u
+    pub all_right : (v : Maybe CodeStat) → ValueReadAs d value (Some v)
         → NodeAt d (record { path = q; value = v; trie = trie; writers = ws; sequence = sequence })
     unfolding raw_of
-    all_right {u} {v} i j =
-        let p = subst (WithPathAs d path) f h in
-        let s = subst (ValueReadAs d value) i j in
+    all_right v s =
         let named : bytes_of d path ≡ some (part_of d q) = ap (bytes_of d) p.1 in
         let fields : CodeNode = record { path = q; value = v; trie = trie; writers = ws; sequence = sequence } in
         record {

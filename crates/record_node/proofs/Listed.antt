@@ -8,6 +8,7 @@ use native.Mathlib.Numerals.{add-one}
 use native.Mathlib.Nat.{zero-add}
 use lib.ListN.{length, get_or, set, drop, replicate, length-set, length-append, length-drop}
 use lib.Seq.{get_or-set_same, get_or-set_other, set_at}
+use Rattle.std.specs.Prelude.{Option as Maybe, None, Some}
 use Rattle.byte_strings.specs.Lists.{run}
 use Rattle.byte_strings.proofs.Lists.{run_suc, run_ext, length_run}
 use Rattle.record_fields.specs.Reading.{BeginsNot}
@@ -17,11 +18,9 @@ use Rattle.record_fields.proofs.Digits.{two}
 use Rattle.record_format.specs.Records.{Writer, WriterWithin, writer_bytes, writers_bytes, WritersWithin}
 use Rattle.record_format.proofs.Unique.{later_untagged, writer_tag, first_same, writers_unique}
 use Rattle.record_node.specs.Post.{writer_of, no_writer, WriterInside, writer_placed, writers_placed}
-use Rattle.record_node.specs.Inner.{OneAt, OneRead, WritersFew, WritersUpto}
+use Rattle.record_node.specs.Inner.{OneAt, OneOrNone, OneRead, WritersFew, WritersUpto}
 use Rattle.record_node.specs.declared.writers.Writer.{Writer as CodeWriter}
 use Rattle.record_node.specs.declared.writers.Writers.{Writers}
-use Rattle.record_node.specs.declared.writers.WriterRow.{WriterRow}
-use Rattle.record_node.specs.declared.writers.WriterRow.TheVariants.{Bad as BadRow, End, Read as ReadRow}
 
 -- ---- rows of Writers
 
@@ -141,6 +140,9 @@ placed_snoc at (v ∷ ws) w =
 nobody_more : (n : ℕ) → n < 8 → replicate (8 - n) no_writer ≡ no_writer ∷ replicate (8 - (n + 1)) no_writer
 nobody_more n h = let e : 8 - n ≡ suc (8 - (n + 1)) = omega arith in ap (λ (m : ℕ). replicate m no_writer) e
 
+pub one_there : (d : List ℕ) (at next : ℕ) {v : Maybe CodeWriter} {w : CodeWriter} → v ≡ Some w → OneOrNone d at v next → OneAt d at w next
+one_there d at next e o = subst (λ (x : Maybe CodeWriter). OneOrNone d at x next) e o
+
 module _ {d : List ℕ} {at : ℕ} {list : List CodeWriter} {count next : ℕ} (g : Grown d at list count next) where
   ws : List Writer
   ws = run (listed d list) 0 count
@@ -154,20 +156,20 @@ module _ {d : List ℕ} {at : ℕ} {list : List CodeWriter} {count next : ℕ} (
   ws_few = omega (arith, length_run (listed d list) 0 count, g.few)
 
   -- a field that is none
-  pub grown_bad : {r : WriterRow} → r ≡ BadRow → OneRead d next r → BeginsNot writers_bytes WritersFew (Later 4) (drop at d)
+  pub grown_bad : OneRead d next None → BeginsNot writers_bytes WritersFew (Later 4) (drop at d)
   unfolding ws
-  grown_bad e o vs t w f p = writers_not ws (drop next d) ws_within (subst (OneRead d next) e o) vs t w.0 f (sym g.made ∙ p)
+  grown_bad o vs t w f p = writers_not ws (drop next d) ws_within o vs t w.0 f (sym g.made ∙ p)
 
   -- no more
-  pub grown_end : {r : WriterRow} → r ≡ End → OneRead d next r → WritersUpto d at (record { count = count; list = list }) next
+  pub grown_end : {v : Maybe CodeWriter} (end : ℕ) → v ≡ None → OneOrNone d next v end → WritersUpto d at (record { count = count; list = list }) next
   unfolding ws
-  grown_end e o = record {
+  grown_end end e o = record {
     inside = record { count = g.few; each = g.inside };
     read = record {
       begins = record {
         made = g.made;
         within = (ws_within, ws_few);
-        only = λ vs t w f p. writers_unique vs ws t (drop next d) w.0 ws_within (later_untagged t f) (subst (OneRead d next) e o) (sym p ∙ g.made);
+        only = λ vs t w f p. writers_unique vs ws t (drop next d) w.0 ws_within (later_untagged t f) (subst (λ (x : Maybe CodeWriter). OneOrNone d next x end) e o) (sym p ∙ g.made);
       };
       inside = g.ends;
     };
@@ -178,10 +180,7 @@ module _ {d : List ℕ} {at : ℕ} {list : List CodeWriter} {count next : ℕ} (
       many : length (run (listed d list) 0 count) ≡ count
       many = length_run (listed d list) 0 count
 
-  module _ {r : WriterRow} {w : CodeWriter} {end : ℕ} (e : r ≡ ReadRow w end) (o : OneRead d next r) where
-    one : OneAt d next w end
-    one = subst (OneRead d next) e o
-
+  module _ {w : CodeWriter} {end : ℕ} (one : OneAt d next w end) where
     tagged : get_or (drop next d) 0 256 ≡ 34
     unfolding writers_bytes
     tagged =

@@ -5,13 +5,12 @@ use mathlib.Core.List.{List, ◌++◌}
 use mathlib.Core.Option.{Option, none, some}
 use native.Mathlib.Omega.{arith}
 use lib.ListN.{length, take, drop, length-append}
+use Rattle.std.specs.Prelude.{Option as Maybe, None, Some}
 use Rattle.byte_strings.specs.Lists.{part, run}
 use Rattle.byte_strings.proofs.Lists.{length_part, part_put}
 use Rattle.record_fields.specs.Fields.{number_field, part_field, given_field, Longest}
 use Rattle.record_fields.specs.Inner.{number_of, part_of, bytes_of, BytesInside, size_of, PutAt, BytesRoomy}
 use Rattle.record_fields.specs.declared.rows.Part.{Part}
-use Rattle.record_fields.specs.declared.rows.Bytes.{Bytes}
-use Rattle.record_fields.specs.declared.rows.Bytes.TheVariants.{Absent as NoBytes, Given as GivenBytes}
 use Rattle.record_fields.proofs.Unique.{number_size, part_size, part_within}
 use Rattle.record_fields.proofs.Put.{put_then, put_next, put_nothing}
 use Rattle.record_format.specs.Records.{Stat, stat_bytes, Writer, WriterWithin, writer_bytes, writers_bytes, node_bytes, stat_part}
@@ -22,8 +21,6 @@ use Rattle.record_node.specs.Post.{writer_of, writer_at, writers_of, value_of, n
 use Rattle.record_node.specs.Inner.{WriterLies, WriterRoomy, WritersRoomy}
 use Rattle.record_node.specs.declared.writers.Writer.{Writer as CodeWriter}
 use Rattle.record_node.specs.declared.writers.Writers.{Writers}
-use Rattle.record_node.specs.declared.reading.Value.{Value}
-use Rattle.record_node.specs.declared.reading.Value.TheVariants.{Absent as NoValue, Given as GivenValue}
 use Rattle.record_node.specs.declared.reading.Node.{Node as CodeNode}
 use Rattle.record_node.proofs.Listed.{listed, writers_next, writers_size, all_within}
 
@@ -33,9 +30,9 @@ pub cut : (d : List ℕ) (p : Part) → take (p.at + p.len - p.at) (drop p.at d)
 unfolding part
 cut d p = let n : p.at + p.len - p.at ≡ p.len = omega arith in ap (λ (k : ℕ). take k (drop p.at d)) n
 
-pub size_of_lem : (d : List ℕ) (o : Bytes) (n : ℕ) → BytesInside d o → Longest n (bytes_of d o) → size_of o ≤ n
-size_of_lem d NoBytes n i w = omega arith
-size_of_lem d (GivenBytes p) n i w = omega (arith, length_part d p.at p.len i)
+pub size_of_lem : (d : List ℕ) (o : Maybe Part) (n : ℕ) → BytesInside d o → Longest n (bytes_of d o) → size_of o ≤ n
+size_of_lem d None n i w = omega arith
+size_of_lem d (Some p) n i w = omega (arith, length_part d p.at p.len i)
 
 -- what was put at the front, read again
 pub front_of : {bytes out : List ℕ} {next : ℕ} {after : List ℕ} → PutAt bytes out 0 next after → take (next - 0) after ≡ bytes
@@ -142,11 +139,11 @@ placed_all {d} ws {out₀} {at} {out} {next} g e = subst (λ (n : ℕ). PutAt (w
 
 -- ---- the Stat
 
-pub value_nothing : {v : Value} {out : List ℕ} {at : ℕ} → v ≡ NoValue → PutAt (part_field 2 (stat_part (value_of v))) out at at out
+pub value_nothing : {v : Maybe CodeStat} {out : List ℕ} {at : ℕ} → v ≡ None → PutAt (part_field 2 (stat_part (value_of v))) out at at out
 unfolding part_field
-value_nothing {v} {out} {at} e = subst (λ (x : Value). PutAt (part_field 2 (stat_part (value_of x))) out at at out) (sym e) (put_nothing out at)
+value_nothing {v} {out} {at} e = subst (λ (x : Maybe CodeStat). PutAt (part_field 2 (stat_part (value_of x))) out at at out) (sym e) (put_nothing out at)
 
-module _ {v : Value} {s : CodeStat} (e : v ≡ GivenValue s) {scratch : List ℕ} {len : ℕ} {filled : List ℕ} (p : PutAt (stat_bytes (stat_of s)) scratch 0 len filled) where
+module _ {v : Maybe CodeStat} {s : CodeStat} (e : v ≡ Some s) {scratch : List ℕ} {len : ℕ} {filled : List ℕ} (p : PutAt (stat_bytes (stat_of s)) scratch 0 len filled) where
   taken_stat : take (len - 0) filled ≡ stat_bytes (stat_of s)
   taken_stat = front_of p
 
@@ -159,7 +156,7 @@ module _ {v : Value} {s : CodeStat} (e : v ≡ GivenValue s) {scratch : List ℕ
   pub value_put : {out : List ℕ} {at next : ℕ} {after : List ℕ} → PutAt (part_field 2 (some (take (len - 0) filled))) out at next after
       → PutAt (part_field 2 (stat_part (value_of v))) out at next after
   value_put {out} {at} {next} {after} q =
-      subst (λ (x : Value). PutAt (part_field 2 (stat_part (value_of x))) out at next after) (sym e)
+      subst (λ (x : Maybe CodeStat). PutAt (part_field 2 (stat_part (value_of x))) out at next after) (sym e)
       (subst (λ (b : List ℕ). PutAt (part_field 2 (some b)) out at next after) taken_stat q)
 
 -- ---- all fields

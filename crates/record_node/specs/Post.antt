@@ -1,22 +1,19 @@
 -- The calls on Nodes: the fields that their parts stand for, what they answer, and what stands in the lent buffer afterwards.
-use Rattle.answer_types.specs.declared.Refusal.{Refusal}
-use Rattle.std.specs.Prelude.{ℕ, ◌+◌, ◌-◌, ◌<◌, ◌≤◌, List, [], ◌∷◌, ◌++◌, length, get_or, replicate, Result, ⊤}
+use Rattle.std.specs.Prelude.{Option as Maybe, None, Some, ℕ, ◌+◌, ◌-◌, ◌<◌, ◌≤◌, List, [], ◌∷◌, ◌++◌, length, get_or, replicate}
 use Rattle.std.proofs.Math.Option.{Option, none as absent, some}
 use Rattle.byte_strings.specs.Lists.{run}
 use Rattle.answer_types.specs.Verdict.{Spot, Verdict}
 use Rattle.answer_types.specs.Meaning.{said}
-use Rattle.record_fields.specs.declared.rows.Number.TheVariants.{Absent as NoNumber}
-use Rattle.record_fields.specs.declared.rows.Bytes.TheVariants.{Absent as NoBytes}
+use Rattle.answer_types.specs.declared.Answer.{Answer}
 use Rattle.record_fields.specs.Fields.{part_field, given_field}
 use Rattle.record_fields.specs.Inner.{number_of, number_told, part_of, bytes_of, Inside, BytesInside, head_of, part_placed, bytes_placed}
 use Rattle.record_format.specs.Records.{Stat, Writer, writer_bytes, Node, NodeWithin, node_bytes, stat_part}
 use Rattle.record_format.specs.From.{node_from}
 use Rattle.record_format.specs.Post.{stat_of, stat_told, no_part, told_of, WrittenAs}
 use Rattle.record_format.specs.declared.answers.Written.{Written}
+use Rattle.record_format.specs.declared.stats.Stat.{Stat as CodeStat}
 use Rattle.record_node.specs.declared.writers.Writer.{Writer as CodeWriter}
 use Rattle.record_node.specs.declared.writers.Writers.{Writers}
-use Rattle.record_node.specs.declared.reading.Value.{Value}
-use Rattle.record_node.specs.declared.reading.Value.TheVariants.{Absent as NoValue, Given as GivenValue}
 use Rattle.record_node.specs.declared.reading.Node.{Node as CodeNode}
 
 -- ---- the fields that parts of the bytes lent stand for
@@ -26,7 +23,7 @@ writer_of d w = record { key = part_of d w.key; permission = bytes_of d w.permis
 
 -- nobody: what stands behind the count
 abbrev pub no_writer : CodeWriter
-no_writer = record { key = record { at = 0; len = 0 }; permission = NoBytes }
+no_writer = record { key = record { at = 0; len = 0 }; permission = None }
 
 abbrev pub writer_at : Writers → ℕ → CodeWriter
 writer_at ws j = get_or ws.list j no_writer
@@ -35,9 +32,9 @@ writer_at ws j = get_or ws.list j no_writer
 abbrev pub writers_of : List ℕ → Writers → List Writer
 writers_of d ws = run (λ j. writer_of d (writer_at ws j)) 0 ws.count
 
-abbrev pub value_of : Value → Option Stat
-value_of NoValue = absent
-value_of (GivenValue s) = some (stat_of s)
+abbrev pub value_of : Maybe CodeStat → Option Stat
+value_of None = absent
+value_of (Some s) = some (stat_of s)
 
 abbrev pub node_of : List ℕ → CodeNode → Node
 node_of d n = record {
@@ -85,9 +82,9 @@ trie_at n = length (part_field 1 (some n.path) ++ part_field 2 (stat_part n.valu
 abbrev pub writers_at : Node → ℕ
 writers_at n = length (part_field 1 (some n.path) ++ (part_field 2 (stat_part n.value) ++ part_field 3 n.trie))
 
-abbrev pub value_told : Option Stat → Value
-value_told absent = NoValue
-value_told (some s) = GivenValue (stat_told s)
+abbrev pub value_told : Option Stat → Maybe CodeStat
+value_told absent = None
+value_told (some s) = Some (stat_told s)
 
 abbrev pub node_placed : Node → CodeNode
 node_placed n = record {
@@ -105,13 +102,13 @@ abbrev pub no_writers : Writers
 no_writers = record { count = 0; list = replicate 8 no_writer }
 
 abbrev pub no_node : CodeNode
-no_node = record { path = no_part; value = NoValue; trie = NoBytes; writers = no_writers; sequence = NoNumber }
+no_node = record { path = no_part; value = None; trie = None; writers = no_writers; sequence = None }
 
 abbrev pub read_node : Spot → List ℕ → Verdict × CodeNode
 read_node spot d = told_of spot no_node node_placed (node_from d)
 
 -- what an answer and the Node beside it tell
-abbrev pub node_told : Result ⊤ Refusal → CodeNode → Verdict × CodeNode
+abbrev pub node_told : Answer → CodeNode → Verdict × CodeNode
 node_told answer n = (said answer, n)
 
 -- ---- writing

@@ -3,21 +3,16 @@ ghost use Rattle.record_format.specs.Post.{Decides};
 ghost use Rattle.record_node.specs.Post.{NodeFits};
 ghost use Rattle.record_node.specs.Inner.{Lies, PathLies, BytesLie, WriterLies, WritersLie, ValueFits};
 
-use super::reading::{Node, Value};
+use super::reading::Node;
 use super::writers::{Writer, Writers};
-use record_fields::{Bytes, Part};
+use record_fields::Part;
+use record_format::Stat;
 
 // Whether a part lies in the bytes lent.
 fn lies(d: &[u8], part: Part) -> bool
     ensures { Decides (Lies d.now part) result }
 {
-    if d.len() < part.at {
-        return false;
-    }
-    if d.len() - part.at < part.len {
-        return false;
-    }
-    true
+    part.at <= d.len() && part.len <= d.len() - part.at
 }
 
 // Whether a part is a path: it has 1 to 255 bytes and starts with a slash.
@@ -33,25 +28,16 @@ pub fn path_lies(d: &[u8], part: Part) -> bool
     if 255 < part.len {
         return false;
     }
-    let at = part.at;
-    if d[at] == 47 {
-        return true;
-    }
-    false
+    d[part.at] == b'/'
 }
 
 // Whether a part is absent, or lies in the bytes lent and has at most `longest` bytes.
-fn bytes_lie(d: &[u8], field: Bytes, longest: usize) -> bool
+fn bytes_lie(d: &[u8], field: Option<Part>, longest: usize) -> bool
     ensures { Decides (BytesLie d.now field longest) result }
 {
     match field {
-        Bytes::Absent => true,
-        Bytes::Given(part) => {
-            if longest < part.len {
-                return false;
-            }
-            lies(d, part)
-        }
+        None => true,
+        Some(part) => part.len <= longest && lies(d, part),
     }
 }
 
@@ -59,15 +45,13 @@ fn bytes_lie(d: &[u8], field: Bytes, longest: usize) -> bool
 fn writer_lies(d: &[u8], writer: Writer) -> bool
     ensures { Decides (WriterLies d.now writer) result }
 {
-    let key = writer.key;
-    let permission = writer.permission;
-    if key.len != 32 {
+    if writer.key.len != 32 {
         return false;
     }
-    if !lies(d, key) {
+    if !lies(d, writer.key) {
         return false;
     }
-    bytes_lie(d, permission, 16)
+    bytes_lie(d, writer.permission, 16)
 }
 
 // Whether at most 8 Writers are there, each within the bounds.
@@ -79,23 +63,21 @@ fn writers_lie(d: &[u8], writers: Writers) -> bool
     if 8 < count {
         return false;
     }
-    let mut i: usize = 0;
-    while i < count {
+    for i in 0..count {
         if !writer_lies(d, list[i]) {
             return false;
         }
-        i += 1;
     }
     true
 }
 
 // Whether a Stat is absent or within its bounds.
-fn value_fits(value: Value) -> bool
+fn value_fits(value: Option<Stat>) -> bool
     ensures { Decides (ValueFits value) result }
 {
     match value {
-        Value::Absent => true,
-        Value::Given(stat) => record_format::stat_fits(stat),
+        None => true,
+        Some(stat) => record_format::stat_fits(stat),
     }
 }
 
@@ -103,22 +85,17 @@ fn value_fits(value: Value) -> bool
 pub fn node_fits(d: &[u8], node: Node) -> bool
     ensures { Decides (NodeFits d.now node) result }
 {
-    let path = node.path;
-    let value = node.value;
-    let trie = node.trie;
-    let writers = node.writers;
-    let sequence = node.sequence;
-    if !path_lies(d, path) {
+    if !path_lies(d, node.path) {
         return false;
     }
-    if !value_fits(value) {
+    if !value_fits(node.value) {
         return false;
     }
-    if !bytes_lie(d, trie, 1024) {
+    if !bytes_lie(d, node.trie, 1024) {
         return false;
     }
-    if !record_format::number_fits(sequence, 18446744073709551615) {
+    if !record_format::number_fits(node.sequence, u64::MAX) {
         return false;
     }
-    writers_lie(d, writers)
+    writers_lie(d, node.writers)
 }

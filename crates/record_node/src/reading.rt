@@ -1,135 +1,123 @@
 // A Node, read of lent bytes.
 ghost use Rattle.std.specs.Prelude.{◌≡◌, ◌≤◌, length};
-ghost use Rattle.record_fields.specs.Inner.{number_of, BytesInside};
+ghost use Rattle.record_fields.specs.Inner.{BytesInside};
 ghost use Rattle.answer_types.specs.Verdict.{none, refused};
 ghost use Rattle.record_node.specs.Post.{no_writers, no_node, node_told, read_node};
-ghost use Rattle.record_node.specs.Inner.{PartsRead, TailRead, RawRead, RawAt, WithPathAs, ValueReadAs};
+ghost use Rattle.record_node.specs.Inner.{PartsRead, TailRead, RawRead, RawJudged, WithPathAs, ValueReadAs, NodeFound};
 
-use super::writers::{Row, Writers};
-use answer_types::Refusal;
-use record_fields::{Bytes, BytesRow, Number, NumberRow, Part};
-use record_format::{Stat, StatRead};
-
-// A Stat, there or absent.
-#[derive(Clone, Copy)]
-pub enum Value {
-    Absent,
-    Given(Stat),
-}
+use super::writers::Writers;
+use answer_types::Answer;
+use record_fields::{Part, Read};
+use record_format::Stat;
 
 // The five fields, with parts of the bytes lent.
 #[derive(Clone, Copy)]
 pub struct Node {
     pub path: Part,
-    pub value: Value,
-    pub trie: Bytes,
+    pub value: Option<Stat>,
+    pub trie: Option<Part>,
     pub writers: Writers,
-    pub sequence: Number,
+    pub sequence: Option<u64>,
 }
 
 // What reading a Node answers, and its fields; beside a refusal a Node that says nothing.
 #[derive(Clone, Copy)]
 pub struct NodeRead {
-    pub answer: Result<(), Refusal>,
+    pub answer: Answer,
     pub node: Node,
 }
 
-// The first three fields and where they end.
+// The first three fields, the path and the Stat not yet judged.
 #[derive(Clone, Copy)]
-pub enum Parts {
-    Bad,
-    Read(Bytes, Bytes, Bytes, usize),
-}
-
-// The last field, behind which nothing is left.
-#[derive(Clone, Copy)]
-pub enum Last {
-    Bad,
-    Read(Number),
+pub struct Parts {
+    pub path: Option<Part>,
+    pub value: Option<Part>,
+    pub trie: Option<Part>,
 }
 
 // The last two fields.
 #[derive(Clone, Copy)]
 pub struct Tail {
-    pub last: Last,
     pub writers: Writers,
+    pub sequence: Option<u64>,
 }
 
-// The fields but for the Writers, the path and the Stat not yet judged.
-#[derive(Clone, Copy)]
-pub enum Plain {
-    Bad,
-    Read(Bytes, Bytes, Bytes, Number),
-}
-
-// The five fields.
+// The five fields, the path and the Stat not yet judged.
 #[derive(Clone, Copy)]
 pub struct Raw {
-    pub plain: Plain,
-    pub writers: Writers,
-}
-
-// A path that is there and within the bounds.
-#[derive(Clone, Copy)]
-pub enum PathRead {
-    Bad,
-    Read(Part),
-}
-
-// A Stat that is absent or within the bounds.
-#[derive(Clone, Copy)]
-pub enum ValueRead {
-    Bad,
-    Read(Value),
+    pub parts: Parts,
+    pub tail: Tail,
 }
 
 // The fields 1 to 3 at the front.
-fn three_parts(d: &[u8]) -> Parts
+fn three_parts(d: &[u8]) -> Option<Read<Parts>>
     ensures { PartsRead d.now result }
 {
-    match record_fields::bytes_row(d, 0, 1, 255) {
-        BytesRow::Bad => Parts::Bad,
-        BytesRow::Read(path, second) => match record_fields::bytes_row(d, second, 2, 99) {
-            BytesRow::Bad => Parts::Bad,
-            BytesRow::Read(value, third) => match record_fields::bytes_row(d, third, 3, 1024) {
-                BytesRow::Bad => Parts::Bad,
-                BytesRow::Read(trie, fourth) => Parts::Read(path, value, trie, fourth),
-            },
+    let path = record_fields::bytes_row(d, 0, 1, 255)?;
+    let value = record_fields::bytes_row(d, path.next, 2, 99)?;
+    let trie = record_fields::bytes_row(d, value.next, 3, 1024)?;
+    Some(Read {
+        value: Parts {
+            path: path.value,
+            value: value.value,
+            trie: trie.value,
         },
-    }
+        next: trie.next,
+    })
 }
 
 // Inner: the fields 4 and 5 from a place to the end.
-fn last_fields(d: &[u8], at: usize) -> Tail
+fn last_fields(d: &[u8], at: usize) -> Option<Tail>
     requires { at ≤ length d.now }
-    ensures { TailRead d.now at result.last result.writers }
+    ensures { TailRead d.now at result }
 {
-    let found = super::writers::writers_row(d, at);
-    let row = found.row;
-    let writers = found.writers;
-    match row {
-        Row::Bad => Tail {
-            last: Last::Bad,
-            writers,
-        },
-        Row::Upto(fifth) => match record_fields::number_row(d, fifth, 5, 18446744073709551615) {
-            NumberRow::Bad => Tail {
-                last: Last::Bad,
-                writers,
-            },
-            NumberRow::Read(sequence, end) => {
-                if end < d.len() {
-                    return Tail {
-                        last: Last::Bad,
-                        writers,
-                    };
-                }
-                Tail {
-                    last: Last::Read(sequence),
-                    writers,
-                }
-            }
-        },
+    let writers = super::writers::writers_row(d, at)?;
+    let sequence = record_fields::number_row(d, writers.next, 5, u64::MAX)?;
+    if sequence.next < d.len() {
+        return None;
+    }
+    Some(Tail {
+        writers: writers.value,
+        sequence: sequence.value,
+    })
+}
+
+// All five fields.
+fn five_fields(d: &[u8]) -> Option<Raw>
+    ensures { RawRead d.now result }
+{
+    let parts = three_parts(d)?;
+    let tail = last_fields(d, parts.next)?;
+    Some(Raw {
+        parts: parts.value,
+        tail,
+    })
+}
+
+// Inner: the path, which must be there and within the bounds.
+fn with_path(d: &[u8], field: Option<Part>) -> Option<Part>
+    requires { BytesInside d.now field }
+    ensures { WithPathAs d.now field result }
+{
+    let part = field?;
+    if super::judging::path_lies(d, part) {
+        return Some(part);
+    }
+    None
+}
+
+// Inner: the Stat that a part of the bytes lent is; none where they are none, and a Stat that is none of an absent part.
+fn read_value(d: &[u8], field: Option<Part>) -> Option<Option<Stat>>
+    requires { BytesInside d.now field }
+    ensures { ValueReadAs d.now field result }
+{
+    match field {
+        None => Some(None),
+        Some(part) => {
+            let to = part.at + part.len;
+            let stat = record_format::read_stat(&d[part.at..to])?;
+            Some(Some(stat))
+        }
     }
 }
 
@@ -142,70 +130,6 @@ fn no_writers() -> Writers
     Writers { count: 0, list }
 }
 
-// All five fields.
-fn five_fields(d: &[u8]) -> Raw
-    ensures { RawRead d.now result.plain result.writers }
-{
-    match three_parts(d) {
-        Parts::Bad => {
-            let writers = no_writers();
-            Raw {
-                plain: Plain::Bad,
-                writers,
-            }
-        }
-        Parts::Read(path, value, trie, fourth) => {
-            let tail = last_fields(d, fourth);
-            let last = tail.last;
-            let writers = tail.writers;
-            match last {
-                Last::Bad => Raw {
-                    plain: Plain::Bad,
-                    writers,
-                },
-                Last::Read(sequence) => Raw {
-                    plain: Plain::Read(path, value, trie, sequence),
-                    writers,
-                },
-            }
-        }
-    }
-}
-
-// Inner: the path, which must be there.
-fn with_path(d: &[u8], field: Bytes) -> PathRead
-    requires { BytesInside d.now field }
-    ensures { WithPathAs d.now field result }
-{
-    match field {
-        Bytes::Absent => PathRead::Bad,
-        Bytes::Given(part) => {
-            if super::judging::path_lies(d, part) {
-                return PathRead::Read(part);
-            }
-            PathRead::Bad
-        }
-    }
-}
-
-// Inner: the Stat that a part of the bytes lent is.
-fn read_value(d: &[u8], field: Bytes) -> ValueRead
-    requires { BytesInside d.now field }
-    ensures { ValueReadAs d.now field result }
-{
-    match field {
-        Bytes::Absent => ValueRead::Read(Value::Absent),
-        Bytes::Given(part) => {
-            let from = part.at;
-            let to = from + part.len;
-            match record_format::read_stat(&d[from..to]) {
-                StatRead::Bad => ValueRead::Bad,
-                StatRead::Read(stat) => ValueRead::Read(Value::Given(stat)),
-            }
-        }
-    }
-}
-
 // Number 15, and a Node that says nothing.
 pub fn no_node() -> NodeRead
     ensures { node_told result.answer result.node ≡ (refused 15 none, no_node) }
@@ -213,10 +137,10 @@ pub fn no_node() -> NodeRead
     let writers = no_writers();
     let node = Node {
         path: Part { at: 0, len: 0 },
-        value: Value::Absent,
-        trie: Bytes::Absent,
+        value: None,
+        trie: None,
         writers,
-        sequence: Number::Absent,
+        sequence: None,
     };
     NodeRead {
         answer: answer_types::refuse(15),
@@ -225,49 +149,38 @@ pub fn no_node() -> NodeRead
 }
 
 // Inner: the Node of five fields, the path and the Stat judged.
-fn judged(
-    d: &[u8],
-    first: Bytes,
-    second: Bytes,
-    trie: Bytes,
-    writers: Writers,
-    sequence: Number,
-) -> NodeRead
-    requires { RawAt d.now first second trie writers (number_of sequence) }
-    ensures { node_told result.answer result.node ≡ read_node none d.now }
+fn judged(d: &[u8], raw: Raw) -> Option<Node>
+    requires { RawJudged d.now raw }
+    ensures { NodeFound d.now result }
 {
-    match with_path(d, first) {
-        PathRead::Bad => no_node(),
-        PathRead::Read(path) => match read_value(d, second) {
-            ValueRead::Bad => no_node(),
-            ValueRead::Read(value) => {
-                let node = Node {
-                    path,
-                    value,
-                    trie,
-                    writers,
-                    sequence,
-                };
-                NodeRead {
-                    answer: Ok(()),
-                    node,
-                }
-            }
-        },
-    }
+    let path = with_path(d, raw.parts.path)?;
+    let value = read_value(d, raw.parts.value)?;
+    Some(Node {
+        path,
+        value,
+        trie: raw.parts.trie,
+        writers: raw.tail.writers,
+        sequence: raw.tail.sequence,
+    })
+}
+
+// The Node that bytes are.
+fn found_node(d: &[u8]) -> Option<Node>
+    ensures { NodeFound d.now result }
+{
+    let raw = five_fields(d)?;
+    judged(d, raw)
 }
 
 // The Node that bytes are, or number 15.
 pub fn read_node(bytes: &[u8]) -> NodeRead
     ensures { node_told result.answer result.node ≡ read_node none bytes.now }
 {
-    let found = five_fields(bytes);
-    let plain = found.plain;
-    let writers = found.writers;
-    match plain {
-        Plain::Bad => no_node(),
-        Plain::Read(first, second, trie, sequence) => {
-            judged(bytes, first, second, trie, writers, sequence)
-        }
+    match found_node(bytes) {
+        None => no_node(),
+        Some(node) => NodeRead {
+            answer: Answer::Done,
+            node,
+        },
     }
 }

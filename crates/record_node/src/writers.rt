@@ -3,13 +3,13 @@ ghost use Rattle.std.specs.Prelude.{◌≡◌, ◌≤◌, length};
 ghost use Rattle.record_node.specs.Inner.{WithKeyAs, WriterReadAs, OneRead, WritersRead};
 ghost use Rattle.record_node.specs.Post.{no_writer};
 
-use record_fields::{Bytes, BytesRow, Part};
+use record_fields::{Part, Read};
 
 // A key and a permission, parts of the bytes lent.
 #[derive(Clone, Copy)]
 pub struct Writer {
     pub key: Part,
-    pub permission: Bytes,
+    pub permission: Option<Part>,
 }
 
 // At most 8 of them; those behind the count say nothing.
@@ -19,90 +19,49 @@ pub struct Writers {
     pub list: [Writer; 8],
 }
 
-// What reading a Writer finds: bytes that are none, or its fields.
-#[derive(Clone, Copy)]
-pub enum WriterRead {
-    Bad,
-    Read(Writer),
-}
-
-// What reading one more Writer finds: a field that is none, no such field, or a Writer and where its field ends.
-#[derive(Clone, Copy)]
-pub enum WriterRow {
-    Bad,
-    End,
-    Read(Writer, usize),
-}
-
-// Where the fields of all of them end, or that one is none.
-#[derive(Clone, Copy)]
-pub enum Row {
-    Bad,
-    Upto(usize),
-}
-
-// What reading all of them finds; beside a field that is none the Writers say nothing.
-#[derive(Clone, Copy)]
-pub struct WritersRow {
-    pub row: Row,
-    pub writers: Writers,
-}
-
 // A Writer whose key is there, with its 32 bytes.
-fn with_key(key: Bytes, permission: Bytes) -> WriterRead
+fn with_key(key: Option<Part>, permission: Option<Part>) -> Option<Writer>
     ensures { WithKeyAs key permission result }
 {
-    match key {
-        Bytes::Absent => WriterRead::Bad,
-        Bytes::Given(part) => {
-            if part.len == 32 {
-                return WriterRead::Read(Writer {
-                    key: part,
-                    permission,
-                });
-            }
-            WriterRead::Bad
-        }
+    let key = key?;
+    if key.len == 32 {
+        return Some(Writer { key, permission });
     }
+    None
 }
 
 // Inner: the Writer that the bytes from a place on are.
-fn read_writer(d: &[u8], at: usize) -> WriterRead
+fn read_writer(d: &[u8], at: usize) -> Option<Writer>
     requires { at ≤ length d.now }
     ensures { WriterReadAs d.now at result }
 {
-    match record_fields::bytes_row(d, at, 1, 32) {
-        BytesRow::Bad => WriterRead::Bad,
-        BytesRow::Read(key, second) => match record_fields::bytes_row(d, second, 2, 16) {
-            BytesRow::Bad => WriterRead::Bad,
-            BytesRow::Read(permission, end) => {
-                if end < d.len() {
-                    return WriterRead::Bad;
-                }
-                with_key(key, permission)
-            }
-        },
+    let key = record_fields::bytes_row(d, at, 1, 32)?;
+    let permission = record_fields::bytes_row(d, key.next, 2, 16)?;
+    if permission.next < d.len() {
+        return None;
     }
+    with_key(key.value, permission.value)
 }
 
-// Inner: one more Writer at a place.
-fn one_writer(d: &[u8], at: usize) -> WriterRow
+// Inner: one more Writer at a place: none where its field is badly written, and a Writer that is none where there is no such field.
+fn one_writer(d: &[u8], at: usize) -> Option<Read<Option<Writer>>>
     requires { at ≤ length d.now }
     ensures { OneRead d.now at result }
 {
-    match record_fields::bytes_row(d, at, 4, 70) {
-        BytesRow::Bad => WriterRow::Bad,
-        BytesRow::Read(field, next) => match field {
-            Bytes::Absent => WriterRow::End,
-            Bytes::Given(part) => {
-                let from = part.at;
-                let to = from + part.len;
-                match read_writer(&d[0..to], from) {
-                    WriterRead::Bad => WriterRow::Bad,
-                    WriterRead::Read(writer) => WriterRow::Read(writer, next),
-                }
-            }
-        },
+    let field = record_fields::bytes_row(d, at, 4, 70)?;
+    match field.value {
+        None => Some(Read {
+            value: None,
+            next: at,
+        }),
+        Some(part) => {
+            let to = part.at + part.len;
+            let writer = read_writer(&d[0..to], part.at)?;
+            Some(Read {
+                value: Some(writer),
+                next: field.next,
+            })
+        }
     }
 }
 
@@ -112,47 +71,38 @@ pub fn nobody() -> Writer
 {
     Writer {
         key: Part { at: 0, len: 0 },
-        permission: Bytes::Absent,
+        permission: None,
     }
 }
 
 // Inner: all Writers at a place, one behind the other; a ninth is one too many.
-pub fn writers_row(d: &[u8], at: usize) -> WritersRow
+pub fn writers_row(d: &[u8], at: usize) -> Option<Read<Writers>>
     requires { at ≤ length d.now }
-    ensures { WritersRead d.now at result.row result.writers }
+    ensures { WritersRead d.now at result }
 {
-    let none = nobody();
-    let mut list = [none; 8];
-    let mut count: usize = 0;
+    let mut list = [nobody(); 8];
     let mut next = at;
-    loop {
-        match one_writer(d, next) {
-            WriterRow::Bad => {
-                let writers = Writers { count, list };
-                return WritersRow {
-                    row: Row::Bad,
-                    writers,
-                };
+    for count in 0..8 {
+        let row = one_writer(d, next)?;
+        match row.value {
+            None => {
+                return Some(Read {
+                    value: Writers { count, list },
+                    next,
+                });
             }
-            WriterRow::End => {
-                let writers = Writers { count, list };
-                return WritersRow {
-                    row: Row::Upto(next),
-                    writers,
-                };
-            }
-            WriterRow::Read(writer, end) => {
-                if count == 8 {
-                    let writers = Writers { count, list };
-                    return WritersRow {
-                        row: Row::Bad,
-                        writers,
-                    };
-                }
+            Some(writer) => {
                 list[count] = writer;
-                count += 1;
-                next = end;
+                next = row.next;
             }
         }
+    }
+    let ninth = one_writer(d, next)?;
+    match ninth.value {
+        None => Some(Read {
+            value: Writers { count: 8, list },
+            next,
+        }),
+        Some(_) => None,
     }
 }

@@ -6,10 +6,10 @@ ghost use Rattle.record_format.specs.Records.{writer_bytes, writers_bytes, node_
 ghost use Rattle.record_node.specs.Post.{writer_of, writers_of, value_of, node_of, NodeWrittenAs};
 ghost use Rattle.record_node.specs.Inner.{WriterRoomy, WritersRoomy, NodeRoomy};
 
-use super::reading::{Node, Value};
+use super::reading::Node;
 use super::writers::{Writer, Writers};
 use record_fields::Part;
-use record_format::Written;
+use record_format::{Stat, Written};
 
 // Inner: the bytes of a Writer at the front of a buffer that has room for them. How many they are.
 fn put_writer(out: &mut [u8], d: &[u8], writer: Writer) -> usize
@@ -17,11 +17,9 @@ fn put_writer(out: &mut [u8], d: &[u8], writer: Writer) -> usize
     ensures { PutAt (writer_bytes (writer_of d.now writer)) out.old 0 result out.new }
 {
     let key = writer.key;
-    let permission = writer.permission;
-    let from = key.at;
-    let to = from + key.len;
-    let second = record_fields::put_part(out, 0, 1, &d[from..to]);
-    record_fields::put_bytes(out, second, 2, d, permission)
+    let to = key.at + key.len;
+    let second = record_fields::put_part(out, 0, 1, &d[key.at..to]);
+    record_fields::put_bytes(out, second, 2, d, writer.permission)
 }
 
 // Inner: the fields of all Writers at a place that has room for them. Where they end.
@@ -32,24 +30,22 @@ fn put_writers(out: &mut [u8], at: usize, d: &[u8], writers: Writers) -> usize
     let count = writers.count;
     let list = writers.list;
     let mut next = at;
-    let mut i: usize = 0;
-    while i < count {
+    for i in 0..count {
         let mut record = [0u8; 70];
         let len = put_writer(&mut record, d, list[i]);
         next = record_fields::put_part(out, next, 4, &record[0..len]);
-        i += 1;
     }
     next
 }
 
 // Inner: the field of a Stat at a place that has room for it; nothing of an absent one. Where it ends.
-fn put_value(out: &mut [u8], at: usize, value: Value) -> usize
+fn put_value(out: &mut [u8], at: usize, value: Option<Stat>) -> usize
     requires { at + 110 ≤ length out.old }
     ensures { PutAt (part_field 2 (stat_part (value_of value))) out.old at result out.new }
 {
     match value {
-        Value::Absent => at,
-        Value::Given(stat) => {
+        None => at,
+        Some(stat) => {
             let mut record = [0u8; 99];
             let len = record_format::put_stat(&mut record, stat);
             record_fields::put_part(out, at, 2, &record[0..len])
@@ -63,17 +59,12 @@ fn put_node(out: &mut [u8], d: &[u8], node: Node) -> usize
     ensures { PutAt (node_bytes (node_of d.now node)) out.old 0 result out.new }
 {
     let path = node.path;
-    let value = node.value;
-    let trie = node.trie;
-    let writers = node.writers;
-    let sequence = node.sequence;
-    let from = path.at;
-    let to = from + path.len;
-    let second = record_fields::put_part(out, 0, 1, &d[from..to]);
-    let third = put_value(out, second, value);
-    let fourth = record_fields::put_bytes(out, third, 3, d, trie);
-    let fifth = put_writers(out, fourth, d, writers);
-    record_fields::put_number(out, fifth, 5, sequence)
+    let to = path.at + path.len;
+    let second = record_fields::put_part(out, 0, 1, &d[path.at..to]);
+    let third = put_value(out, second, node.value);
+    let fourth = record_fields::put_bytes(out, third, 3, d, node.trie);
+    let fifth = put_writers(out, fourth, d, node.writers);
+    record_fields::put_number(out, fifth, 5, node.sequence)
 }
 
 // The Node with these fields, whose parts lie in `bytes`, at the front of the buffer, the rest as it was: number 15, then number 14.

@@ -7,18 +7,18 @@ use Rattle.record_fields.proofs.putting.put_number.Goals as goal
 pub put_digits-requires : goal.put_digits-requires
 put_digits-requires c =
     let a = c.args in
-    let w = number_roomy a.k a.out.now a.at a.field _ c.in-Given.is c.requires.0 c.requires.1 in
+    let w = number_roomy a.k a.out.now a.at a.field _ c.in-Some.is c.requires.0 c.requires.1 in
     record { fits = search rules; room = (w (omega arith)).room }
 
-pub returns-in-Absent : goal.returns-in-Absent
-returns-in-Absent c = let a = c.args in number_absent a.k a.out.now a.at a.field c.in-Absent.is
+pub returns-in-None : goal.returns-in-None
+returns-in-None c = let a = c.args in number_absent a.k a.out.now a.at a.field c.in-None.is
 
 pub shape_of-out : goal.shape_of-out
 shape_of-out c =
     let a = c.args in
-    number_kept a.k a.out.now a.at a.field _ c.in-Given.is c.requires.0 c.requires.1 _ _ c.put_digits.ensures
+    number_kept a.k a.out.now a.at a.field _ c.in-Some.is c.requires.0 c.requires.1 _ _ c.put_digits.ensures
 
-pub returns-in-Given : goal.returns-in-Given
-returns-in-Given c =
+pub returns-in-Some : goal.returns-in-Some
+returns-in-Some c =
     let a = c.args in
-    number_put a.k a.out.now a.at a.field _ c.in-Given.is c.requires.0 c.requires.1 _ _ c.put_digits.ensures
+    number_put a.k a.out.now a.at a.field _ c.in-Some.is c.requires.0 c.requires.1 _ _ c.put_digits.ensures

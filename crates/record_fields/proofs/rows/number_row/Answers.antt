@@ -17,16 +17,16 @@ pub returns-then-most-x : goal.returns-then-most-x
 returns-then-most-x c =
     let a = c.args in
     number_row_over a.d.now a.at a.k a.most c.requires.1 (omega arith) c.if-d-at.false c.if-d-at-2.false
-    c.digits.result _ _ c.in-Is.is c.digits.ensures c.if-most-x.true
+    c.in_ok-x.x.value c.in_ok-x.x.next c.in_ok-x.ensures c.if-most-x.true
 
-pub returns-in-Bad : goal.returns-in-Bad
-returns-in-Bad c =
+pub returns-in_err-x : goal.returns-in_err-x
+returns-in_err-x c =
     let a = c.args in
-    number_row_bad a.d.now a.at a.k a.most c.requires.1 (omega arith) c.if-d-at.false c.if-d-at-2.false
-    c.digits.result c.in-Bad.is c.digits.ensures
+    rw c.from_residual.ensures
+    (number_row_bad a.d.now a.at a.k a.most c.requires.1 (omega arith) c.if-d-at.false c.if-d-at-2.false c.in_err-x.ensures)
 
-pub returns-else-most-x : goal.returns-else-most-x
-returns-else-most-x c =
+pub returns : goal.returns
+returns c =
     let a = c.args in
     number_row_given a.d.now a.at a.k a.most c.requires.1 (omega arith) c.if-d-at.false c.if-d-at-2.false
-    c.digits.result _ _ c.in-Is.is c.digits.ensures c.if-most-x.false
+    c.in_ok-x.x.value c.in_ok-x.x.next c.in_ok-x.ensures c.if-most-x.false

@@ -9,19 +9,19 @@ returns-then-d-at t c = digits_end c.args.d.now c.args.k c.args.at c.if-d-at.tru
 -- the last byte
 pub returns-then-low-lt128 : goal.returns-then-low-lt128
 returns-then-low-lt128 t c =
-    digits_last c.args.d.now c.args.k c.args.at c.wide-low.result c.if-d-at.false c.wide-low.ensures c.if-low-lt128.true
+    digits_last c.args.d.now c.args.k c.args.at c.from-low.result c.if-d-at.false c.from-low.ensures c.if-low-lt128.true
 
 -- one more that nothing may follow
 pub returns-then-k-eq0 : goal.returns-then-k-eq0
 returns-then-k-eq0 t c =
-    digits_none c.args.d.now c.args.k c.args.at c.wide-low.result c.if-d-at.false c.wide-low.ensures c.if-low-lt128.false c.if-k-eq0.true
+    digits_none c.args.d.now c.args.k c.args.at c.from-low.result c.if-d-at.false c.from-low.ensures c.if-low-lt128.false c.if-k-eq0.true
 
 -- what was read fits
 pub joined-requires : goal.joined-requires
-joined-requires t c = omega (arith, c.wide-low.ensures, (c.type_inv.d c.args.at).fits)
+joined-requires t c = omega (arith, c.from-low.ensures, (c.type_inv.d c.args.at).fits)
 
 -- one more and what follows it
 pub returns : goal.returns
 returns t c =
-    digits_more c.args.d.now c.args.k c.args.at c.wide-low.result c.digits.result c.joined.result c.if-d-at.false c.wide-low.ensures
-    c.if-low-lt128.false (omega (arith, c.wide-low.ensures, (c.type_inv.d c.args.at).fits)) c.if-k-eq0.false c.digits.ensures c.joined.ensures
+    digits_more c.args.d.now c.args.k c.args.at c.from-low.result c.digits.result c.joined.result c.if-d-at.false c.from-low.ensures
+    c.if-low-lt128.false (omega (arith, c.from-low.ensures, (c.type_inv.d c.args.at).fits)) c.if-k-eq0.false c.digits.ensures c.joined.ensures

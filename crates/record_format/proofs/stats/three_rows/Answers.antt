@@ -1,26 +1,24 @@
 -- One field behind the other.
-use native.Mathlib.Omega.{arith}
-use Rattle.record_format.proofs.Nine.{number_next, three_first, three_second, three_third, three_read}
+use Rattle.record_format.proofs.Nine.{three_first, three_second, three_third, three_read}
 use Rattle.record_format.proofs.stats.three_rows.Goals as goal
 
-pub number_row-requires-in-Read : goal.number_row-requires-in-Read
-number_row-requires-in-Read c = (number_next _ _ _ _ c.in-Read.is c.number_row.ensures, omega (arith, c.requires.1))
+pub returns-in_err-first : goal.returns-in_err-first
+returns-in_err-first c =
+    let a = c.args in
+    rw c.from_residual.ensures (three_first a.d.now a.at a.k a.most c.requires.1 c.in_err-first.ensures)
 
-pub number_row-requires-in-Read-number_row : goal.number_row-requires-in-Read-number_row
-number_row-requires-in-Read-number_row c = (number_next _ _ _ _ c.in-Read-number_row.is c.number_row-in-Read.ensures, omega (arith, c.requires.1))
+pub returns-in_err-second : goal.returns-in_err-second
+returns-in_err-second c =
+    let a = c.args in
+    rw c.from_residual-in_err-second.ensures (three_second a.d.now a.at a.k a.most c.requires.1 c.in_ok-first.first c.in_ok-first.ensures c.in_err-second.ensures)
 
-pub returns-in-Bad : goal.returns-in-Bad
-returns-in-Bad c = three_first c.args.d.now c.args.at _ _ c.requires.1 c.in-Bad.is c.number_row.ensures
+pub returns-in_err-third : goal.returns-in_err-third
+returns-in_err-third c =
+    let a = c.args in
+    rw c.from_residual-in_err-third.ensures
+    (three_third a.d.now a.at a.k a.most c.requires.1 c.in_ok-first.first c.in_ok-first.ensures c.in_ok-second.second c.in_ok-second.ensures c.in_err-third.ensures)
 
-pub returns-in-Bad-number_row : goal.returns-in-Bad-number_row
-returns-in-Bad-number_row c = three_second c.args.d.now c.args.at _ _ c.requires.1 c.in-Read.is c.number_row.ensures c.in-Bad-number_row.is c.number_row-in-Read.ensures
-
-pub returns-in-Bad-number_row-2 : goal.returns-in-Bad-number_row-2
-returns-in-Bad-number_row-2 c =
-    three_third c.args.d.now c.args.at _ _ c.requires.1 c.in-Read.is c.number_row.ensures c.in-Read-number_row.is c.number_row-in-Read.ensures
-    c.in-Bad-number_row-2.is c.number_row-in-Read-number_row.ensures
-
-pub returns-in-Read-number_row-2 : goal.returns-in-Read-number_row-2
-returns-in-Read-number_row-2 c =
-    three_read c.args.d.now c.args.at _ _ c.requires.1 c.in-Read.is c.number_row.ensures c.in-Read-number_row.is c.number_row-in-Read.ensures
-    c.in-Read-number_row-2.is c.number_row-in-Read-number_row.ensures
+pub returns : goal.returns
+returns c =
+    let a = c.args in
+    three_read a.d.now a.at a.k a.most c.requires.1 c.in_ok-first.first c.in_ok-first.ensures c.in_ok-second.second c.in_ok-second.ensures c.in_ok-third.third c.in_ok-third.ensures

@@ -1,12 +1,18 @@
 -- Each case by itself.
+use mathlib.Core.Path.{sym, subst}
+use borrow.Author.Tests.{lt-leb}
+use Rattle.record_format.specs.Post.{Decides}
+use Rattle.record_node.specs.Inner.{BytesLie}
 use Rattle.record_node.proofs.Bounds.{lie_absent, lie_long, lie_given}
 use Rattle.record_node.proofs.judging.bytes_lie.Goals as goal
 
-pub returns-then-longest-part : goal.returns-then-longest-part
-returns-then-longest-part c = lie_long _ _ c.in-Given.is c.if-longest-part.true
+pub returns-in-None : goal.returns-in-None
+returns-in-None c = lie_absent c.in-None.is
 
-pub returns-else-longest-part : goal.returns-else-longest-part
-returns-else-longest-part c = lie_given c.args.d.now c.args.longest c.in-Given.is c.if-longest-part.false c.lies.result c.lies.ensures
+pub returns-then-part-longest : goal.returns-then-part-longest
+returns-then-part-longest c = lie_given c.args.d.now c.args.longest c.in-Some.is c.if-part-longest.true c.lies.result c.lies.ensures
 
-pub returns-in-Absent : goal.returns-in-Absent
-returns-in-Absent c = lie_absent c.in-Absent.is
+pub returns-else-part-longest : goal.returns-else-part-longest
+returns-else-part-longest c =
+    subst (Decides (BytesLie c.args.d.now c.args.field c.args.longest)) (sym (lt-leb c.in-Some.part.len c.args.longest c.if-part-longest.false))
+    (lie_long c.args.d.now c.args.longest c.in-Some.is c.if-part-longest.false)

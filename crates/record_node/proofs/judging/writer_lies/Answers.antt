@@ -5,11 +5,11 @@ use Rattle.record_node.proofs.judging.writer_lies.Goals as goal
 
 pub returns : goal.returns
 returns c =
-    writer_lies_lem c.args.d.now c.args.writer c.if-key-ne32.false (yes _ c.lies.result (c.if-not-lies.false) c.lies.ensures)
+    writer_lies_lem c.args.d.now c.args.writer c.if-writer-ne32.false (yes _ c.lies.result (c.if-not-lies.false) c.lies.ensures)
     c.bytes_lie.result c.bytes_lie.ensures
 
-pub returns-then-key-ne32 : goal.returns-then-key-ne32
-returns-then-key-ne32 c = key_short c.if-key-ne32.true
+pub returns-then-writer-ne32 : goal.returns-then-writer-ne32
+returns-then-writer-ne32 c = key_short c.if-writer-ne32.true
 
 pub returns-then-not-lies : goal.returns-then-not-lies
 returns-then-not-lies c = key_outside (no _ c.lies.result (c.if-not-lies.true) c.lies.ensures)

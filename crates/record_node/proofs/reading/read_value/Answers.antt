@@ -1,27 +1,20 @@
 -- Each case by itself.
-use Prim.Native.Nat.{◌+◌, ◌≤◌}
 use native.Mathlib.Omega.{arith}
-use lib.ListN.{length}
 use mathlib.Core.Path.{refl}
 use Rattle.record_node.proofs.Five.{value_none, value_inside, value_wrong, value_right}
 use Rattle.record_node.proofs.reading.read_value.Goals as goal
 
-pub returns-in-Bad : goal.returns-in-Bad
-returns-in-Bad c = value_wrong _ _ c.in-Given.is c.requires refl c.in-Bad.is c.read_stat.ensures
-
-pub returns-in-Read : goal.returns-in-Read
-returns-in-Read c = value_right _ _ c.in-Given.is c.requires refl c.in-Read.is c.read_stat.ensures
-
--- the part lies within the bytes
 pub overflow_add-to : goal.overflow_add-to
-overflow_add-to c =
-    let inside : c.in-Given.part.at + c.in-Given.part.len ≤ length c.args.d.now = value_inside _ _ c.in-Given.is c.requires in
-    omega (arith, inside)
+overflow_add-to c = omega (arith, value_inside _ _ c.in-Some.is c.requires)
 
 pub slice_bounds-read_stat-end : goal.slice_bounds-read_stat-end
-slice_bounds-read_stat-end c =
-    let inside : c.in-Given.part.at + c.in-Given.part.len ≤ length c.args.d.now = value_inside _ _ c.in-Given.is c.requires in
-    omega (arith, inside)
+slice_bounds-read_stat-end c = omega (arith, value_inside _ _ c.in-Some.is c.requires)
 
-pub returns-in-Absent : goal.returns-in-Absent
-returns-in-Absent c = value_none _ _ c.in-Absent.is
+pub returns-in-None : goal.returns-in-None
+returns-in-None c = value_none _ _ c.in-None.is
+
+pub returns-in_err-stat-in-Some : goal.returns-in_err-stat-in-Some
+returns-in_err-stat-in-Some c = rw c.from_residual.ensures (value_wrong _ _ c.in-Some.is c.requires refl c.in_err-stat-in-Some.ensures)
+
+pub returns-in_ok-stat-in-Some : goal.returns-in_ok-stat-in-Some
+returns-in_ok-stat-in-Some c = value_right _ _ c.in-Some.is c.requires _ refl c.in_ok-stat-in-Some.ensures

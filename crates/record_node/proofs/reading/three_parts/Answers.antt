@@ -1,25 +1,15 @@
 -- One field behind the other.
-use native.Mathlib.Omega.{arith}
-use Rattle.record_node.proofs.Keyed.{row_next}
 use Rattle.record_node.proofs.Five.{parts_first, parts_second, parts_third, parts_read}
 use Rattle.record_node.proofs.reading.three_parts.Goals as goal
 
-pub bytes_row-requires-in-Read-bytes_row : goal.bytes_row-requires-in-Read-bytes_row
-bytes_row-requires-in-Read-bytes_row c = (row_next _ _ 2 99 c.in-Read-bytes_row.is c.bytes_row-in-Read.ensures, omega arith)
+pub returns-in_err-path : goal.returns-in_err-path
+returns-in_err-path c = rw c.from_residual.ensures (parts_first c.args.d.now c.in_err-path.ensures)
 
-pub returns-in-Bad-bytes_row : goal.returns-in-Bad-bytes_row
-returns-in-Bad-bytes_row c = parts_second _ c.in-Read.is c.bytes_row.ensures c.in-Bad-bytes_row.is c.bytes_row-in-Read.ensures
+pub returns-in_err-value : goal.returns-in_err-value
+returns-in_err-value c = rw c.from_residual-in_err-value.ensures (parts_second c.args.d.now c.in_ok-path.ensures c.in_err-value.ensures)
 
-pub returns-in-Bad-bytes_row-2 : goal.returns-in-Bad-bytes_row-2
-returns-in-Bad-bytes_row-2 c = parts_third _ c.in-Read.is c.bytes_row.ensures c.in-Read-bytes_row.is c.bytes_row-in-Read.ensures c.in-Bad-bytes_row-2.is c.bytes_row-in-Read-bytes_row.ensures
+pub returns-in_err-trie : goal.returns-in_err-trie
+returns-in_err-trie c = rw c.from_residual-in_err-trie.ensures (parts_third c.args.d.now c.in_ok-path.ensures c.in_ok-value.ensures c.in_err-trie.ensures)
 
-pub returns-in-Read-bytes_row-2 : goal.returns-in-Read-bytes_row-2
-returns-in-Read-bytes_row-2 c =
-    parts_read _ c.in-Read.is c.bytes_row.ensures c.in-Read-bytes_row.is c.bytes_row-in-Read.ensures
-    c.in-Read-bytes_row-2.is c.bytes_row-in-Read-bytes_row.ensures
-
-pub bytes_row-requires-in-Read : goal.bytes_row-requires-in-Read
-bytes_row-requires-in-Read c = (row_next _ 0 1 255 c.in-Read.is c.bytes_row.ensures, omega arith)
-
-pub returns-in-Bad : goal.returns-in-Bad
-returns-in-Bad c = parts_first _ c.in-Bad.is c.bytes_row.ensures
+pub returns : goal.returns
+returns c = parts_read c.args.d.now c.in_ok-path.ensures c.in_ok-value.ensures c.in_ok-trie.ensures

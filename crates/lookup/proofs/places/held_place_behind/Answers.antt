@@ -1,22 +1,13 @@
 -- `lookup::places::held_place_behind` meets its contract: the answer of the checks is handed on, or what comes behind them is. Assumes nothing.
-use mathlib.Core.Path.{sym, ap, ◌∙◌}
-use Rattle.answer_types.specs.Verdict.{Verdict}
+use mathlib.Core.Path.{ap}
 use Rattle.answer_types.specs.Meaning.{said}
-use Rattle.lookup.specs.Lookup.{Found, found_behind, held_place_in}
-use Rattle.lookup.specs.Inner.{known_if}
 use Rattle.lookup.proofs.places.held_place_behind.Goals as goal
 
 pub held_place_in-requires : goal.held_place_in-requires
 held_place_in-requires c = c.requires (ap said c.in-Done.is)
 
 pub returns-in-Refused : goal.returns-in-Refused
-returns-in-Refused c =
-    let answer : Verdict → Found =
-    λ v. let a = c.args in found_behind v (held_place_in (known_if a.partly a.bitfield.now) a.tree.now a.n a.bitfield.now a.chunk.0) in
-    sym (ap answer (ap said c.in-Refused.is))
+returns-in-Refused c = rw c.in-Refused.is
 
 pub returns-in-Done : goal.returns-in-Done
-returns-in-Done c =
-    let answer : Verdict → Found =
-    λ v. let a = c.args in found_behind v (held_place_in (known_if a.partly a.bitfield.now) a.tree.now a.n a.bitfield.now a.chunk.0) in
-    c.held_place_in.ensures ∙ sym (ap answer (ap said c.in-Done.is))
+returns-in-Done c = rw c.in-Done.is c.held_place_in.ensures

@@ -174,10 +174,8 @@ pub fn from_roots(tree: &[u8], bitfield: &[u8], partly: bool, n: u64, sought: So
             let ending = descend(tree, bitfield, partly, left, i, ByteOffset(0));
             return moved(ending, start);
         }
-        let next = behind(left, size);
-        left = next;
-        let end = checks::add_capped(start, size);
-        start = end;
+        left = behind(left, size);
+        start = checks::add_capped(start, size);
     }
     Ending::Stopped(TreeIndex(0))
 }

@@ -49,15 +49,15 @@ returns-then-is_within c =
     (sym c.is_known.ensures ∙ c.if-not-is_known.false)
     c.stored_size-size.ensures (sym c.is_within.ensures ∙ c.if-is_within.true)
 
-pub behind-next-requires : goal.behind-next-requires
-behind-next-requires c = passed c.loop-i.left c.stored_size-size.result _ _ (sym c.is_within.ensures ∙ c.if-is_within.false)
+pub behind-left-requires : goal.behind-left-requires
+behind-left-requires c = passed c.loop-i.left c.stored_size-size.result _ _ (sym c.is_within.ensures ∙ c.if-is_within.false)
 
 pub loop-i-preserved : goal.loop-i-preserved
 loop-i-preserved c =
     not_here c.requires c.loop-i.invariant (root_lent _ _ c.root_count-count.ensures c.root_indexes-roots.ensures c.loop-i-test.true)
     (sym c.is_known.ensures ∙ c.if-not-is_known.false)
     c.stored_size-size.ensures (sym c.is_within.ensures ∙ c.if-is_within.false)
-    c.add_capped-end.ensures c.behind-next.ensures
+    c.add_capped-start.ensures c.behind-left.ensures
 
 pub returns : goal.returns
 returns c = none_left c.requires c.loop-i.invariant (roots_lent _ _ c.root_count-count.ensures c.root_indexes-roots.ensures c.loop-i-test.false)

@@ -1,7 +1,6 @@
 -- `lookup::places::locate_in` meets its contract. Assumes nothing.
 use Prim.Native.Nat.{ℕ, ◌^◌, ◌<◌}
-use mathlib.Core.Path.{◌≡◌, sym, ap, ◌∙◌}
-use native.Mathlib.Nat.{lt_of_not-le}
+use mathlib.Core.Path.{sym, ap, ◌∙◌}
 use native.Mathlib.Omega.{arith}
 use Rattle.lookup.specs.Lookup.{found}
 use Rattle.lookup.specs.Inner.{known_if}

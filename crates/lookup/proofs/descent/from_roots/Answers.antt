@@ -7,12 +7,6 @@ use Rattle.lookup.specs.Capped.{capped_ending, moved_by}
 use Rattle.lookup.proofs.Capped.{root_lent, roots_lent, whole, none_left, root_entry, root_bit, root_stands, root_unknown, found_here, not_here, passed}
 use Rattle.lookup.proofs.descent.from_roots.Goals as goal
 
-pub root_count-count-requires : goal.root_count-count-requires
-root_count-count-requires c = c.requires.roots.count
-
-pub root_indexes-roots-requires : goal.root_indexes-roots-requires
-root_indexes-roots-requires c = c.requires.roots.count
-
 pub slice_bounds-i-items-end : goal.slice_bounds-i-items-end
 slice_bounds-i-items-end c = omega (arith, c.root_count-count.ensures, length_roots_le c.args.n c.requires.roots.count)
 

@@ -16,9 +16,6 @@ returns-then-not-partly c =
     let is = children_read (depth a.i.0) a.i.0 in
     sym (ap (λ (p : Bool). first_unknown (known_if p a.bitfield.now) is) (c.if-not-partly.true) ∙ all_known is)
 
-pub depth-requires : goal.depth-requires
-depth-requires c = c.requires.small
-
 pub returns-then-depth-eq0 : goal.returns-then-depth-eq0
 unfolding first_unknown
 returns-then-depth-eq0 c =

@@ -5,9 +5,3 @@ use Rattle.lookup.proofs.places.locate_behind.Goals as goal
 
 pub locate_in-requires : goal.locate_in-requires
 locate_in-requires c = c.requires (ap said c.in-Done.is)
-
-pub returns-in-Refused : goal.returns-in-Refused
-returns-in-Refused c = rw c.in-Refused.is
-
-pub returns-in-Done : goal.returns-in-Done
-returns-in-Done c = rw c.in-Done.is c.locate_in.ensures

@@ -5,9 +5,3 @@ use Rattle.lookup.proofs.places.place_behind.Goals as goal
 
 pub place_in-requires : goal.place_in-requires
 place_in-requires c = c.requires (ap said c.in-Done.is)
-
-pub returns-in-Refused : goal.returns-in-Refused
-returns-in-Refused c = rw c.in-Refused.is
-
-pub returns-in-Done : goal.returns-in-Done
-returns-in-Done c = rw c.in-Done.is c.place_in.ensures

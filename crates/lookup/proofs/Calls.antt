@@ -23,14 +23,14 @@ use Rattle.checks.specs.Checks.{judged, register_checks}
 use Rattle.checks.proofs.Passed.{Passed, passed}
 use Rattle.checks.proofs.Capped.{capped_low}
 use Rattle.lookup.specs.Descent.{Ending, stopped, reached, unknown, always, chunk_within, byte_within, descent}
-use Rattle.lookup.specs.Lookup.{Found, refusal, found, found_behind, to_chunk, place_in, held_place_in, byte_in, place_of, held_place_of, byte_at}
+use Rattle.lookup.specs.Lookup.{Found, refusal, found, found_behind, to_chunk, place_from, place_in, held_place_in, byte_from, byte_in, place_of, held_place_of, byte_at}
 use Rattle.lookup.specs.Inner.{Searched, SearchedFor, SearchedHeld}
 use Rattle.lookup.specs.Capped.{capped_ending}
 use Rattle.lookup.specs.Read.{verdict_found, bytes_found, bytes_at, chunk_bytes, hash_judged, read_found, read_verdict, read_part}
 use Rattle.lookup.specs.Meaning.{PartIn, PlacedIn}
 use Rattle.lookup.proofs.Descents.{Ends, ends, chunk_order, byte_order}
 use Rattle.lookup.proofs.Visits.{filled_entry}
-use Rattle.lookup.proofs.Lookups.{found_done, behind_done, behind_found, place_at, place_reaches, held_found, hashed, as_part_lem}
+use Rattle.lookup.proofs.Lookups.{found_done, behind_done, behind_found, place_below, place_at, place_reaches, byte_below, held_found, hashed, as_part_lem}
 use Rattle.lookup.proofs.Answers.{any_start, stays_inside}
 
 -- ---- after the checks 2 to 6
@@ -89,6 +89,11 @@ module _ (known : ℕ → Bool) (t : List ℕ) (n c : ℕ) where
           (ends known (chunk_within c) t n (λ q x. q ≤ c) (λ q x. c < q) (λ q x. Unit {0}) (chunk_order c) (any_start t n) (omega arith) tt (omega arith) h) in
           omega (arith, l.met.to, p.fits)
 
+  -- so the place is told by the ending that the code comes to
+  pub place_told : {partly : Bool} {bits : List ℕ} → Searched partly t bits n → c < n → {e : Ending} → e ≡ capped_ending ending
+      → place_from t c e ≡ place_in known t n c
+  place_told p h f = ap (place_from t c) (f ∙ chunk_told p h) ∙ sym (place_below known t n c h)
+
 -- its data bit lies within the file
 pub bit_in : (n c : ℕ) (bits : List ℕ) → used_bitfield n ≤ length bits → c < n → bits_place (c / 8192 + 1) ≤ length bits
 unfolding used_bitfield bits_place
@@ -116,6 +121,10 @@ module _ (known : ℕ → Bool) (t : List ℕ) (n size b : ℕ) where
   -- so its start is told as it is
   pub byte_told : {partly : Bool} {bits : List ℕ} → SearchedFor partly t bits n size → b < size → size < 2 ^ 64 → capped_ending walked ≡ walked
   byte_told p h z = capped_reached walked (λ k s e. let l = byte_from_lem p h k s e in omega arith)
+
+  pub byte_ended : {partly : Bool} {bits : List ℕ} → SearchedFor partly t bits n size → b < size → size < 2 ^ 64 → {e : Ending} → e ≡ capped_ending walked
+      → byte_from b e ≡ byte_in known t n size b
+  byte_ended p h z f = ap (byte_from b) (f ∙ byte_told p h z) ∙ sym (byte_below known t n size b h)
 
 -- ---- what is found on a register
 

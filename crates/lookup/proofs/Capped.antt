@@ -9,8 +9,8 @@ use native.Mathlib.Numerals.{add-one}
 use native.Mathlib.Omega.{arith}
 use borrow.Author.Tests.{ltb-true, ltb-false, lt-ltb, le-ltb}
 use lib.Dec.{leb, ltb, eqb}
-use lib.ListN.{length, get_or, drop, replicate, get_or-append, drop_of_length-le}
-use lib.Seq.{drop-cons}
+use lib.ListN.{length, get_or, take, drop, replicate, length-append, length-map, length-take, get_or-append, drop_of_length-le}
+use lib.Seq.{drop-cons, get_or-take}
 use Rattle.tree_index.specs.Tree.{index, depth, block, roots, filled}
 use Rattle.tree_index.proofs.Roots.{root_filled}
 use Rattle.tree_index.specs.Numbers.{numbers}
@@ -79,6 +79,19 @@ pub root_of_lem : (is : List TreeIndex) (n j : ℕ) → numbers is ≡ roots n +
 root_of_lem is n j e h =
     sym (number_at is j) ∙ ap (λ (l : List ℕ). get_or l j 0) e ∙ get_or-append (roots n) (replicate (20 - length (roots n)) 0) 0 j h
 
+-- where a loop over the roots at the front of the array is, and where it ends
+module _ (is : List TreeIndex) (n : ℕ) {m j : ℕ} (f : m ≡ length (roots n)) (e : numbers is ≡ roots n ++ replicate (20 - length (roots n)) 0) where
+  pub root_lent : j < length (take (m - 0) is) → (j < length (roots n)) × ((get_or (take (m - 0) is) j (record { 0 = 0 })).0 ≡ get_or (roots n) j 0)
+  root_lent h =
+      let l : j < m - 0 = omega (arith, length-take (m - 0) is) in
+      let g : j < length (roots n) = omega arith in
+      (g, ap (λ (i : TreeIndex). i.0) (get_or-take (m - 0) is j (record { 0 = 0 }) l) ∙ root_of_lem is n j e g)
+
+  pub roots_lent : length (take (m - 0) is) ≤ j → length (roots n) ≤ j
+  unfolding numbers
+  roots_lent h =
+      omega (arith, length-take (m - 0) is, length-map is (λ (i : TreeIndex). i.0), ap length e, length-append (roots n) (replicate (20 - length (roots n)) 0))
+
 -- what is left of a search from the root j on, whose bytes begin at a start that is told as x; `left` is what is sought told from there on
 pub record Rest (known : ℕ → Bool) (q : Sought) (t : List ℕ) (n x : ℕ) (left : Sought) (j : ℕ) : Type 0 where
   pub few : j ≤ length (roots n)
@@ -108,31 +121,29 @@ unfolding byte_within
 passed (Chunk c) size d k e = tt
 passed (Byte b) size d k e = let l = ltb-false b.0 (0 + size) e in omega arith
 
-module _ (partly : Bool) (q : Sought) (t bits : List ℕ) (n : ℕ) where
-  abbrev known : ℕ → Bool
-  known = known_if partly bits
+-- the whole search's ending
+abbrev all : Bool → Sought → List ℕ → List ℕ → ℕ → Ending
+all partly q t bits n = capped_ending (descent (known_if partly bits) (within_of q) t n)
 
-  abbrev all : Ending
-  all = capped_ending (descent known (within_of q) t n)
-
-  pub whole : Rest known q t n 0 q 0
+module _ {partly : Bool} {q : Sought} {t bits : List ℕ} {n : ℕ} (p : FilesIn partly t bits n) where
+  pub whole : Rest (known_if partly bits) q t n 0 q 0
   unfolding descent
   whole = record { few = omega arith; start = 0; told = sym (capped_low 0 (omega arith)); shift = behind_none q; same = refl }
 
-  pub none_left : {x j : ℕ} {left : Sought} → Rest known q t n x left j → length (roots n) ≤ j → stopped 0 ≡ all
+  pub none_left : {x j : ℕ} {left : Sought} → Rest (known_if partly bits) q t n x left j → length (roots n) ≤ j → stopped 0 ≡ all partly q t bits n
   unfolding from_roots capped_ending
-  none_left r h = ap capped_ending (sym (ap (λ (l : List ℕ). from_roots known (within_of q) t l r.start) (drop_of_length-le (roots n) h)) ∙ r.same)
+  none_left r h = ap capped_ending (sym (ap (λ (l : List ℕ). from_roots (known_if partly bits) (within_of q) t l r.start) (drop_of_length-le (roots n) h)) ∙ r.same)
 
-  module _ {x j i : ℕ} {left : Sought} (r : Rest known q t n x left j) (p : FilesIn partly t bits n) (h : j < length (roots n)) (e : i ≡ get_or (roots n) j 0) where
+  module _ {x j i : ℕ} {left : Sought} (r : Rest (known_if partly bits) q t n x left j) (a : (j < length (roots n)) × (i ≡ get_or (roots n) j 0)) where
     next : List ℕ
     next = drop (suc j) (roots n)
 
     front : drop j (roots n) ≡ i ∷ next
     unfolding next
-    front = drop-cons (roots n) j 0 h ∙ ap (λ (y : ℕ). y ∷ drop (suc j) (roots n)) (sym e)
+    front = drop-cons (roots n) j 0 a.0 ∙ ap (λ (y : ℕ). y ∷ drop (suc j) (roots n)) (sym a.1)
 
     root : filled n i ≡ true
-    root = subst (λ (y : ℕ). filled n y ≡ true) (sym e) (root_filled n j h)
+    root = subst (λ (y : ℕ). filled n y ≡ true) (sym a.1) (root_filled n j a.0)
 
     pub root_entry : EntryIn t i
     root_entry = filled_entry t n i p.roots.count p.roots.inside root
@@ -144,39 +155,39 @@ module _ (partly : Bool) (q : Sought) (t bits : List ℕ) (n : ℕ) where
     root_stands f g = record { n = n; files = p; entry = root; fits = omega (arith, f) }
 
     abbrev picked : Bool → Ending
-    picked b = elim b [ true ↦ descend known (within_of q) t (depth i) (block i) r.start | false ↦ from_roots known (within_of q) t next (r.start + stored_size t i) ]
+    picked b = elim b [ true ↦ descend (known_if partly bits) (within_of q) t (depth i) (block i) r.start | false ↦ from_roots (known_if partly bits) (within_of q) t next (r.start + stored_size t i) ]
 
-    chosen : if_known (known i) i (picked (within_of q (depth i) (block i) r.start (stored_size t i))) ≡ descent known (within_of q) t n
+    chosen : if_known (known_if partly bits i) i (picked (within_of q (depth i) (block i) r.start (stored_size t i))) ≡ descent (known_if partly bits) (within_of q) t n
     unfolding from_roots
-    chosen = sym (ap (λ (l : List ℕ). from_roots known (within_of q) t l r.start) front) ∙ r.same
+    chosen = sym (ap (λ (l : List ℕ). from_roots (known_if partly bits) (within_of q) t l r.start) front) ∙ r.same
 
-    pub root_unknown : known i ≡ false → unknown i ≡ all
+    pub root_unknown : known_if partly bits i ≡ false → unknown i ≡ all partly q t bits n
     unfolding capped_ending
     root_unknown k = ap capped_ending (sym (ap (λ (b : Bool). if_known b i (picked (within_of q (depth i) (block i) r.start (stored_size t i)))) k) ∙ chosen)
 
-    taken : (b : Bool) → known i ≡ true → {size : ℕ} → size ≡ stored_size t i → within_of left (depth i) (block i) 0 size ≡ b
-        → picked b ≡ descent known (within_of q) t n
+    taken : (b : Bool) → known_if partly bits i ≡ true → {size : ℕ} → size ≡ stored_size t i → within_of left (depth i) (block i) 0 size ≡ b
+        → picked b ≡ descent (known_if partly bits) (within_of q) t n
     taken b k {size} f w =
         sym (ap picked
         (ap₂ (λ (y z : ℕ). within_of q (depth i) (block i) y z) (sym (add-zero r.start)) (sym f) ∙ sym (r.shift (depth i) (block i) 0 size) ∙ w))
         ∙ sym (ap (λ (b : Bool). if_known b i (picked (within_of q (depth i) (block i) r.start (stored_size t i)))) k) ∙ chosen
 
-    pub found_here : known i ≡ true → {size : ℕ} → size ≡ stored_size t i → within_of left (depth i) (block i) 0 size ≡ true
-        → capped_ending (moved_by x (descend known (within_of left) t (depth i) (block i) 0)) ≡ all
+    pub found_here : known_if partly bits i ≡ true → {size : ℕ} → size ≡ stored_size t i → within_of left (depth i) (block i) 0 size ≡ true
+        → capped_ending (moved_by x (descend (known_if partly bits) (within_of left) t (depth i) (block i) 0)) ≡ all partly q t bits n
     found_here k f w =
-        ap (λ (y : ℕ). capped_ending (moved_by y (descend known (within_of left) t (depth i) (block i) 0))) r.told
-        ∙ moved_capped r.start (descend known (within_of left) t (depth i) (block i) 0)
+        ap (λ (y : ℕ). capped_ending (moved_by y (descend (known_if partly bits) (within_of left) t (depth i) (block i) 0))) r.told
+        ∙ moved_capped r.start (descend (known_if partly bits) (within_of left) t (depth i) (block i) 0)
         ∙ ap capped_ending
-        (moved_descend known (within_of left) (within_of q) t r.start r.shift (depth i) (block i) 0
-        ∙ ap (descend known (within_of q) t (depth i) (block i)) (add-zero r.start) ∙ taken true k f w)
+        (moved_descend (known_if partly bits) (within_of left) (within_of q) t r.start r.shift (depth i) (block i) 0
+        ∙ ap (descend (known_if partly bits) (within_of q) t (depth i) (block i)) (add-zero r.start) ∙ taken true k f w)
 
-    pub not_here : known i ≡ true → {size : ℕ} → size ≡ stored_size t i → within_of left (depth i) (block i) 0 size ≡ false
-        → {y : ℕ} → y ≡ capped (x + size) → {left' : Sought} → Behind left size left' → Rest known q t n y left' (j + 1)
+    pub not_here : known_if partly bits i ≡ true → {size : ℕ} → size ≡ stored_size t i → within_of left (depth i) (block i) 0 size ≡ false
+        → {y : ℕ} → y ≡ capped (x + size) → {left' : Sought} → Behind left size left' → Rest (known_if partly bits) q t n y left' (j + 1)
     unfolding next
     not_here k {size} f w {y} g {left'} b =
-        subst (Rest known q t n y left') (sym (add-one j))
+        subst (Rest (known_if partly bits) q t n y left') (sym (add-one j))
         (record {
-          few = h;
+          few = a.0;
           start = r.start + stored_size t i;
           told = g ∙ ap₂ (λ (u v : ℕ). capped (u + v)) r.told f ∙ capped_before r.start (stored_size t i);
           shift = λ d k s z. b d k s z ∙ r.shift d k (size + s) z

@@ -158,9 +158,7 @@ pub fn from_roots(tree: &[u8], bitfield: &[u8], partly: bool, n: u64, sought: So
     let roots = tree_index::root_indexes(n);
     let mut start = ByteOffset(0);
     let mut left = sought;
-    let mut j: usize = 0;
-    while j < count {
-        let i = roots[j];
+    for &i in &roots[0..count] {
         if !is_known(bitfield, partly, i) {
             return Ending::Unknown(i);
         }
@@ -169,11 +167,8 @@ pub fn from_roots(tree: &[u8], bitfield: &[u8], partly: bool, n: u64, sought: So
             let ending = descend(tree, bitfield, partly, left, i, ByteOffset(0));
             return moved(ending, start);
         }
-        let next = behind(left, size);
-        left = next;
-        let end = checks::add_capped(start, size);
-        start = end;
-        j += 1;
+        left = behind(left, size);
+        start = checks::add_capped(start, size);
     }
     Ending::Stopped(TreeIndex(0))
 }

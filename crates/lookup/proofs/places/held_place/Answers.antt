@@ -3,18 +3,14 @@ use Prim.Native.Nat.{◌^◌, ◌<◌}
 use mathlib.Core.Path.{sym, ◌∙◌}
 use native.Mathlib.Omega.{arith}
 use Rattle.answer_types.specs.Meaning.{said}
-use Rattle.file_format.specs.Belongs.{Register}
-use Rattle.checks.specs.Lent.{register_of}
 use Rattle.lookup.proofs.Calls.{searched_held, held_by}
 use Rattle.lookup.proofs.places.held_place.Goals as goal
 
 pub held_place_behind-requires : goal.held_place_behind-requires
 held_place_behind-requires c =
-    let given : Register = register_of c.args.tree.now c.args.signatures.now c.args.bitfield.now c.args.content.now c.args.n c.args.s c.args.size in
     let h : c.args.size < 2 ^ 64 = omega arith in
-    λ e. searched_held given (sym e ∙ c.judge-checked.ensures) h
+    λ e. searched_held _ (sym e ∙ c.judge-checked.ensures) h
 
 pub returns : goal.returns
 returns c =
-    let given : Register = register_of c.args.tree.now c.args.signatures.now c.args.bitfield.now c.args.content.now c.args.n c.args.s c.args.size in
-    c.held_place_behind.ensures ∙ held_by given (said c.judge-checked.result) c.judge-checked.ensures c.args.chunk.0
+    c.held_place_behind.ensures ∙ held_by _ (said c.judge-checked.result) c.judge-checked.ensures c.args.chunk.0

@@ -3,18 +3,14 @@ use Prim.Native.Nat.{◌^◌, ◌<◌}
 use mathlib.Core.Path.{sym, ◌∙◌}
 use native.Mathlib.Omega.{arith}
 use Rattle.answer_types.specs.Meaning.{said}
-use Rattle.file_format.specs.Belongs.{Register}
-use Rattle.checks.specs.Lent.{register_of}
 use Rattle.lookup.proofs.Calls.{searched, byte_by}
 use Rattle.lookup.proofs.places.locate.Goals as goal
 
 pub locate_behind-requires : goal.locate_behind-requires
 locate_behind-requires c =
-    let given : Register = register_of c.args.tree.now c.args.signatures.now c.args.bitfield.now c.args.content.now c.args.n c.args.s c.args.size in
     let h : c.args.size < 2 ^ 64 = omega arith in
-    λ e. searched given (sym e ∙ c.judge-checked.ensures) h
+    λ e. searched _ (sym e ∙ c.judge-checked.ensures) h
 
 pub returns : goal.returns
 returns c =
-    let given : Register = register_of c.args.tree.now c.args.signatures.now c.args.bitfield.now c.args.content.now c.args.n c.args.s c.args.size in
-    c.locate_behind.ensures ∙ byte_by given (said c.judge-checked.result) c.judge-checked.ensures c.args.offset.0
+    c.locate_behind.ensures ∙ byte_by _ (said c.judge-checked.result) c.judge-checked.ensures c.args.offset.0

@@ -1,8 +1,0 @@
--- `lookup::reading::read_answer` meets its contract: each arm knows which register is named. Assumes nothing.
-use Rattle.lookup.proofs.reading.read_answer.Goals as goal
-
-pub returns-in-Metadata : goal.returns-in-Metadata
-returns-in-Metadata c = rw c.in-Metadata.is c.answer_one.ensures
-
-pub returns-in-Content : goal.returns-in-Content
-returns-in-Content c = rw c.in-Content.is c.answer_one-in-Content.ensures

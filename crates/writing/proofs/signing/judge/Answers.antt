@@ -1,27 +1,20 @@
 -- `writing::signing::judge` meets its contract. Assumes nothing.
 use Rattle.answer_types.specs.Verdict.{done}
-use Rattle.file_format.specs.Belongs.{Register}
 use Rattle.checks.specs.Checks.{judged, register_checks}
-use Rattle.checks.specs.Lent.{register_of}
 use Rattle.writing.specs.Sign.{own_sign_checks}
 use Rattle.writing.proofs.Answers.{counts_right}
 use Rattle.writing.proofs.Orders.{sign_by, refused_before, passed_before}
 use Rattle.writing.proofs.signing.judge.Goals as goal
 
 pub judge_own-requires : goal.judge_own-requires
-judge_own-requires c =
-    let given : Register = register_of c.args.tree.now c.args.signatures.now c.args.bitfield.now c.args.content.now c.args.n c.args.s c.args.size in
-    counts_right given c.in-Done.is c.judge-found.ensures
+judge_own-requires c = counts_right _ c.in-Done.is c.judge-found.ensures
 
 pub returns-in-Refused : goal.returns-in-Refused
 returns-in-Refused c =
-    let given : Register = register_of c.args.tree.now c.args.signatures.now c.args.bitfield.now c.args.content.now c.args.n c.args.s c.args.size in
     let a = c.args in
-    sign_by given
-    (refused_before (register_checks given) (judged (own_sign_checks a.signatures.now a.n a.s) done)
+    sign_by _
+    (refused_before (register_checks _) (judged (own_sign_checks a.signatures.now a.n a.s) done)
     c.in-Refused.is c.judge-found.ensures)
 
 pub returns-in-Done : goal.returns-in-Done
-returns-in-Done c =
-    let given : Register = register_of c.args.tree.now c.args.signatures.now c.args.bitfield.now c.args.content.now c.args.n c.args.s c.args.size in
-    sign_by given (passed_before (register_checks given) c.in-Done.is c.judge-found.ensures c.judge_own.ensures)
+returns-in-Done c = sign_by _ (passed_before (register_checks _) c.in-Done.is c.judge-found.ensures c.judge_own.ensures)

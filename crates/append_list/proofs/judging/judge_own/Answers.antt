@@ -1,6 +1,4 @@
 -- `append_list::judging::judge_own` meets its contract. Assumes nothing.
-use Rattle.file_format.specs.Belongs.{Register}
-use Rattle.checks.specs.Lent.{register_of}
 use Rattle.append_list.proofs.Orders.{some_listed, own_refused, own_passed}
 use Rattle.append_list.proofs.judging.judge_own.Goals as goal
 
@@ -8,11 +6,7 @@ pub judge_room-requires : goal.judge_room-requires
 judge_room-requires c = (some_listed c.args.lengths.now c.args.bytes.now c.in-Done.is c.judge_list-found.ensures, c.requires.0, c.requires.1)
 
 pub returns-in-Refused : goal.returns-in-Refused
-returns-in-Refused c =
-    let given : Register = register_of c.args.tree.now c.args.signatures.now c.args.bitfield.now c.args.content.now c.args.n c.args.s c.args.size in
-    own_refused given c.args.lengths.now c.args.bytes.now c.in-Refused.is c.judge_list-found.ensures
+returns-in-Refused c = own_refused _ c.args.lengths.now c.args.bytes.now c.in-Refused.is c.judge_list-found.ensures
 
 pub returns-in-Done : goal.returns-in-Done
-returns-in-Done c =
-    let given : Register = register_of c.args.tree.now c.args.signatures.now c.args.bitfield.now c.args.content.now c.args.n c.args.s c.args.size in
-    own_passed given c.args.lengths.now c.args.bytes.now c.in-Done.is c.judge_list-found.ensures c.judge_room.ensures
+returns-in-Done c = own_passed _ c.args.lengths.now c.args.bytes.now c.in-Done.is c.judge_list-found.ensures c.judge_room.ensures

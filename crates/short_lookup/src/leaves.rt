@@ -20,29 +20,26 @@ pub fn place_in(tree: &[u8], bitfield: &[u8], partly: bool, n: u64, chunk: Chunk
             place: Place::Nowhere,
         });
     }
-    let mut k = ChunkNumber(0);
     let mut start = ByteOffset(0);
-    loop {
-        let leaf = tree_index::leaf_index(k);
+    let mut length = 0;
+    for k in 0..chunk.0 + 1 {
+        start = ByteOffset(start.0 + length);
+        let leaf = tree_index::leaf_index(ChunkNumber(k));
         if !lookup::is_known(bitfield, partly, leaf) {
             return Placed::Refused(Refusal {
                 number: 20,
                 place: Place::Tree(leaf),
             });
         }
-        let length = file_format::entries::stored_size(tree, leaf);
+        length = file_format::entries::stored_size(tree, leaf);
         if 65536 < length {
             return Placed::Refused(Refusal {
                 number: 10,
                 place: Place::Tree(leaf),
             });
         }
-        if k.0 == chunk.0 {
-            return Placed::At(start, length);
-        }
-        start = ByteOffset(start.0 + length);
-        k = ChunkNumber(k.0 + 1);
     }
+    Placed::At(start, length)
 }
 
 // Inner: the chunk whose bytes contain an offset, and the offset less its start. The files hold the entries of n chunks.
@@ -66,11 +63,10 @@ pub fn locate_in(
     if offset.0 == size {
         return Located::In(number_types::chunk_behind(n), 0);
     }
-    let mut k = ChunkNumber(0);
     let mut start = ByteOffset(0);
     let mut leaf = TreeIndex(0);
-    while k.0 < n {
-        leaf = tree_index::leaf_index(k);
+    for k in 0..n {
+        leaf = tree_index::leaf_index(ChunkNumber(k));
         if !lookup::is_known(bitfield, partly, leaf) {
             return Located::Refused(Refusal {
                 number: 20,
@@ -85,10 +81,9 @@ pub fn locate_in(
             });
         }
         if offset.0 < start.0 + length {
-            return Located::In(k, offset.0 - start.0);
+            return Located::In(ChunkNumber(k), offset.0 - start.0);
         }
         start = ByteOffset(start.0 + length);
-        k = ChunkNumber(k.0 + 1);
     }
     Located::Refused(Refusal {
         number: 10,

@@ -15,14 +15,11 @@ fn adds_up(lengths: &[u64], whole: u64) -> bool
     ensures { result ≡ eqb (total lengths.now) whole }
 {
     let mut left = whole;
-    let mut j = 0;
-    while j < lengths.len() {
-        let here = lengths[j];
-        if left < here {
+    for here in lengths {
+        if left < *here {
             return false;
         }
-        left -= here;
-        j += 1;
+        left -= *here;
     }
     left == 0
 }
@@ -31,7 +28,7 @@ fn adds_up(lengths: &[u64], whole: u64) -> bool
 fn judge_list(lengths: &[u64], bytes: &[u8]) -> Result<(), Refusal>
     ensures { said result ≡ judged (list_checks lengths.now bytes.now) done }
 {
-    if lengths.len() == 0 {
+    if lengths.is_empty() {
         return answer_types::refuse(16);
     }
     if 256 < lengths.len() {

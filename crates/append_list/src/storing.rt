@@ -27,12 +27,10 @@ fn add_leaves(tree: &mut [u8], content: &[u8], n: u64, start: usize, lengths: &[
         tree_with node_hash tree.old n (chunks_of lengths.now (drop start content.now)) }
 {
     let mut at = start;
-    let mut j = 0;
-    while j < lengths.len() {
-        let end = at + (lengths[j] as usize);
+    for (j, length) in lengths.iter().enumerate() {
+        let end = at + (*length as usize);
         add_chunk(tree, content, n + (j as u64), at, end);
         at = end;
-        j += 1;
     }
 }
 
@@ -59,10 +57,8 @@ fn add_bits(bitfield: &mut [u8], n: u64, k: u64)
     ensures { bitfield.new ≡ bits_with bitfield.old n k }
 {
     let end = n + k;
-    let mut i = n;
-    while i < end {
+    for i in n..end {
         add_bit(bitfield, i, i + 1 == end);
-        i += 1;
     }
 }
 

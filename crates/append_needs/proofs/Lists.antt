@@ -1,41 +1,37 @@
--- Sums over a list. Assumes nothing.
-use Prim.Native.Nat.{ℕ, ◌+◌, ◌*◌, ◌≤◌, ◌<◌}
-use mathlib.Core.Path.{◌≡◌, refl, sym, ap, ◌∙◌}
-use mathlib.Core.List.{List, [], ◌∷◌, map, map-append}
-use native.Mathlib.Numerals.{add-one}
-use native.Mathlib.Nat.{mul-add, mul-one}
+-- Sums over a list that 16 and 7 let pass. Assumes nothing.
+use Prim.Native.Nat.{ℕ, ◌+◌, ◌≤◌, ◌<◌}
+use mathlib.Core.Path.{◌≡◌, refl, ◌∙◌}
+use mathlib.Core.List.{List, map}
 use native.Mathlib.Omega.{arith}
-use lib.ListN.{length, get_or, take}
-use lib.Seq.{take-suc, take_all}
+use lib.ListN.{length, get_or}
+use Rattle.std.specs.List.{sum, sum_by}
+use Rattle.std.proofs.lemmas.List.Recursion.{is_sum_by}
+use Rattle.std.proofs.lemmas.List.Sums.{sum_by-le, sum-map}
+use Rattle.std.proofs.lemmas.Grind.{get_or_default_zero}
+use Rattle.blake2b.specs.Hash.{blocks}
 use Rattle.byte_strings.specs.Lists.{total}
-use Rattle.byte_strings.proofs.Lists.{total_append}
+use Rattle.checks.proofs.Lengths.{short_at}
+use Rattle.append_needs.specs.Needs.{leaf_runs}
+use Rattle.append_needs.specs.Inner.{Listed}
 
--- one element more
-mapped_next : (f : ℕ → ℕ) (xs : List ℕ) (i : ℕ) → i < length xs → total (map f (take (i + 1) xs)) ≡ total (map f (take i xs)) + f (get_or xs i 0)
+pub total_sum : (ls : List ℕ) → total ls ≡ sum ls
 unfolding total
-mapped_next f xs i h =
-    ap (λ (k : ℕ). total (map f (take k xs))) (add-one i) ∙ ap (λ (l : List ℕ). total (map f l)) (take-suc xs i 0 h)
-    ∙ ap total (map-append f (take i xs) (get_or xs i 0 ∷ [])) ∙ total_append (map f (take i xs)) (f (get_or xs i 0) ∷ []) ∙ omega arith
+total_sum = is_sum_by total (λ x. x) refl (λ _ _. refl)
 
--- the sum of f over the first i elements, each of which adds at most `most`
-pub record Summed (f : ℕ → ℕ) (most : ℕ) (xs : List ℕ) (i sum : ℕ) : Type 0 where
-  pub inside : i ≤ length xs
-  pub sums : sum ≡ total (map f (take i xs))
-  pub small : sum ≤ most * i
+-- the runs of the leaves
+abbrev pub all_runs : List ℕ → ℕ
+all_runs ls = sum_by (λ (l : ℕ). blocks (9 + l)) ls
 
-pub summed_none : (f : ℕ → ℕ) (most : ℕ) (xs : List ℕ) → Summed f most xs 0 0
-unfolding total
-summed_none f most xs = record { inside = omega arith; sums = refl; small = omega arith }
+pub runs_sum : (ls : List ℕ) → total (map leaf_runs ls) ≡ all_runs ls
+unfolding leaf_runs
+runs_sum ls = total_sum (map leaf_runs ls) ∙ sum-map leaf_runs ls
 
-pub summed_next : (f : ℕ → ℕ) (most : ℕ) (xs : List ℕ) (i sum next : ℕ) → Summed f most xs i sum → i < length xs → f (get_or xs i 0) ≤ most
-    → next ≡ sum + f (get_or xs i 0) → Summed f most xs (i + 1) next
-summed_next f most xs i sum next w h l e =
-    record { inside = omega arith; sums = e ∙ ap (λ (s : ℕ). s + f (get_or xs i 0)) w.sums ∙ sym (mapped_next f xs i h); small = omega (arith, mul-add most i 1, mul-one most, w.small) }
+pub short_each : (ls : List ℕ) → Listed ls → (k d : ℕ) → k < length ls → get_or ls k d ≤ 65536
+short_each ls w k d h = omega (arith, get_or_default_zero ls k d h, short_at ls k w.short)
 
-pub summed_all : (f : ℕ → ℕ) (most : ℕ) (xs : List ℕ) (i sum : ℕ) → Summed f most xs i sum → length xs ≤ i → sum ≡ total (map f xs)
-summed_all f most xs i sum w h = w.sums ∙ ap (λ (l : List ℕ). total (map f l)) (take_all i xs h)
+pub listed_sum : (ls : List ℕ) → Listed ls → sum ls ≤ 16777216
+listed_sum ls w = omega (arith, sum_by-le (λ x. x) 65536 ls (short_each ls w), w.few)
 
--- of the elements themselves
-pub map_same : (xs : List ℕ) → map (λ (x : ℕ). x) xs ≡ xs
-map_same [] = refl
-map_same (x ∷ xs) = ap (λ (l : List ℕ). x ∷ l) (map_same xs)
+pub listed_runs : (ls : List ℕ) → Listed ls → all_runs ls ≤ 131328
+unfolding blocks
+listed_runs ls w = omega (arith, sum_by-le (λ (l : ℕ). blocks (9 + l)) 513 ls (λ k d h. omega (arith, short_each ls w k d h)), w.few)

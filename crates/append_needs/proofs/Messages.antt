@@ -41,10 +41,6 @@ leaf_runs_blocks l = refl
 pub leaf_runs_of : (c : List ℕ) → leaf_runs (length c) ≡ runs [] (leaf_message c)
 leaf_runs_of c = leaf_runs_blocks (length c) ∙ sym (leaf_runs_lem c)
 
-pub leaf_runs_le : (l : ℕ) → l ≤ 65536 → leaf_runs l ≤ 513
-unfolding blocks
-leaf_runs_le l h = omega (arith, leaf_runs_blocks l)
-
 -- ---- parents
 
 pub parent_runs_lem : (sum : ℕ) (l r : List ℕ) → length l ≡ 32 → length r ≡ 32 → runs [] (parent_message sum l r) ≡ 1

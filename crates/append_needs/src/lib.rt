@@ -63,6 +63,7 @@ fn judge(n: u64, size: u64, lengths: &[u64]) -> Result<(), Refusal>
 }
 
 // Inner: the runs of a message of so many bytes.
+#[tactic(auto, unfolding(blake2b::specs::Hash::blocks))]
 fn runs_of(bytes: u64) -> u64
     requires { bytes < 1048576 }
     ensures { result ≡ blocks bytes }
@@ -78,13 +79,7 @@ fn new_bytes(lengths: &[u64]) -> u64
     requires { Listed lengths.now }
     ensures { (result ≡ total lengths.now) × (result ≤ 16777216) }
 {
-    let mut sum: u64 = 0;
-    let mut i: usize = 0;
-    while i < lengths.len() {
-        sum += lengths[i];
-        i += 1;
-    }
-    sum
+    lengths.iter().sum()
 }
 
 // Inner: the runs of the leaves. A leaf message has the chunk behind 9 bytes.
@@ -92,16 +87,11 @@ fn leaf_runs(lengths: &[u64]) -> u64
     requires { Listed lengths.now }
     ensures { (result ≡ total (map leaf_runs lengths.now)) × (result ≤ 1048576) }
 {
-    let mut sum: u64 = 0;
-    let mut i: usize = 0;
-    while i < lengths.len() {
-        sum += runs_of(9 + lengths[i]);
-        i += 1;
-    }
-    sum
+    lengths.iter().map(|length| runs_of(9 + *length)).sum()
 }
 
 // Inner: the parents of n chunks. Every node but a root has a parent, and every parent two children.
+#[tactic(auto, using(crate::proofs::Completed::roots_le))]
 fn parents(n: u64) -> u64
     requires { n ≤ 1048576 }
     ensures { result + length (roots n) ≡ n }
@@ -118,6 +108,7 @@ fn parent_runs(n: u64, count: u64) -> u64
 }
 
 // Inner: the runs of the root hash of n chunks. A root message has 48 bytes for each root behind its first byte.
+#[tactic(auto, using(tree_index::proofs::Roots::length_roots_le))]
 fn root_runs(n: u64) -> u64
     requires { n ≤ 1048576 }
     ensures { (result ≡ root_runs n) × (result ≤ 8) }

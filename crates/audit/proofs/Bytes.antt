@@ -1,6 +1,6 @@
 -- The bitfield file as the code judges it: byte by byte in an entry, and entry by entry.
 -- Assumes nothing.
-use Prim.Native.Nat.{ℕ, zero, ◌+◌, ◌-◌, ◌*◌, ◌/◌, ◌≤◌, ◌<◌}
+use Prim.Native.Nat.{ℕ, ◌+◌, ◌-◌, ◌*◌, ◌/◌, ◌≤◌, ◌<◌}
 use mathlib.Core.Path.{◌≡◌, refl, sym, ap, ap₂, ◌∙◌}
 use mathlib.Core.Bool.{Bool, true, false, cond, ◌&&◌}
 use mathlib.Core.List.{List, ◌++◌}
@@ -118,6 +118,10 @@ tree_bit bits n i b f = omega (arith, b.inside, filled_below n i f)
 pub entry_room : {xs : List ℕ} {n e : ℕ} → AtBits xs n e → (e < 128) × (32 + 3328 * e + 3328 ≤ length xs)
 unfolding used_bitfield entry_count
 entry_room w = (omega (arith, w.entry, w.file.count), omega (arith, w.entry, w.file.inside))
+
+-- the same from where the entry begins
+pub entry_within : {xs : List ℕ} {n e at : ℕ} → AtBits xs n e → at ≡ 32 + 3328 * e → (at < 1048576) × (at + 3328 ≤ length xs)
+entry_within w p = let room = entry_room w in (omega (arith, room.0, p), omega (arith, room.1, p))
 
 pub part_long : (xs : List ℕ) (at m : ℕ) → at + 1024 ≤ length xs → m ≡ 1024 → length (take m (drop at xs)) ≡ 1024
 unfolding part

@@ -42,6 +42,14 @@ entry_in_lem {t} {n} {i} p h = record { small = omega (arith, p.count); inside =
 pub entry_as : {t : List ℕ} {i j : ℕ} → i ≡ j → EntryIn t j → EntryIn t i
 entry_as {t} e p = subst (EntryIn t) (sym e) p
 
+-- the length that is stored at an index
+pub size_as : (t : List ℕ) {i j s : ℕ} → i ≡ j → s ≡ stored_size t i → s ≡ stored_size t j
+size_as t e q = q ∙ ap (stored_size t) e
+
+-- the leaf of a chunk stands at its double
+pub leaf_length : (t : List ℕ) (k : ℕ) {i s : ℕ} → i ≡ index 0 k → s ≡ stored_size t i → s ≡ stored_size t (2 * k)
+leaf_length t k e q = size_as t (e ∙ index_leaf k) q
+
 -- an even index is a leaf, an odd one a parent
 pub even_depth : (i : ℕ) → i % 2 ≡ 0 → depth i ≡ 0
 even_depth i h =

@@ -14,10 +14,7 @@ use number_types::{ByteOffset, ChunkNumber, TreeIndex};
 fn bit_of(b: bool) -> u8
     ensures { (result ≡ bit b) × (result ≤ 1) }
 {
-    if b {
-        return 1;
-    }
-    0
+    u8::from(b)
 }
 
 // Eight bits in a byte, the first the highest.
@@ -139,13 +136,11 @@ fn wrong_in_entry(xs: &[u8], n: u64, e: u64, partly: bool) -> Result<(), Refusal
     let from = at.0 as usize;
     let end = from + 1024;
     let index = bitfield::index::index_of(&xs[from..end]);
-    let mut j: u64 = 0;
-    while j < 3328 {
+    for j in 0..3328 {
         let place = (at.0 + j) as usize;
         if xs[place] != expected_byte(xs, n, e, j, &index, partly) {
             return answer_types::refuse_byte(11, ByteOffset(at.0 + j));
         }
-        j += 1;
     }
     Ok(())
 }
@@ -165,13 +160,11 @@ pub fn wrong_in_entries(xs: &[u8], n: u64, partly: bool, from: u64, end: u64) ->
         refused_at 11 at_byte
         (lowest (byte_right_by (tree_bits partly xs.now n) xs.now n) (32 + 3328 * from) (3328 * (end - from))) done }
 {
-    let mut e = from;
-    while e < end {
+    for e in from..end {
         let answer = wrong_in_entry(xs, n, e, partly);
         let Ok(()) = answer else {
             return answer;
         };
-        e += 1;
     }
     Ok(())
 }

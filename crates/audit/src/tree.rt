@@ -52,12 +52,9 @@ pub fn start_at(tree: &[u8], n: u64, i: TreeIndex) -> ByteOffset
 {
     let end = next_chunk(i);
     let mut start = ByteOffset(0);
-    let mut c = ChunkNumber(0);
-    while c.0 < end.0 {
-        let leaf = tree_index::leaf_index(c);
-        let next = checks::add_capped(start, file_format::entries::stored_size(tree, leaf));
-        start = next;
-        c = ChunkNumber(c.0 + 1);
+    for c in 0..end.0 {
+        let leaf = tree_index::leaf_index(ChunkNumber(c));
+        start = checks::add_capped(start, file_format::entries::stored_size(tree, leaf));
     }
     start
 }
@@ -174,15 +171,13 @@ pub fn wrong_between(
     if end.0 <= from.0 {
         return Ok(());
     }
-    let mut i = from;
     let mut start = start_at(tree, n, from);
-    while i.0 < end.0 {
+    for index in from.0..end.0 {
+        let i = TreeIndex(index);
         if !entry_right(tree, bitfield, content, n, size, i, start) {
             return answer_types::refuse_entry(10, i);
         }
-        let next = start_behind(tree, i, start);
-        start = next;
-        i = TreeIndex(i.0 + 1);
+        start = start_behind(tree, i, start);
     }
     Ok(())
 }

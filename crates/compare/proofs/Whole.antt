@@ -25,7 +25,7 @@ use Rattle.audit.proofs.Audited.{at_must}
 use Rattle.audit.proofs.Search.{then_assoc, stops, judged_then, refused_then}
 use Rattle.audit.proofs.Whole.{checks_refuse, checks_pass, files_in_lem, images_of}
 use Rattle.compare.specs.Walk.{missing, held_then, whole_verdict}
-use Rattle.compare.specs.Theorems.{Whole, NeedsWholeForAll}
+use Rattle.compare.specs.Theorems.{NeedsWholeForAll}
 
 -- a number that a search found is one of those that it went through
 pub first_below : (right : ℕ → Bool) (i k j : ℕ) → first j ≡ lowest right i k → j < i + k

@@ -60,18 +60,15 @@ pub fn lowest_collision(
     if end.0 <= from.0 {
         return Compared::Equal;
     }
-    let mut i = from;
     let mut start = audit::start_at(tree, n, from);
     let mut start2 = audit::start_at(tree2, n, from);
-    while i.0 < end.0 {
+    for index in from.0..end.0 {
+        let i = TreeIndex(index);
         if messages::collides_at(tree, content, start, tree2, content2, start2, n, i) {
             return Compared::AtIndex(i);
         }
-        let next = audit::start_behind(tree, i, start);
-        start = next;
-        let next2 = audit::start_behind(tree2, i, start2);
-        start2 = next2;
-        i = TreeIndex(i.0 + 1);
+        start = audit::start_behind(tree, i, start);
+        start2 = audit::start_behind(tree2, i, start2);
     }
     Compared::Equal
 }

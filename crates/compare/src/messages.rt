@@ -65,7 +65,7 @@ fn sum_below(tree: &[u8], i: TreeIndex) -> u64
 {
     let first = file_format::entries::stored_size(tree, tree_index::left_child(i));
     let second = file_format::entries::stored_size(tree, tree_index::right_child(i));
-    std::num::wrapping_add_u64(first, second)
+    first.wrapping_add(second)
 }
 
 // Whether two parents have one sum of lengths and the same child hashes.
@@ -136,6 +136,7 @@ pub fn collides_at(
 }
 
 // Whether the root messages of two registers are the same. They are short, and made in buffers of their own.
+#[tactic(auto, using(tree_index::proofs::Roots::length_roots_le))]
 pub fn same_roots(tree: &[u8], n: u64, tree2: &[u8], n2: u64) -> bool
     requires { RootsIn tree.now n × RootsIn tree2.now n2 }
     ensures { result ≡ same_list (stored_root_message tree.now n) (stored_root_message tree2.now n2) }

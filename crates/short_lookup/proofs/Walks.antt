@@ -162,6 +162,11 @@ pub record Leaf (known : ℕ → Bool) (t : List ℕ) (k leaf length : ℕ) : Ty
   pub knows : known leaf ≡ true
   pub says : length ≡ stored_size t leaf
 
+-- as the code reads it
+pub leaf_read : (known : ℕ → Bool) (t : List ℕ) {k leaf length : ℕ} {b : Bool} → leaf ≡ index 0 k → b ≡ known leaf → b ≡ true → length ≡ stored_size t leaf
+    → Leaf known t k leaf length
+leaf_read known t a b e s = record { at = a; knows = sym b ∙ e; says = s }
+
 module _ {known : ℕ → Bool} {t : List ℕ} {k leaf length : ℕ} (l : Leaf known t k leaf length) where
   is_known : known (index 0 k) ≡ true
   is_known = ap known (sym l.at) ∙ l.knows
@@ -186,53 +191,57 @@ module _ (known : ℕ → Bool) (t : List ℕ) {leaf : ℕ} (k : ℕ) (at : leaf
   refused_unknown : refusal 20 (tree leaf) ≡ leaf_refused known t k
   refused_unknown = ap (λ (i : ℕ). refusal 20 (tree i)) at ∙ refused_by known t k false not_known
 
--- where the place lookup's loop stands
-pub record Come (known : ℕ → Bool) (t : List ℕ) (c k start : ℕ) : Type 0 where
-  pub upto : k ≤ c
-  pub walked : Walked (leaf_right known t) t (c + 1) k start
+-- where the place lookup's loop stands: `start` and `length` are those of the chunk before k
+pub record Come (known : ℕ → Bool) (t : List ℕ) (c k start length : ℕ) : Type 0 where
+  pub walked : Walked (leaf_right known t) t (c + 1) k (start + length)
+  pub last : 0 < k → (start ≡ stored_start t (k - 1)) × (length ≡ stored_size t (index 0 (k - 1)))
 
-module _ {known : ℕ → Bool} {t : List ℕ} {c k start : ℕ} (n : ℕ) (there : c < n) (w : Come known t c k start) where
-  place_wrong : leaf_right known t k ≡ false → leaf_refused known t k ≡ short_place_in known t n c
-  place_wrong e =
-      place_first known t c k (w.walked.same ∙ lowest_off (leaf_right known t) k (c + 1) (omega (arith, w.upto)) e) ∙ place_there known t n c there
+pub come_none : (known : ℕ → Bool) (t : List ℕ) (c : ℕ) → Come known t c 0 0 0
+come_none known t c = record { walked = begun (leaf_right known t) t (c + 1); last = λ h. absurd (omega arith) }
 
-  pub place_unknown_lem : {leaf : ℕ} → leaf ≡ index 0 k → known leaf ≡ false → refusal 20 (tree leaf) ≡ short_place_in known t n c
-  place_unknown_lem at e = refused_unknown known t k at e ∙ place_wrong (leaf_unknown known t k (not_known known t k at e))
+module _ {known : ℕ → Bool} {t : List ℕ} {c k start length : ℕ} (n : ℕ) (there : c < n) (w : Come known t c k start length) where
+  pub place_here : c < k → k ≤ c + 1 → found start length ≡ short_place_in known t n c
+  place_here h g =
+      let e : k - 1 ≡ c = omega arith in
+      let l = w.last (omega arith) in
+      ap₂ found (l.0 ∙ ap (stored_start t) e) (l.1 ∙ ap (λ (j : ℕ). stored_size t (index 0 j)) e)
+      ∙ place_nowhere known t c (w.walked.same ∙ lowest_end (leaf_right known t) k (c + 1) (omega arith))
+      ∙ place_there known t n c there
 
-  module _ {leaf length : ℕ} (l : Leaf known t k leaf length) where
-    pub place_long_lem : 65536 < length → refusal 10 (tree leaf) ≡ short_place_in known t n c
-    place_long_lem h = refused_long l ∙ place_wrong (long_leaf l h)
+  module _ (g : k ≤ c) where
+    place_wrong : leaf_right known t k ≡ false → leaf_refused known t k ≡ short_place_in known t n c
+    place_wrong e =
+        place_first known t c k (w.walked.same ∙ lowest_off (leaf_right known t) k (c + 1) (omega arith) e) ∙ place_there known t n c there
 
-    pub place_here : length ≤ 65536 → k ≡ c → found start length ≡ short_place_in known t n c
-    place_here h e =
-        ap₂ found (w.walked.here ∙ ap (stored_start t) e) (says_leaf l ∙ ap (λ (j : ℕ). stored_size t (index 0 j)) e)
-        ∙ place_nowhere known t c
-        (w.walked.same ∙ lowest_on (leaf_right known t) k (c + 1) (omega (arith, w.upto)) (right_leaf l h)
-        ∙ lowest_end (leaf_right known t) (k + 1) (c + 1) (omega arith))
-        ∙ place_there known t n c there
+    pub place_unknown_lem : {leaf : ℕ} → leaf ≡ index 0 k → known leaf ≡ false → refusal 20 (tree leaf) ≡ short_place_in known t n c
+    place_unknown_lem at e = refused_unknown known t k at e ∙ place_wrong (leaf_unknown known t k (not_known known t k at e))
 
-    pub place_on : length ≤ 65536 → (k ≡ c → ⊥) → Come known t c (k + 1) (start + length)
-    place_on h d =
-        record {
-          upto = omega (arith, w.upto);
-          walked = walked_on (leaf_right known t) t (c + 1) k start length w.walked (omega (arith, w.upto)) (right_leaf l h) (says_leaf l) h;
-        }
+    module _ {leaf more : ℕ} (l : Leaf known t k leaf more) where
+      pub place_long_lem : 65536 < more → refusal 10 (tree leaf) ≡ short_place_in known t n c
+      place_long_lem h = refused_long l ∙ place_wrong (long_leaf l h)
+
+      pub place_on : more ≤ 65536 → Come known t c (k + 1) (start + length) more
+      place_on h =
+          let e : k ≡ k + 1 - 1 = omega arith in
+          record {
+            walked = walked_on (leaf_right known t) t (c + 1) k (start + length) more w.walked (omega arith) (right_leaf l h) (says_leaf l) h;
+            last = λ z. (w.walked.here ∙ ap (stored_start t) e, says_leaf l ∙ ap (λ (j : ℕ). stored_size t (index 0 j)) e);
+          }
 
 -- where the byte lookup's loop stands: no leaf before chunk k has the byte, and `before` is the last of them
 pub record Passed (known : ℕ → Bool) (t : List ℕ) (n b k start before : ℕ) : Type 0 where
   pub walked : Walked (leaf_passed known t b) t n k start
-  pub upto : k ≤ n
   pub from : start ≤ b
   pub last : before ≡ index 0 (k - 1)
 
 pub passed_none : (known : ℕ → Bool) (t : List ℕ) (n b : ℕ) → Passed known t n b 0 0 0
 unfolding index
-passed_none known t n b = record { walked = begun (leaf_passed known t b) t n; upto = omega arith; from = omega arith; last = refl }
+passed_none known t n b = record { walked = begun (leaf_passed known t b) t n; from = omega arith; last = refl }
 
 module _ {known : ℕ → Bool} {t : List ℕ} {n b k start before : ℕ} (size : ℕ) (h : b ≤ size) (d : b ≡ size → ⊥) (w : Passed known t n b k start before) where
-  pub byte_none_lem : n ≤ k → refusal 10 (tree before) ≡ short_byte_in known t n size b
-  byte_none_lem g =
-      let e : k ≡ n = omega (arith, w.upto) in
+  pub byte_none_lem : n ≤ k → k ≤ n → refusal 10 (tree before) ≡ short_byte_in known t n size b
+  byte_none_lem g u =
+      let e : k ≡ n = omega arith in
       ap (λ (i : ℕ). refusal 10 (tree i)) (w.last ∙ ap (λ (j : ℕ). index 0 (j - 1)) e)
       ∙ byte_nowhere known t n b (w.walked.same ∙ lowest_end (leaf_passed known t b) k n g)
       ∙ byte_there known t n size b h d
@@ -263,7 +272,6 @@ module _ {known : ℕ → Bool} {t : List ℕ} {n b k start before : ℕ} (size 
           record {
             walked = walked_on (leaf_passed known t b) t n k start length w.walked g
                 (passed_on known t k b (right_leaf l q) (omega (arith, w.walked.here, says_leaf l))) (says_leaf l) q;
-            upto = omega arith;
             from = p;
             last = l.at ∙ ap (index 0) (sym j);
           }

@@ -26,29 +26,26 @@ pub fn place_in(
             place: Place::Nowhere,
         });
     }
-    let mut k = ChunkNumber(0);
     let mut start = ByteOffset(0);
-    loop {
-        let leaf = tree_index::leaf_index(k);
+    let mut length = 0;
+    for k in 0..chunk.0 + 1 {
+        start = ByteOffset(start.0 + length);
+        let leaf = tree_index::leaf_index(ChunkNumber(k));
         if !lookup::is_known(bitfield, partly, leaf) {
             return Err(Refusal {
                 number: 20,
                 place: Place::Tree(leaf),
             });
         }
-        let length = file_format::entries::stored_size(tree, leaf);
+        length = file_format::entries::stored_size(tree, leaf);
         if 65536 < length {
             return Err(Refusal {
                 number: 10,
                 place: Place::Tree(leaf),
             });
         }
-        if k.0 == chunk.0 {
-            return Ok(Placed { start, length });
-        }
-        start = ByteOffset(start.0 + length);
-        k = ChunkNumber(k.0 + 1);
     }
+    Ok(Placed { start, length })
 }
 
 // Inner: the chunk whose bytes contain an offset, and the offset less its start. The files hold the entries of n chunks.
@@ -75,11 +72,10 @@ pub fn locate_in(
             rest: 0,
         });
     }
-    let mut k = ChunkNumber(0);
     let mut start = ByteOffset(0);
     let mut leaf = TreeIndex(0);
-    while k.0 < n {
-        leaf = tree_index::leaf_index(k);
+    for k in 0..n {
+        leaf = tree_index::leaf_index(ChunkNumber(k));
         if !lookup::is_known(bitfield, partly, leaf) {
             return Err(Refusal {
                 number: 20,
@@ -95,12 +91,11 @@ pub fn locate_in(
         }
         if offset.0 < start.0 + length {
             return Ok(Located {
-                chunk: k,
+                chunk: ChunkNumber(k),
                 rest: offset.0 - start.0,
             });
         }
         start = ByteOffset(start.0 + length);
-        k = ChunkNumber(k.0 + 1);
     }
     Err(Refusal {
         number: 10,

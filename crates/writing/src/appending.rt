@@ -105,8 +105,7 @@ fn put_node(tree: &mut [u8], n: u64, d: u32, node: Node)
     ensures { tree.new ≡ put tree.old (entry_place (place n d)) (entry_bytes (entry_of node)) }
 {
     let i = tree_index::node_ending(number_types::chunk_behind(n), d);
-    let hash = node.hash;
-    file_format::entries::write_entry(tree, i, &hash, node.size);
+    file_format::entries::write_entry(tree, i, &node.hash, node.size);
 }
 
 // Inner: the parent of a node that ends with the chunk n and of its left sibling, a stored root.
@@ -116,9 +115,8 @@ pub fn above(tree: &[u8], n: u64, d: u32, node: Node) -> Node
 {
     let i = tree_index::node_index(d, ((n + 1) >> d) - 2);
     let left = file_format::entries::stored_hash(tree, i);
-    let right = node.hash;
     let size = file_format::entries::stored_size(tree, i) + node.size;
-    let hash = file_format::hashes::parent_hash(size, &left, &right);
+    let hash = file_format::hashes::parent_hash(size, &left, &node.hash);
     Node { hash, size }
 }
 
@@ -131,14 +129,11 @@ fn write_filled(tree: &mut [u8], n: u64, leaf: Node)
 {
     let last = tree_index::completed(number_types::chunk_behind(n));
     let mut node = leaf;
-    let mut d: u32 = 0;
-    while d < last {
+    for d in 0..last {
         put_node(tree, n, d, node);
-        let next = above(tree, n, d, node);
-        node = next;
-        d += 1;
+        node = above(tree, n, d, node);
     }
-    put_node(tree, n, d, node);
+    put_node(tree, n, last, node);
 }
 
 // Inner: the new hole, if any, and the leaf of the chunk n with every parent that it completes.

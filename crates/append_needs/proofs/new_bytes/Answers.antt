@@ -1,23 +1,15 @@
-use mathlib.Core.Path.{refl, ap, ◌∙◌}
-use Prim.Native.Nat.{◌-◌}
-use native.Mathlib.Omega.{arith}
-use Rattle.byte_strings.specs.Lists.{total}
-use Rattle.append_needs.proofs.Lists.{summed_none, summed_next, summed_all, map_same}
-use Rattle.checks.proofs.Lengths.{short_at}
+-- `append_needs::new_bytes` meets its contract. Assumes nothing.
+use Rattle.std.proofs.Common.{rules, ◌≡◌, ◌∙◌, sym, ◌<◌, ◌^◌, arith}
+use Rattle.std.specs.List.{sum}
+use Rattle.append_needs.proofs.Lists.{total_sum, listed_sum}
 use Rattle.append_needs.proofs.new_bytes.Goals as goal
 
-pub loop-i-init : goal.loop-i-init
-loop-i-init c = summed_none _ _ _
-
-pub overflow_add-sum : goal.overflow_add-sum
-overflow_add-sum c = omega (arith, short_at c.args.lengths.now c.loop-i.i c.requires.short)
-
-pub loop-i-preserved : goal.loop-i-preserved
-loop-i-preserved c =
-    summed_next _ _ c.args.lengths.now c.loop-i.i c.loop-i.sum _ c.loop-i.invariant (omega arith)
-    (short_at c.args.lengths.now c.loop-i.i c.requires.short) refl
+pub sum-requires-clause-fits : goal.sum-requires-clause-fits
+sum-requires-clause-fits c =
+    let small : sum c.args.lengths.now < 2 ^ 64 = omega (arith, listed_sum c.args.lengths.now c.requires) in
+    search rules
 
 pub returns : goal.returns
 returns c =
-    let ls = c.args.lengths.now in
-    (summed_all _ _ ls c.loop-i.i c.loop-i.sum c.loop-i.invariant c.loop-i-test.false ∙ ap total (map_same ls), omega arith)
+    let all : c.sum.result ≡ sum c.args.lengths.now = search rules in
+    (all ∙ sym (total_sum c.args.lengths.now), omega (arith, all, listed_sum c.args.lengths.now c.requires))

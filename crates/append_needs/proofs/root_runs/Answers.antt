@@ -7,15 +7,6 @@ use Rattle.blake2b.specs.Hash.{blocks}
 use Rattle.append_needs.proofs.Messages.{root_runs_blocks}
 use Rattle.append_needs.proofs.root_runs.Goals as goal
 
-pub overflow_mul-root_count : goal.overflow_mul-root_count
-overflow_mul-root_count c = omega (arith, length_roots_le c.args.n c.requires, c.root_count.ensures)
-
-pub overflow_add-root_count : goal.overflow_add-root_count
-overflow_add-root_count c = omega (arith, length_roots_le c.args.n c.requires, c.root_count.ensures)
-
-pub runs_of-requires : goal.runs_of-requires
-runs_of-requires c = omega (arith, length_roots_le c.args.n c.requires, c.root_count.ensures)
-
 pub returns : goal.returns
 unfolding blocks
 returns c = (

@@ -1,4 +1,4 @@
-use Rattle.std.proofs.Common.{◌-◌, arith}
+use Rattle.std.proofs.Common.{arith}
 use Rattle.compare.proofs.Same.{read_started}
 use Rattle.compare.proofs.Walked.{meeting_none, meeting_start, meeting_first, meeting_second, meeting_next, meeting_found, meeting_done}
 use Rattle.compare.proofs.lowest_collision.Goals as goal
@@ -14,25 +14,25 @@ start_at-start-requires c = (c.requires.0, omega (arith, c.if-end-from.false, c.
 pub start_at-start2-requires : goal.start_at-start2-requires
 start_at-start2-requires c = (c.requires.1, omega (arith, c.if-end-from.false, c.requires.2))
 
-pub loop-i-init : goal.loop-i-init
-loop-i-init c = meeting_start c.start_at-start.ensures c.start_at-start2.ensures
+pub loop-index-init : goal.loop-index-init
+loop-index-init c = meeting_start c.start_at-start.ensures c.start_at-start2.ensures
 
 pub collides_at-requires : goal.collides_at-requires
-collides_at-requires c = (meeting_first c.loop-i.invariant c.loop-i-test.true c.requires.0 c.requires.2, meeting_second c.loop-i.invariant c.loop-i-test.true c.requires.1 c.requires.2)
+collides_at-requires c = (meeting_first c.loop-index.invariant c.loop-index-test.true c.requires.0 c.requires.2, meeting_second c.loop-index.invariant c.loop-index-test.true c.requires.1 c.requires.2)
 
 pub returns-then-collides_at : goal.returns-then-collides_at
-returns-then-collides_at c = meeting_found c.loop-i.invariant c.loop-i-test.true c.collides_at.ensures c.if-collides_at.true
+returns-then-collides_at c = meeting_found c.loop-index.invariant c.loop-index-test.true c.collides_at.ensures c.if-collides_at.true
 
-pub start_behind-next-requires : goal.start_behind-next-requires
-start_behind-next-requires c = read_started (meeting_first c.loop-i.invariant c.loop-i-test.true c.requires.0 c.requires.2)
+pub start_behind-start-requires : goal.start_behind-start-requires
+start_behind-start-requires c = read_started (meeting_first c.loop-index.invariant c.loop-index-test.true c.requires.0 c.requires.2)
 
-pub start_behind-next2-requires : goal.start_behind-next2-requires
-start_behind-next2-requires c = read_started (meeting_second c.loop-i.invariant c.loop-i-test.true c.requires.1 c.requires.2)
+pub start_behind-start2-requires : goal.start_behind-start2-requires
+start_behind-start2-requires c = read_started (meeting_second c.loop-index.invariant c.loop-index-test.true c.requires.1 c.requires.2)
 
-pub loop-i-preserved : goal.loop-i-preserved
-loop-i-preserved c =
-    meeting_next c.loop-i.invariant
-    c.loop-i-test.true c.collides_at.ensures c.if-collides_at.false c.start_behind-next.ensures c.start_behind-next2.ensures
+pub loop-index-preserved : goal.loop-index-preserved
+loop-index-preserved c =
+    meeting_next c.loop-index.invariant
+    c.loop-index-test.true c.collides_at.ensures c.if-collides_at.false c.start_behind-start.ensures c.start_behind-start2.ensures
 
 pub returns : goal.returns
-returns c = meeting_done c.loop-i.invariant c.loop-i-test.false
+returns c = meeting_done c.loop-index.invariant c.loop-index-test.false

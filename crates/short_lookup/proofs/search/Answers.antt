@@ -1,17 +1,11 @@
 -- `short_lookup::search` meets its contract: the checks 2 to 6, and what comes behind them. Assumes nothing.
 use mathlib.Core.Path.{sym, ◌∙◌}
 use Rattle.answer_types.specs.Meaning.{said}
-use Rattle.file_format.specs.Belongs.{Register}
-use Rattle.checks.specs.Lent.{register_of}
 use Rattle.short_lookup.proofs.Calls.{search_by, bits_room}
 use Rattle.short_lookup.proofs.search.Goals as goal
 
 pub search_behind-requires : goal.search_behind-requires
-search_behind-requires c =
-    let given : Register = register_of c.args.tree.now c.args.signatures.now c.args.bitfield.now c.args.content.now c.args.n c.args.s c.args.size in
-    λ e. bits_room given (sym e ∙ c.judge-checked.ensures)
+search_behind-requires c = λ e. bits_room _ (sym e ∙ c.judge-checked.ensures)
 
 pub returns : goal.returns
-returns c =
-    let given : Register = register_of c.args.tree.now c.args.signatures.now c.args.bitfield.now c.args.content.now c.args.n c.args.s c.args.size in
-    c.search_behind.ensures ∙ search_by given (said c.judge-checked.result) c.judge-checked.ensures c.args.from.0
+returns c = c.search_behind.ensures ∙ search_by _ (said c.judge-checked.result) c.judge-checked.ensures c.args.from.0

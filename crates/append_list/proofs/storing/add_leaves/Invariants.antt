@@ -1,12 +1,6 @@
 -- `append_list::storing::add_leaves` meets its contract: the chunks below j are in the tree. Assumes nothing.
-use Prim.Native.Nat.{◌-◌, ◌≤◌}
-use mathlib.Core.Path.{◌≡◌}
-use lib.ListN.{length}
 use Rattle.append_list.proofs.Leaves.{Going}
 use Rattle.append_list.proofs.storing.add_leaves.Given as goal
 
 abbrev pub invariant-loop-j : goal.invariant-loop-j
-invariant-loop-j l = (l.j ≤ length l.lengths) × (length l.tree ≡ length l.initial.tree) × Going l.initial.tree l.content l.n l.start l.lengths l.tree l.at l.j
-
-abbrev pub decreases-loop-j : goal.decreases-loop-j
-decreases-loop-j l = length l.lengths - l.j
+invariant-loop-j l = Going l.initial.tree l.content l.n l.start l.lengths l.tree l.at l.j

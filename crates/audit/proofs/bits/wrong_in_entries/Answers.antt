@@ -1,4 +1,3 @@
-use Prim.Native.Nat.{◌-◌}
 use Rattle.audit.proofs.Bytes.{entering_start, entering_entry, entering_next, entering_found, entering_done}
 use Rattle.audit.proofs.Search.{stops}
 use Rattle.answer_types.specs.Meaning.{said}

@@ -1,6 +1,5 @@
-use Prim.Native.Nat.{◌+◌, ◌-◌, ◌≤◌, ◌<◌}
-use lib.ListN.{length}
-use Rattle.audit.proofs.Bytes.{entry_room, part_long, index_by, passing_start, passing_next, passing_found, passing_done}
+use Prim.Native.Nat.{◌+◌, ◌-◌}
+use Rattle.audit.proofs.Bytes.{entry_room, entry_within, part_long, index_by, passing_start, passing_next, passing_found, passing_done}
 use mathlib.Core.Path.{◌∙◌, sym}
 use native.Mathlib.Omega.{arith}
 use Rattle.audit.proofs.bits.wrong_in_entry.Goals as goal
@@ -9,22 +8,14 @@ pub entry_offset-at-requires : goal.entry_offset-at-requires
 entry_offset-at-requires c = (entry_room c.requires).0
 
 pub overflow_add-end : goal.overflow_add-end
-overflow_add-end c =
-    -- the entry is one of few, and lies within the file
-    let room : (c.entry_offset-at.result.0 < 1048576) × (c.entry_offset-at.result.0 + 3328 ≤ length c.args.xs.now) = let w = entry_room c.requires in
-    (omega (arith, w.0, c.entry_offset-at.ensures), omega (arith, w.1, c.entry_offset-at.ensures)) in
-    omega (arith, room.0)
+overflow_add-end c = let room = entry_within c.requires c.entry_offset-at.ensures in omega (arith, room.0)
 
 pub slice_bounds-index_of-end : goal.slice_bounds-index_of-end
-slice_bounds-index_of-end c =
-    let room : (c.entry_offset-at.result.0 < 1048576) × (c.entry_offset-at.result.0 + 3328 ≤ length c.args.xs.now) = let w = entry_room c.requires in
-    (omega (arith, w.0, c.entry_offset-at.ensures), omega (arith, w.1, c.entry_offset-at.ensures)) in
-    omega (arith, room.1)
+slice_bounds-index_of-end c = let room = entry_within c.requires c.entry_offset-at.ensures in omega (arith, room.1)
 
 pub index_of-index-requires : goal.index_of-index-requires
 index_of-index-requires c =
-    let room : (c.entry_offset-at.result.0 < 1048576) × (c.entry_offset-at.result.0 + 3328 ≤ length c.args.xs.now) = let w = entry_room c.requires in
-    (omega (arith, w.0, c.entry_offset-at.ensures), omega (arith, w.1, c.entry_offset-at.ensures)) in
+    let room = entry_within c.requires c.entry_offset-at.ensures in
     let o = c.entry_offset-at in
     part_long c.args.xs.now o.result.0 (o.result.0 + 1024 - o.result.0) (omega (arith, room.1)) (omega arith)
 
@@ -34,25 +25,16 @@ loop-j-init c =
     passing_start o.ensures (index_by c.args.xs.now c.args.e (o.result.0 + 1024 - o.result.0) o.ensures c.index_of-index.ensures (omega arith))
 
 pub overflow_add-place : goal.overflow_add-place
-overflow_add-place c =
-    let room : (c.entry_offset-at.result.0 < 1048576) × (c.entry_offset-at.result.0 + 3328 ≤ length c.args.xs.now) = let w = entry_room c.requires in
-    (omega (arith, w.0, c.entry_offset-at.ensures), omega (arith, w.1, c.entry_offset-at.ensures)) in
-    omega (arith, room.0, room.1)
+overflow_add-place c = let room = entry_within c.requires c.entry_offset-at.ensures in omega (arith, room.0, room.1)
 
 pub bounds-xs-place : goal.bounds-xs-place
-bounds-xs-place c =
-    let room : (c.entry_offset-at.result.0 < 1048576) × (c.entry_offset-at.result.0 + 3328 ≤ length c.args.xs.now) = let w = entry_room c.requires in
-    (omega (arith, w.0, c.entry_offset-at.ensures), omega (arith, w.1, c.entry_offset-at.ensures)) in
-    omega (arith, room.0, room.1)
+bounds-xs-place c = let room = entry_within c.requires c.entry_offset-at.ensures in omega (arith, room.0, room.1)
 
 pub expected_byte-requires : goal.expected_byte-requires
 expected_byte-requires c = ((entry_room c.requires).0, omega (arith, c.loop-j-test.true), c.requires.file)
 
 pub overflow_add-at : goal.overflow_add-at
-overflow_add-at c =
-    let room : (c.entry_offset-at.result.0 < 1048576) × (c.entry_offset-at.result.0 + 3328 ≤ length c.args.xs.now) = let w = entry_room c.requires in
-    (omega (arith, w.0, c.entry_offset-at.ensures), omega (arith, w.1, c.entry_offset-at.ensures)) in
-    omega (arith, room.0, room.1)
+overflow_add-at c = let room = entry_within c.requires c.entry_offset-at.ensures in omega (arith, room.0, room.1)
 
 pub returns-then-xs-place : goal.returns-then-xs-place
 returns-then-xs-place c =

@@ -2,9 +2,7 @@
 use Rattle.audit.proofs.Entries.{at_entry, at_bit, at_leaf, at_parent, hole_entry, leaf_entry_lem, parent_entry}
 use Rattle.blake2b.specs.Hash.{node_hash}
 use native.Mathlib.Omega.{arith}
-use mathlib.Core.Path.{◌≡◌, ◌∙◌, sym}
-use mathlib.Core.Bool.{true}
-use Rattle.tree_index.specs.Tree.{filled}
+use mathlib.Core.Path.{◌∙◌, sym}
 use Rattle.audit.proofs.tree.entry_right.Goals as goal
 
 pub is_filled-requires : goal.is_filled-requires
@@ -24,17 +22,11 @@ leaf_right-requires c = at_leaf c.requires c.if-i-eq0.true c.chunk_of_leaf-c.ens
 
 pub returns-then-i-eq0 : goal.returns-then-i-eq0
 returns-then-i-eq0 c =
-    -- the entry is filled
-    let filled-here : filled c.args.n c.args.i.0 ≡ true = sym c.is_filled.ensures ∙ c.if-not-is_filled.false in
-    leaf_entry_lem c.requires node_hash (omega (arith, c.requires.files.bytes)) c.if-i-eq0.true filled-here
+    leaf_entry_lem c.requires node_hash (omega (arith, c.requires.files.bytes)) c.if-i-eq0.true (sym c.is_filled.ensures ∙ c.if-not-is_filled.false)
     c.chunk_of_leaf-c.ensures c.is_held-held.ensures c.leaf_right.ensures
 
 pub parent_right-requires : goal.parent_right-requires
-parent_right-requires c =
-    let filled-here : filled c.args.n c.args.i.0 ≡ true = sym c.is_filled.ensures ∙ c.if-not-is_filled.false in
-    at_parent c.requires c.if-i-eq0.false filled-here
+parent_right-requires c = at_parent c.requires c.if-i-eq0.false (sym c.is_filled.ensures ∙ c.if-not-is_filled.false)
 
 pub returns : goal.returns
-returns c =
-    let filled-here : filled c.args.n c.args.i.0 ≡ true = sym c.is_filled.ensures ∙ c.if-not-is_filled.false in
-    parent_entry c.requires node_hash c.if-i-eq0.false filled-here c.parent_right.ensures
+returns c = parent_entry c.requires node_hash c.if-i-eq0.false (sym c.is_filled.ensures ∙ c.if-not-is_filled.false) c.parent_right.ensures

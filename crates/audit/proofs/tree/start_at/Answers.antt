@@ -1,4 +1,3 @@
-use Prim.Native.Nat.{◌-◌}
 use mathlib.Core.Path.{sym, subst}
 use native.Mathlib.Omega.{arith}
 use Rattle.tree_index.specs.Tree.{entries}
@@ -10,7 +9,7 @@ pub next_chunk-end-requires : goal.next_chunk-end-requires
 next_chunk-end-requires c = (entry_in_lem c.requires.0 c.requires.1).small
 
 pub loop-c-init : goal.loop-c-init
-loop-c-init c = (omega arith, adding_none)
+loop-c-init c = adding_none
 
 pub leaf_index-leaf-requires : goal.leaf_index-leaf-requires
 unfolding entries
@@ -19,14 +18,11 @@ leaf_index-leaf-requires c = omega (arith, c.next_chunk-end.ensures, c.loop-c-te
 pub stored_size-requires : goal.stored_size-requires
 stored_size-requires c =
     subst (EntryIn c.args.tree.now) (sym c.leaf_index-leaf.ensures)
-    (before_leaf c.args.i.0 c.loop-c.c.0 c.requires.0 c.requires.1 (omega (arith, c.next_chunk-end.ensures, c.loop-c-test.true)))
+    (before_leaf c.args.i.0 c.loop-c.c c.requires.0 c.requires.1 (omega (arith, c.next_chunk-end.ensures, c.loop-c-test.true)))
 
 pub loop-c-preserved : goal.loop-c-preserved
 loop-c-preserved c =
-    let add-capped = c.add_capped-next in (
-      omega (arith, c.loop-c-test.true),
-      adding_next c.loop-c.invariant.1 c.leaf_index-leaf.ensures c.stored_size.ensures add-capped.ensures,
-    )
+    adding_next c.loop-c.invariant c.leaf_index-leaf.ensures c.stored_size.ensures c.add_capped-start.ensures
 
 pub returns : goal.returns
-returns c = adding_all c.loop-c.invariant.1 _ (omega (arith, c.next_chunk-end.ensures, c.loop-c.invariant.0)) (omega (arith, c.next_chunk-end.ensures, c.loop-c-test.false))
+returns c = adding_all c.loop-c.invariant _ (omega (arith, c.next_chunk-end.ensures, c.loop-c.auto.c-end)) (omega (arith, c.next_chunk-end.ensures, c.loop-c-test.false))

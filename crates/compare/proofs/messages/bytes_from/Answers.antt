@@ -11,5 +11,4 @@ returns-then-length-start-2 c = cut_short c.args.content.now c.args.start.0 c.ar
 
 pub returns : goal.returns
 returns c =
-    let from = c.args.start.0 in
-    cut_whole c.args.content.now from c.args.size (from + c.args.size - from) (omega arith)
+    cut_whole c.args.content.now c.args.start.0 c.args.size (c.args.start.0 + c.args.size - c.args.start.0) (omega arith)

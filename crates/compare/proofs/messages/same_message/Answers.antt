@@ -16,6 +16,5 @@ same_parent-requires c = (read_parent c.requires.1 c.if-i-eq0.false c.requires.0
 
 pub returns : goal.returns
 returns c =
-    let if1 = c.if-i-eq0 in
     parent_messages_lem c.args.content.now c.args.content2.now c.requires.1 c.requires.2
-    (λ j. (c.type_inv.tree j).fits) (λ j. (c.type_inv.tree2 j).fits) if1.false c.requires.0 c.same_parent.ensures
+    (λ j. (c.type_inv.tree j).fits) (λ j. (c.type_inv.tree2 j).fits) c.if-i-eq0.false c.requires.0 c.same_parent.ensures

@@ -11,23 +11,14 @@ same_hash-requires c = (entry_as c.left_child.ensures c.requires.0.left, entry_a
 
 pub returns-then-not-same_hash : goal.returns-then-not-same_hash
 returns-then-not-same_hash c =
-    let sum_below = c.sum_below in
-    let if1 = c.if-sum_below in
-    let left-child = c.left_child in
-    let same_hash_lem = c.same_hash in
     let a = c.args in
-    parent_left a.tree.now a.tree2.now a.i.0 sum_below.ensures c.sum_below-2.ensures if1.false left-child.ensures same_hash_lem.ensures (c.if-not-same_hash.true)
+    parent_left a.tree.now a.tree2.now a.i.0 c.sum_below.ensures c.sum_below-2.ensures c.if-sum_below.false c.left_child.ensures c.same_hash.ensures (c.if-not-same_hash.true)
 
 pub same_hash-requires-2 : goal.same_hash-requires-2
 same_hash-requires-2 c = (entry_as c.right_child.ensures c.requires.0.right, entry_as c.right_child.ensures c.requires.1.right)
 
 pub returns : goal.returns
 returns c =
-    let sum_below = c.sum_below in
-    let if1 = c.if-sum_below in
-    let left-child = c.left_child in
-    let same_hash_lem = c.same_hash in
-    let if2 = c.if-not-same_hash in
     let a = c.args in
-    parent_right_lem a.tree.now a.tree2.now a.i.0 sum_below.ensures c.sum_below-2.ensures if1.false left-child.ensures same_hash_lem.ensures if2.false
+    parent_right_lem a.tree.now a.tree2.now a.i.0 c.sum_below.ensures c.sum_below-2.ensures c.if-sum_below.false c.left_child.ensures c.same_hash.ensures c.if-not-same_hash.false
     c.right_child.ensures c.same_hash-2.ensures

@@ -1,14 +1,10 @@
 -- `writing::appending::append` meets its contract. Assumes nothing.
 use Rattle.std.proofs.lemmas.Result.{err_from_is_err_and}
-use Rattle.file_format.specs.Belongs.{Register}
-use Rattle.checks.specs.Lent.{register_of}
 use Rattle.writing.proofs.Answers.{store_fits, append_not, append_done}
 use Rattle.writing.proofs.appending.append.Goals as goal
 
 pub store-requires : goal.store-requires
-store-requires c =
-    let given : Register = register_of c.args.tree.now c.args.signatures.now c.args.bitfield.now c.args.content.now c.args.n c.args.s c.args.size in
-    store_fits given c.args.chunk.now c.in_ok-judge.was c.judge.ensures
+store-requires c = store_fits _ c.args.chunk.now c.in_ok-judge.was c.judge.ensures
 
 pub returns-in_err-judge : goal.returns-in_err-judge
 returns-in_err-judge c =

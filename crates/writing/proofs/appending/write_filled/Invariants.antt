@@ -1,6 +1,5 @@
 -- `writing::appending::write_filled` meets its contract: the entries of the depths below d are written, and the node in hand is that
 -- of the depth d. Assumes nothing.
-use Prim.Native.Nat.{◌-◌, ◌≤◌}
 use mathlib.Core.Path.{◌≡◌}
 use Rattle.blake2b.specs.Hash.{node_hash}
 use Rattle.writing.specs.Inner.{entry_of, made}
@@ -8,7 +7,4 @@ use Rattle.writing.proofs.Climbed.{Going}
 use Rattle.writing.proofs.appending.write_filled.Given as goal
 
 abbrev pub invariant-loop-d : goal.invariant-loop-d
-invariant-loop-d l = (l.d ≤ l.last) × (entry_of l.node ≡ made node_hash l.initial.tree l.n (entry_of l.initial.node) l.d) × Going l.initial.tree l.n (entry_of l.initial.node) l.d l.tree
-
-abbrev pub decreases-loop-d : goal.decreases-loop-d
-decreases-loop-d l = l.last - l.d
+invariant-loop-d l = (entry_of l.node ≡ made node_hash l.initial.tree l.n (entry_of l.initial.node) l.d) × Going l.initial.tree l.n (entry_of l.initial.node) l.d l.tree

@@ -1,14 +1,10 @@
 -- `writing::root::root_hash` meets its contract. Assumes nothing.
 use Rattle.std.proofs.lemmas.Result.{err_from_is_err_and}
-use Rattle.file_format.specs.Belongs.{Register}
-use Rattle.checks.specs.Lent.{register_of}
 use Rattle.writing.proofs.Answers.{root_fits, root_not, root_done_lem}
 use Rattle.writing.proofs.root.root_hash.Goals as goal
 
 pub stored_root_hash-requires : goal.stored_root_hash-requires
-stored_root_hash-requires c =
-    let given : Register = register_of c.args.tree.now c.args.signatures.now c.args.bitfield.now c.args.content.now c.args.n c.args.s c.args.size in
-    root_fits given c.in_ok-judge.was c.judge.ensures
+stored_root_hash-requires c = root_fits _ c.in_ok-judge.was c.judge.ensures
 
 pub returns-in_err-judge : goal.returns-in_err-judge
 returns-in_err-judge c =

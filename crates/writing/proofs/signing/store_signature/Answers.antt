@@ -1,20 +1,14 @@
 -- `writing::signing::store_signature` meets its contract. Assumes nothing.
 use Rattle.std.proofs.lemmas.Result.{err_from_is_err_and}
 use native.Mathlib.Omega.{arith}
-use Rattle.file_format.specs.Belongs.{Register}
-use Rattle.checks.specs.Lent.{register_of}
 use Rattle.writing.proofs.Answers.{sign_fits, sign_not, sign_done}
 use Rattle.writing.proofs.signing.store_signature.Goals as goal
 
 pub used_signatures-at-requires : goal.used_signatures-at-requires
-used_signatures-at-requires c =
-    let given : Register = register_of c.args.tree.now c.args.signatures.now c.args.bitfield.now c.args.content.now c.args.n c.args.s c.args.size in
-    (sign_fits given c.in_ok-judge.was c.judge.ensures).0
+used_signatures-at-requires c = (sign_fits _ c.in_ok-judge.was c.judge.ensures).0
 
 pub copy_to-requires : goal.copy_to-requires
-copy_to-requires c =
-    let given : Register = register_of c.args.tree.now c.args.signatures.now c.args.bitfield.now c.args.content.now c.args.n c.args.s c.args.size in
-    omega (arith, c.used_signatures-at.ensures, (sign_fits given c.in_ok-judge.was c.judge.ensures).1)
+copy_to-requires c = omega (arith, c.used_signatures-at.ensures, (sign_fits _ c.in_ok-judge.was c.judge.ensures).1)
 
 pub returns-in_err-judge : goal.returns-in_err-judge
 returns-in_err-judge c =

@@ -1,24 +1,17 @@
 -- `writing::starting::start` meets its contract. Assumes nothing.
 use native.Mathlib.Omega.{arith}
-use Rattle.file_format.specs.Belongs.{Buffers}
-use Rattle.writing.specs.Post.{lent}
 use Rattle.writing.proofs.Answers.{start_not, start_done}
 use Rattle.writing.proofs.starting.start.Goals as goal
 
 pub returns-then-tree-lt32 : goal.returns-then-tree-lt32
-returns-then-tree-lt32 c =
-    let given : Buffers = lent c.args.tree.now c.args.signatures.now c.args.bitfield.now c.args.content.now in
-    start_not given (λ f. omega (arith, f.tree, c.if-tree-lt32.true)) c.refuse.ensures
+returns-then-tree-lt32 c = start_not _ (λ f. omega (arith, f.tree, c.if-tree-lt32.true)) c.refuse.ensures
 
 pub returns-then-signatures-lt32 : goal.returns-then-signatures-lt32
 returns-then-signatures-lt32 c =
-    let given : Buffers = lent c.args.tree.now c.args.signatures.now c.args.bitfield.now c.args.content.now in
-    start_not given (λ f. omega (arith, f.signatures, c.if-signatures-lt32.true)) c.refuse-then-signatures-lt32.ensures
+    start_not _ (λ f. omega (arith, f.signatures, c.if-signatures-lt32.true)) c.refuse-then-signatures-lt32.ensures
 
 pub returns-then-bitfield-lt32 : goal.returns-then-bitfield-lt32
-returns-then-bitfield-lt32 c =
-    let given : Buffers = lent c.args.tree.now c.args.signatures.now c.args.bitfield.now c.args.content.now in
-    start_not given (λ f. omega (arith, f.bitfield, c.if-bitfield-lt32.true)) c.refuse-then-bitfield-lt32.ensures
+returns-then-bitfield-lt32 c = start_not _ (λ f. omega (arith, f.bitfield, c.if-bitfield-lt32.true)) c.refuse-then-bitfield-lt32.ensures
 
 pub returns : goal.returns
 returns c =

@@ -1,7 +1,7 @@
 // Prints the journals of FORMAT.md, made range by range, for comparison with the text in stdout.
 #![tactic(auto)]
 
-use journal::Said;
+use journal::JournalError;
 
 fn main() {
     absent();
@@ -38,8 +38,8 @@ fn keys() {
 }
 
 // The length of a journal that is done.
-fn told(said: Said) {
-    if let Said::Done(length) = said {
+fn told(said: Result<usize, JournalError>) {
+    if let Ok(length) = said {
         gate_printing::number(length as u64);
         gate_printing::text(b" bytes\n");
     } else {

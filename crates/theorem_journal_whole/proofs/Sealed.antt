@@ -12,7 +12,7 @@ use Rattle.byte_strings.proofs.Lists.{length_part, bytes_take, bytes_put, same_e
 use Rattle.byte_strings.proofs.Numbers.{bytes_be}
 use Rattle.journal.specs.Form.{Journal, WellFormed, magic, words, encode_all, long_of, body, journal_bytes}
 use Rattle.journal.specs.Places.{body_length}
-use Rattle.journal.specs.Reading.{table, read}
+use Rattle.journal.specs.Reading.{Said, table, read}
 use Rattle.journal.proofs.Answers.{done_written, read_done_lem}
 use Rattle.journal_making.specs.Making.{end_said, sealed, end_after}
 use Rattle.journal_making.proofs.Answers.{Ended, end_has}
@@ -76,7 +76,7 @@ module _ (F : List ℕ → List ℕ) (j : List ℕ) (q : ℕ) (b : Bytes j) (e :
   accepts : Hashed F x → read F (sealed_bytes F j q) ≡ Ok (q + 32)
   accepts h = ap (read F) (all h) ∙ encoded_done F x w h ∙ ap Ok long
 
-  same_long : (n m : ℕ) → Ok n ≡ Ok m → n ≡ m
+  same_long : (n m : ℕ) → ◌≡◌ {A = Said} (Ok n) (Ok m) → n ≡ m
   same_long n m d = cc
 
   -- what reading compared has 32 bytes

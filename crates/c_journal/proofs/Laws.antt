@@ -2,7 +2,7 @@
 use Prim.Native.Nat.{ℕ}
 use mathlib.Core.Path.{◌≡◌, ap, ◌∙◌}
 use mathlib.Core.List.{List}
-use Rattle.journal.specs.declared.Said.{Said}
+use Rattle.journal.specs.Reading.{Said}
 use Rattle.journal.specs.Meaning.{encoded}
 
 pub coded : (xs : List ℕ) (s t : Said) → xs ≡ encoded s → s ≡ t → xs ≡ encoded t

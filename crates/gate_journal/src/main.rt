@@ -1,65 +1,56 @@
 // Prints the journals of FORMAT.md, made range by range, for comparison with the text in stdout.
 #![tactic(auto)]
 
-use journal::Said;
+use journal::JournalError;
 
 fn main() {
-    absent();
-    keys();
+    let mut held = [0u8; 216];
+    let length = absent(&mut held);
+    told(b"ten absent files: ", length);
+    lines(&held);
+    let mut held = [0u8; 297];
+    let length = keys(&mut held);
+    told(b"a key changed and a key made: ", length);
+    lines(&held);
 }
 
 // Ten absent files that stay absent.
-fn absent() {
-    let mut held = [0u8; 216];
-    let states = [0u64; 20];
-    journal_making::begin(&mut held, &states);
-    let said = journal_making::end(&mut held, 184);
-    gate_printing::text(b"ten absent files: ");
-    told(said);
-    lines(&held);
+fn absent(held: &mut [u8]) -> Result<usize, JournalError> {
+    journal_making::begin(held, &[0; 20])?;
+    journal_making::end(held, 184)
 }
 
 // A metadata key whose first two bytes change and whose third is a witness, and a content key that is made: four bytes, and zeros.
-fn keys() {
-    let mut held = [0u8; 297];
-    let mut states = [0u64; 20];
+fn keys(held: &mut [u8]) -> Result<usize, JournalError> {
+    let mut states = [0; 20];
     states[16] = 33;
     states[17] = 33;
     states[19] = 33;
-    journal_making::begin(&mut held, &states);
-    journal_making::put(&mut held, 184, 8, 1, 0, 2, &[0, 1], &[238, 255]);
-    journal_making::put(&mut held, 206, 8, 4, 2, 1, &[2], b"");
-    journal_making::put(&mut held, 225, 9, 2, 0, 4, b"", &[0, 1, 2, 3]);
-    journal_making::put(&mut held, 247, 9, 3, 4, 28, b"", b"");
-    let said = journal_making::end(&mut held, 265);
-    gate_printing::text(b"a key changed and a key made: ");
-    told(said);
-    lines(&held);
+    let at = journal_making::begin(held, &states)?;
+    let at = journal_making::put(held, at, 8, 1, 0, 2, &[0, 1], &[238, 255])?;
+    let at = journal_making::put(held, at, 8, 4, 2, 1, &[2], b"")?;
+    let at = journal_making::put(held, at, 9, 2, 0, 4, b"", &[0, 1, 2, 3])?;
+    let at = journal_making::put(held, at, 9, 3, 4, 28, b"", b"")?;
+    journal_making::end(held, at)
 }
 
 // The length of a journal that is done.
-fn told(said: Said) {
-    if let Said::Done(length) = said {
-        gate_printing::number(length as u64);
-        gate_printing::text(b" bytes\n");
-    } else {
-        gate_printing::text(b"refused\n");
+fn told(name: &[u8], length: Result<usize, JournalError>) {
+    gate_printing::text(name);
+    match length {
+        Ok(length) => {
+            gate_printing::number(length as u64);
+            gate_printing::text(b" bytes\n");
+        }
+        Err(_) => gate_printing::text(b"refused\n"),
     }
 }
 
 // The bytes in lines of 32, and an empty line.
 fn lines(held: &[u8]) {
-    let mut at: usize = 0;
-    while at < held.len() {
-        if held.len() - at < 32 {
-            gate_printing::hex(&held[at..]);
-            gate_printing::text(b"\n\n");
-            return;
-        }
-        let stop = at + 32;
-        gate_printing::hex(&held[at..stop]);
+    for line in held.chunks(32) {
+        gate_printing::hex(line);
         gate_printing::text(b"\n");
-        at = stop;
     }
     gate_printing::text(b"\n");
 }

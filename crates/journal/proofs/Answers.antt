@@ -12,9 +12,9 @@ use Rattle.byte_strings.specs.Lists.{same_list}
 use Rattle.byte_strings.proofs.Bools.{both_true}
 use Rattle.blake2b.specs.Hash.{blake2b, node_hash}
 use Rattle.journal.specs.Places.{old_at, new_at, file_at, kind_at, start_at, size_at, behind, whole, length_right, body_length, new_place, numbers_at}
-use Rattle.journal.specs.Reading.{whether, is_done, and_then, begins, own_length, table, read, next_said, if_done, states_said}
-use Rattle.journal.specs.declared.Said.{Said}
-use Rattle.journal.specs.declared.Said.TheVariants.{Done, Length, First, OwnLength, Range, Hash, Unfit}
+use Rattle.journal.specs.Reading.{Said, whether, and_then, begins, own_length, table, read, next_said, if_done, states_said}
+use Rattle.std.specs.Prelude.{Ok, Err, is_ok}
+use Rattle.journal.specs.declared.JournalError.TheVariants.{Length, First, OwnLength, Range, Hash, Unfit}
 use Rattle.journal.proofs.Behind.{end_twice, behind_least}
 
 pub right_least : (n : ℕ) → length_right n ≡ true → 216 ≤ n
@@ -27,55 +27,55 @@ right_most n e = leb-true _ _ (both_true (leb 216 n) _ e).1
 
 -- ---- what is lent
 
-pub refused_kept : (t s : Said) (a b : List ℕ) → is_done t ≡ false → t ≡ s → b ≡ if_done s a b
+pub refused_kept : (t s : Said) (a b : List ℕ) → is_ok t ≡ false → t ≡ s → b ≡ if_done s a b
 unfolding if_done
-refused_kept t s a b e d = sym (ap (λ (x : Bool). elim x as (λ y. List ℕ) [ true ↦ a | false ↦ b ]) (ap is_done (sym d) ∙ e))
+refused_kept t s a b e d = sym (ap (λ (x : Bool). elim x as (λ y. List ℕ) [ true ↦ a | false ↦ b ]) (ap is_ok (sym d) ∙ e))
 
-pub done_written : (t s : Said) (a b : List ℕ) → is_done t ≡ true → t ≡ s → a ≡ if_done s a b
+pub done_written : (t s : Said) (a b : List ℕ) → is_ok t ≡ true → t ≡ s → a ≡ if_done s a b
 unfolding if_done
-done_written t s a b e d = sym (ap (λ (x : Bool). elim x as (λ y. List ℕ) [ true ↦ a | false ↦ b ]) (ap is_done (sym d) ∙ e))
+done_written t s a b e d = sym (ap (λ (x : Bool). elim x as (λ y. List ℕ) [ true ↦ a | false ↦ b ]) (ap is_ok (sym d) ∙ e))
 
-pub then_not : (s next : Said) → is_done s ≡ false → and_then s next ≡ s
+pub then_not : (s next : Said) → is_ok s ≡ false → and_then s next ≡ s
 unfolding and_then whether
 then_not s next e = ap (λ (b : Bool). whether b next s) e
 
-pub then_on : (s next : Said) → is_done s ≡ true → and_then s next ≡ next
+pub then_on : (s next : Said) → is_ok s ≡ true → and_then s next ≡ next
 unfolding and_then whether
 then_on s next e = ap (λ (b : Bool). whether b next s) e
 
 -- ---- reading
 
 module _ (F : List ℕ → List ℕ) (j : List ℕ) where
-  pub read_length : length_right (length j) ≡ false → Length ≡ read F j
+  pub read_length : length_right (length j) ≡ false → Err Length ≡ read F j
   unfolding read whether
   read_length e = rw e
 
-  pub read_first : length_right (length j) ≡ true → begins j ≡ false → First ≡ read F j
+  pub read_first : length_right (length j) ≡ true → begins j ≡ false → Err First ≡ read F j
   unfolding read whether
   read_first l e = rw (l, e)
 
-  pub read_own : length_right (length j) ≡ true → begins j ≡ true → eqb (own_length j) (length j) ≡ false → OwnLength ≡ read F j
+  pub read_own : length_right (length j) ≡ true → begins j ≡ true → eqb (own_length j) (length j) ≡ false → Err OwnLength ≡ read F j
   unfolding read whether
   read_own l b e = rw (l, b, e)
 
   abbrev hashed : Said
-  hashed = whether (same_list (F (take (body_length j) j)) (drop (body_length j) j)) (Done (length j)) Hash
+  hashed = whether (same_list (F (take (body_length j) j)) (drop (body_length j) j)) (Ok (length j)) (Err Hash)
 
   pub read_on : length_right (length j) ≡ true → begins j ≡ true → eqb (own_length j) (length j) ≡ true → read F j ≡ and_then (table j (body_length j)) hashed
   unfolding read whether
   read_on l b o = rw (l, b, o)
 
   module _ (l : length_right (length j) ≡ true) (b : begins j ≡ true) (o : eqb (own_length j) (length j) ≡ true) (t : Said) (e : t ≡ table j (body_length j)) where
-    pub read_table : is_done t ≡ false → t ≡ read F j
-    read_table d = e ∙ sym (read_on l b o ∙ then_not (table j (body_length j)) hashed (ap is_done (sym e) ∙ d))
+    pub read_table : is_ok t ≡ false → t ≡ read F j
+    read_table d = e ∙ sym (read_on l b o ∙ then_not (table j (body_length j)) hashed (ap is_ok (sym e) ∙ d))
 
-    pub read_done_lem : is_done t ≡ true → same_list (F (take (body_length j) j)) (drop (body_length j) j) ≡ true → Done (length j) ≡ read F j
+    pub read_done_lem : is_ok t ≡ true → same_list (F (take (body_length j) j)) (drop (body_length j) j) ≡ true → Ok (length j) ≡ read F j
     unfolding whether
-    read_done_lem d h = sym (read_on l b o ∙ then_on (table j (body_length j)) hashed (ap is_done (sym e) ∙ d) ∙ ap (λ (x : Bool). whether x (Done (length j)) Hash) h)
+    read_done_lem d h = sym (read_on l b o ∙ then_on (table j (body_length j)) hashed (ap is_ok (sym e) ∙ d) ∙ ap (λ (x : Bool). whether x (Ok (length j)) (Err Hash)) h)
 
-    pub read_hash : is_done t ≡ true → same_list (F (take (body_length j) j)) (drop (body_length j) j) ≡ false → Hash ≡ read F j
+    pub read_hash : is_ok t ≡ true → same_list (F (take (body_length j) j)) (drop (body_length j) j) ≡ false → Err Hash ≡ read F j
     unfolding whether
-    read_hash d h = sym (read_on l b o ∙ then_on (table j (body_length j)) hashed (ap is_done (sym e) ∙ d) ∙ ap (λ (x : Bool). whether x (Done (length j)) Hash) h)
+    read_hash d h = sym (read_on l b o ∙ then_on (table j (body_length j)) hashed (ap is_ok (sym e) ∙ d) ∙ ap (λ (x : Bool). whether x (Ok (length j)) (Err Hash)) h)
 
 -- the hash of the front of a byte string
 pub hash_said : (j h : List ℕ) (m : ℕ) → h ≡ blake2b 32 [] ([] ++ take (m - 0) (drop 0 j)) → h ≡ node_hash (take m j)
@@ -95,15 +95,15 @@ same_said j h m r v e d g =
 -- ---- range by range
 
 module _ (j : List ℕ) (q : ℕ) where
-  pub next_length_lem : length_right (length j) ≡ false → Length ≡ next_said j q
+  pub next_length_lem : length_right (length j) ≡ false → Err Length ≡ next_said j q
   unfolding next_said whether
   next_length_lem e = rw e
 
-  pub next_none : length_right (length j) ≡ true → whole j (body_length j) q ≡ false → Range q ≡ next_said j q
+  pub next_none : length_right (length j) ≡ true → whole j (body_length j) q ≡ false → Err (Range q) ≡ next_said j q
   unfolding next_said whether
   next_none l e = rw (l, e)
 
-  pub next_some : (r : ℕ) → length_right (length j) ≡ true → whole j (body_length j) q ≡ true → r ≡ behind j q → Done r ≡ next_said j q
+  pub next_some : (r : ℕ) → length_right (length j) ≡ true → whole j (body_length j) q ≡ true → r ≡ behind j q → Ok r ≡ next_said j q
   unfolding next_said whether
   next_some r l e d = rw (l, e, d)
 
@@ -126,15 +126,15 @@ module _ (j : List ℕ) (q : ℕ) where
   five_said a b c d e u v w x y = cc
 
 module _ (j : List ℕ) (i : ℕ) where
-  pub states_length : length_right (length j) ≡ false → Length ≡ states_said j i
+  pub states_length : length_right (length j) ≡ false → Err Length ≡ states_said j i
   unfolding states_said whether
   states_length e = rw e
 
-  pub states_unfit : length_right (length j) ≡ true → 10 ≤ i → Unfit ≡ states_said j i
+  pub states_unfit : length_right (length j) ≡ true → 10 ≤ i → Err Unfit ≡ states_said j i
   unfolding states_said whether
   states_unfit l h = rw (l, le-ltb i 10 h)
 
-  pub states_done_lem : length_right (length j) ≡ true → i < 10 → Done 0 ≡ states_said j i
+  pub states_done_lem : length_right (length j) ≡ true → i < 10 → Ok 0 ≡ states_said j i
   unfolding states_said whether
   states_done_lem l h = rw (l, lt-ltb i 10 h)
 

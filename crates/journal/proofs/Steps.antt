@@ -14,10 +14,9 @@ use Rattle.byte_strings.proofs.Bools.{both_true}
 use Rattle.journal.specs.Form.{length_of, states_right}
 use Rattle.journal.specs.Places.{old_at, new_at, file_at, kind_at, start_at, size_at, behind, whole}
 use Rattle.journal.specs.Reading.{place_of, whether, numbers_right, reach_of, follows, range_right, stop_at, covered_by, is_full, gap_says, walk, walked, old_lengths, table, states_say, state_right}
-use Rattle.journal.specs.declared.Place.{Place}
-use Rattle.journal.specs.declared.Place.TheVariants.{At, Nowhere}
-use Rattle.journal.specs.declared.Said.{Said}
-use Rattle.journal.specs.declared.Said.TheVariants.{Done, State, Range, Gap}
+use Rattle.std.specs.Prelude.{Option, Some, None, Ok, Err}
+use Rattle.journal.specs.Reading.{Said}
+use Rattle.journal.specs.declared.JournalError.TheVariants.{State, Range, Gap}
 use Rattle.journal.proofs.Behind.{Whole}
 
 -- ---- the test by numbers
@@ -106,23 +105,23 @@ module _ (j : List ℕ) (m : ℕ) where
   walk_start = refl
 
   module _ (k last reach : ℕ) (covered : List ℕ) (q : ℕ) where
-    pub walk_end : q ≡ m → walk j m (suc k) last reach covered q ≡ gap_says (lowest (is_full j covered) 0 10) (Done m)
+    pub walk_end : q ≡ m → walk j m (suc k) last reach covered q ≡ gap_says (lowest (is_full j covered) 0 10) (Ok m)
     unfolding walk
-    walk_end e = ap (λ (b : Bool). whether b (gap_says (lowest (is_full j covered) 0 10) (Done m))
-        (whether (range_right j m last reach covered q) (walk j m k (file_at j q) (stop_at j q) (covered_by j covered q) (behind j q)) (Range q))) (eq-eqb q m e)
+    walk_end e = ap (λ (b : Bool). whether b (gap_says (lowest (is_full j covered) 0 10) (Ok m))
+        (whether (range_right j m last reach covered q) (walk j m k (file_at j q) (stop_at j q) (covered_by j covered q) (behind j q)) (Err (Range q)))) (eq-eqb q m e)
         ∙ unfold whether in refl
 
     step : (q ≡ m → ⊥) → (b : Bool) → range_right j m last reach covered q ≡ b
-        → walk j m (suc k) last reach covered q ≡ whether b (walk j m k (file_at j q) (stop_at j q) (covered_by j covered q) (behind j q)) (Range q)
+        → walk j m (suc k) last reach covered q ≡ whether b (walk j m k (file_at j q) (stop_at j q) (covered_by j covered q) (behind j q)) (Err (Range q))
     unfolding walk
-    step n b e = ap₂ (λ (x y : Bool). whether x (gap_says (lowest (is_full j covered) 0 10) (Done m))
-        (whether y (walk j m k (file_at j q) (stop_at j q) (covered_by j covered q) (behind j q)) (Range q))) (ne_eqb q m n) e
+    step n b e = ap₂ (λ (x y : Bool). whether x (gap_says (lowest (is_full j covered) 0 10) (Ok m))
+        (whether y (walk j m k (file_at j q) (stop_at j q) (covered_by j covered q) (behind j q)) (Err (Range q)))) (ne_eqb q m n) e
         ∙ unfold whether in refl
 
-    pub walk_cut : q < m → whole j m q ≡ false → walk j m (suc k) last reach covered q ≡ Range q
+    pub walk_cut : q < m → whole j m q ≡ false → walk j m (suc k) last reach covered q ≡ Err (Range q)
     walk_cut h e = step (omega arith) false (unfold range_right in ap (λ (b : Bool). b && follows j last reach covered q) e) ∙ unfold whether in refl
 
-    pub walk_off : q < m → whole j m q ≡ true → follows j last reach covered q ≡ false → walk j m (suc k) last reach covered q ≡ Range q
+    pub walk_off : q < m → whole j m q ≡ true → follows j last reach covered q ≡ false → walk j m (suc k) last reach covered q ≡ Err (Range q)
     walk_off h e d = step (omega arith) false (unfold range_right in ap₂ (λ (a b : Bool). a && b) e d) ∙ unfold whether in refl
 
     pub walk_on : q < m → whole j m q ≡ true → follows j last reach covered q ≡ true
@@ -137,15 +136,15 @@ module _ (j : List ℕ) (m : ℕ) where
   walks_start = (suc m, omega arith, walk_start)
 
   module _ (last reach : ℕ) (covered : List ℕ) (q : ℕ) where
-    pub walks_cut : Walks last reach covered q → q < m → whole j m q ≡ false → Range q ≡ walked j m
+    pub walks_cut : Walks last reach covered q → q < m → whole j m q ≡ false → Err (Range q) ≡ walked j m
     walks_cut (zero, l, e) h w = absurd (omega arith)
     walks_cut (suc k, l, e) h w = sym (e ∙ walk_cut k last reach covered q h w)
 
-    pub walks_off : Walks last reach covered q → q < m → whole j m q ≡ true → follows j last reach covered q ≡ false → Range q ≡ walked j m
+    pub walks_off : Walks last reach covered q → q < m → whole j m q ≡ true → follows j last reach covered q ≡ false → Err (Range q) ≡ walked j m
     walks_off (zero, l, e) h w f = absurd (omega arith)
     walks_off (suc k, l, e) h w f = sym (e ∙ walk_off k last reach covered q h w f)
 
-    pub walks_end : Walks last reach covered q → m ≤ q → q ≤ m → gap_says (lowest (is_full j covered) 0 10) (Done m) ≡ walked j m
+    pub walks_end : Walks last reach covered q → m ≤ q → q ≤ m → gap_says (lowest (is_full j covered) 0 10) (Ok m) ≡ walked j m
     walks_end (zero, l, e) g h = absurd (omega arith)
     walks_end (suc k, l, e) g h = sym (e ∙ walk_end k last reach covered q (omega arith))
 
@@ -192,20 +191,20 @@ covered_said j covered q f s v x y z = rw (z, x, y)
 
 -- ---- what a search found
 
-pub gap_at : (j covered : List ℕ) (m i : ℕ) (p : Place) (w : Said) → p ≡ At i → place_of p ≡ lowest (is_full j covered) 0 10
-    → gap_says (lowest (is_full j covered) 0 10) (Done m) ≡ w → Gap i ≡ w
+pub gap_at : (j covered : List ℕ) (m i : ℕ) (p : Option ℕ) (w : Said) → p ≡ Some i → place_of p ≡ lowest (is_full j covered) 0 10
+    → gap_says (lowest (is_full j covered) 0 10) (Ok m) ≡ w → Err (Gap i) ≡ w
 unfolding gap_says
-gap_at j covered m i p w e d g = ap (λ (x : Lowest). gap_says x (Done m)) (sym (ap place_of e) ∙ d) ∙ g
+gap_at j covered m i p w e d g = ap (λ (x : Lowest). gap_says x (Ok m)) (sym (ap place_of e) ∙ d) ∙ g
 
-pub gap_none : (j covered : List ℕ) (m : ℕ) (p : Place) (w : Said) → p ≡ Nowhere → place_of p ≡ lowest (is_full j covered) 0 10
-    → gap_says (lowest (is_full j covered) 0 10) (Done m) ≡ w → Done m ≡ w
+pub gap_none : (j covered : List ℕ) (m : ℕ) (p : Option ℕ) (w : Said) → p ≡ None → place_of p ≡ lowest (is_full j covered) 0 10
+    → gap_says (lowest (is_full j covered) 0 10) (Ok m) ≡ w → Ok m ≡ w
 unfolding gap_says
-gap_none j covered m p w e d g = ap (λ (x : Lowest). gap_says x (Done m)) (sym (ap place_of e) ∙ d) ∙ g
+gap_none j covered m p w e d g = ap (λ (x : Lowest). gap_says x (Ok m)) (sym (ap place_of e) ∙ d) ∙ g
 
-pub state_at : (j : List ℕ) (m i : ℕ) (p : Place) → p ≡ At i → place_of p ≡ lowest (state_right j) 0 10 → State i ≡ table j m
+pub state_at : (j : List ℕ) (m i : ℕ) (p : Option ℕ) → p ≡ Some i → place_of p ≡ lowest (state_right j) 0 10 → Err (State i) ≡ table j m
 unfolding table states_say
 state_at j m i p e d = ap (λ (x : Lowest). states_say x (walked j m)) (sym (ap place_of e) ∙ d)
 
-pub state_none : (j : List ℕ) (m : ℕ) (p : Place) (r : Said) → p ≡ Nowhere → place_of p ≡ lowest (state_right j) 0 10 → r ≡ walked j m → r ≡ table j m
+pub state_none : (j : List ℕ) (m : ℕ) (p : Option ℕ) (r : Said) → p ≡ None → place_of p ≡ lowest (state_right j) 0 10 → r ≡ walked j m → r ≡ table j m
 unfolding table states_say
 state_none j m p r e d g = g ∙ ap (λ (x : Lowest). states_say x (walked j m)) (sym (ap place_of e) ∙ d)

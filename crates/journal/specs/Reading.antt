@@ -1,19 +1,21 @@
 -- Reading a journal: the checks 1 to 7 of FORMAT.md, "The journal", in their order.
-use Rattle.std.specs.Prelude.{ℕ, zero, suc, ◌+◌, max, Bool, true, false, ◌&&◌, ◌||◌, List, length, get_or, take, drop, set, eqb, leb, ltb}
+use Rattle.std.specs.Prelude.{ℕ, zero, suc, ◌+◌, max, Bool, true, false, ◌&&◌, ◌||◌, List, length, get_or, take, drop, set, eqb, leb, ltb, Option, Some, None, Result, Ok, Err, is_ok}
 use Rattle.byte_strings.specs.Lists.{part, run, same_list}
 use Rattle.byte_strings.specs.Numbers.{number}
 use Rattle.byte_strings.specs.Lowest.{Lowest, nowhere, first, lowest}
 use Rattle.journal.specs.Form.{magic, front, length_of, states_right}
 use Rattle.journal.specs.Places.{old_at, new_at, file_at, kind_at, start_at, size_at, behind, whole, length_right, body_length}
-use Rattle.journal.specs.declared.Place.{Place}
-use Rattle.journal.specs.declared.Place.TheVariants.{At, Nowhere}
-use Rattle.journal.specs.declared.Said.{Said}
-use Rattle.journal.specs.declared.Said.TheVariants.{Done, Length, First, OwnLength, State, Range, Gap, Hash, NotBetween, Byte, Unfit}
+use Rattle.journal.specs.declared.JournalError.{JournalError}
+use Rattle.journal.specs.declared.JournalError.TheVariants.{Length, First, OwnLength, State, Range, Gap, Hash, Unfit}
 
--- what the code's answer stands for
-abbrev pub place_of : Place → Lowest
-place_of (At i) = first i
-place_of Nowhere = nowhere
+-- what a call says: the place behind what was read or written, or why it is refused
+abbrev pub Said : Type 0
+Said = Result ℕ JournalError
+
+-- what the code's answer of a search stands for
+abbrev pub place_of : Option ℕ → Lowest
+place_of (Some i) = first i
+place_of None = nowhere
 
 -- what is said where a test holds, and where it does not
 unfoldable pub whether : Bool → Said → Said → Said
@@ -29,7 +31,7 @@ state_right j i = states_right i (old_at j i) (new_at j i)
 -- the lowest file whose states are wrong
 unfoldable pub states_say : Lowest → Said → Said
 states_say nowhere next = next
-states_say (first i) next = State i
+states_say (first i) next = Err (State i)
 
 -- ---- the table: the ranges
 
@@ -71,14 +73,14 @@ is_full j covered i = leb (length_of (new_at j i)) (get_or covered i 0)
 -- the lowest file that has a gap
 unfoldable pub gap_says : Lowest → Said → Said
 gap_says nowhere next = next
-gap_says (first i) next = Gap i
+gap_says (first i) next = Err (Gap i)
 
 -- the walk from q to the end m, over at most so many ranges
 unfoldable pub walk : List ℕ → ℕ → ℕ → ℕ → ℕ → List ℕ → ℕ → Said
-walk j m zero last reach covered q = Range q
+walk j m zero last reach covered q = Err (Range q)
 walk j m (suc k) last reach covered q =
-    whether (eqb q m) (gap_says (lowest (is_full j covered) 0 10) (Done m))
-    (whether (range_right j m last reach covered q) (walk j m k (file_at j q) (stop_at j q) (covered_by j covered q) (behind j q)) (Range q))
+    whether (eqb q m) (gap_says (lowest (is_full j covered) 0 10) (Ok m))
+    (whether (range_right j m last reach covered q) (walk j m k (file_at j q) (stop_at j q) (covered_by j covered q) (behind j q)) (Err (Range q)))
 
 -- at first each file is covered up to its old length
 abbrev pub old_lengths : List ℕ → List ℕ
@@ -94,23 +96,9 @@ table j m = states_say (lowest (state_right j) 0 10) (walked j m)
 
 -- ---- all of it
 
--- whether it is done
-abbrev pub is_done : Said → Bool
-is_done (Done p) = true
-is_done Length = false
-is_done First = false
-is_done OwnLength = false
-is_done (State i) = false
-is_done (Range q) = false
-is_done (Gap i) = false
-is_done Hash = false
-is_done (NotBetween s) = false
-is_done (Byte o) = false
-is_done Unfit = false
-
 -- what is said next, where the first is done
 unfoldable pub and_then : Said → Said → Said
-and_then s next = whether (is_done s) next s
+and_then s next = whether (is_ok s) next s
 
 -- the first bytes of a journal: the magic, and its own length
 abbrev pub begins : List ℕ → Bool
@@ -125,21 +113,21 @@ read F j =
     whether (length_right (length j))
     (whether (begins j)
     (whether (eqb (own_length j) (length j))
-    (and_then (table j (body_length j)) (whether (same_list (F (take (body_length j) j)) (drop (body_length j) j)) (Done (length j)) Hash))
-    OwnLength)
-    First)
-    Length
+    (and_then (table j (body_length j)) (whether (same_list (F (take (body_length j) j)) (drop (body_length j) j)) (Ok (length j)) (Err Hash)))
+    (Err OwnLength))
+    (Err First))
+    (Err Length)
 
 -- ---- range by range
 
 -- the next range: the place behind it, or that there is none
 unfoldable pub next_said : List ℕ → ℕ → Said
-next_said j q = whether (length_right (length j)) (whether (whole j (body_length j) q) (Done (behind j q)) (Range q)) Length
+next_said j q = whether (length_right (length j)) (whether (whole j (body_length j) q) (Ok (behind j q)) (Err (Range q))) (Err Length)
 
 -- what is left in numbers lent, which are written only where the call is done
 unfoldable pub if_done : Said → List ℕ → List ℕ → List ℕ
-if_done s after before = elim (is_done s) [ true ↦ after | false ↦ before ]
+if_done s after before = elim (is_ok s) [ true ↦ after | false ↦ before ]
 
 -- the states of a file
 unfoldable pub states_said : List ℕ → ℕ → Said
-states_said j i = whether (length_right (length j)) (whether (ltb i 10) (Done 0) Unfit) Length
+states_said j i = whether (length_right (length j)) (whether (ltb i 10) (Ok 0) (Err Unfit)) (Err Length)

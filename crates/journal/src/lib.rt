@@ -5,13 +5,11 @@ mod ranges;
 mod reading;
 
 pub use ranges::{length_right, place_behind, wide};
-pub use reading::{begins, check, is_done, judge_table, next, states};
+pub use reading::{begins, check, judge_table, next, states};
 
-// What a call says. A place is one in the journal unless it says otherwise.
-#[derive(Clone, Copy)]
-pub enum Said {
-    // Done: the place behind what was read or written.
-    Done(usize),
+// Why a call on a journal is refused. A place is one in the journal unless it says otherwise.
+#[derive(Clone, Copy, Debug, PartialEq, Eq)]
+pub enum JournalError {
     // The length is no journal's, or there is no room.
     Length,
     // The first bytes are none of a journal.
@@ -32,11 +30,4 @@ pub enum Said {
     Byte(usize),
     // No such file or kind, or not as many bytes as kind and length ask.
     Unfit,
-}
-
-// The first place that a search finds.
-#[derive(Clone, Copy)]
-pub enum Place {
-    At(usize),
-    Nowhere,
 }

@@ -4,10 +4,10 @@ ghost use Rattle.byte_strings.specs.Lowest.{lowest};
 ghost use Rattle.blake2b.specs.Hash.{node_hash};
 ghost use Rattle.journal.specs.Form.{tree_length, signatures_length, bitfield_length, right_length, states_right};
 ghost use Rattle.journal.specs.Places.{old_at, new_at, numbers_at};
-ghost use Rattle.journal.specs.Reading.{place_of, state_right, numbers_right, reach_of, old_lengths, is_full, walked, table, is_done, read, next_said, if_done, states_said};
+ghost use Rattle.journal.specs.Reading.{place_of, state_right, numbers_right, reach_of, old_lengths, is_full, walked, table, read, next_said, if_done, states_said};
 ghost use Rattle.journal.specs.Reading as Reading;
 
-use super::{Place, Said};
+use super::JournalError;
 
 fn is_tree(length: u64) -> bool
     ensures { result ≡ tree_length length }
@@ -72,7 +72,7 @@ fn states_right(file: usize, old: u64, new: u64) -> bool
 }
 
 // Inner: the lowest file whose states are wrong.
-fn wrong_state(journal: &[u8]) -> Place
+fn wrong_state(journal: &[u8]) -> Option<usize>
     requires { 184 ≤ length journal.now }
     ensures { place_of result ≡ lowest (state_right journal.now) 0 10 }
 {
@@ -81,11 +81,11 @@ fn wrong_state(journal: &[u8]) -> Place
         let old = byte_strings::read_be64(journal, 24 + 16 * i);
         let new = byte_strings::read_be64(journal, 32 + 16 * i);
         if !states_right(i, old, new) {
-            return Place::At(i);
+            return Some(i);
         }
         i += 1;
     }
-    Place::Nowhere
+    None
 }
 
 // The test of one range by its numbers.
@@ -165,22 +165,22 @@ fn old_lengths(journal: &[u8]) -> [u64; 10]
 }
 
 // Inner: the lowest file that is not covered up to its new length.
-fn gap(journal: &[u8], covered: &[u64; 10]) -> Place
+fn gap(journal: &[u8], covered: &[u64; 10]) -> Option<usize>
     requires { 184 ≤ length journal.now }
     ensures { place_of result ≡ lowest (is_full journal.now covered.now) 0 10 }
 {
     let mut i: usize = 0;
     while i < 10 {
         if covered[i] < super::ranges::new_length(journal, i) {
-            return Place::At(i);
+            return Some(i);
         }
         i += 1;
     }
-    Place::Nowhere
+    None
 }
 
 // Inner: all ranges up to the end, one behind another.
-fn walk(journal: &[u8], end: usize) -> Said
+fn walk(journal: &[u8], end: usize) -> Result<usize, JournalError>
     requires { (184 ≤ end) × (end ≤ length journal.now) }
     ensures { result ≡ walked journal.now end }
 {
@@ -191,10 +191,10 @@ fn walk(journal: &[u8], end: usize) -> Said
     while at < end {
         let next = super::ranges::place_behind(journal, end, at);
         if next == 0 {
-            return Said::Range(at);
+            return Err(JournalError::Range(at));
         }
         if !follows(journal, last, reach, &covered, at) {
-            return Said::Range(at);
+            return Err(JournalError::Range(at));
         }
         last = super::ranges::wide(journal[at]);
         reach = byte_strings::read_be64(journal, at + 2)
@@ -204,19 +204,19 @@ fn walk(journal: &[u8], end: usize) -> Said
         at = next;
     }
     match gap(journal, &covered) {
-        Place::At(i) => Said::Gap(i),
-        Place::Nowhere => Said::Done(end),
+        Some(i) => Err(JournalError::Gap(i)),
+        None => Ok(end),
     }
 }
 
 // Inner: the table of a journal whose ranges end at `end`: its states, and its ranges.
-pub fn judge_table(journal: &[u8], end: usize) -> Said
+pub fn judge_table(journal: &[u8], end: usize) -> Result<usize, JournalError>
     requires { (184 ≤ end) × (end ≤ length journal.now) }
     ensures { result ≡ table journal.now end }
 {
     match wrong_state(journal) {
-        Place::At(i) => Said::State(i),
-        Place::Nowhere => walk(journal, end),
+        Some(i) => Err(JournalError::State(i)),
+        None => walk(journal, end),
     }
 }
 
@@ -229,80 +229,58 @@ pub fn begins(journal: &[u8]) -> bool
     byte_strings::same(&journal[0..16], magic)
 }
 
-// Whether a call was done.
-pub fn is_done(said: Said) -> bool
-    ensures { result ≡ is_done said }
-{
-    match said {
-        Said::Done(_) => true,
-        Said::Length => false,
-        Said::First => false,
-        Said::OwnLength => false,
-        Said::State(_) => false,
-        Said::Range(_) => false,
-        Said::Gap(_) => false,
-        Said::Hash => false,
-        Said::NotBetween(_) => false,
-        Said::Byte(_) => false,
-        Said::Unfit => false,
-    }
-}
-
 // Whether bytes are a journal: the encoding of a well_formed one, and no other.
-pub fn check(journal: &[u8]) -> Said
+pub fn check(journal: &[u8]) -> Result<usize, JournalError>
     ensures { result ≡ read node_hash journal.now }
 {
     if !super::ranges::length_right(journal.len()) {
-        return Said::Length;
+        return Err(JournalError::Length);
     }
     if !begins(journal) {
-        return Said::First;
+        return Err(JournalError::First);
     }
     if byte_strings::read_be64(journal, 16) != (journal.len() as u64) {
-        return Said::OwnLength;
+        return Err(JournalError::OwnLength);
     }
     let end = journal.len() - 32;
-    let said = judge_table(journal, end);
-    if !is_done(said) {
-        return said;
-    }
+    judge_table(journal, end)?;
     let hash = blake2b::hash_parts(b"", b"", &journal[0..end]);
     if byte_strings::same(&hash, &journal[end..]) {
-        return Said::Done(journal.len());
+        return Ok(journal.len());
     }
-    Said::Hash
+    Err(JournalError::Hash)
 }
 
 // The range at a place of a journal, as five numbers in `range`; the place behind it.
-pub fn next(journal: &[u8], at: usize, range: &mut [u64; 5]) -> Said
+pub fn next(journal: &[u8], at: usize, range: &mut [u64; 5]) -> Result<usize, JournalError>
     ensures value { result ≡ next_said journal.now at }
     ensures range_after { range.new ≡ if_done (next_said journal.now at) (numbers_at journal.now at) range.old }
 {
     if !super::ranges::length_right(journal.len()) {
-        return Said::Length;
+        return Err(JournalError::Length);
     }
     let next = super::ranges::place_behind(journal, journal.len() - 32, at);
     if next == 0 {
-        return Said::Range(at);
+        return Err(JournalError::Range(at));
     }
     *range = super::ranges::numbers(journal, at);
-    Said::Done(next)
+    Ok(next)
 }
 
 // The states of a file, in `states`.
-pub fn states(journal: &[u8], file: u64, states: &mut [u64; 2]) -> Said
+pub fn states(journal: &[u8], file: u64, states: &mut [u64; 2]) -> Result<usize, JournalError>
     ensures value { result ≡ states_said journal.now file }
     ensures states_after { states.new ≡ if_done (states_said journal.now file) (old_at journal.now file ∷ new_at journal.now file ∷ []) states.old }
 {
     if !super::ranges::length_right(journal.len()) {
-        return Said::Length;
+        return Err(JournalError::Length);
     }
     if 10 <= file {
-        return Said::Unfit;
+        return Err(JournalError::Unfit);
     }
     let number = file as usize;
     let old = byte_strings::read_be64(journal, 24 + 16 * number);
     let new = byte_strings::read_be64(journal, 32 + 16 * number);
     *states = [old, new];
-    Said::Done(0)
+    Ok(0)
 }

@@ -7,7 +7,7 @@ ghost use Rattle.blake2b.specs.Hash.{node_hash};
 ghost use Rattle.journal.specs.Form.{words};
 ghost use Rattle.journal_making.specs.Making.{begin_said, begun, fitting, range_bytes, room_for, put_said, put_after, end_said, end_after};
 
-use journal::Said;
+use journal::JournalError;
 
 // Inner: numbers of eight bytes, one behind another.
 fn write_words(journal: &mut [u8], at: usize, numbers: &[u64])
@@ -23,17 +23,17 @@ fn write_words(journal: &mut [u8], at: usize, numbers: &[u64])
 }
 
 // Begins a journal with the old and the new state of each file; the first range's place.
-pub fn begin(journal: &mut [u8], states: &[u64; 20]) -> Said
+pub fn begin(journal: &mut [u8], states: &[u64; 20]) -> Result<usize, JournalError>
     ensures value { result ≡ begin_said journal.old }
     ensures journal_after { journal.new ≡ begun states.now journal.old }
 {
     if journal.len() < 216 {
-        return Said::Length;
+        return Err(JournalError::Length);
     }
     byte_strings::copy_to(journal, 0, b"sleep-archive 2\n");
     byte_strings::clear(journal, 16, 8);
     write_words(journal, 24, states);
-    Said::Done(184)
+    Ok(184)
 }
 
 // Whether so many old and new bytes are those of a range.
@@ -117,58 +117,52 @@ pub fn put(
     size: u64,
     old: &[u8],
     new: &[u8],
-) -> Said
+) -> Result<usize, JournalError>
     ensures value { result ≡ put_said journal.old at file kind size old.now new.now }
     ensures journal_after { journal.new ≡ put_after journal.old at file kind offset size old.now new.now }
 {
     if 10 <= file {
-        return Said::Unfit;
+        return Err(JournalError::Unfit);
     }
     if !is_fitting(kind, size, old.len() as u64, new.len() as u64) {
-        return Said::Unfit;
+        return Err(JournalError::Unfit);
     }
     if !has_room(journal.len(), at, old.len(), new.len()) {
-        return Said::Length;
+        return Err(JournalError::Length);
     }
     write_range(journal, at, file as u8, kind as u8, offset, size, old, new);
-    Said::Done(at + 18 + (old.len() + new.len()))
+    Ok(at + 18 + (old.len() + new.len()))
 }
 
 // Inner: what the end says, and writes nothing yet.
-fn judge_end(journal: &[u8], at: usize) -> Said
+fn judge_end(journal: &[u8], at: usize) -> Result<usize, JournalError>
     ensures { result ≡ end_said journal.now at }
 {
     if journal.len() < 32 {
-        return Said::Length;
+        return Err(JournalError::Length);
     }
     if journal.len() - 32 < at {
-        return Said::Length;
+        return Err(JournalError::Length);
     }
     if !journal::length_right(at + 32) {
-        return Said::Length;
+        return Err(JournalError::Length);
     }
     if !journal::begins(journal) {
-        return Said::First;
+        return Err(JournalError::First);
     }
-    let said = journal::judge_table(journal, at);
-    if !journal::is_done(said) {
-        return said;
-    }
-    Said::Done(at + 32)
+    journal::judge_table(journal, at)?;
+    Ok(at + 32)
 }
 
 // Ends a journal whose ranges end at a place: judges it, and writes its length and its hash; its length.
-pub fn end(journal: &mut [u8], at: usize) -> Said
+pub fn end(journal: &mut [u8], at: usize) -> Result<usize, JournalError>
     ensures value { result ≡ end_said journal.old at }
     ensures journal_after { journal.new ≡ end_after node_hash journal.old at }
 {
-    let said = judge_end(journal, at);
-    if !journal::is_done(said) {
-        return said;
-    }
+    let long = judge_end(journal, at)?;
     let length = byte_strings::be64((at + 32) as u64);
     byte_strings::copy_to(journal, 16, &length);
     let hash = blake2b::hash_parts(b"", b"", &journal[0..at]);
     byte_strings::copy_to(journal, at, &hash);
-    said
+    Ok(long)
 }

@@ -10,25 +10,23 @@ use borrow.Author.Tests.{eq-eqb, ne_eqb, lt-leb, lt-ltb, le-ltb}
 use Rattle.byte_strings.specs.Lowest.{Lowest, nowhere, first}
 use Rattle.journal.specs.Form.{state_of}
 use Rattle.journal.specs.Places.{file_at, kind_at, behind, whole, range_at, length_right, body_length}
-use Rattle.journal.specs.Reading.{place_of, whether}
-use Rattle.journal.specs.declared.Place.{Place}
-use Rattle.journal.specs.declared.Place.TheVariants.{At, Nowhere}
-use Rattle.journal.specs.declared.Said.{Said}
-use Rattle.journal.specs.declared.Said.TheVariants.{Done, Length, NotBetween, Byte, Unfit}
+use Rattle.journal.specs.Reading.{Said, place_of, whether}
+use Rattle.std.specs.Prelude.{Option, Some, None, Ok, Err}
+use Rattle.journal.specs.declared.JournalError.TheVariants.{Length, NotBetween, Byte, Unfit}
 use Rattle.journal.proofs.Behind.{Whole}
 use Rattle.journal_meeting.specs.Between.{met_range, or_byte, is_of, met, state_met, between}
 
 module _ (j : List ℕ) (m i : ℕ) (f : List ℕ) where
   -- no range of the file at q
-  pub stops : (k q : ℕ) → is_of j m i q ≡ false → met j m i f k q ≡ Done q
+  pub stops : (k q : ℕ) → is_of j m i q ≡ false → met j m i f k q ≡ Ok q
   unfolding met whether
   stops zero q e = refl
-  stops (suc k) q e = ap (λ (b : Bool). whether b (or_byte (met_range f (range_at j q)) (met j m i f k (behind j q))) (Done q)) e
+  stops (suc k) q e = ap (λ (b : Bool). whether b (or_byte (met_range f (range_at j q)) (met j m i f k (behind j q))) (Ok q)) e
 
   pub goes : (k q : ℕ) (l : Lowest) → is_of j m i q ≡ true → l ≡ met_range f (range_at j q) → met j m i f (suc k) q ≡ or_byte l (met j m i f k (behind j q))
   unfolding met whether
   goes k q l e d =
-      ap (λ (b : Bool). whether b (or_byte (met_range f (range_at j q)) (met j m i f k (behind j q))) (Done q)) e
+      ap (λ (b : Bool). whether b (or_byte (met_range f (range_at j q)) (met j m i f k (behind j q))) (Ok q)) e
       ∙ ap (λ (x : Lowest). or_byte x (met j m i f k (behind j q))) (sym d)
 
   pub past : (q : ℕ) → m ≤ q → is_of j m i q ≡ false
@@ -55,22 +53,22 @@ module _ (j : List ℕ) (m i : ℕ) (f : List ℕ) where
   mets_start q h = (suc (length j), omega arith, refl)
 
   module _ (start q : ℕ) where
-    pub mets_past : Mets start q → m ≤ q → Done q ≡ met j m i f (suc (length j)) start
+    pub mets_past : Mets start q → m ≤ q → Ok q ≡ met j m i f (suc (length j)) start
     mets_past (k, l, e) h = sym (e ∙ stops k q (past q h))
 
-    pub mets_cut : Mets start q → whole j m q ≡ false → Done q ≡ met j m i f (suc (length j)) start
+    pub mets_cut : Mets start q → whole j m q ≡ false → Ok q ≡ met j m i f (suc (length j)) start
     mets_cut (k, l, e) h = sym (e ∙ stops k q (cut q h))
 
-    pub mets_other : Mets start q → whole j m q ≡ true → (n : ℕ) → n ≡ file_at j q → (n ≡ i → ⊥) → Done q ≡ met j m i f (suc (length j)) start
+    pub mets_other : Mets start q → whole j m q ≡ true → (n : ℕ) → n ≡ file_at j q → (n ≡ i → ⊥) → Ok q ≡ met j m i f (suc (length j)) start
     mets_other (k, l, e) w n x y = sym (e ∙ stops k q (other q w (λ d. y (x ∙ d))))
 
-    module _ (w : whole j m q ≡ true) (n : ℕ) (x : n ≡ file_at j q) (y : n ≡ i) (p : Place) (z : place_of p ≡ met_range f (range_at j q)) where
-      pub mets_byte : Mets start q → q < m → (o : ℕ) → p ≡ At o → Byte o ≡ met j m i f (suc (length j)) start
+    module _ (w : whole j m q ≡ true) (n : ℕ) (x : n ≡ file_at j q) (y : n ≡ i) (p : Option ℕ) (z : place_of p ≡ met_range f (range_at j q)) where
+      pub mets_byte : Mets start q → q < m → (o : ℕ) → p ≡ Some o → Err (Byte o) ≡ met j m i f (suc (length j)) start
       unfolding or_byte
       mets_byte (zero, l, e) h o d = absurd (omega arith)
       mets_byte (suc k, l, e) h o d = sym (e ∙ goes k q (first o) (of_it q w (sym x ∙ y)) (sym (ap place_of d) ∙ z))
 
-      pub mets_on : Mets start q → q < m → (r : ℕ) → Whole j m q r → p ≡ Nowhere → Mets start r
+      pub mets_on : Mets start q → q < m → (r : ℕ) → Whole j m q r → p ≡ None → Mets start r
       unfolding or_byte
       mets_on (zero, l, e) h r v d = absurd (omega arith)
       mets_on (suc k, l, e) h r v d =
@@ -79,16 +77,16 @@ module _ (j : List ℕ) (m i : ℕ) (f : List ℕ) where
 -- ---- the call
 
 module _ (j : List ℕ) (i q : ℕ) (there : Bool) (f : List ℕ) where
-  pub between_length : length_right (length j) ≡ false → Length ≡ between j i q there f
+  pub between_length : length_right (length j) ≡ false → Err Length ≡ between j i q there f
   unfolding between whether
   between_length e = rw e
 
   module _ (l : length_right (length j) ≡ true) where
-    pub between_unfit : 10 ≤ i → Unfit ≡ between j i q there f
+    pub between_unfit : 10 ≤ i → Err Unfit ≡ between j i q there f
     unfolding between whether
     between_unfit h = rw (l, le-ltb i 10 h)
 
-    pub between_state : i < 10 → state_met j i (state_of there (length f)) ≡ false → NotBetween i ≡ between j i q there f
+    pub between_state : i < 10 → state_met j i (state_of there (length f)) ≡ false → Err (NotBetween i) ≡ between j i q there f
     unfolding between whether
     between_state h e = rw (l, lt-ltb i 10 h, e)
 

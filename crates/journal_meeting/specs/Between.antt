@@ -1,12 +1,11 @@
 -- What lies between before and after, as a call can see it.
-use Rattle.std.specs.Prelude.{ℕ, zero, suc, ◌+◌, Bool, true, false, ◌&&◌, ◌||◌, List, length, get_or, eqb, leb, ltb}
+use Rattle.std.specs.Prelude.{ℕ, zero, suc, ◌+◌, Bool, true, false, ◌&&◌, ◌||◌, List, length, get_or, eqb, leb, ltb, Ok, Err}
 use Rattle.byte_strings.specs.Lowest.{Lowest, nowhere, first, lowest}
 use Rattle.journal.specs.Ranges.{Range, replaced, fresh, blank, witness, start}
 use Rattle.journal.specs.Form.{state_of}
 use Rattle.journal.specs.Places.{old_at, new_at, file_at, whole, behind, range_at, length_right, body_length}
-use Rattle.journal.specs.Reading.{whether}
-use Rattle.journal.specs.declared.Said.{Said}
-use Rattle.journal.specs.declared.Said.TheVariants.{Done, Length, NotBetween, Byte, Unfit}
+use Rattle.journal.specs.Reading.{Said, whether}
+use Rattle.journal.specs.declared.JournalError.TheVariants.{Length, NotBetween, Byte, Unfit}
 
 -- byte i behind the offset is the old one or the new one
 unfoldable pub right_at : List ℕ → List ℕ → List ℕ → ℕ → ℕ → Bool
@@ -39,7 +38,7 @@ met_range f r = elim (in_file f r) [ true ↦ shifted (start r) (judged_range f 
 -- a wrong byte, or what is said next
 unfoldable pub or_byte : Lowest → Said → Said
 or_byte nowhere next = next
-or_byte (first o) next = Byte o
+or_byte (first o) next = Err (Byte o)
 
 -- the range at q is whole and of the file i
 unfoldable pub is_of : List ℕ → ℕ → ℕ → ℕ → Bool
@@ -47,8 +46,8 @@ is_of j m i q = whole j m q && eqb (file_at j q) i
 
 -- the ranges from q on, as long as they are of the file i: the first wrong byte, or the place behind them
 unfoldable pub met : List ℕ → ℕ → ℕ → List ℕ → ℕ → ℕ → Said
-met j m i f zero q = Done q
-met j m i f (suc k) q = whether (is_of j m i q) (or_byte (met_range f (range_at j q)) (met j m i f k (behind j q))) (Done q)
+met j m i f zero q = Ok q
+met j m i f (suc k) q = whether (is_of j m i q) (or_byte (met_range f (range_at j q)) (met j m i f k (behind j q))) (Ok q)
 
 -- "its state is at least the old one and at most the new one"
 unfoldable pub state_met : List ℕ → ℕ → ℕ → Bool
@@ -59,6 +58,6 @@ unfoldable pub between : List ℕ → ℕ → ℕ → Bool → List ℕ → Said
 between j i q there f =
     whether (length_right (length j))
     (whether (ltb i 10)
-    (whether (state_met j i (state_of there (length f))) (met j (body_length j) i f (suc (length j)) q) (NotBetween i))
-    Unfit)
-    Length
+    (whether (state_met j i (state_of there (length f))) (met j (body_length j) i f (suc (length j)) q) (Err (NotBetween i)))
+    (Err Unfit))
+    (Err Length)

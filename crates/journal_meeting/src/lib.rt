@@ -9,7 +9,7 @@ ghost use Rattle.journal.specs.Reading.{place_of};
 ghost use Rattle.journal_meeting.specs.Between.{right_at, shifted, met_range, state_met};
 ghost use Rattle.journal_meeting.specs.Between as Between;
 
-use journal::{Place, Said};
+use journal::JournalError;
 
 // Whether x is one of two bytes.
 fn either(x: u8, a: u8, b: u8) -> bool
@@ -22,39 +22,39 @@ fn either(x: u8, a: u8, b: u8) -> bool
 }
 
 // Inner: the first byte behind the offset that is neither the old one nor the new one.
-fn first_strange(file: &[u8], at: usize, old: &[u8], new: &[u8]) -> Place
+fn first_strange(file: &[u8], at: usize, old: &[u8], new: &[u8]) -> Option<usize>
     requires { (at + length new.now ≤ length file.now) × (length old.now ≡ length new.now) }
     ensures { place_of result ≡ shifted at (lowest (right_at file.now old.now new.now at) 0 (length new.now)) }
 {
     let mut i = 0;
     while i < new.len() {
         if !either(file[at + i], old[i], new[i]) {
-            return Place::At(at + i);
+            return Some(at + i);
         }
         i += 1;
     }
-    Place::Nowhere
+    None
 }
 
 // Inner: the first wrong byte of the whole range at a place, which ends at `next`.
-fn met_range(journal: &[u8], at: usize, next: usize, file: &[u8]) -> Place
+fn met_range(journal: &[u8], at: usize, next: usize, file: &[u8]) -> Option<usize>
     requires { (next ≡ behind journal.now at) × (at + 18 ≤ next) × (next ≤ length journal.now) }
     ensures { place_of result ≡ met_range file.now (range_at journal.now at) }
 {
     let kind = journal::wide(journal[at + 1]);
     if kind == 2 {
-        return Place::Nowhere;
+        return None;
     }
     if kind == 3 {
-        return Place::Nowhere;
+        return None;
     }
     let offset = byte_strings::read_be64(journal, at + 2) as usize;
     let size = byte_strings::read_be64(journal, at + 10) as usize;
     if file.len() < offset {
-        return Place::At(offset);
+        return Some(offset);
     }
     if file.len() - offset < size {
-        return Place::At(offset);
+        return Some(offset);
     }
     let from = at + 18;
     let middle = from + size;
@@ -65,7 +65,7 @@ fn met_range(journal: &[u8], at: usize, next: usize, file: &[u8]) -> Place
 }
 
 // Inner: the ranges from a place on, as long as they are of the file.
-fn met(journal: &[u8], end: usize, file: u64, at: usize, bytes: &[u8]) -> Said
+fn met(journal: &[u8], end: usize, file: u64, at: usize, bytes: &[u8]) -> Result<usize, JournalError>
     requires { end ≤ length journal.now }
     ensures { result ≡ Between.met journal.now end file bytes.now (suc (length journal.now)) at }
 {
@@ -73,18 +73,17 @@ fn met(journal: &[u8], end: usize, file: u64, at: usize, bytes: &[u8]) -> Said
     while place < end {
         let next = journal::place_behind(journal, end, place);
         if next == 0 {
-            return Said::Done(place);
+            return Ok(place);
         }
         if journal::wide(journal[place]) != file {
-            return Said::Done(place);
+            return Ok(place);
         }
-        let found = met_range(journal, place, next, bytes);
-        if let Place::At(offset) = found {
-            return Said::Byte(offset);
+        if let Some(offset) = met_range(journal, place, next, bytes) {
+            return Err(JournalError::Byte(offset));
         }
         place = next;
     }
-    Said::Done(place)
+    Ok(place)
 }
 
 // Inner: whether the state of a file, there or absent, is from the old to the new one.
@@ -107,17 +106,17 @@ fn state_met(journal: &[u8], file: usize, there: bool, long: usize) -> bool
 }
 
 // Whether a file as it is, there or absent, is between; its ranges in the journal begin at a place.
-pub fn between(journal: &[u8], file: u64, at: usize, there: bool, bytes: &[u8]) -> Said
+pub fn between(journal: &[u8], file: u64, at: usize, there: bool, bytes: &[u8]) -> Result<usize, JournalError>
     ensures { result ≡ Between.between journal.now file at there bytes.now }
 {
     if !journal::length_right(journal.len()) {
-        return Said::Length;
+        return Err(JournalError::Length);
     }
     if 10 <= file {
-        return Said::Unfit;
+        return Err(JournalError::Unfit);
     }
     if !state_met(journal, file as usize, there, bytes.len()) {
-        return Said::NotBetween(file);
+        return Err(JournalError::NotBetween(file));
     }
     met(journal, journal.len() - 32, file, at, bytes)
 }

@@ -1,4 +1,5 @@
 -- The encoding of a well_formed journal is accepted. Assumes nothing.
+use Rattle.std.specs.Prelude.{Ok, is_ok}
 use Prim.Native.Nat.{ℕ, ◌+◌, ◌-◌, ◌<◌}
 use native.Mathlib.Omega.{arith}
 use mathlib.Core.Path.{◌≡◌, refl, sym, ap, ap₂, ◌∙◌, subst}
@@ -16,8 +17,7 @@ use Rattle.byte_strings.proofs.Bools.{true_both}
 use Rattle.file_format.specs.Messages.{HashFunction}
 use Rattle.journal.specs.Form.{Journal, WellFormed, magic, words, encode_all, long_of, body, journal_bytes, old_state, new_state}
 use Rattle.journal.specs.Places.{old_at, new_at, length_right, body_length}
-use Rattle.journal.specs.Reading.{is_done, table, begins, own_length, read}
-use Rattle.journal.specs.declared.Said.TheVariants.{Done}
+use Rattle.journal.specs.Reading.{table, begins, own_length, read}
 use Rattle.journal.proofs.Answers.{read_done_lem}
 use Rattle.journal.proofs.Lengths.{words_length}
 use Rattle.theorem_journal_exact.specs.Exact.{Hashed, AcceptsForAll, ExactForAll}
@@ -100,8 +100,8 @@ module _ (F : List ℕ → List ℕ) (x : Journal) (w : WellFormed x) where
     pub ranges_are : part j 184 (body_length j - 184) ≡ encode_all x.ranges
     ranges_are = ap (λ (n : ℕ). part j 184 (n - 184)) (sym body_end) ∙ laid_ranges x w j (be 8 (long_of x)) (F (body x)) (length_be 8 (long_of x)) laid
 
-    table_done : table j (body_length j) ≡ Done (body_length j)
-    table_done = subst (λ (n : ℕ). table j n ≡ Done n) body_end (laid_table x w j (be 8 (long_of x)) (F (body x)) (length_be 8 (long_of x)) laid)
+    table_done : table j (body_length j) ≡ Ok (body_length j)
+    table_done = subst (λ (n : ℕ). table j n ≡ Ok n) body_end (laid_table x w j (be 8 (long_of x)) (F (body x)) (length_be 8 (long_of x)) laid)
 
     pub long_right_lem : length_right (length j) ≡ true
     unfolding length_right
@@ -109,13 +109,13 @@ module _ (F : List ℕ → List ℕ) (x : Journal) (w : WellFormed x) where
         let b = w.bound in
         true_both (leb 216 (length j)) (leb (length j) 268435456) (le-leb 216 (length j) (omega (arith, all_long, long_is))) (le-leb (length j) 268435456 (omega (arith, all_long)))
 
-    pub encoded_done : read F j ≡ Done (long_of x)
+    pub encoded_done : read F j ≡ Ok (long_of x)
     encoded_done =
-        sym (read_done_lem F j long_right_lem front_is (eq-eqb (own_length j) (length j) (own_long ∙ sym all_long)) (table j (body_length j)) refl (ap is_done table_done)
-        (ap₂ same_list (ap F taken) dropped ∙ same_refl (F (body x)))) ∙ ap Done all_long
+        sym (read_done_lem F j long_right_lem front_is (eq-eqb (own_length j) (length j) (own_long ∙ sym all_long)) (table j (body_length j)) refl (ap is_ok table_done)
+        (ap₂ same_list (ap F taken) dropped ∙ same_refl (F (body x)))) ∙ ap Ok all_long
 
-    pub encoded_accepted : is_done (read F j) ≡ true
-    encoded_accepted = ap is_done encoded_done
+    pub encoded_accepted : is_ok (read F j) ≡ true
+    encoded_accepted = ap is_ok encoded_done
 
 -- a hash function gives 32 bytes for a journal of bytes
 pub of_function : (F : List ℕ → List ℕ) → HashFunction F → (x : Journal) → Bytes (body x) → Hashed F x
@@ -134,7 +134,7 @@ reading_accepts F =
       encodings = λ j b e. let p = passed F j e in (journal_read F j b p, read_formed F j b p, encodes F j b p);
       hashed = λ j b. (
         λ e. let p = passed F j e in (journal_read F j b p, read_formed F j b p, read_hashed F j b p, encodes F j b p),
-        λ e. subst (λ (y : List ℕ). is_done (read F y) ≡ true) (sym e.3) (encoded_accepted F e.0 e.1 e.2),
+        λ e. subst (λ (y : List ℕ). is_ok (read F y) ≡ true) (sym e.3) (encoded_accepted F e.0 e.1 e.2),
       );
     }
 

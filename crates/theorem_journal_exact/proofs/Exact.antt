@@ -1,4 +1,5 @@
 -- What reading accepts is the encoding of a well_formed journal. Assumes nothing.
+use Rattle.std.specs.Prelude.{is_ok}
 use Prim.Native.Nat.{ℕ, zero, suc, ◌+◌, ◌-◌, ◌*◌, ◌≤◌, ◌<◌}
 use native.Mathlib.Omega.{arith}
 use native.Mathlib.Decide.{ℕ_discrete}
@@ -18,8 +19,7 @@ use Rattle.byte_strings.proofs.Bools.{not_both}
 use Rattle.journal.specs.Ranges.{ranges_of}
 use Rattle.journal.specs.Form.{Journal, WellFormed, Sound, states_right, length_of, magic, words, encode_all, long_of, body, journal_bytes, old_state, new_state, change_of}
 use Rattle.journal.specs.Places.{old_at, new_at, length_right, body_length}
-use Rattle.journal.specs.Reading.{is_done, state_right, states_say, reach_of, old_lengths, walked, table, begins, own_length, read}
-use Rattle.journal.specs.declared.Said.{Said}
+use Rattle.journal.specs.Reading.{Said, state_right, states_say, reach_of, old_lengths, walked, table, begins, own_length, read}
 use Rattle.journal.proofs.Steps.{walk_start, reach_same, reach_other}
 use Rattle.journal.proofs.Answers.{right_least, right_most, read_length, read_first, read_own, read_table, read_hash}
 use Rattle.theorem_journal_recovers.proofs.Archive.{states_grow}
@@ -33,18 +33,18 @@ pub record Passed (F : List ℕ → List ℕ) (j : List ℕ) : Type 0 where
   pub long : length_right (length j) ≡ true
   pub front : begins j ≡ true
   pub own : eqb (own_length j) (length j) ≡ true
-  pub tabled : is_done (table j (body_length j)) ≡ true
+  pub tabled : is_ok (table j (body_length j)) ≡ true
   pub hashed : same_list (F (take (body_length j) j)) (drop (body_length j) j) ≡ true
 
-pub passed : (F : List ℕ → List ℕ) (j : List ℕ) → is_done (read F j) ≡ true → Passed F j
+pub passed : (F : List ℕ → List ℕ) (j : List ℕ) → is_ok (read F j) ≡ true → Passed F j
 passed F j e =
-    go (length_right (length j)) refl (begins j) refl (eqb (own_length j) (length j)) refl (is_done (table j (body_length j))) refl
+    go (length_right (length j)) refl (begins j) refl (eqb (own_length j) (length j)) refl (is_ok (table j (body_length j))) refl
     (same_list (F (take (body_length j) j)) (drop (body_length j) j)) refl
   where
-    never : {A : Type 0} (s : Said) → s ≡ read F j → is_done s ≡ false → A
-    never s x y = not_both (sym y ∙ ap is_done x ∙ e)
+    never : {A : Type 0} (s : Said) → s ≡ read F j → is_ok s ≡ false → A
+    never s x y = not_both (sym y ∙ ap is_ok x ∙ e)
 
-    go : (a : Bool) → length_right (length j) ≡ a → (b : Bool) → begins j ≡ b → (c : Bool) → eqb (own_length j) (length j) ≡ c → (d : Bool) → is_done (table j (body_length j)) ≡ d
+    go : (a : Bool) → length_right (length j) ≡ a → (b : Bool) → begins j ≡ b → (c : Bool) → eqb (own_length j) (length j) ≡ c → (d : Bool) → is_ok (table j (body_length j)) ≡ d
         → (h : Bool) → same_list (F (take (body_length j) j)) (drop (body_length j) j) ≡ h → Passed F j
     go false x b y c z d w h v = never _ (read_length F j x) refl
     go true x false y c z d w h v = never _ (read_first F j x y) refl
@@ -53,7 +53,7 @@ passed F j e =
     go true x true y true z true w false v = never _ (read_hash F j x y z (table j (body_length j)) refl w v) refl
     go true x true y true z true w true v = record { long = x; front = y; own = z; tabled = w; hashed = v }
 
-states_passed : (l : Lowest) (s : Said) → is_done (states_say l s) ≡ true → (l ≡ nowhere) × (is_done s ≡ true)
+states_passed : (l : Lowest) (s : Said) → is_ok (states_say l s) ≡ true → (l ≡ nowhere) × (is_ok s ≡ true)
 unfolding states_say
 states_passed nowhere s e = (refl, e)
 states_passed (first i) s e = not_both e
@@ -94,13 +94,13 @@ split (suc n) (x ∷ xs) = ap (λ (ys : List ℕ). x ∷ ys) (split n xs)
 
 -- ---- the journal of a table that is right, up to the end m
 
-module _ (j : List ℕ) (b : Bytes j) (m : ℕ) (least : 184 ≤ m) (most : m + 32 ≤ 268435456) (inside : m ≤ length j) (tabled : is_done (table j m) ≡ true) where
-  tests : (lowest (state_right j) 0 10 ≡ nowhere) × (is_done (walked j m) ≡ true)
-  tests = states_passed (lowest (state_right j) 0 10) (walked j m) (sym (ap is_done (table_is j m)) ∙ tabled)
+module _ (j : List ℕ) (b : Bytes j) (m : ℕ) (least : 184 ≤ m) (most : m + 32 ≤ 268435456) (inside : m ≤ length j) (tabled : is_ok (table j m) ≡ true) where
+  tests : (lowest (state_right j) 0 10 ≡ nowhere) × (is_ok (walked j m) ≡ true)
+  tests = states_passed (lowest (state_right j) 0 10) (walked j m) (sym (ap is_ok (table_is j m)) ∙ tabled)
 
   pub ranges : Accepted j m 0 0 (old_lengths j) 184
   ranges =
-      accepted j b m inside (suc m) 0 0 (old_lengths j) 184 (length_run (λ k. length_of (old_at j k)) 0 10) least (omega arith) (sym (ap is_done (walk_start j m)) ∙ tests.1)
+      accepted j b m inside (suc m) 0 0 (old_lengths j) 184 (length_run (λ k. length_of (old_at j k)) 0 10) least (omega arith) (sym (ap is_ok (walk_start j m)) ∙ tests.1)
 
   abbrev pub journal_in : Journal
   journal_in = record { states = run (λ k. number (part j (24 + 8 * k) 8)) 0 20; ranges = ranges.ps }

@@ -1,4 +1,5 @@
 -- What stands in bytes where a well_formed journal was laid, whatever its own length and its hash are. Assumes nothing.
+use Rattle.std.specs.Prelude.{Ok}
 use Prim.Native.Nat.{ℕ, zero, suc, ◌+◌, ◌-◌, ◌*◌, ◌%◌, ◌^◌, ◌≤◌, ◌<◌}
 use native.Mathlib.Omega.{arith}
 use native.Mathlib.Decide.{ℕ_discrete}
@@ -22,9 +23,7 @@ use Rattle.journal.specs.Ranges.{Range, replaced, fresh, blank, witness, bytes, 
 use Rattle.journal.specs.Form.{Journal, WellFormed, states_right, right_length, tree_length, signatures_length, bitfield_length, data_length, key_length, length_of}
 use Rattle.journal.specs.Form.{size_of, magic, words, encode_all, old_state, new_state, change_of, FilesRise, Fits}
 use Rattle.journal.specs.Places.{old_at, new_at}
-use Rattle.journal.specs.Reading.{state_right, states_say, reach_of, old_lengths, walked, table, begins}
-use Rattle.journal.specs.declared.Said.{Said}
-use Rattle.journal.specs.declared.Said.TheVariants.{Done}
+use Rattle.journal.specs.Reading.{Said, state_right, states_say, reach_of, old_lengths, walked, table, begins}
 use Rattle.journal.proofs.Steps.{walk_start, reach_same, reach_other}
 use Rattle.journal.proofs.Lengths.{words_length}
 use Rattle.theorem_journal_recovers.proofs.Places.{rising_within}
@@ -223,7 +222,7 @@ module _ (x : Journal) (w : WellFormed x) where
         let t = w.ten in
         omega (arith, length-append own (words x.states ++ rest), length-append (words x.states) rest, words_length x.states, length-append (encode_all x.ranges) tail)
 
-    walked_is : walked j body_end_lem ≡ Done body_end_lem
+    walked_is : walked j body_end_lem ≡ Ok body_end_lem
     walked_is =
         walk_start j body_end_lem
         ∙ passes j body_end_lem laid_long x.ranges (suc body_end_lem) 0 0 (old_lengths j) 184 (length_run (λ k. length_of (old_at j k)) 0 10)
@@ -233,8 +232,8 @@ module _ (x : Journal) (w : WellFormed x) where
     unfolding states_say
     no_state s = refl
 
-    pub laid_table : table j body_end_lem ≡ Done body_end_lem
+    pub laid_table : table j body_end_lem ≡ Ok body_end_lem
     laid_table =
         table_is j body_end_lem
         ∙ ap₂ states_say (right_nowhere (state_right j) 0 10 (λ i h. ap (state_right j) (zero-add i) ∙ state_right_lem i h)) walked_is
-        ∙ no_state (Done body_end_lem)
+        ∙ no_state (Ok body_end_lem)

@@ -1,4 +1,5 @@
 -- The walk over the ranges passes what is well_formed. Assumes nothing.
+use Rattle.std.specs.Prelude.{Ok}
 use Prim.Native.Nat.{ℕ, zero, suc, ◌+◌, ◌-◌, ◌≤◌, ◌<◌, max}
 use native.Mathlib.Omega.{arith}
 use native.Mathlib.Decide.{ℕ_discrete}
@@ -17,9 +18,7 @@ use Rattle.byte_strings.proofs.Lowest.{right_nowhere}
 use Rattle.journal.specs.Ranges.{Range, stop, Placed, ranges_of}
 use Rattle.journal.specs.Form.{length_of, size_of, encode, encode_all, FilesRise}
 use Rattle.journal.specs.Places.{old_at, new_at, file_at, kind_at, start_at, size_at, behind, range_at}
-use Rattle.journal.specs.Reading.{numbers_right, reach_of, follows, stop_at, covered_by, is_full, gap_says, walk}
-use Rattle.journal.specs.declared.Said.{Said}
-use Rattle.journal.specs.declared.Said.TheVariants.{Done}
+use Rattle.journal.specs.Reading.{Said, numbers_right, reach_of, follows, stop_at, covered_by, is_full, gap_says, walk}
 use Rattle.journal.proofs.Behind.{behind_least, whole_end}
 use Rattle.journal.proofs.Steps.{walk_end, walk_on, reach_same, reach_other}
 use Rattle.theorem_journal_exact.proofs.Test.{sound_from}
@@ -148,13 +147,13 @@ module _ (j : List ℕ) (m : ℕ) (ml : m ≤ length j) where
         by_file i h (no n) = other_file i h n
 
   pub passes : (ps : List Placed) (k last reach : ℕ) (covered : List ℕ) (q : ℕ) → length covered ≡ 10 → q ≤ m → m < k + q → part j q (m - q) ≡ encode_all ps → Right j last reach covered ps
-      → walk j m k last reach covered q ≡ Done m
+      → walk j m k last reach covered q ≡ Ok m
   passes ps zero last reach covered q c g l h r = absurd (omega arith)
   passes [] (suc k) last reach covered q c g l h r =
       let x : length (part j q (m - q)) ≡ m - q = length_part j q (m - q) (omega arith) in
       let y : length (part j q (m - q)) ≡ 0 = ap length h ∙ none_long in
       walk_end j m k last reach covered q (omega arith)
-      ∙ no_gap (Done m) (lowest (is_full j covered) 0 10)
+      ∙ no_gap (Ok m) (lowest (is_full j covered) 0 10)
       (right_nowhere (is_full j covered) 0 10
       (λ i o.
       ap (is_full j covered) (zero-add i)

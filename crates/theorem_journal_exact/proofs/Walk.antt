@@ -1,4 +1,5 @@
 -- What the walk over the ranges accepts. Assumes nothing.
+use Rattle.std.specs.Prelude.{Err, is_ok}
 use Prim.Native.Nat.{ℕ, zero, suc, ◌+◌, ◌-◌, ◌*◌, ◌≤◌, ◌<◌, max}
 use native.Mathlib.Omega.{arith}
 use native.Mathlib.Decide.{ℕ_discrete}
@@ -20,9 +21,8 @@ use Rattle.byte_strings.proofs.Lowest.{nowhere_right}
 use Rattle.journal.specs.Ranges.{Range, stop, Placed, ranges_of}
 use Rattle.journal.specs.Form.{length_of, size_of, encode_all, FilesRise}
 use Rattle.journal.specs.Places.{old_at, new_at, file_at, kind_at, start_at, size_at, times_long, behind, whole, range_at}
-use Rattle.journal.specs.Reading.{is_done, numbers_right, reach_of, follows, stop_at, covered_by, is_full, gap_says, walk}
-use Rattle.journal.specs.declared.Said.{Said}
-use Rattle.journal.specs.declared.Said.TheVariants.{Range as NoRange}
+use Rattle.journal.specs.Reading.{Said, numbers_right, reach_of, follows, stop_at, covered_by, is_full, gap_says, walk}
+use Rattle.journal.specs.declared.JournalError.TheVariants.{Range as NoRange}
 use Rattle.journal.proofs.Behind.{whole_end}
 use Rattle.journal.proofs.Steps.{walk_end, walk_cut, walk_off, walk_on, follows_has, reach_same, reach_other}
 use Rattle.theorem_journal_exact.proofs.Test.{sound_from}
@@ -32,12 +32,12 @@ use Rattle.theorem_journal_exact.proofs.Read.{Says, placed_at, whole_says, behin
 pub lowest_none : (right : ℕ → Bool) (k : ℕ) → lowest right 0 k ≡ nowhere → (i : ℕ) → i < k → right i ≡ true
 lowest_none right k e i h = ap right (sym (zero-add i)) ∙ nowhere_right right 0 k e i h
 
-walk_none : (j : List ℕ) (m last reach : ℕ) (covered : List ℕ) (q : ℕ) → walk j m 0 last reach covered q ≡ NoRange q
+walk_none : (j : List ℕ) (m last reach : ℕ) (covered : List ℕ) (q : ℕ) → walk j m 0 last reach covered q ≡ Err (NoRange q)
 unfolding walk
 walk_none j m last reach covered q = refl
 
 -- a gap is not done
-gap_nowhere : (l : Lowest) (s : Said) → is_done (gap_says l s) ≡ true → l ≡ nowhere
+gap_nowhere : (l : Lowest) (s : Said) → is_ok (gap_says l s) ≡ true → l ≡ nowhere
 unfolding gap_says
 gap_nowhere nowhere s e = refl
 gap_nowhere (first i) s e = not_both e
@@ -221,22 +221,22 @@ module _ (j : List ℕ) (bytes : Bytes j) (m : ℕ) (ml : m ≤ length j) where
         by_file i l (yes e) = sound_here i l e
         by_file i l (no n) = sound_other i l n
 
-  pub accepted : (k last reach : ℕ) (covered : List ℕ) (q : ℕ) → length covered ≡ 10 → q ≤ m → reach ≤ length_of (new_at j last) → is_done (walk j m k last reach covered q) ≡ true
+  pub accepted : (k last reach : ℕ) (covered : List ℕ) (q : ℕ) → length covered ≡ 10 → q ≤ m → reach ≤ length_of (new_at j last) → is_ok (walk j m k last reach covered q) ≡ true
       → Accepted j m last reach covered q
-  accepted zero last reach covered q c g h e = not_both (sym (ap is_done (walk_none j m last reach covered q)) ∙ e)
+  accepted zero last reach covered q c g h e = not_both (sym (ap is_ok (walk_none j m last reach covered q)) ∙ e)
   accepted (suc k) last reach covered q c g h e =
       go
       (λ w t l.
       one_more_lem last reach covered q w t h c
       (accepted k (file_at j q) (stop_at j q) (covered_by j covered q) (behind j q) (covered_long j covered q ∙ c) (whole_end j m q 0 w) (follows_has j last reach covered q t).ends
-      (sym (ap is_done (walk_on j m k last reach covered q l w t)) ∙ e)))
+      (sym (ap is_ok (walk_on j m k last reach covered q l w t)) ∙ e)))
       (ℕ_discrete q m) (whole j m q) refl (follows j last reach covered q) refl
     where
       go : (whole j m q ≡ true → follows j last reach covered q ≡ true → q < m → Accepted j m last reach covered q)
           → Dec (q ≡ m) → (a : Bool) → whole j m q ≡ a → (b : Bool) → follows j last reach covered q ≡ b → Accepted j m last reach covered q
       go next (yes d) a w b t =
           at_end last reach covered q d h
-          (lowest_none (is_full j covered) 10 (gap_nowhere _ _ (sym (ap is_done (walk_end j m k last reach covered q d)) ∙ e)))
-      go next (no d) false w b t = not_both (sym (ap is_done (walk_cut j m k last reach covered q (omega arith) w)) ∙ e)
-      go next (no d) true w false t = not_both (sym (ap is_done (walk_off j m k last reach covered q (omega arith) w t)) ∙ e)
+          (lowest_none (is_full j covered) 10 (gap_nowhere _ _ (sym (ap is_ok (walk_end j m k last reach covered q d)) ∙ e)))
+      go next (no d) false w b t = not_both (sym (ap is_ok (walk_cut j m k last reach covered q (omega arith) w)) ∙ e)
+      go next (no d) true w false t = not_both (sym (ap is_ok (walk_off j m k last reach covered q (omega arith) w t)) ∙ e)
       go next (no d) true w true t = next w t (omega arith)

@@ -1,4 +1,5 @@
 -- Begin, put and end make the encoding. Assumes nothing.
+use Rattle.std.specs.Prelude.{Ok, is_ok}
 use Prim.Native.Nat.{ℕ, ◌+◌, ◌≤◌, ◌<◌}
 use native.Mathlib.Omega.{arith}
 use mathlib.Core.Path.{◌≡◌, refl, sym, ap, ap₂, ◌∙◌, subst}
@@ -16,8 +17,7 @@ use Rattle.byte_strings.proofs.Bools.{true_both}
 use Rattle.journal.specs.Ranges.{Range, replaced, fresh, blank, witness, start, Placed}
 use Rattle.journal.specs.Form.{Journal, WellFormed, kind_of, size_of, payload, header, encode, encode_all, magic, words, long_of, body, journal_bytes}
 use Rattle.journal.specs.Places.{length_right}
-use Rattle.journal.specs.Reading.{is_done, table}
-use Rattle.journal.specs.declared.Said.TheVariants.{Done}
+use Rattle.journal.specs.Reading.{table}
 use Rattle.journal.proofs.Answers.{done_written}
 use Rattle.journal.proofs.Lengths.{words_length}
 use Rattle.journal_making.specs.Making.{begin_said, begun, fitting, room_for, range_bytes, put_after, end_said, sealed, end_after}
@@ -65,11 +65,11 @@ module _ (j : List ℕ) (q : ℕ) (p : Placed) (low : p.file < 10) (a : Alike p.
   unfolding room_for
   has_room = let x = encoded_long p in le-leb (q + 18 + (length (old_bytes p.range) + length (new_bytes p.range)) + 32) (length j) (omega arith)
 
-  put_says : says_put j q p ≡ Done (q + length (encode p))
+  put_says : says_put j q p ≡ Ok (q + length (encode p))
   put_says =
       let x = encoded_long p in
       let d : q + 18 + (length (old_bytes p.range) + length (new_bytes p.range)) ≡ q + length (encode p) = omega arith in
-      sym (put_done j q p.file (kind_of p.range) (size_of p.range) (old_bytes p.range) (new_bytes p.range) low (fits p.range a) has_room) ∙ ap Done d
+      sym (put_done j q p.file (kind_of p.range) (size_of p.range) (old_bytes p.range) (new_bytes p.range) low (fits p.range a) has_room) ∙ ap Ok d
 
   put_gives : after_put j q p ≡ put j q (encode p)
   unfolding put_after
@@ -177,7 +177,7 @@ module _ (F : List ℕ → List ℕ) (x : Journal) (w : WellFormed x) (fl : Hash
       let l = words_length x.states in
       length-append magic (zeros 8 ++ words x.states) ∙ omega (arith, length-append (zeros 8) (words x.states))
 
-  begin_says : begin_said j ≡ Done 184
+  begin_says : begin_said j ≡ Ok 184
   begin_says = let l = long_is F x w (zeros 8) [] refl in sym (begin_done j (omega arith))
 
   begin_gives : begun x.states j ≡ put j 0 start_bytes
@@ -219,11 +219,11 @@ module _ (F : List ℕ → List ℕ) (x : Journal) (w : WellFormed x) (fl : Hash
       let b = w.bound in
       true_both (leb 216 (q + 32)) (leb (q + 32) 268435456) (le-leb 216 (q + 32) (omega arith)) (le-leb (q + 32) 268435456 (omega arith))
 
-  end_says : end_said full q ≡ Done (q + 32)
+  end_says : end_said full q ≡ Ok (q + 32)
   end_says =
       let l = long_is F x w (zeros 8) [] refl in
       let n = full_long in
-      sym (end_done full q (omega arith) right (laid_front x w full (zeros 8) tail refl refl) (table full q) refl (ap is_done (laid_table x w full (zeros 8) tail refl refl)))
+      sym (end_done full q (omega arith) right (laid_front x w full (zeros 8) tail refl refl) (table full q) refl (ap is_ok (laid_table x w full (zeros 8) tail refl refl)))
 
   end_gives : end_after F full q ≡ sealed F full q
   unfolding end_after
@@ -234,7 +234,7 @@ module _ (F : List ℕ → List ℕ) (x : Journal) (w : WellFormed x) (fl : Hash
       record {
         begins = begin_says;
         puts = subst (λ (b : List ℕ). PutsDone b 184 x.ranges) (sym begin_gives) all_put.done;
-        ends = ap₂ end_said filled_is end_is ∙ end_says ∙ ap Done (sym (long_is F x w (zeros 8) tail refl));
+        ends = ap₂ end_said filled_is end_is ∙ end_says ∙ ap Ok (sym (long_is F x w (zeros 8) tail refl));
         bytes =
             ap (λ (n : ℕ). take n (end_after F (filled x j) (ranges_end x))) (long_is F x w (zeros 8) tail refl)
             ∙ ap (take (q + 32)) (ap₂ (end_after F) filled_is end_is ∙ end_gives) ∙ sealed_is F x w (zeros 8) tail refl fl;

@@ -1,4 +1,5 @@
 -- The ranges of one file that were encoded, one after the other. Assumes nothing.
+use Rattle.std.specs.Prelude.{Err, Ok}
 use Prim.Native.Nat.{ℕ, zero, suc, ◌+◌, ◌-◌, ◌≤◌, ◌<◌}
 use native.Mathlib.Omega.{arith}
 use native.Mathlib.Decide.{ℕ_discrete, dec_le}
@@ -12,11 +13,11 @@ use borrow.Author.Tests.{lt-ltb, le-ltb}
 use Rattle.byte_strings.specs.Lists.{part}
 use Rattle.byte_strings.specs.Lowest.{Lowest, nowhere, first}
 use Rattle.byte_strings.proofs.Lists.{length_part}
+use Rattle.journal.specs.Reading.{Said}
 use Rattle.journal.specs.Ranges.{Range, Placed, ranges_of}
 use Rattle.journal.specs.Form.{In, encode, encode_all, FilesRise}
 use Rattle.journal.specs.Places.{behind}
-use Rattle.journal.specs.declared.Said.{Said}
-use Rattle.journal.specs.declared.Said.TheVariants.{Done, Byte}
+use Rattle.journal.specs.declared.JournalError.TheVariants.{Byte}
 use Rattle.journal.proofs.Behind.{behind_least}
 use Rattle.journal_meeting.specs.Between.{met_range, or_byte, met}
 use Rattle.journal_meeting.proofs.Steps.{stops, goes, past, other, of_it as its_own}
@@ -117,7 +118,7 @@ module _ (j : List ℕ) (m : ℕ) (ml : m ≤ length j) where
     unfolding or_byte
     on_nowhere s = refl
 
-    on_byte : (o : ℕ) (s : Said) → or_byte (first o) s ≡ Byte o
+    on_byte : (o : ℕ) (s : Said) → or_byte (first o) s ≡ Err (Byte o)
     unfolding or_byte
     on_byte o s = refl
 
@@ -144,11 +145,11 @@ module _ (j : List ℕ) (m : ℕ) (ml : m ≤ length j) where
         )
 
     pub met_passes : (ps : List Placed) (k q : ℕ) → Given k q ps → ((r : Range) → In r (ranges_of i ps) → met_range f r ≡ nowhere)
-        → met j m i f k q ≡ Done (m - length (encode_all (from_file (i + 1) ps)))
+        → met j m i f k q ≡ Ok (m - length (encode_all (from_file (i + 1) ps)))
     met_passes [] k q g a =
         let d = left q [] g.0 g.2 in
         let y = none_long in
-        stops j m i f k q (past j m i f q (omega arith)) ∙ ap Done (sym (ap (λ (qs : List Placed). m - length (encode_all qs)) (from_none (i + 1)) ∙ d))
+        stops j m i f k q (past j m i f q (omega arith)) ∙ ap Ok (sym (ap (λ (qs : List Placed). m - length (encode_all qs)) (from_none (i + 1)) ∙ d))
     met_passes (p ∷ ps) zero q g a = absurd (let n = g.1 in let l = g.0 in omega arith)
     met_passes (p ∷ ps) (suc k) q g a =
         go
@@ -158,18 +159,18 @@ module _ (j : List ℕ) (m : ℕ) (ml : m ≤ length j) where
         s : Stands j m q p
         s = first_stands (suc k) q p ps g
 
-        go : (p.file ≡ i → met j m i f k (behind j q) ≡ Done (m - length (encode_all (from_file (i + 1) ps)))) → Dec (p.file ≡ i)
-            → met j m i f (suc k) q ≡ Done (m - length (encode_all (from_file (i + 1) (p ∷ ps))))
+        go : (p.file ≡ i → met j m i f k (behind j q) ≡ Ok (m - length (encode_all (from_file (i + 1) ps)))) → Dec (p.file ≡ i)
+            → met j m i f (suc k) q ≡ Ok (m - length (encode_all (from_file (i + 1) (p ∷ ps))))
         go x (yes e) =
             goes j m i f k q nowhere (its_own j m i f q s.is_whole (s.file ∙ e))
             (sym (ap (met_range f) s.range ∙ a p.range (subst (λ (rs : List Range). In p.range rs) (sym (of_it i p ps e)) (Memᴰ.head refl))))
-            ∙ on_nowhere (met j m i f k (behind j q)) ∙ x e ∙ ap (λ (qs : List Placed). Done (m - length (encode_all qs))) (sym (skips (i + 1) p ps (omega arith)))
+            ∙ on_nowhere (met j m i f k (behind j q)) ∙ x e ∙ ap (λ (qs : List Placed). Ok (m - length (encode_all qs))) (sym (skips (i + 1) p ps (omega arith)))
         go x (no n) =
             let l = g.3.0 in
             stops j m i f (suc k) q (other j m i f q s.is_whole (λ d. n (sym s.file ∙ d)))
-            ∙ ap Done (sym (ap (λ (qs : List Placed). m - length (encode_all qs)) (begins_here (i + 1) p ps (omega (arith, n))) ∙ left q (p ∷ ps) g.0 g.2))
+            ∙ ap Ok (sym (ap (λ (qs : List Placed). m - length (encode_all qs)) (begins_here (i + 1) p ps (omega (arith, n))) ∙ left q (p ∷ ps) g.0 g.2))
 
-    pub met_all : (ps : List Placed) (k q z : ℕ) → Given k q ps → met j m i f k q ≡ Done z → (r : Range) → In r (ranges_of i ps) → met_range f r ≡ nowhere
+    pub met_all : (ps : List Placed) (k q z : ℕ) → Given k q ps → met j m i f k q ≡ Ok z → (r : Range) → In r (ranges_of i ps) → met_range f r ≡ nowhere
     met_all [] k q z g d r t = absurd (Memᴰ.not-nil (subst (λ (rs : List Range). In r rs) (none_ranges i) t))
     met_all (p ∷ ps) zero q z g d r t = absurd (let n = g.1 in let l = g.0 in omega arith)
     met_all (p ∷ ps) (suc k) q z g d r t = go (λ e c. met_all ps k (behind j q) z (rest_given k q p ps g e) c r) (ℕ_discrete p.file i) (met_range f p.range) refl
@@ -177,14 +178,14 @@ module _ (j : List ℕ) (m : ℕ) (ml : m ≤ length j) where
         s : Stands j m q p
         s = first_stands (suc k) q p ps g
 
-        go : (p.file ≡ i → met j m i f k (behind j q) ≡ Done z → In r (ranges_of i ps) → met_range f r ≡ nowhere) → Dec (p.file ≡ i) → (l : Lowest) → met_range f p.range ≡ l → met_range f r ≡ nowhere
+        go : (p.file ≡ i → met j m i f k (behind j q) ≡ Ok z → In r (ranges_of i ps) → met_range f r ≡ nowhere) → Dec (p.file ≡ i) → (l : Lowest) → met_range f p.range ≡ l → met_range f r ≡ nowhere
         go x (yes e) nowhere c =
             let y = goes j m i f k q nowhere (its_own j m i f q s.is_whole (s.file ∙ e)) (sym (ap (met_range f) s.range ∙ c)) ∙ on_nowhere (met j m i f k (behind j q)) in
             ⊎_elim (λ b. ap (met_range f) b ∙ c) (λ b. x e (sym y ∙ d) b) (Memᴰ.cases_cons (subst (λ (rs : List Range). In r rs) (of_it i p ps e) t))
         go x (yes e) (first o) c =
-            let y : met j m i f (suc k) q ≡ Byte o =
+            let y : met j m i f (suc k) q ≡ Err (Byte o) =
             goes j m i f k q (first o) (its_own j m i f q s.is_whole (s.file ∙ e)) (sym (ap (met_range f) s.range ∙ c)) ∙ on_byte o (met j m i f k (behind j q)) in
-            let b : Byte o ≡ Done z = sym y ∙ d in
+            let b : Err (Byte o) ≡ Ok z = sym y ∙ d in
             let v : ◌≡◌ {A = ℕ} 0 1 = cc in
             absurd (omega arith)
         go x (no n) l c =

@@ -1,4 +1,5 @@
 -- What the end seals is a well_formed journal, and reading accepts it. Assumes nothing.
+use Rattle.std.specs.Prelude.{Ok, is_ok}
 use Prim.Native.Nat.{ℕ, zero, suc, ◌+◌, ◌≤◌}
 use native.Mathlib.Omega.{arith}
 use mathlib.Core.Path.{◌≡◌, refl, sym, ap, ap₂, ◌∙◌, subst}
@@ -11,8 +12,7 @@ use Rattle.byte_strings.proofs.Lists.{length_part, bytes_take, bytes_put, same_e
 use Rattle.byte_strings.proofs.Numbers.{bytes_be}
 use Rattle.journal.specs.Form.{Journal, WellFormed, magic, words, encode_all, long_of, body, journal_bytes}
 use Rattle.journal.specs.Places.{body_length}
-use Rattle.journal.specs.Reading.{is_done, table, read}
-use Rattle.journal.specs.declared.Said.TheVariants.{Done}
+use Rattle.journal.specs.Reading.{Said, table, read}
 use Rattle.journal.proofs.Answers.{done_written, read_done_lem}
 use Rattle.journal_making.specs.Making.{end_said, sealed, end_after}
 use Rattle.journal_making.proofs.Answers.{Ended, end_has}
@@ -28,7 +28,7 @@ take-take (suc n) zero xs h = absurd (omega arith)
 take-take (suc n) (suc k) [] h = refl
 take-take (suc n) (suc k) (x ∷ xs) h = ap (λ (ys : List ℕ). x ∷ ys) (take-take n k xs (omega arith))
 
-module _ (F : List ℕ → List ℕ) (j : List ℕ) (q : ℕ) (b : Bytes j) (e : is_done (end_said j q) ≡ true) where
+module _ (F : List ℕ → List ℕ) (j : List ℕ) (q : ℕ) (b : Bytes j) (e : is_ok (end_said j q) ≡ true) where
   found : Ended j q
   found = end_has j q e
 
@@ -73,17 +73,17 @@ module _ (F : List ℕ → List ℕ) (j : List ℕ) (q : ℕ) (b : Bytes j) (e :
   all : Hashed F x → sealed_bytes F j q ≡ journal_bytes F x
   all h = ap₂ (λ (n : ℕ) (z : List ℕ). take (n + 32) z) (sym ends) laid_written ∙ sealed_is F x w (part j 16 8) (drop q j) own_bytes h
 
-  accepts : Hashed F x → read F (sealed_bytes F j q) ≡ Done (q + 32)
-  accepts h = ap (read F) (all h) ∙ encoded_done F x w h ∙ ap Done long
+  accepts : Hashed F x → read F (sealed_bytes F j q) ≡ Ok (q + 32)
+  accepts h = ap (read F) (all h) ∙ encoded_done F x w h ∙ ap Ok long
 
-  same_long : (n m : ℕ) → Done n ≡ Done m → n ≡ m
+  same_long : (n m : ℕ) → ◌≡◌ {A = Said} (Ok n) (Ok m) → n ≡ m
   same_long n m d = cc
 
   -- what reading compared has 32 bytes
-  only : read F (sealed_bytes F j q) ≡ Done (q + 32) → Hashed F x
+  only : read F (sealed_bytes F j q) ≡ Ok (q + 32) → Hashed F x
   only r =
       let z = sealed_bytes F j q in
-      let p = passed F z (ap is_done r) in
+      let p = passed F z (ap is_ok r) in
       let n : length z ≡ q + 32 = same_long (length z) (q + 32) (read_done_lem F z p.long p.front p.own (table z (body_length z)) refl p.tabled p.hashed ∙ r) in
       let m : body_length z ≡ q = omega arith in
       let t : take (body_length z) z ≡ body x = ap (λ (k : ℕ). take k z) m ∙ take-take q (q + 32) (end_after F j q) (omega arith) ∙ front in

@@ -1,4 +1,5 @@
 -- The calls together. Assumes nothing.
+use Rattle.std.specs.Prelude.{Ok, is_ok}
 use Prim.Native.Nat.{ℕ, suc, ◌+◌, ◌-◌, ◌≤◌, ◌<◌}
 use native.Mathlib.Omega.{arith}
 use mathlib.Core.Path.{◌≡◌, refl, sym, ap, ap₂, ◌∙◌, subst}
@@ -12,8 +13,7 @@ use Rattle.byte_strings.proofs.Bools.{both_true, true_both, not_both}
 use Rattle.journal.specs.Ranges.{Range, Placed}
 use Rattle.journal.specs.Form.{Journal, WellFormed, encode_all, journal_bytes, old_state, new_state, length_of, state_of, FilesRise, In}
 use Rattle.journal.specs.Places.{old_at, new_at, body_length}
-use Rattle.journal.specs.Reading.{is_done, states_said}
-use Rattle.journal.specs.declared.Said.TheVariants.{Done}
+use Rattle.journal.specs.Reading.{states_said}
 use Rattle.journal.proofs.Answers.{done_written, states_done_lem, states_unfit}
 use Rattle.journal_meeting.specs.Between.{met, state_met, between}
 use Rattle.journal_meeting.proofs.Steps.{between_state, between_on}
@@ -87,14 +87,14 @@ module _ (F : List ℕ → List ℕ) (x : Journal) (w : WellFormed x) (fl : Hash
     low_enough l = let e = state_length f in omega arith
 
     -- a file whose state is between
-    says_met : (z : ℕ) → between j i at (is_there f) (contents f) ≡ Done z → (state_met j i (state_of (is_there f) (length (contents f))) ≡ true)
-        × (met j m i (contents f) (suc (length j)) at ≡ Done z)
+    says_met : (z : ℕ) → between j i at (is_there f) (contents f) ≡ Ok z → (state_met j i (state_of (is_there f) (length (contents f))) ≡ true)
+        × (met j m i (contents f) (suc (length j)) at ≡ Ok z)
     says_met z e = go (state_met j i (state_of (is_there f) (length (contents f)))) refl
       where
         go : (b : Bool) → state_met j i (state_of (is_there f) (length (contents f))) ≡ b
-            → (state_met j i (state_of (is_there f) (length (contents f))) ≡ true) × (met j m i (contents f) (suc (length j)) at ≡ Done z)
+            → (state_met j i (state_of (is_there f) (length (contents f))) ≡ true) × (met j m i (contents f) (suc (length j)) at ≡ Ok z)
         go true d = (d, between_on j i at (is_there f) (contents f) (long_right_lem F x w fl) h d _ refl ∙ e)
-        go false d = not_both (ap is_done (between_state j i at (is_there f) (contents f) (long_right_lem F x w fl) h d ∙ e))
+        go false d = not_both (ap is_ok (between_state j i at (is_there f) (contents f) (long_right_lem F x w fl) h d ∙ e))
 
     judged : SaysBetween j x i f → BetweenFile x i f
     judged e =
@@ -128,11 +128,11 @@ module _ (F : List ℕ → List ℕ) (x : Journal) (w : WellFormed x) (fl : Hash
         (λ r k.
         let t = subst (λ (rs : List Range). In r rs) (from_ranges i x.ranges) k in
         mixed_met (length_of (old_state x i)) (contents f) r (low_enough l) ((w.sound i h).fits r t) (b.mixed r t))
-        ∙ ap Done next_is
+        ∙ ap Ok next_is
 
   states_left_lem : (i : ℕ) → i < 10 → (lent : List ℕ) → states_left j i lent ≡ old_state x i ∷ new_state x i ∷ []
   states_left_lem i h lent =
-      sym (done_written (Done 0) (states_said j i) (old_at j i ∷ new_at j i ∷ []) lent refl (states_done_lem j i (long_right_lem F x w fl) h))
+      sym (done_written (Ok 0) (states_said j i) (old_at j i ∷ new_at j i ∷ []) lent refl (states_done_lem j i (long_right_lem F x w fl) h))
       ∙ ap₂ (λ (a b : ℕ). a ∷ b ∷ []) (old_is F x w i h) (new_is F x w i h)
 
   all_judged : Judges j x

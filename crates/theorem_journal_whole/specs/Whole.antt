@@ -1,12 +1,12 @@
 -- A journal that reading accepts: all its files judged, one after the other, and what writing gives then.
-use Rattle.std.specs.Prelude.{ℕ, ◌+◌, ◌-◌, ◌≤◌, ◌<◌, ◌≡◌, ◌↔◌, Bool, true, false, List, [], ◌∷◌, length, ltb}
+use Rattle.std.specs.Prelude.{ℕ, ◌+◌, ◌-◌, ◌≤◌, ◌<◌, ◌≡◌, ◌↔◌, Bool, true, false, List, [], ◌∷◌, length, ltb, Err, Ok, is_ok}
 use Rattle.byte_strings.specs.Lists.{part, Bytes}
 use Rattle.journal.specs.Ranges.{Range, replaced, fresh, blank, witness, start, Placed}
 use Rattle.journal.specs.Form.{Journal, WellFormed, kind_of, size_of, encode_all, front, journal_bytes, old_state, new_state}
 use Rattle.journal.specs.Places.{old_at, new_at, file_at, kind_at, start_at, size_at, new_place, behind, body_length}
-use Rattle.journal.specs.Reading.{read, is_done, next_said, if_done, states_said}
-use Rattle.journal.specs.declared.Said.TheVariants as said
-use Rattle.journal.specs.declared.Said.TheVariants.{Done, Unfit}
+use Rattle.journal.specs.Reading.{read, next_said, if_done, states_said}
+use Rattle.journal.specs.declared.JournalError.TheVariants as error
+use Rattle.journal.specs.declared.JournalError.TheVariants.{Unfit}
 use Rattle.journal_meeting.specs.Between.{between}
 use Rattle.theorem_journal_recovers.specs.Archive.{File, absent, there, contents, Archive, BeforeAll, BetweenFile, SameAll, WritesAll, opened, writes_in, after}
 use Rattle.theorem_journal_exact.specs.Exact.{Hashed}
@@ -26,7 +26,7 @@ is_there (there f) = true
 
 -- what the call says of the file i, at the place where its ranges begin: done, with the place where the next file's begin
 abbrev pub SaysBetween : List ℕ → Journal → ℕ → File → Type 0
-SaysBetween j x i f = between j i (place_in j x i) (is_there f) (contents f) ≡ Done (place_in j x (i + 1))
+SaysBetween j x i f = between j i (place_in j x i) (is_there f) (contents f) ≡ Ok (place_in j x (i + 1))
 
 -- the bytes of a range after the change stand at a place of j; a run of zeros has none there
 abbrev pub Shown : List ℕ → ℕ → Range → Type 0
@@ -45,8 +45,8 @@ pub record Names (j : List ℕ) (q : ℕ) (p : Placed) : Type 0 where
 
 -- range by range from q on, each call at the place that the one before answered: the ranges ps in their order, and behind the last none
 abbrev pub Gives : List ℕ → ℕ → List Placed → Type 0
-Gives j q [] = next_said j q ≡ said.Range q
-Gives j q (p ∷ ps) = (next_said j q ≡ Done (behind j q)) × Names j q p × Gives j (behind j q) ps
+Gives j q [] = next_said j q ≡ Err (error.Range q)
+Gives j q (p ∷ ps) = (next_said j q ≡ Ok (behind j q)) × Names j q p × Gives j (behind j q) ps
 
 -- what the call on the states of the file i leaves in two numbers lent
 abbrev pub states_left : List ℕ → ℕ → List ℕ → List ℕ
@@ -58,9 +58,9 @@ pub record Judges (j : List ℕ) (x : Journal) : Type 0 where
   pub first : place_in j x 0 ≡ front
   pub last : place_in j x 10 ≡ body_length j
   -- the states that the call answers are the journal's, of ten files and no other
-  pub states_done : (i : ℕ) → i < 10 → states_said j i ≡ Done 0
+  pub states_done : (i : ℕ) → i < 10 → states_said j i ≡ Ok 0
   pub states : (i : ℕ) → i < 10 → (lent : List ℕ) → states_left j i lent ≡ old_state x i ∷ new_state x i ∷ []
-  pub no_file : (i : ℕ) → 10 ≤ i → states_said j i ≡ Unfit
+  pub no_file : (i : ℕ) → 10 ≤ i → states_said j i ≡ Err Unfit
   -- the call is exact
   pub exactly : (i : ℕ) → i < 10 → (f : File) → SaysBetween j x i f ↔ BetweenFile x i f
   -- the writes that the calls answer are the journal's
@@ -75,4 +75,4 @@ JudgesForAll = (F : List ℕ → List ℕ) (x : Journal) → WellFormed x → Ha
 
 -- so of all bytes that reading accepts, whatever function stands in for BLAKE2b
 abbrev pub AcceptedForAll : Type 0
-AcceptedForAll = (F : List ℕ → List ℕ) (j : List ℕ) → Bytes j → is_done (read F j) ≡ true → (x : Journal) × WellFormed x × (j ≡ journal_bytes F x) × Judges j x
+AcceptedForAll = (F : List ℕ → List ℕ) (j : List ℕ) → Bytes j → is_ok (read F j) ≡ true → (x : Journal) × WellFormed x × (j ≡ journal_bytes F x) × Judges j x

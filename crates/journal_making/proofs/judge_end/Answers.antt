@@ -1,6 +1,8 @@
 -- `journal_making::judge_end` meets its contract. Assumes nothing.
 use native.Mathlib.Omega.{arith}
-use mathlib.Core.Path.{sym, ◌∙◌}
+use mathlib.Core.Path.{refl, sym, ◌∙◌}
+use Rattle.std.specs.Prelude.{Ok, Err}
+use Rattle.std.proofs.lemmas.Result.{err_from_is_err_and}
 use Rattle.journal.proofs.Answers.{right_least}
 use Rattle.journal_making.proofs.Answers.{end_no_room, end_length, end_first, end_table, end_done}
 use borrow.Author.Rules.{rules}
@@ -18,15 +20,17 @@ returns-then-not-length_right c = end_length _ _ (omega arith) (sym c.length_rig
 pub returns-then-not-begins : goal.returns-then-not-begins
 returns-then-not-begins c = end_first _ _ (omega arith) (sym c.length_right.ensures ∙ c.if-not-length_right.false) (sym c.begins.ensures ∙ c.if-not-begins.true)
 
-pub judge_table-said-requires : goal.judge_table-said-requires
-judge_table-said-requires c = let h = right_least _ (sym c.length_right.ensures ∙ c.if-not-length_right.false) in search rules
+pub judge_table-requires : goal.judge_table-requires
+judge_table-requires c = let h = right_least _ (sym c.length_right.ensures ∙ c.if-not-length_right.false) in search rules
 
-pub returns-then-not-is_done : goal.returns-then-not-is_done
-returns-then-not-is_done c =
-    end_table _ _ (omega arith) (sym c.length_right.ensures ∙ c.if-not-length_right.false)
-    (sym c.begins.ensures ∙ c.if-not-begins.false) _ c.judge_table-said.ensures (sym c.is_done.ensures ∙ c.if-not-is_done.true)
+pub returns-in_err-judge_table : goal.returns-in_err-judge_table
+returns-in_err-judge_table c =
+    let p = err_from_is_err_and c.from_residual.result c.from_residual.ensures.1 in
+    rw (p.1, p.2)
+    (end_table _ _ (omega arith) (sym c.length_right.ensures ∙ c.if-not-length_right.false)
+    (sym c.begins.ensures ∙ c.if-not-begins.false) (Err _) c.in_err-judge_table.ensures refl)
 
 pub returns : goal.returns
 returns c =
     end_done _ _ (omega arith) (sym c.length_right.ensures ∙ c.if-not-length_right.false)
-    (sym c.begins.ensures ∙ c.if-not-begins.false) _ c.judge_table-said.ensures (sym c.is_done.ensures ∙ c.if-not-is_done.false)
+    (sym c.begins.ensures ∙ c.if-not-begins.false) (Ok _) c.in_ok-judge_table.ensures refl

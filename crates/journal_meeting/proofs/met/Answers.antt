@@ -27,18 +27,18 @@ returns-then-wide-file c =
     let w = behind_some a.journal.now a.end c.loop-place.place _ c.place_behind-next.ensures c.if-next-eq0.false in
     mets_other a.journal.now a.end a.file a.bytes.now a.at c.loop-place.place c.loop-place.invariant w.is _ c.wide.ensures c.if-wide-file.true
 
-pub met_range-found-requires : goal.met_range-found-requires
-met_range-found-requires c =
+pub met_range-requires : goal.met_range-requires
+met_range-requires c =
     let a = c.args in
     let w = behind_some a.journal.now a.end c.loop-place.place _ c.place_behind-next.ensures c.if-next-eq0.false in
     (w.place, w.room, omega (arith, w.end))
 
-pub returns-in-At : goal.returns-in-At
-returns-in-At c =
+pub returns-in-Some : goal.returns-in-Some
+returns-in-Some c =
     let a = c.args in
     let w = behind_some a.journal.now a.end c.loop-place.place _ c.place_behind-next.ensures c.if-next-eq0.false in
     mets_byte a.journal.now a.end a.file a.bytes.now a.at c.loop-place.place w.is _ c.wide.ensures c.if-wide-file.false _
-    c.met_range-found.ensures c.loop-place.invariant (omega arith) _ c.in-At.is
+    c.met_range.ensures c.loop-place.invariant (omega arith) _ c.in-Some.is
 
 pub loop-place-smaller : goal.loop-place-smaller
 loop-place-smaller c =
@@ -52,7 +52,7 @@ loop-place-preserved c =
     let a = c.args in
     let w = behind_some a.journal.now a.end c.loop-place.place _ c.place_behind-next.ensures c.if-next-eq0.false in
     mets_on a.journal.now a.end a.file a.bytes.now a.at c.loop-place.place w.is _ c.wide.ensures c.if-wide-file.false _
-    c.met_range-found.ensures c.loop-place.invariant (omega arith) _ w c.in_default.is
+    c.met_range.ensures c.loop-place.invariant (omega arith) _ w c.in_default.is
 
 pub returns : goal.returns
 returns c =

@@ -1,6 +1,8 @@
 -- `journal::reading::check` meets its contract, test by test. Assumes nothing.
 use borrow.Author.Rules.{rules}
-use mathlib.Core.Path.{sym, ◌∙◌}
+use mathlib.Core.Path.{refl, sym, ◌∙◌}
+use Rattle.std.specs.Prelude.{Ok, Err}
+use Rattle.std.proofs.lemmas.Result.{err_from_is_err_and}
 use mathlib.Core.Bool.{true, false}
 use Prim.Native.Nat.{◌-◌}
 use lib.ListN.{length}
@@ -28,21 +30,22 @@ returns-then-read_be64-journal c =
 pub overflow_sub-end : goal.overflow_sub-end
 overflow_sub-end c = let h = right_least _ (sym c.length_right.ensures ∙ c.if-not-length_right.false) in search rules
 
-pub judge_table-said-requires : goal.judge_table-said-requires
-judge_table-said-requires c = let h = right_least _ (sym c.length_right.ensures ∙ c.if-not-length_right.false) in search rules
+pub judge_table-requires : goal.judge_table-requires
+judge_table-requires c = let h = right_least _ (sym c.length_right.ensures ∙ c.if-not-length_right.false) in search rules
 
-pub returns-then-not-is_done : goal.returns-then-not-is_done
-returns-then-not-is_done c =
-    read_table _ _ (sym c.length_right.ensures ∙ c.if-not-length_right.false) (sym c.begins.ensures ∙ c.if-not-begins.false)
-    (eq-eqb _ _ (sym c.read_be64.ensures ∙ c.if-read_be64-journal.false)) _ c.judge_table-said.ensures (sym c.is_done.ensures ∙ c.if-not-is_done.true)
+pub returns-in_err-judge_table : goal.returns-in_err-judge_table
+returns-in_err-judge_table c =
+    let p = err_from_is_err_and c.from_residual.result c.from_residual.ensures.1 in
+    rw (p.1, p.2)
+    (read_table _ _ (sym c.length_right.ensures ∙ c.if-not-length_right.false) (sym c.begins.ensures ∙ c.if-not-begins.false)
+    (eq-eqb _ _ (sym c.read_be64.ensures ∙ c.if-read_be64-journal.false)) (Err _) c.in_err-judge_table.ensures refl)
 
 pub returns-then-same : goal.returns-then-same
 returns-then-same c =
     let j = c.args.journal.now in
     read_done_lem _ _ (sym c.length_right.ensures ∙ c.if-not-length_right.false)
     (sym c.begins.ensures ∙ c.if-not-begins.false)
-    (eq-eqb _ _ (sym c.read_be64.ensures ∙ c.if-read_be64-journal.false)) _ c.judge_table-said.ensures
-    (sym c.is_done.ensures ∙ c.if-not-is_done.false)
+    (eq-eqb _ _ (sym c.read_be64.ensures ∙ c.if-read_be64-journal.false)) (Ok _) c.in_ok-judge_table.ensures refl
     (same_said j _ (length j - 32) _ true (hash_said j _ (length j - 32) c.hash_parts-hash.ensures) c.same.ensures c.if-same.true)
 
 pub returns : goal.returns
@@ -50,6 +53,5 @@ returns c =
     let j = c.args.journal.now in
     read_hash _ _ (sym c.length_right.ensures ∙ c.if-not-length_right.false)
     (sym c.begins.ensures ∙ c.if-not-begins.false)
-    (eq-eqb _ _ (sym c.read_be64.ensures ∙ c.if-read_be64-journal.false)) _ c.judge_table-said.ensures
-    (sym c.is_done.ensures ∙ c.if-not-is_done.false)
+    (eq-eqb _ _ (sym c.read_be64.ensures ∙ c.if-read_be64-journal.false)) (Ok _) c.in_ok-judge_table.ensures refl
     (same_said j _ (length j - 32) _ false (hash_said j _ (length j - 32) c.hash_parts-hash.ensures) c.same.ensures c.if-same.false)

@@ -133,14 +133,14 @@ loop-at-preserved c =
           (covered_said j c.loop-at.covered c.loop-at.at _ _ _ c.wide-last.ensures s c.larger.ensures),
     )
 
-pub returns-in-At : goal.returns-in-At
-returns-in-At c =
+pub returns-in-Some : goal.returns-in-Some
+returns-in-Some c =
     let j = c.args.journal.now in
-    gap_at j c.loop-at.covered c.args.end c.in-At.i _ _ c.in-At.is c.gap.ensures
+    gap_at j c.loop-at.covered c.args.end c.in-Some.i _ _ c.in-Some.is c.gap.ensures
     (walks_end j c.args.end c.loop-at.last c.loop-at.reach c.loop-at.covered c.loop-at.at c.loop-at.invariant.2 (omega arith) (omega arith))
 
-pub returns-in-Nowhere : goal.returns-in-Nowhere
-returns-in-Nowhere c =
+pub returns-in-None : goal.returns-in-None
+returns-in-None c =
     let j = c.args.journal.now in
-    gap_none j c.loop-at.covered c.args.end _ _ c.in-Nowhere.is c.gap.ensures
+    gap_none j c.loop-at.covered c.args.end _ _ c.in-None.is c.gap.ensures
     (walks_end j c.args.end c.loop-at.last c.loop-at.reach c.loop-at.covered c.loop-at.at c.loop-at.invariant.2 (omega arith) (omega arith))

@@ -1,10 +1,10 @@
 -- The calls on Nodes: the fields that their parts stand for, what they answer, and what stands in the lent buffer afterwards.
-use Rattle.std.specs.Prelude.{Option as Maybe, None, Some, ℕ, ◌+◌, ◌-◌, ◌<◌, ◌≤◌, List, [], ◌∷◌, ◌++◌, length, get_or, replicate}
+use Rattle.answer_types.specs.declared.Refusal.{Refusal}
+use Rattle.std.specs.Prelude.{Option as Maybe, None, Some, ℕ, ◌+◌, ◌-◌, ◌<◌, ◌≤◌, List, [], ◌∷◌, ◌++◌, length, get_or, replicate, Result, ⊤}
 use Rattle.std.proofs.Math.Option.{Option, none as absent, some}
 use Rattle.byte_strings.specs.Lists.{run}
 use Rattle.answer_types.specs.Verdict.{Spot, Verdict}
 use Rattle.answer_types.specs.Meaning.{said}
-use Rattle.answer_types.specs.declared.Answer.{Answer}
 use Rattle.record_fields.specs.Fields.{part_field, given_field}
 use Rattle.record_fields.specs.Inner.{number_of, number_told, part_of, bytes_of, Inside, BytesInside, head_of, part_placed, bytes_placed}
 use Rattle.record_format.specs.Records.{Stat, Writer, writer_bytes, Node, NodeWithin, node_bytes, stat_part}
@@ -108,7 +108,7 @@ abbrev pub read_node : Spot → List ℕ → Verdict × CodeNode
 read_node spot d = told_of spot no_node node_placed (node_from d)
 
 -- what an answer and the Node beside it tell
-abbrev pub node_told : Answer → CodeNode → Verdict × CodeNode
+abbrev pub node_told : Result ⊤ Refusal → CodeNode → Verdict × CodeNode
 node_told answer n = (said answer, n)
 
 -- ---- writing

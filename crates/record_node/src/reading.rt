@@ -6,7 +6,7 @@ ghost use Rattle.record_node.specs.Post.{no_writers, no_node, node_told, read_no
 ghost use Rattle.record_node.specs.Inner.{PartsRead, TailRead, RawRead, RawJudged, WithPathAs, ValueReadAs, NodeFound};
 
 use super::writers::Writers;
-use answer_types::Answer;
+use answer_types::Refusal;
 use record_fields::{Part, Read};
 use record_format::Stat;
 
@@ -23,7 +23,7 @@ pub struct Node {
 // What reading a Node answers, and its fields; beside a refusal a Node that says nothing.
 #[derive(Clone, Copy)]
 pub struct NodeRead {
-    pub answer: Answer,
+    pub answer: Result<(), Refusal>,
     pub node: Node,
 }
 
@@ -179,7 +179,7 @@ pub fn read_node(bytes: &[u8]) -> NodeRead
     match found_node(bytes) {
         None => no_node(),
         Some(node) => NodeRead {
-            answer: Answer::Done,
+            answer: Ok(()),
             node,
         },
     }

@@ -15,9 +15,10 @@ use Rattle.bitfield.specs.Image.{entry_count}
 use Rattle.bitfield.specs.Append.{bits_place}
 use Rattle.bitfield.specs.Release.{stored_held}
 use Rattle.bitfield.specs.Missing.{found_at}
-use Rattle.std.specs.Prelude.{Option, Some, None}
+use Rattle.std.specs.Prelude.{Option, Some, None, Ok}
 use Rattle.file_format.specs.Sizes.{most_chunks, used_bitfield}
-use Rattle.search.specs.Search.{tuples_place, stored_tuples, tuple_in, stored_tuple, passed_over, not_missing}
+use Rattle.search.specs.Meaning.{searched_of}
+use Rattle.search.specs.Search.{answer, tuples_place, stored_tuples, tuple_in, stored_tuple, passed_over, not_missing}
 use Rattle.search.specs.Inner.{DataIn, InGroup, InRun}
 use Rattle.search.proofs.Cut.{cut_found, cut_none, lowest_none}
 

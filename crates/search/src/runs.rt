@@ -66,9 +66,8 @@ fn by_groups(xs: &[u8], tuples: u8, from: u64, end: u64) -> Option<ChunkNumber>
     while k < end {
         let next = smaller_of((k / 16 + 1) * 16, end);
         let tuple = group_tuple(tuples, number_types::chunk_behind(k));
-        let found = in_group(xs, tuple, k, next);
-        if found.is_some() {
-            return found;
+        if let Some(chunk) = in_group(xs, tuple, k, next) {
+            return Some(chunk);
         }
         k = next;
     }
@@ -95,9 +94,8 @@ pub fn by_runs(xs: &[u8], from: u64, n: u64) -> Option<ChunkNumber>
     let mut k = from;
     while k < n {
         let next = smaller_of((k / 64 + 1) * 64, n);
-        let found = in_run(xs, k, next);
-        if found.is_some() {
-            return found;
+        if let Some(chunk) = in_run(xs, k, next) {
+            return Some(chunk);
         }
         k = next;
     }

@@ -19,11 +19,11 @@ unfolding label_verdict
 returns-then-key-gt64 c =
     let a = c.args in
     let e = key_too_long 32 (length a.key.now) (omega arith) (omega arith) (omega (arith, c.if-key-gt64.true)) in
-    record { answers = c.refuse.ensures ∙ sym e; bytes = bytes_of a.key.now a.root.now _ e }
+    record { answers = sym e; bytes = bytes_of a.key.now a.root.now _ e }
 
 pub returns : goal.returns
 unfolding label_verdict label_of
 returns c =
     let a = c.args in
     let e = all_right 32 (length a.key.now) (omega arith) (omega arith) (omega (arith, c.if-key-gt64.false)) in
-    record { answers = sym e; bytes = c.hash_parts-bytes.ensures ∙ bytes_of a.key.now a.root.now _ e }
+    record { answers = sym e; bytes = c.hash_parts.ensures ∙ bytes_of a.key.now a.root.now _ e }

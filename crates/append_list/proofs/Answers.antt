@@ -6,7 +6,7 @@ use mathlib.Core.List.{List, [], ◌∷◌}
 use native.Mathlib.Omega.{arith}
 use lib.ListN.{length, take, drop}
 use Rattle.answer_types.specs.Verdict.{Verdict, done, unless_refused}
-use Rattle.answer_types.specs.Meaning.{said}
+use Rattle.answer_types.specs.Meaning.{said, refusal_of}
 use Rattle.answer_types.specs.declared.Refusal.{Refusal}
 use Rattle.byte_strings.specs.Lists.{put, zeros}
 use Rattle.blake2b.specs.Hash.{node_hash}
@@ -87,10 +87,10 @@ module _ (r : Register) (ls bs : List ℕ) (a : Result ⊤ Refusal) (e : said a 
         sum = w.0.adds;
       }
 
-  pub list_not : (x : Refusal) → a ≡ Err x → ListPost r ls bs (said (Err x)) (zeros 32) (buffers_of r)
+  pub list_not : (x : Refusal) → a ≡ Err x → ListPost r ls bs (refusal_of x) (zeros 32) (buffers_of r)
   unfolding list_root after_list
   list_not x p =
-      let w : said (Err x) ≡ list_verdict r ls bs = sym (ap said p) ∙ e in
+      let w : refusal_of x ≡ list_verdict r ls bs = sym (ap said p) ∙ e in
       record {
         answer = w;
         root = ap (λ (v : Verdict). root_unless_refused node_hash v (appended_list node_hash r (chunks_of ls bs))) w;

@@ -8,7 +8,7 @@ use borrow.Author.Tests.{ltb-true, lt-ltb, le-ltb, le-leb, lt-leb}
 use lib.Dec.{leb, ltb, eqb}
 use lib.ListN.{length}
 use Rattle.answer_types.specs.Verdict.{Verdict, none, done, refused}
-use Rattle.answer_types.specs.Meaning.{said}
+use Rattle.answer_types.specs.Meaning.{said, refusal_of}
 use Rattle.answer_types.specs.declared.Refusal.{Refusal}
 use Rattle.byte_strings.specs.Lists.{total}
 use Rattle.file_format.specs.Sizes.{most_chunks, used_tree, used_signatures, used_bitfield}
@@ -78,16 +78,16 @@ room_answered r k m p q s t u w = rw (p, q, s, t, u) w
 
 -- ---- the list's own, by the answers of its two halves
 
-pub some_listed : (ls bs : List ℕ) {a : Answer} → a ≡ (Ok tt) → said a ≡ judged (list_checks ls bs) done → 0 < length ls
+pub some_listed : (ls bs : List ℕ) {a : Result ⊤ Refusal} → a ≡ (Ok tt) → said a ≡ judged (list_checks ls bs) done → 0 < length ls
 unfolding list_checks
 some_listed ls bs p e = ltb-true 0 (length ls) (judged_done (list_checks ls bs) done (sym e ∙ ap said p)).0.0
 
-pub own_refused : (r : Register) (ls bs : List ℕ) {a : Answer} {x : Refusal} → a ≡ Err x → said a ≡ judged (list_checks ls bs) done
-    → said (Err x) ≡ own_verdict r ls bs
+pub own_refused : (r : Register) (ls bs : List ℕ) {a : Result ⊤ Refusal} {x : Refusal} → a ≡ Err x → said a ≡ judged (list_checks ls bs) done
+    → refusal_of x ≡ own_verdict r ls bs
 unfolding own_verdict
 own_refused r ls bs = refused_before (list_checks ls bs) (judged (room_checks r (length ls) (length bs)) done)
 
-pub own_passed : (r : Register) (ls bs : List ℕ) {v : Verdict} {a : Answer} → a ≡ (Ok tt) → said a ≡ judged (list_checks ls bs) done
+pub own_passed : (r : Register) (ls bs : List ℕ) {v : Verdict} {a : Result ⊤ Refusal} → a ≡ (Ok tt) → said a ≡ judged (list_checks ls bs) done
     → v ≡ judged (room_checks r (length ls) (length bs)) done → v ≡ own_verdict r ls bs
 unfolding own_verdict
 own_passed r ls bs = passed_before (list_checks ls bs)

@@ -6,7 +6,7 @@ use mathlib.Core.List.{List}
 use native.Mathlib.Omega.{arith}
 use lib.ListN.{length}
 use Rattle.answer_types.specs.Verdict.{done}
-use Rattle.answer_types.specs.Meaning.{said}
+use Rattle.answer_types.specs.Meaning.{said, refusal_of}
 use Rattle.answer_types.specs.declared.Refusal.{Refusal}
 use Rattle.byte_strings.specs.Lists.{zeros}
 use Rattle.blake2b.specs.Hash.{node_hash}
@@ -22,7 +22,7 @@ module _ (r : Register) (chunk : List ℕ) (a : Result ⊤ Refusal) (e : said a 
   pub root_fits : a ≡ (Ok tt) → length r.content < 2 ^ 64 → FilledFits r.tree r.n (length chunk)
   root_fits p l = let w = store_fits r chunk p e in record { few = w.few; room = w.tree; sum = omega (arith, w.sum, w.content) }
 
-  pub preview_not : (x : Refusal) → a ≡ Err x → PreviewPost r chunk (said (Err x)) (zeros 32)
+  pub preview_not : (x : Refusal) → a ≡ Err x → PreviewPost r chunk (refusal_of x) (zeros 32)
   preview_not x p = let w = append_not {r = r} {chunk = chunk} p e in record { answer = w.answer; root = w.root }
 
   pub preview_done : (h : List ℕ) → a ≡ (Ok tt) → h ≡ node_hash (stored_root_message (appended_tree node_hash r.tree r.n chunk) (r.n + 1))

@@ -7,7 +7,7 @@ use mathlib.Core.List.{List}
 use native.Mathlib.Omega.{arith}
 use borrow.Author.Tests.{leb-true, le-leb, lt-leb}
 use Rattle.answer_types.specs.Verdict.{Verdict, none, done, refused}
-use Rattle.answer_types.specs.Meaning.{said, spot_of}
+use Rattle.answer_types.specs.Meaning.{said, spot_of, refusal_of}
 use Rattle.answer_types.specs.declared.Refusal.{Refusal}
 use Rattle.tree_index.specs.Tree.{entries}
 use Rattle.blake2b.specs.Hash.{node_hash}
@@ -61,7 +61,7 @@ old_passed r m e =
 -- ---- the steps of the code
 
 module _ (r : Register) (m : ℕ) (a : Result ⊤ Refusal) (e : said a ≡ judged (register_checks r) done) where
-  pub before_refused : (x : Refusal) → a ≡ Err x → said (Err x) ≡ prefix_verdict r m
+  pub before_refused : (x : Refusal) → a ≡ Err x → refusal_of x ≡ prefix_verdict r m
   before_refused x p =
       sym (in_turn_lem r m ∙ judged_refused (register_checks r) (own_verdict r.n m) x.number (spot_of x.place) (sym e ∙ ap said p))
 

@@ -67,7 +67,7 @@ module _ (d : List ℕ) (i : ℕ) where
 -- ---- behind the read
 
 -- what is told where the read answers b is told behind it
-pub behind : {T : Type 0} (after : Verdict → List ℕ → T) {a b : Answer} {v : Verdict} {d e : List ℕ} {x : T} → a ≡ b → said a ≡ v → d ≡ e → x ≡ after (said b) d → x ≡ after v e
+pub behind : {T : Type 0} (after : Verdict → List ℕ → T) {a b : Result ⊤ Refusal} {v : Verdict} {d e : List ℕ} {x : T} → a ≡ b → said a ≡ v → d ≡ e → x ≡ after (said b) d → x ≡ after v e
 behind after p q g h = h ∙ ap₂ after (sym (ap said p) ∙ q) g
 
 -- another thing that is told of the same record is refused as the first is

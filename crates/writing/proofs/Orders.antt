@@ -8,7 +8,7 @@ use borrow.Author.Tests.{lt-ltb, le-ltb}
 use lib.Dec.{leb, ltb, eqb}
 use lib.ListN.{length}
 use Rattle.answer_types.specs.Verdict.{Spot, Verdict, none, done, refused, unless_refused}
-use Rattle.answer_types.specs.Meaning.{said, spot_of}
+use Rattle.answer_types.specs.Meaning.{said, spot_of, refusal_of}
 use Rattle.answer_types.specs.declared.Refusal.{Refusal}
 use Rattle.file_format.specs.Sizes.{most_chunks, longest_chunk, used_tree, used_signatures, used_bitfield}
 use Rattle.file_format.specs.Belongs.{Buffers, Register}
@@ -21,12 +21,12 @@ use Rattle.writing.specs.Sign.{own_sign_checks, sign_checks, sign_verdict}
 -- ---- checks behind checks
 
 -- a refusal of the first is the refusal of all
-pub refused_before : (cs : List Check) (next : Verdict) {a : Answer} {x : Refusal} → a ≡ Err x → said a ≡ judged cs done
-    → said (Err x) ≡ judged cs next
+pub refused_before : (cs : List Check) (next : Verdict) {a : Result ⊤ Refusal} {x : Refusal} → a ≡ Err x → said a ≡ judged cs done
+    → refusal_of x ≡ judged cs next
 refused_before cs next {x = x} p e = sym (judged_refused cs next x.number (spot_of x.place) (sym e ∙ ap said p))
 
 -- where the first are passed, the others decide
-pub passed_before : (cs : List Check) {v next : Verdict} {a : Answer} → a ≡ (Ok tt) → said a ≡ judged cs done → v ≡ next → v ≡ judged cs next
+pub passed_before : (cs : List Check) {v next : Verdict} {a : Result ⊤ Refusal} → a ≡ (Ok tt) → said a ≡ judged cs done → v ≡ next → v ≡ judged cs next
 passed_before cs {next = next} p e q = q ∙ sym (judged_right cs next (judged_done cs done (sym e ∙ ap said p)).0)
 
 -- all checks of two lists, one behind the other, are right

@@ -9,15 +9,15 @@ use Rattle.append_preview.proofs.preview.Goals as goal
 pub new_root-requires : goal.new_root-requires
 new_root-requires c =
     let given : Register = register_of c.args.tree.now c.args.signatures.now c.args.bitfield.now c.args.content.now c.args.n c.args.s c.args.size in
-    root_fits given c.args.chunk.now c.judge-found.result c.judge-found.ensures c.in_ok-judge_append.was (omega arith)
+    root_fits given c.args.chunk.now c.judge.result c.judge.ensures c.in_ok-judge.was (omega arith)
 
-pub returns-in_err-judge_append : goal.returns-in_err-judge_append
-returns-in_err-judge_append c =
+pub returns-in_err-judge : goal.returns-in_err-judge
+returns-in_err-judge c =
     let p = err_from_is_err_and c.from_residual.result c.from_residual.ensures.1 in
     rw (p.1, p.2) (let given : Register = register_of c.args.tree.now c.args.signatures.now c.args.bitfield.now c.args.content.now c.args.n c.args.s c.args.size in
-    preview_not given c.args.chunk.now c.judge-found.result c.judge-found.ensures c.in_err-judge_append.field-0.0 c.in_err-judge_append.was)
+    preview_not given c.args.chunk.now c.judge.result c.judge.ensures c.in_err-judge.field-0.0 c.in_err-judge.was)
 
 pub returns : goal.returns
 returns c =
     let given : Register = register_of c.args.tree.now c.args.signatures.now c.args.bitfield.now c.args.content.now c.args.n c.args.s c.args.size in
-    preview_done given c.args.chunk.now c.judge-found.result c.judge-found.ensures c.new_root.result c.in_ok-judge_append.was c.new_root.ensures
+    preview_done given c.args.chunk.now c.judge.result c.judge.ensures c.new_root.result c.in_ok-judge.was c.new_root.ensures

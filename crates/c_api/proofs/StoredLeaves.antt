@@ -25,7 +25,7 @@ module _ (x : Result ℕ Refusal) (long : ℕ) (answer : List ℕ) where
         length = ap (λ (z : Result ℕ Refusal). unless_refused (stored_verdict z) (stored_length z) long) (sym e);
       }
 
-pub gives_leaf : {v : Verdict} {t : List ℕ} {k : ℕ} {out : List ℕ} {long : ℕ} {answer : List ℕ} {x : Stored} {after : List ℕ} {long_after : ℕ}
+pub gives_leaf : {v : Verdict} {t : List ℕ} {k : ℕ} {out : List ℕ} {long : ℕ} {answer : List ℕ} {x : Result ℕ Refusal} {after : List ℕ} {long_after : ℕ}
     → LeafPost v t k out x after → TellsLength x long answer long_after → GivesLeaf v t k out long answer after long_after
 gives_leaf {long = long} p q =
     record {

@@ -34,7 +34,7 @@ module _ (F : List ℕ → List ℕ) (c : Copy) (i : ℕ) (p : Found) (e : p ≡
         readable = λ d. readable F (signed c) i (sym (read_as F c i (sym (read_says_lem F c i p e) ∙ d))) _ (part_bytes d);
       }
 
-  pub made_as : {out : List ℕ} {answer : Made} {after : List ℕ}
+  pub made_as : {out : List ℕ} {answer : Result ℕ Refusal} {after : List ℕ}
       → MadeBehind (verdict_found p) (packet_with c.tree c.n i (bytes_found c.content p)) out answer after → CopyMadeAs F c i out answer after
   unfolding copy_make_verdict packet_of
   made_as = made_alike (read_says_lem F c i p e) (λ d. ap (packet_with c.tree c.n i) (part_bytes d))

@@ -47,7 +47,7 @@ module _ (F : List ℕ → List ℕ) (r : Register) (c : ℕ) (e : done ≡ read
 -- ---- the answers
 
 -- after a refusal no packet is written
-pub made_alike : {v w : Verdict} {p q out : List ℕ} {answer : Made} {after : List ℕ} → v ≡ w → (v ≡ done → p ≡ q)
+pub made_alike : {v w : Verdict} {p q out : List ℕ} {answer : Result ℕ Refusal} {after : List ℕ} → v ≡ w → (v ≡ done → p ≡ q)
     → MadeBehind v p out answer after → MadeBehind w q out answer after
 made_alike {v = done} e f m = rw (← e, ← f refl) m
 made_alike {v = refused k at} e f m = rw (← e) (record { verdict = m.verdict; long = m.long; written = m.written })
@@ -75,7 +75,7 @@ module _ (F : List ℕ → List ℕ) (r : Register) (c : ℕ) (p : Found) (e : p
         readable = λ d. readable F r c (sym d ∙ read_says_lem F r c p e) _ (part_bytes d);
       }
 
-  pub made_as : {out : List ℕ} {answer : Made} {after : List ℕ}
+  pub made_as : {out : List ℕ} {answer : Result ℕ Refusal} {after : List ℕ}
       → MadeBehind (verdict_found p) (packet_with r.tree r.n c (bytes_found r.content p)) out answer after → MadeAs F r c out answer after
   unfolding make_verdict packet_of
   made_as = made_alike (read_says_lem F r c p e) (λ d. ap (packet_with r.tree r.n c) (part_bytes d))

@@ -112,7 +112,7 @@ module _ (v : Verdict) (t u : List ℕ) (k : ℕ) where
       go (refused m at) h = refl
 
 -- the same where the verdict is told in other words
-pub post_as : {v w : Verdict} {t : List ℕ} {k : ℕ} {out : List ℕ} {x : Stored} {after : List ℕ} → v ≡ w → LeafPost v t k out x after → LeafPost w t k out x after
+pub post_as : {v w : Verdict} {t : List ℕ} {k : ℕ} {out : List ℕ} {x : Result ℕ Refusal} {after : List ℕ} → v ≡ w → LeafPost v t k out x after → LeafPost w t k out x after
 post_as {t = t} {k = k} {out = out} {x = x} {after = after} e p = subst (λ (u : Verdict). LeafPost u t k out x after) e p
 
 -- ---- a register that passes 2 to 6

@@ -3,7 +3,7 @@ use Rattle.std.proofs.lemmas.Result.{err_from_is_err_and}
 use mathlib.Core.Path.{refl, ap, subst}
 use Rattle.byte_strings.specs.Lists.{part}
 use Rattle.lookup.specs.Lookup.{found}
-use Rattle.std.specs.Prelude.{Result, Ok}
+use Rattle.std.specs.Prelude.{Result, Ok, List, ℕ}
 use Rattle.answer_types.specs.declared.Refusal.{Refusal}
 use Rattle.lookup.specs.declared.reading.Verified.{Verified}
 use Rattle.lookup.specs.Meaning.{verified_of}

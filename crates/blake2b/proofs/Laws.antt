@@ -51,7 +51,7 @@ take_bytes zero l h = none_bytes
 take_bytes (suc n) [] h = none_bytes
 take_bytes (suc n) (x ∷ l) h = cons_bytes x (take n l) (h 0) (take_bytes n l (λ i. h (suc i)))
 
-low_bytes_bytes : (k x : ℕ) → AreBytes (low_bytes k x)
+pub low_bytes_bytes : (k x : ℕ) → AreBytes (low_bytes k x)
 unfolding low_bytes
 low_bytes_bytes zero x = none_bytes
 low_bytes_bytes (suc k) x = cons_bytes (x % 256) (low_bytes k (x / 256)) (omega arith) (low_bytes_bytes k (x / 256))

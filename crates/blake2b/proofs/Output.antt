@@ -1,78 +1,66 @@
--- The bytes of a state by their places, and a list that is put out byte by byte over zeros.
+-- The words and bytes of a state, and a list that is put out over zeros.
 -- Assumes nothing.
-use mathlib.Core.Path.{◌≡◌, refl, sym, ap, ◌∙◌}
+use mathlib.Core.Path.{◌≡◌, refl, sym, ap, ap₂, ◌∙◌}
 use mathlib.Core.List.{List, [], ◌∷◌, ◌++◌, append-nil, append_assoc}
-use Prim.Native.Nat.{ℕ, zero, suc, ◌+◌, ◌-◌, ◌*◌, ◌/◌, ◌%◌, ◌^◌, ◌≤◌, ◌<◌}
-use native.Mathlib.Nat.{not-suc-le-zero, le_of_suc-le-suc, div-one, sub_self}
+use Prim.Native.Nat.{ℕ, ◌+◌, ◌-◌, ◌*◌, ◌^◌, ◌<◌}
 use native.Mathlib.Numerals.{add-one}
 use native.Mathlib.Omega.{arith}
-use lib.Pow.{shr-shr}
-use lib.ListN.{length, get_or, set, take, replicate}
-use lib.Seq.{set_at, take-suc, length-take-le, paste, paste-suc}
-use Rattle.blake2b_compression.proofs.Whole.{eight_words}
+use lib.ListN.{length, get_or, take, drop, replicate}
+use lib.Seq.{take-suc, length-take-le, take_at, drop_at, take_all}
+use borrow.Rule.Slice.PartMut.{put_mid}
+use Rattle.std.specs.Int.{w64, to_le_bytes}
+use Rattle.std.proofs.lemmas.Nat.{le_bytes_8}
+use Rattle.std.proofs.lemmas.List.{drop-replicate}
 use Rattle.blake2b.specs.Hash.{input, final, low_bytes, bytes, blake2b}
-use Rattle.blake2b.proofs.Laws.{low_bytes_length}
+use Rattle.blake2b.proofs.Laws.{low_bytes_bytes, bytes_length}
 
--- the byte at place r of a word
-low_at : (k x r : ℕ) → r < k → get_or (low_bytes k x) r 0 ≡ x / 2 ^ (8 * r) % 256
+-- what std writes as eight bytes
+pub word_written : (x : ℕ) → x < 2 ^ 64 → to_le_bytes w64 x ≡ low_bytes 8 x
 unfolding low_bytes
-low_at zero x r h = absurd (not-suc-le-zero h)
-low_at (suc k) x zero h = ap (λ (n : ℕ). n % 256) (sym (div-one x))
-low_at (suc k) x (suc r) h =
-    let e : 8 + 8 * r ≡ 8 * suc r = omega arith in
-    low_at k (x / 256) r (le_of_suc-le-suc h) ∙ ap (λ (n : ℕ). n % 256) (shr-shr x 8 (8 * r))
-    ∙ ap (λ (n : ℕ). x / 2 ^ n % 256) e
+word_written x h = le_bytes_8 (low_bytes 8 x) x refl (low_bytes_bytes 8 x) (omega arith)
 
--- the next byte of a word is put into a block
-pub word_more : (d : List ℕ) (at w j : ℕ) (out : List ℕ) (b : ℕ) → length d ≡ 64 → at + 8 ≤ 64 → j < 8 → out ≡ paste d at (low_bytes 8 w) j
-    → b ≡ w / 2 ^ (8 * j) % 256 → set out (at + j) b ≡ paste d at (low_bytes 8 w) (j + 1)
-word_more d at w j out b l h k o e =
-    ap (λ (x : List ℕ). set x (at + j) b) o ∙ ap (λ (n : ℕ). set (paste d at (low_bytes 8 w) j) (at + j) n) (e ∙ sym (low_at 8 w j k))
-    ∙ paste-suc d at (low_bytes 8 w) j 0 (omega arith) (omega (arith, low_bytes_length 8 w))
-    ∙ ap (λ (n : ℕ). paste d at (low_bytes 8 w) n) (sym (add-one j))
+pub bytes_append : (xs ys : List ℕ) → bytes (xs ++ ys) ≡ bytes xs ++ bytes ys
+unfolding bytes
+bytes_append [] ys = refl
+bytes_append (x ∷ xs) ys = ap (λ (r : List ℕ). low_bytes 8 x ++ r) (bytes_append xs ys) ∙ sym (append_assoc (low_bytes 8 x) (bytes xs) (bytes ys))
 
--- eight words put one behind the other
-packed : (a b c d e f g h : ℕ) →
-    let o₁ : List ℕ = paste (replicate 64 0) 0 (low_bytes 8 a) 8 in
-    let o₂ : List ℕ = paste o₁ 8 (low_bytes 8 b) 8 in
-    let o₃ : List ℕ = paste o₂ 16 (low_bytes 8 c) 8 in
-    let o₄ : List ℕ = paste o₃ 24 (low_bytes 8 d) 8 in
-    let o₅ : List ℕ = paste o₄ 32 (low_bytes 8 e) 8 in
-    let o₆ : List ℕ = paste o₅ 40 (low_bytes 8 f) 8 in
-    let o₇ : List ℕ = paste o₆ 48 (low_bytes 8 g) 8 in
-    paste o₇ 56 (low_bytes 8 h) 8 ≡ bytes (a ∷ b ∷ c ∷ d ∷ e ∷ f ∷ g ∷ h ∷ [])
-unfolding low_bytes bytes
-packed a b c d e f g h = refl
+-- the bytes of the first i words, over zeros
+abbrev pub words_out : List ℕ → ℕ → List ℕ
+words_out h i = bytes (take i h) ++ replicate (64 - 8 * i) 0
 
--- the bytes of a state, from the block after each word
-pub state_packed : (s : List ℕ) {o₁ o₂ o₃ o₄ o₅ o₆ o₇ o₈ : List ℕ} → length s ≡ 8
-    → o₁ ≡ paste (replicate 64 0) 0 (low_bytes 8 (get_or s 0 0)) 8
-    → o₂ ≡ paste o₁ 8 (low_bytes 8 (get_or s 1 0)) 8
-    → o₃ ≡ paste o₂ 16 (low_bytes 8 (get_or s 2 0)) 8
-    → o₄ ≡ paste o₃ 24 (low_bytes 8 (get_or s 3 0)) 8
-    → o₅ ≡ paste o₄ 32 (low_bytes 8 (get_or s 4 0)) 8
-    → o₆ ≡ paste o₅ 40 (low_bytes 8 (get_or s 5 0)) 8
-    → o₇ ≡ paste o₆ 48 (low_bytes 8 (get_or s 6 0)) 8
-    → o₈ ≡ paste o₇ 56 (low_bytes 8 (get_or s 7 0)) 8
-    → o₈ ≡ bytes s
-state_packed s l e₁ e₂ e₃ e₄ e₅ e₆ e₇ e₈ =
-    rw (e₈, e₇, e₆, e₅, e₄, e₃, e₂, e₁)
-    (packed (get_or s 0 0) (get_or s 1 0) (get_or s 2 0) (get_or s 3 0) (get_or s 4 0) (get_or s 5 0) (get_or s 6 0) (get_or s 7 0)
-    ∙ ap bytes (eight_words s l))
+pub words_none : (h : List ℕ) → replicate 64 0 ≡ words_out h 0
+unfolding bytes
+words_none h = refl
+
+next_word : (h : List ℕ) (i : ℕ) → i < length h → bytes (take (i + 1) h) ≡ bytes (take i h) ++ low_bytes 8 (get_or h i 0)
+unfolding bytes
+next_word h i k =
+    let x : ℕ = get_or h i 0 in
+    ap bytes (ap (λ (n : ℕ). take n h) (add-one i) ∙ take-suc h i 0 k) ∙ bytes_append (take i h) (x ∷ [])
+    ∙ ap (λ (us : List ℕ). bytes (take i h) ++ us) (append-nil (low_bytes 8 x))
+
+pub words_more : (h : List ℕ) (i : ℕ) (out b : List ℕ) → length h ≡ 8 → i < 8 → out ≡ words_out h i → b ≡ low_bytes 8 (get_or h i 0)
+    → put_mid (8 * i) (8 * i + 8 - 8 * i) out b ≡ words_out h (i + 1)
+words_more h i out b l k e f =
+    let x : ℕ = get_or h i 0 in
+    let front : List ℕ = bytes (take i h) in
+    let zeros : List ℕ = replicate (64 - 8 * i) 0 in
+    let rest : List ℕ = replicate (64 - 8 * (i + 1)) 0 in
+    let m : ℕ = 8 * i + 8 - 8 * i in
+    let long : length front ≡ 8 * i = bytes_length (take i h) ∙ ap (λ (n : ℕ). 8 * n) (length-take-le i h (omega arith)) in
+    let r : 64 - 8 * i - m ≡ 64 - 8 * (i + 1) = omega arith in
+    ap (λ (o : List ℕ). put_mid (8 * i) m o b) e
+    ∙ ap₂ (λ (us vs : List ℕ). us ++ (b ++ drop m vs)) (take_at front zeros (8 * i) long) (drop_at front zeros (8 * i) long)
+    ∙ ap (λ (us : List ℕ). front ++ (b ++ us)) (drop-replicate m (64 - 8 * i) 0 ∙ ap (λ (n : ℕ). replicate n 0) r)
+    ∙ ap (λ (us : List ℕ). front ++ (us ++ rest)) f ∙ sym (append_assoc front (low_bytes 8 x) rest)
+    ∙ ap (λ (us : List ℕ). us ++ rest) (sym (next_word h i (omega arith)))
+
+pub words_all : (h : List ℕ) → length h ≡ 8 → words_out h 8 ≡ bytes h
+words_all h l = append-nil (bytes (take 8 h)) ∙ ap bytes (take_all 8 h (omega arith))
 
 -- the first j of the bytes over m zeros
 abbrev pub over : ℕ → List ℕ → ℕ → List ℕ
 over m bs j = take j bs ++ replicate (m - j) 0
-
-pub over_more : (m : ℕ) (bs : List ℕ) (j : ℕ) → j < m → j < length bs → set (over m bs j) j (get_or bs j 0) ≡ over m bs (j + 1)
-over_more m bs j h k =
-    let e : m - j ≡ suc (m - (j + 1)) = omega arith in
-    rw (e, set_at (take j bs) 0 (replicate (m - (j + 1)) 0) (get_or bs j 0) j (length-take-le j bs (omega arith)))
-    (rw (add-one j) (rw (take-suc bs j 0 k) (sym (append_assoc (take j bs) (get_or bs j 0 ∷ []) _))))
-
--- nothing is left of the zeros
-pub over_all : (m : ℕ) (bs : List ℕ) → over m bs m ≡ take m bs
-over_all m bs = rw (sub_self m) (append-nil (take m bs))
 
 -- 32 bytes of the hash: the first half of the last state's bytes
 pub half_from : (key d s b r : List ℕ) → s ≡ final 32 (length key) (input key d) → b ≡ bytes s → r ≡ take 32 b → r ≡ blake2b 32 key d

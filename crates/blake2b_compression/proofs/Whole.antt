@@ -49,7 +49,7 @@ started h t u f l fits fits₂ e =
     begun (at h 0) (at h 1) (at h 2) (at h 3) (at h 4) (at h 5) (at h 6) (at h 7) t u f fits fits₂ e
     ∙ ap (λ (w : List ℕ). start w (t + 2 ^ 64 * u) f) (eight_words h l)
 
--- the twelve rounds, from the vector after each
+-- the twelve rounds, from the vector after each; the last two have the rows of the first two
 pub twelve : (m v₀ : List ℕ) {v₁ v₂ v₃ v₄ v₅ v₆ v₇ v₈ v₉ v₁₀ v₁₁ v₁₂ : List ℕ}
     → v₁ ≡ round (row 0) m v₀
     → v₂ ≡ round (row 1) m v₁
@@ -61,10 +61,10 @@ pub twelve : (m v₀ : List ℕ) {v₁ v₂ v₃ v₄ v₅ v₆ v₇ v₈ v₉ v
     → v₈ ≡ round (row 7) m v₇
     → v₉ ≡ round (row 8) m v₈
     → v₁₀ ≡ round (row 9) m v₉
-    → v₁₁ ≡ round (row 10) m v₁₀
-    → v₁₂ ≡ round (row 11) m v₁₁
+    → v₁₁ ≡ round (row 0) m v₁₀
+    → v₁₂ ≡ round (row 1) m v₁₁
     → v₁₂ ≡ rounds 12 m v₀
-unfolding rounds
+unfolding rounds row
 twelve m v₀ e₁ e₂ e₃ e₄ e₅ e₆ e₇ e₈ e₉ e₁₀ e₁₁ e₁₂ =
     rw (e₁₂, e₁₁, e₁₀, e₉, e₈, e₇, e₆, e₅, e₄, e₃, e₂, e₁)
 

@@ -1,6 +1,5 @@
 // RFC 7693, section 3.1: the mixing function G, on four columns of the working vector at once, or on its four diagonals.
 ghost use Rattle.std.specs.Prelude.{◌≡◌, ◌+◌, ◌%◌, ◌^◌, ◌<◌};
-ghost use Rattle.blake2b_compression.specs.Mixing.{rotr};
 ghost use Rattle.blake2b_compression.specs.Rows.{vector, vector_of, sums, sums3, xors, rotrs, columns, diagonals};
 
 // Four words, one for each column.
@@ -16,26 +15,11 @@ pub struct Rows {
     pub d: Row,
 }
 
-// a + b, modulo 2^64.
-fn sum2(a: u64, b: u64) -> u64
-    ensures { result ≡ (a + b) % 2 ^ 64 }
-{
-    std::num::wrapping_add_u64(a, b)
-}
-
 // a + b + c, modulo 2^64.
 fn sum3(a: u64, b: u64, c: u64) -> u64
     ensures { result ≡ (a + b + c) % 2 ^ 64 }
 {
-    sum2(sum2(a, b), c)
-}
-
-// The bits of x rotated to the right by n.
-fn rotate(x: u64, n: u64) -> u64
-    requires { (0 < n) × (n < 64) }
-    ensures { result ≡ rotr x n }
-{
-    (x >> n) | (x << (64 - n))
+    a.wrapping_add(b).wrapping_add(c)
 }
 
 // What the statements do with words, done with each word of a row: a + b, a + b + c and (a ^ b) >>> n.
@@ -43,10 +27,10 @@ fn wrapping_add(a: Row, b: Row) -> Row
     ensures { result ≡ sums a b }
 {
     Row(
-        sum2(a.0, b.0),
-        sum2(a.1, b.1),
-        sum2(a.2, b.2),
-        sum2(a.3, b.3),
+        a.0.wrapping_add(b.0),
+        a.1.wrapping_add(b.1),
+        a.2.wrapping_add(b.2),
+        a.3.wrapping_add(b.3),
     )
 }
 
@@ -61,15 +45,15 @@ fn wrapping_add3(a: Row, b: Row, c: Row) -> Row
     )
 }
 
-fn xor_rotate(a: Row, b: Row, n: u64) -> Row
+fn xor_rotate(a: Row, b: Row, n: u32) -> Row
     requires { (0 < n) × (n < 64) }
     ensures { result ≡ rotrs (xors a b) n }
 {
     Row(
-        rotate(a.0 ^ b.0, n),
-        rotate(a.1 ^ b.1, n),
-        rotate(a.2 ^ b.2, n),
-        rotate(a.3 ^ b.3, n),
+        (a.0 ^ b.0).rotate_right(n),
+        (a.1 ^ b.1).rotate_right(n),
+        (a.2 ^ b.2).rotate_right(n),
+        (a.3 ^ b.3).rotate_right(n),
     )
 }
 

@@ -1,6 +1,6 @@
-// RFC 7693, section 3.2: the twelve rounds. Each round is a function of its own with one call site, so that it is inlined, and its row of
-// the message schedule stands in it as fields: a table that is read in here would be built at each use. A step takes the even places of
-// its half of the row and then the odd ones.
+// RFC 7693, section 3.2: the twelve rounds. Each row of the message schedule is a function of its own, and stands in it as fields: a table that is
+// read in here would be built at each use. Each is inlined: those of the first two rows, which the last two rounds use again, because they ask
+// for it, and the others since they have one call site. A step takes the even places of its half of the row and then the odd ones.
 ghost use Rattle.std.specs.Prelude.{◌≡◌};
 ghost use Rattle.blake2b_compression.specs.Compression.{round, row, rounds};
 ghost use Rattle.blake2b_compression.specs.Rows.{vector_of};
@@ -9,6 +9,7 @@ ghost use Rattle.blake2b_compression.specs.Words.{block_words};
 use crate::Block;
 use crate::mixing::{Row, Rows, column_step, diagonal_step};
 
+#[inline(always)]
 fn round_0(v: Rows, m: Block) -> Rows
     ensures { vector_of result ≡ round (row 0) (block_words m) (vector_of v) }
 {
@@ -20,6 +21,7 @@ fn round_0(v: Rows, m: Block) -> Rows
     diagonal_step(u, x, y)
 }
 
+#[inline(always)]
 fn round_1(v: Rows, m: Block) -> Rows
     ensures { vector_of result ≡ round (row 1) (block_words m) (vector_of v) }
 {
@@ -119,28 +121,6 @@ fn round_9(v: Rows, m: Block) -> Rows
     diagonal_step(u, x, y)
 }
 
-fn round_10(v: Rows, m: Block) -> Rows
-    ensures { vector_of result ≡ round (row 10) (block_words m) (vector_of v) }
-{
-    let x = Row(m.m0, m.m2, m.m4, m.m6);
-    let y = Row(m.m1, m.m3, m.m5, m.m7);
-    let u = column_step(v, x, y);
-    let x = Row(m.m8, m.m10, m.m12, m.m14);
-    let y = Row(m.m9, m.m11, m.m13, m.m15);
-    diagonal_step(u, x, y)
-}
-
-fn round_11(v: Rows, m: Block) -> Rows
-    ensures { vector_of result ≡ round (row 11) (block_words m) (vector_of v) }
-{
-    let x = Row(m.m14, m.m4, m.m9, m.m13);
-    let y = Row(m.m10, m.m8, m.m15, m.m6);
-    let u = column_step(v, x, y);
-    let x = Row(m.m1, m.m0, m.m11, m.m5);
-    let y = Row(m.m12, m.m2, m.m7, m.m3);
-    diagonal_step(u, x, y)
-}
-
 // All of them, in order.
 pub fn twelve_rounds(v: Rows, m: Block) -> Rows
     ensures { vector_of result ≡ rounds 12 (block_words m) (vector_of v) }
@@ -155,6 +135,6 @@ pub fn twelve_rounds(v: Rows, m: Block) -> Rows
     let v = round_7(v, m);
     let v = round_8(v, m);
     let v = round_9(v, m);
-    let v = round_10(v, m);
-    round_11(v, m)
+    let v = round_0(v, m);
+    round_1(v, m)
 }

@@ -1,7 +1,7 @@
 -- Words, their differences and the way back. Assumes nothing.
-use Rattle.std.proofs.Common.{◌≡◌, ℕ, zero, suc, ◌+◌, ◌*◌, ◌%◌, ◌^◌, ◌<◌, ◌≤◌, List, [], ◌∷◌, ◌++◌, length, get_or, sym, refl, ap, ◌∙◌, subst, mul_comm, zero-add, add-one, arith}
+use Rattle.std.proofs.Common.{◌≡◌, ℕ, zero, suc, ◌+◌, ◌-◌, ◌*◌, ◌%◌, ◌^◌, ◌<◌, ◌≤◌, List, [], ◌∷◌, ◌++◌, length, get_or, sym, refl, ap, ◌∙◌, subst, mul_comm, zero-add, add-one, arith}
 use Rattle.byte_strings.specs.Lists.{Bytes, part, put, run, joined}
-use Rattle.byte_strings.specs.Numbers.{be, number}
+use Rattle.byte_strings.specs.Numbers.{be, number, number_from}
 use Rattle.byte_strings.proofs.Lists.{length_run, length_joined, joined_run_suc, put_nil, put_append, bytes_run}
 use Rattle.byte_strings.proofs.Numbers.{length_be, four_lt, number_lt}
 use Rattle.coordinates.specs.Grouping.{count, word, words, difference, remaining, gathered, restored, ungrouped}
@@ -58,27 +58,27 @@ gathered_lt g i p =
     let f : ℕ → ℕ = λ k. get_or g (k * count g + i) 0 in
     subst (λ (n : ℕ). number (run f 0 4) < 256 ^ n) (length_run f 0 4) (number_lt (run f 0 4) (bytes_run f 0 4 (λ k. p (k * count g + i))))
 
+four_bytes : (a b c d : ℕ) → ((d + c * 256) + b * 65536) + a * 16777216 ≡ number (a ∷ b ∷ c ∷ d ∷ [])
+unfolding number number_from
+four_bytes a b c d = omega arith
+
 -- the four bytes, one of each plane
 pub gathered_four : (g : List ℕ) (n i : ℕ) → n ≡ count g
-    → number (part (get_or g i 0 ∷ get_or g (n + i) 0 ∷ get_or g (2 * n + i) 0 ∷ get_or g (3 * n + i) 0 ∷ []) 0 4) ≡ gathered g i
-unfolding gathered part run
+    → ((get_or g (3 * n + i) 0 + get_or g (2 * n + i) 0 * 256) + get_or g (n + i) 0 * 65536) + get_or g i 0 * 16777216 ≡ gathered g i
+unfolding gathered run
 gathered_four g n i e =
     let e₀ : i ≡ 0 * count g + i = omega arith in
     let e₁ : n + i ≡ 1 * count g + i = omega arith in
     let e₂ : 2 * n + i ≡ 2 * count g + i = omega arith in
     let e₃ : 3 * n + i ≡ 3 * count g + i = omega arith in
-    cc
-
-pub prior_lt : (d : List ℕ) (i b : ℕ) → Bytes d → i ≤ count d → b ≡ prior (word d) i → b < 2 ^ 32
-unfolding prior
-prior_lt d zero b p h e = omega arith
-prior_lt d (suc i) b p h e = omega (arith, word_lt d i p h)
+    four_bytes (get_or g i 0) (get_or g (n + i) 0) (get_or g (2 * n + i) 0) (get_or g (3 * n + i) 0) ∙ (cc)
 
 -- a difference that wraps is the definition's
-pub difference_is : (d : List ℕ) (i r b : ℕ) → b ≡ prior (word d) i → r < 2 ^ 32 → b < 2 ^ 32 → (r + b) % 2 ^ 32 ≡ word d i → r ≡ difference d i
+pub difference_is : (d : List ℕ) (i x b r : ℕ) → b ≡ prior (word d) i → x ≡ word d i → x < 2 ^ 32 → b < 2 ^ 32 → r ≡ (x + (2 ^ 32 - b)) % 2 ^ 32
+    → r ≡ difference d i
 unfolding difference prior
-difference_is d zero r b e hr hb s = omega arith
-difference_is d (suc i) r b e hr hb s = omega arith
+difference_is d zero x b r e f hx hb s = omega arith
+difference_is d (suc i) x b r e f hx hb s = omega arith
 
 pub difference_lt : (d : List ℕ) (i : ℕ) → Bytes d → i < count d → difference d i < 2 ^ 32
 unfolding difference

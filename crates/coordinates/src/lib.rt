@@ -30,27 +30,24 @@ fn write_planes(bytes: &[u8], n: usize, out: &mut [u8])
     ensures { out.new ≡ put out.old 0 (planes (difference bytes.now) n) }
 {
     let mut before: u32 = 0;
-    let mut i: usize = 0;
-    while i < n {
+    for i in 0..n {
         let word = byte_strings::read_be32(bytes, 4 * i) as u32;
-        let difference = std::num::wrapping_sub_u32(word, before);
+        let difference = word.wrapping_sub(before);
         let d = byte_strings::be32(difference);
         out[i] = d[0];
         out[n + i] = d[1];
         out[2 * n + i] = d[2];
         out[3 * n + i] = d[3];
         before = word;
-        i += 1;
     }
 }
 
-// Inner: the number whose bytes stand at place i of the four planes.
+// Inner: the number whose bytes stand at place i of the four planes. Read from the lowest byte on: by `from_be_bytes` a word takes 19 instructions, not 18.
 fn gather(bytes: &[u8], n: usize, i: usize) -> u32
     requires { Worded bytes.now n × i < n }
     ensures { result ≡ gathered bytes.now i }
 {
-    let d = [bytes[i], bytes[n + i], bytes[2 * n + i], bytes[3 * n + i]];
-    byte_strings::read_be32(&d, 0) as u32
+    u32::from_le_bytes([bytes[3 * n + i], bytes[2 * n + i], bytes[n + i], bytes[i]])
 }
 
 // Inner: the words that the differences in the four planes add up to, at the front of a buffer that has room for them.
@@ -59,13 +56,10 @@ fn write_words(bytes: &[u8], n: usize, out: &mut [u8])
     ensures { out.new ≡ put out.old 0 (words (restored bytes.now) n) }
 {
     let mut word: u32 = 0;
-    let mut i: usize = 0;
-    while i < n {
-        let next = std::num::wrapping_add_u32(word, gather(bytes, n, i));
-        let d = byte_strings::be32(next);
+    for i in 0..n {
+        word = word.wrapping_add(gather(bytes, n, i));
+        let d = byte_strings::be32(word);
         byte_strings::copy_to(out, 4 * i, &d);
-        word = next;
-        i += 1;
     }
 }
 

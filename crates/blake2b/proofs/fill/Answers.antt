@@ -1,13 +1,9 @@
-use Rattle.blake2b.proofs.Filling.{going_none, going_more, going_done}
-use borrow.Author.Rules.{rules}
+use Rattle.blake2b.proofs.Filling.{copied_part, copied_all}
 use native.Mathlib.Omega.{arith}
 use Rattle.blake2b.proofs.fill.Goals as goal
 
-pub loop-j-init : goal.loop-j-init
-loop-j-init c = (search rules, going_none _ _ _ _ c.requires.2.long)
-
-pub loop-j-preserved : goal.loop-j-preserved
-loop-j-preserved c = (search rules, going_more _ _ _ _ _ _ (omega arith) c.loop-j.invariant.1)
-
 pub returns : goal.returns
-returns c = going_done _ _ _ _ _ _ (omega arith) c.requires.2 c.loop-j.invariant.1
+returns c =
+    let a = c.args in
+    copied_all _ _ _ _ _ _ (omega arith) c.requires.2
+    (copied_part a.out.now a.from a.src.now a.at c.min-n.result _ c.requires.2.long (omega arith) (omega arith) c.copy_from_slice.ensures.after)

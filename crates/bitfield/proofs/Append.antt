@@ -48,6 +48,9 @@ pub zeroed_old : (xs : List ℕ) (n : ℕ) → (n % 8192 ≡ 0 → ⊥) → zero
 unfolding zeroed_if_new
 zeroed_old xs n e = kept_at xs (bits_place (n / 8192)) (n % 8192) e
 
+pub zeroed_there : (xs : List ℕ) (n at : ℕ) → n % 8192 ≡ 0 → at ≡ bits_place (n / 8192) → put xs at (zeros 3328) ≡ zeroed_if_new xs n
+zeroed_there xs n at e p = ap (λ (x : ℕ). put xs x (zeros 3328)) p ∙ sym (zeroed_new xs n e)
+
 -- ---- the tree bits one after the other
 
 set_tree_bits_append : (xs : List ℕ) (is js : List ℕ) → set_tree_bits xs (is ++ js) ≡ set_tree_bits (set_tree_bits xs is) js

@@ -113,7 +113,7 @@ fn set_tree_bit(xs: &mut [u8], e: usize, i: TreeIndex)
 }
 
 // Inner: the entry of a new chunk becomes zeros where it is new.
-#[tactic(auto, using(crate::proofs::Append::zeroed_old), unfolding(crate::specs::Append::bits_place))]
+#[tactic(auto, using(crate::proofs::Append::zeroed_there, crate::proofs::Append::zeroed_old), unfolding(crate::specs::Append::bits_place))]
 fn zero_if_new(xs: &mut [u8], c: ChunkNumber)
     requires { bits_place (c.0 / 8192 + 1) ≤ length xs.old }
     ensures { xs.new ≡ zeroed_if_new xs.old c.0 }
@@ -125,7 +125,7 @@ fn zero_if_new(xs: &mut [u8], c: ChunkNumber)
 }
 
 // Inner: the Index of entry e made anew from its data bytes.
-#[tactic(auto, using(crate::proofs::Levels::length_index), unfolding(crate::specs::Append::bits_place, crate::specs::Append::regenerated, byte_strings::specs::Lists::part))]
+#[tactic(auto, using(crate::proofs::Levels::length_index), unfolding(crate::specs::Append::bits_place))]
 fn regenerate(xs: &mut [u8], e: usize)
     requires { bits_place (e + 1) ≤ length xs.old }
     ensures { xs.new ≡ regenerated xs.old e }

@@ -1,6 +1,6 @@
 -- Starts that are told up to the largest number that fits.
 -- Assumes nothing.
-use Prim.Native.Nat.{ℕ, ◌+◌, ◌≤◌}
+use Prim.Native.Nat.{ℕ, ◌+◌, ◌≤◌, min}
 use mathlib.Core.Path.{◌≡◌, refl, sym, ap, ◌∙◌}
 use mathlib.Core.Bool.{Bool, true, false, cond}
 use native.Mathlib.Omega.{arith}
@@ -19,6 +19,15 @@ capped_high x h = go (leb x most) refl
     go : (b : Bool) → leb x most ≡ b → cond b x most ≡ most
     go true e = let l = leb-true x most e in omega arith
     go false e = refl
+
+-- as a sum that stops at the largest number is said
+pub capped_min : (x : ℕ) → min x most ≡ capped x
+unfolding capped
+capped_min x = go (leb x most) refl
+  where
+    go : (b : Bool) → leb x most ≡ b → min x most ≡ cond b x most
+    go true e = let l = leb-true x most e in omega arith
+    go false e = let l = leb-false x most e in omega arith
 
 -- a capped number is low, or the number is high
 pub capped_either : (P : ℕ → Type 0) (x : ℕ) → (x ≤ most → P x) → (most ≤ x → P most) → P (capped x)

@@ -17,16 +17,11 @@ use number_types::ByteOffset;
 fn signed_right(n: u64, s: u64) -> bool
     ensures { result ≡ signed_right n s }
 {
-    if s == n {
-        return true;
-    }
-    if n < s {
-        return false;
-    }
-    s + 1 == n
+    s == n || (s < n && s + 1 == n)
 }
 
 // "4. A buffer is shorter than its used size." Inner: n and s are no larger than the checks 2 and 3 let pass.
+#[tactic(auto, unfolding(crate::specs::Lent::long_right))]
 fn long_right(
     tree: &[u8],
     signatures: &[u8],
@@ -41,36 +36,25 @@ fn long_right(
         long_right
         (register_of tree.now signatures.now bitfield.now content.now n s size) }
 {
-    if tree.len() < file_format::sizes::used_tree(n) {
-        return false;
-    }
-    if signatures.len() < file_format::sizes::used_signatures(s) {
-        return false;
-    }
-    if bitfield.len() < file_format::sizes::used_bitfield(n) {
-        return false;
-    }
-    size <= (content.len() as u64)
+    file_format::sizes::used_tree(n) <= tree.len()
+        && file_format::sizes::used_signatures(s) <= signatures.len()
+        && file_format::sizes::used_bitfield(n) <= bitfield.len()
+        && size <= (content.len() as u64)
 }
 
 // "5. A header differs from its 32 bytes." Inner: each file has room for its header.
+#[tactic(auto, unfolding(crate::specs::Lent::heads_right))]
 fn heads_right(tree: &[u8], signatures: &[u8], bitfield: &[u8]) -> bool
     requires { (32 ≤ length tree.now) × (32 ≤ length signatures.now) × (32 ≤ length bitfield.now) }
     ensures { result ≡ heads_right tree.now signatures.now bitfield.now }
 {
-    let first = file_format::headers::tree_header();
-    if !file_format::headers::has_header(tree, &first) {
-        return false;
-    }
-    let second = file_format::headers::signatures_header();
-    if !file_format::headers::has_header(signatures, &second) {
-        return false;
-    }
-    let third = file_format::headers::bitfield_header();
-    file_format::headers::has_header(bitfield, &third)
+    file_format::headers::has_header(tree, &file_format::headers::tree_header())
+        && file_format::headers::has_header(signatures, &file_format::headers::signatures_header())
+        && file_format::headers::has_header(bitfield, &file_format::headers::bitfield_header())
 }
 
 // Inner: the checks 3 to 6, of a register that passes 2. An append has a check 2 of its own before them.
+#[tactic(auto, using(crate::proofs::Steps::signed_le, crate::proofs::Steps::answered))]
 pub fn judge_later(
     tree: &[u8],
     signatures: &[u8],
@@ -103,6 +87,7 @@ pub fn judge_later(
 }
 
 // The checks 2 to 6: done, or the first number that holds.
+#[tactic(auto, using(crate::proofs::Steps::over, crate::proofs::Steps::not_over))]
 pub fn judge(
     tree: &[u8],
     signatures: &[u8],
@@ -125,25 +110,17 @@ pub fn judge(
 }
 
 // Whether no length is above 65,536.
+#[tactic(auto, using(crate::proofs::Lengths::none_long, crate::proofs::Lengths::one_long))]
 pub fn all_short(lengths: &[u64]) -> bool
     ensures { result ≡ all_short lengths.now }
 {
-    let mut i: usize = 0;
-    while i < lengths.len() {
-        if 65536 < lengths[i] {
-            return false;
-        }
-        i += 1;
-    }
-    true
+    lengths.iter().all(|length| *length <= 65536)
 }
 
 // The end of so many bytes behind a start, at most the largest number that fits.
+#[tactic(auto, using(crate::proofs::Capped::capped_min))]
 pub fn add_capped(start: ByteOffset, size: u64) -> ByteOffset
     ensures { result.0 ≡ capped (start.0 + size) }
 {
-    if 18446744073709551615 - start.0 < size {
-        return ByteOffset(18446744073709551615);
-    }
-    ByteOffset(start.0 + size)
+    ByteOffset(start.0.saturating_add(size))
 }

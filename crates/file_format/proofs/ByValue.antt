@@ -8,7 +8,7 @@ use native.Mathlib.Numerals.{add-one}
 use native.Mathlib.Omega.{arith}
 use mathlib.Core.List.{List, [], ◌∷◌, ◌++◌, append_assoc, map}
 use lib.ListN.{length, get_or, set, take, drop, replicate, length-append, length-map, get_or-append}
-use lib.Seq.{take_at, take-suc}
+use lib.Seq.{take_at, take-suc, take_all}
 use lib.Dec.{eqb}
 use borrow.Author.Tests.{eq-eqb, ne_eqb}
 use Rattle.byte_strings.specs.Lists.{put, run, joined, total, zeros}
@@ -245,6 +245,14 @@ pub too_much : (xs : List ℕ) (j k left size : ℕ) → j < k → j < length xs
     → false ≡ eqb (total (take k xs)) size
 too_much xs j k left size h l e f =
     sym (ne_eqb (total (take k xs)) size (λ z. omega (arith, total_next xs j l, total_more xs (j + 1) k (omega arith))))
+
+-- the same of all of the lengths
+pub more_than : (xs : List ℕ) (j left size : ℕ) → j < length xs → total (take j xs) + left ≡ size → left < get_or xs j 0
+    → eqb (total xs) size ≡ false
+more_than xs j left size l e f =
+    sym
+    (subst (λ (ys : List ℕ). false ≡ eqb (total ys) size) (take_all (length xs) xs (omega arith))
+    (too_much xs j (length xs) left size l l e f))
 
 -- the array of indexes that holds the roots, as its own contract says it
 pub as_padded : (is : List ℕ) (n : ℕ) → is ≡ roots n ++ replicate (20 - length (roots n)) 0 → is ≡ padded 0 (length (roots n)) (roots n)

@@ -10,6 +10,7 @@ ghost use Rattle.file_format.specs.Inner.{EntryIn};
 use number_types::TreeIndex;
 
 // Where an entry begins.
+#[tactic(auto, unfolding(crate::specs::Sizes::entry_place))]
 pub fn entry_place(i: TreeIndex) -> usize
     requires { i.0 < 4194304 }
     ensures { result ≡ entry_place i.0 }
@@ -18,18 +19,19 @@ pub fn entry_place(i: TreeIndex) -> usize
 }
 
 // The hash stored in an entry.
+#[tactic(auto, unfolding(crate::specs::Stored::stored_hash, byte_strings::specs::Lists::part))]
 pub fn stored_hash(tree: &[u8], i: TreeIndex) -> [u8; 32]
     requires { EntryIn tree.now i.0 }
     ensures { result ≡ stored_hash tree.now i.0 }
 {
     let start = entry_place(i);
-    let end = start + 32;
     let mut hash = [0u8; 32];
-    byte_strings::copy_to(&mut hash, 0, &tree[start..end]);
+    hash.copy_from_slice(&tree[start..start + 32]);
     hash
 }
 
 // The length stored in an entry.
+#[tactic(auto, unfolding(crate::specs::Stored::stored_size))]
 pub fn stored_size(tree: &[u8], i: TreeIndex) -> u64
     requires { EntryIn tree.now i.0 }
     ensures { result ≡ stored_size tree.now i.0 }
@@ -38,6 +40,7 @@ pub fn stored_size(tree: &[u8], i: TreeIndex) -> u64
 }
 
 // An entry written, and everything else left as it was.
+#[tactic(auto, using(crate::proofs::Places::written_entry))]
 pub fn write_entry(tree: &mut [u8], i: TreeIndex, hash: &[u8; 32], size: u64)
     requires { EntryIn tree.old i.0 }
     ensures { tree.new ≡ put tree.old (entry_place i.0) (hash.now ++ be 8 size) }

@@ -4,6 +4,7 @@ ghost use Rattle.blake2b.specs.Hash.{node_hash};
 ghost use Rattle.file_format.specs.Messages.{leaf_message, parent_message};
 
 // "Leaf hash: bytes 00, 8-byte chunk length, chunk". The chunk is hashed from where it lies.
+#[tactic(auto, using(blake2b::proofs::Laws::node_keyless, crate::proofs::Places::leaf_prefix))]
 pub fn leaf_hash(chunk: &[u8]) -> [u8; 32]
     ensures { result ≡ node_hash (leaf_message chunk.now) }
 {

@@ -13,6 +13,7 @@ const TREE_HEADER: [u8; 32] =
     *b"\x05\x02\x57\x02\x00\x00\x28\x07BLAKE2b\0\0\0\0\0\0\0\0\0\0\0\0\0\0\0\0\0";
 
 // The header of the tree file.
+#[tactic(auto, unfolding(byte_strings::specs::Numbers::be, crate::specs::Headers::front, crate::specs::Headers::header, crate::specs::Headers::tree_header))]
 pub fn tree_header() -> [u8; 32]
     ensures { result ≡ tree_header }
 {
@@ -20,6 +21,7 @@ pub fn tree_header() -> [u8; 32]
 }
 
 // The header of the signatures file.
+#[tactic(auto, unfolding(byte_strings::specs::Numbers::be, crate::specs::Headers::front, crate::specs::Headers::header, crate::specs::Headers::signatures_header))]
 pub fn signatures_header() -> [u8; 32]
     ensures { result ≡ signatures_header }
 {
@@ -27,6 +29,7 @@ pub fn signatures_header() -> [u8; 32]
 }
 
 // The header of the bitfield file.
+#[tactic(auto, unfolding(byte_strings::specs::Numbers::be, crate::specs::Headers::front, crate::specs::Headers::header, crate::specs::Headers::bitfield_header))]
 pub fn bitfield_header() -> [u8; 32]
     ensures { result ≡ bitfield_header }
 {

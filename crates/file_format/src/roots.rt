@@ -25,29 +25,27 @@ fn sizes_at(tree: &[u8], indexes: [TreeIndex; 20], count: usize) -> [u64; 20]
     ensures { result ≡ padded 0 count (sizes_at tree.now (numbers indexes) count) }
 {
     let mut sizes = [0u64; 20];
-    let mut j: usize = 0;
-    while j < count {
+    for j in 0..count {
         sizes[j] = super::entries::stored_size(tree, indexes[j]);
-        j += 1;
     }
     sizes
 }
 
-// Inner: the hashes stored at the first indexes of an array.
+// Inner: the hashes stored at the first indexes of an array. One function for this and for the lengths would take the reading as a closure, and its contract
+// would say of any closure what it gives, which is longer than this loop.
 fn hashes_at(tree: &[u8], indexes: [TreeIndex; 20], count: usize) -> [[u8; 32]; 20]
     requires { EntriesIn tree.now (numbers indexes) count }
     ensures { result ≡ padded (zeros 32) count (hashes_at tree.now (numbers indexes) count) }
 {
     let mut hashes = [[0u8; 32]; 20];
-    let mut j: usize = 0;
-    while j < count {
+    for j in 0..count {
         hashes[j] = super::entries::stored_hash(tree, indexes[j]);
-        j += 1;
     }
     hashes
 }
 
 // Inner: the stored roots of the first n chunks, without their hashes.
+#[tactic(auto, using(crate::proofs::ByValue::sizes_roots, crate::proofs::ByValue::as_padded))]
 pub fn stored_roots(tree: &[u8], n: u64) -> Roots
     requires { RootsIn tree.now n }
     ensures { RootsOf tree.now n result }
@@ -63,6 +61,7 @@ pub fn stored_roots(tree: &[u8], n: u64) -> Roots
 }
 
 // Inner: the hashes of the stored roots of the first n chunks, and zeros behind them.
+#[tactic(auto, using(crate::proofs::ByValue::hashes_roots))]
 pub fn stored_root_hashes(tree: &[u8], n: u64) -> [[u8; 32]; 20]
     requires { RootsIn tree.now n }
     ensures { result ≡ padded (zeros 32) (length (roots_of n)) (map (stored_hash tree.now) (roots_of n)) }
@@ -74,6 +73,7 @@ pub fn stored_root_hashes(tree: &[u8], n: u64) -> [[u8; 32]; 20]
 
 // Inner: the item of one root at its place in the root message. That a hash has 32 bytes, which its type says, is handed on to the
 // loop that puts the items one behind the other.
+#[tactic(auto, using(crate::proofs::Places::written_item))]
 fn put_item(message: &mut [u8], at: usize, hash: &[u8; 32], index: TreeIndex, size: u64)
     requires { at + 48 ≤ length message.old }
     ensures placed { message.new ≡ put message.old at (root_item hash.now index.0 size) }
@@ -88,24 +88,26 @@ fn put_item(message: &mut [u8], at: usize, hash: &[u8; 32], index: TreeIndex, si
 
 // Inner: the root message, "02, then for each root from the left its hash, 8-byte tree index and 8-byte length", at the front of an
 // array that has room for 20 roots.
+#[tactic(auto, using(crate::proofs::ByValue::items_end))]
 fn root_message(roots: Roots, hashes: [[u8; 32]; 20]) -> [u8; 961]
     requires { roots.count ≤ 20 }
     ensures { take (1 + 48 * roots.count) result ≡ root_message (items_of hashes (numbers roots.indexes) roots.sizes roots.count) }
 {
-    let count = roots.count;
-    let indexes = roots.indexes;
-    let sizes = roots.sizes;
     let mut message = [2u8; 961];
-    let mut j: usize = 0;
-    while j < count {
-        let hash = hashes[j];
-        put_item(&mut message, 1 + 48 * j, &hash, indexes[j], sizes[j]);
-        j += 1;
+    for j in 0..roots.count {
+        put_item(
+            &mut message,
+            1 + 48 * j,
+            &hashes[j],
+            roots.indexes[j],
+            roots.sizes[j],
+        );
     }
     message
 }
 
 // Inner: the hash of the root message, under the empty key.
+#[tactic(auto, using(blake2b::proofs::Laws::node_keyless, crate::proofs::ByValue::front_hashed))]
 pub fn root_hash(roots: Roots, hashes: [[u8; 32]; 20]) -> [u8; 32]
     requires { roots.count ≤ 20 }
     ensures { result ≡ node_hash (root_message (items_of hashes (numbers roots.indexes) roots.sizes roots.count)) }
@@ -116,6 +118,7 @@ pub fn root_hash(roots: Roots, hashes: [[u8; 32]; 20]) -> [u8; 32]
 }
 
 // Inner: the root message that the stored roots of the first n chunks give, at the front of an array.
+#[tactic(auto, using(crate::proofs::ByValue::items_roots, crate::proofs::ByValue::from_padded, tree_index::proofs::Roots::length_roots_le))]
 pub fn stored_root_message(tree: &[u8], n: u64) -> [u8; 961]
     requires { RootsIn tree.now n }
     ensures { take (1 + 48 * length (roots_of n)) result ≡ stored_root_message tree.now n }
@@ -126,6 +129,7 @@ pub fn stored_root_message(tree: &[u8], n: u64) -> [u8; 961]
 }
 
 // Inner: the root hash that the stored roots of the first n chunks give.
+#[tactic(auto, using(crate::proofs::ByValue::items_roots, crate::proofs::ByValue::from_padded, tree_index::proofs::Roots::length_roots_le))]
 pub fn stored_root_hash(tree: &[u8], n: u64) -> [u8; 32]
     requires { RootsIn tree.now n }
     ensures { result ≡ node_hash (stored_root_message tree.now n) }
@@ -136,26 +140,23 @@ pub fn stored_root_hash(tree: &[u8], n: u64) -> [u8; 32]
 }
 
 // Inner: whether the lengths of the roots add up to a size, as whole numbers: what is left of the size is never less than 0.
+#[tactic(auto, using(crate::proofs::ByValue::total_next), unfolding(byte_strings::specs::Lists::total))]
 fn sizes_add_up(roots: Roots, size: u64) -> bool
     requires { roots.count ≤ 20 }
     ensures { result ≡ eqb (total (take roots.count roots.sizes)) size }
 {
-    let count = roots.count;
-    let sizes = roots.sizes;
     let mut left = size;
-    let mut j: usize = 0;
-    while j < count {
-        let here = sizes[j];
-        if left < here {
+    for here in &roots.sizes[0..roots.count] {
+        let Some(rest) = left.checked_sub(*here) else {
             return false;
-        }
-        left -= here;
-        j += 1;
+        };
+        left = rest;
     }
     left == 0
 }
 
 // Inner: whether the stored root lengths of the first n chunks add up to a size.
+#[tactic(auto, using(crate::proofs::ByValue::total_roots, tree_index::proofs::Roots::length_roots_le))]
 pub fn adds_up(tree: &[u8], n: u64, size: u64) -> bool
     requires { RootsIn tree.now n }
     ensures { result ≡ eqb (total (stored_root_sizes tree.now n)) size }

@@ -1,5 +1,5 @@
 -- What the numbers of a table say after a read was stored, and after one was dropped. Assumes nothing.
-use Prim.Native.Nat.{ℕ, zero, suc, ◌+◌, ◌-◌, ◌*◌, ◌%◌, ◌<◌, ◌≤◌}
+use Prim.Native.Nat.{ℕ, zero, suc, ◌+◌, ◌-◌, ◌*◌, ◌%◌, ◌<◌, ◌≤◌, min}
 use mathlib.Core.Path.{◌≡◌, refl, sym, ap, ap₂, ◌∙◌}
 use mathlib.Core.Bool.{Bool, true, false, cond}
 use mathlib.Core.List.{List, [], ◌∷◌, ◌++◌}
@@ -9,7 +9,7 @@ use native.Mathlib.Numerals.{add-one}
 use lib.Dec.{ltb, eqb}
 use lib.ListN.{length, get_or, set, drop, length-set}
 use lib.Seq.{ext_get_or, get_or-set_same, get_or-set_other}
-use borrow.Author.Tests.{lt-ltb, le-ltb, ltb-true, ltb-false, eqb-true, eqb-false}
+use borrow.Author.Tests.{ltb-true, ltb-false, eqb-true, eqb-false}
 use Rattle.byte_strings.specs.Lists.{run}
 use Rattle.byte_strings.proofs.Lists.{length_run, get_or_run, run_suc, run_ext, run_from}
 use Rattle.station_queue.specs.Table.{Read, Table, waiting_for, behind, after_turn}
@@ -58,13 +58,13 @@ count_is t s n e l = at (ltb (get_or t s 0) 4) refl
     at true q = e
     at false q = omega (arith, ltb-false (get_or t s 0) 4 q)
 
-pub count_small : (t : List ℕ) (s : ℕ) → get_or t s 0 < 4 → get_or t s 0 ≡ count_at t s
+pub count_min : (t : List ℕ) (s : ℕ) → min (get_or t s 0) 4 ≡ count_at t s
 unfolding count_at
-count_small t s h = rw (lt-ltb (get_or t s 0) 4 h)
-
-pub count_large : (t : List ℕ) (s : ℕ) → 4 ≤ get_or t s 0 → 4 ≡ count_at t s
-unfolding count_at
-count_large t s h = rw (le-ltb (get_or t s 0) 4 h)
+count_min t s = at (ltb (get_or t s 0) 4) refl
+  where
+    at : (b : Bool) → ltb (get_or t s 0) 4 ≡ b → min (get_or t s 0) 4 ≡ cond b (get_or t s 0) 4
+    at true q = omega (arith, ltb-true (get_or t s 0) 4 q)
+    at false q = omega (arith, ltb-false (get_or t s 0) 4 q)
 
 pub count_below : (t : List ℕ) (s : ℕ) → count_at t s ≤ 4
 unfolding count_at

@@ -9,15 +9,16 @@ use answer_types::Refusal;
 use number_types::ChunkNumber;
 
 // Inner: how many reads wait for a station.
+#[tactic(auto, using(crate::proofs::Numbers::count_min))]
 fn count(table: &[u64], s: usize) -> u64
     requires { (length table.now ≡ table_words) × (s < 16) }
     ensures { (result ≡ count_at table.now s) × (result ≤ 4) }
 {
-    let waiting = table[s];
-    if waiting < 4 { waiting } else { 4 }
+    table[s].min(4)
 }
 
 // Inner: at which of its places a station's first read stands.
+#[tactic(auto, unfolding(crate::specs::Words::first_at))]
 fn first(table: &[u64], s: usize) -> u64
     requires { (length table.now ≡ table_words) × (s < 16) }
     ensures { (result ≡ first_at table.now s) × (result < 4) }
@@ -47,6 +48,7 @@ pub fn enter(table: &mut [u64], station: u64, register: u64, chunk: u64) -> Resu
 }
 
 // Inner: the turn of a station, with its first read.
+#[tactic(auto, using(crate::proofs::Numbers::first_read))]
 fn turn_of(table: &[u64], s: usize) -> Turn
     requires { (length table.now ≡ table_words) × (s < 16) }
     ensures { turn_of result ≡ turn s (read_at table.now s (first_at table.now s)) }
@@ -57,23 +59,23 @@ fn turn_of(table: &[u64], s: usize) -> Turn
 }
 
 // Inner: whose turn it is.
+#[tactic(auto, using(crate::proofs::Calls::pass_one, crate::proofs::Calls::meet_one, crate::proofs::Calls::none_met))]
 pub fn next(table: &[u64]) -> Turn
     requires { length table.now ≡ table_words }
     ensures { turn_of result ≡ Table·next (table_of table.now) }
 {
     let last = (table[160] % 16) as usize;
-    let mut k: usize = 0;
-    while k < 16 {
+    for k in 0..16 {
         let s = (last + 1 + k) % 16;
         if 0 < count(table, s) {
             return turn_of(table, s);
         }
-        k += 1;
     }
     Turn::Nobody
 }
 
 // Inner: the first read of a station that has one leaves the table, and the station is the one last served.
+#[tactic(auto, using(crate::proofs::Calls::dropped_is))]
 fn drop_first(table: &mut [u64], s: usize)
     requires { (length table.old ≡ table_words) × ((s < 16) × (0 < count_at table.old s)) }
     ensures { table.new ≡ dropped_at table.old s }

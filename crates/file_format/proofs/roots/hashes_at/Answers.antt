@@ -1,4 +1,3 @@
-use Prim.Native.Nat.{◌-◌}
 use mathlib.Core.Path.{subst, sym, ap, refl, ◌∙◌}
 use Rattle.file_format.specs.Stored.{stored_hash}
 use Rattle.file_format.specs.Inner.{EntryIn}

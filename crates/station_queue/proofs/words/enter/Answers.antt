@@ -1,6 +1,5 @@
 -- `station_queue::words::enter` meets its contract: each way out by the tests that led there. Assumes nothing.
 use native.Mathlib.Omega.{arith}
-use lib.ListN.{length-set}
 use Rattle.station_queue.proofs.Calls.{entered_21, entered_22, entered_done}
 use Rattle.station_queue.proofs.words.enter.Goals as goal
 
@@ -14,15 +13,6 @@ returns-then-waiting-ge4 c =
     let a = c.args in
     entered_22 a.table.now a.station c.count-waiting.result (record { register = a.register; chunk = a.chunk }) c.refuse-then-waiting-ge4.result c.refuse-then-waiting-ge4.ensures
     (omega (arith, c.if-station-gt15.false)) c.count-waiting.ensures.0 (omega (arith, c.if-waiting-ge4.true))
-
-pub bounds-table-at-2 : goal.bounds-table-at-2
-bounds-table-at-2 c = simp length-set (omega arith)
-
-pub bounds-table-s : goal.bounds-table-s
-bounds-table-s c = simp length-set (omega arith)
-
-pub shape_of-table : goal.shape_of-table
-shape_of-table c = simp length-set
 
 pub returns : goal.returns
 returns c =

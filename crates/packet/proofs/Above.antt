@@ -9,16 +9,14 @@ use native.Mathlib.Nat.{add-zero, zero-add, div-one, mul-one, mul_assoc, le_of_s
 use native.Mathlib.Numerals.{add-one}
 use native.Mathlib.Omega.{arith}
 use lib.Dec.{ltb}
-use lib.ListN.{length, get_or, take, drop, replicate, length-append, length-drop, get_or-append}
+use lib.ListN.{length, get_or, take, drop, length-append, length-drop, get_or-append}
 use lib.Seq.{drop-cons, drop-length, length-take-le, get_or-take, get_or-drop, ext_get_or}
 use lib.Pow.{shr-shr}
 use borrow.Author.Tests.{ltb-true, ltb-false, lt-ltb, le-ltb, leb-true, leb-false, eq-eqb, ne_eqb}
 use Rattle.byte_strings.specs.Lists.{run}
 use Rattle.byte_strings.proofs.Lists.{get_or_behind, length_run, get_or_run}
 use Rattle.byte_strings.proofs.Bools.{chosen}
-use Rattle.number_types.specs.declared.TreeIndex.{TreeIndex}
 use Rattle.tree_index.specs.Tree.{index, depth, block, filled, entries, root_of, roots_below, roots}
-use Rattle.tree_index.specs.Numbers.{numbers}
 use Rattle.file_format.specs.Sizes.{most_chunks}
 use Rattle.tree_index.proofs.Index.{depth_index, block_index, pow_twice}
 use Rattle.tree_index.proofs.Filled.{end_filled, end_hole}

@@ -1,7 +1,7 @@
 -- What `map` of an array gives, where each call of its closure gives a value that is known.
 -- Assumes nothing.
 use Prim.Native.Nat.{ℕ, ◌<◌}
-use mathlib.Core.Path.{◌≡◌, sym, ap, ◌∙◌, subst}
+use mathlib.Core.Path.{◌≡◌, sym, ◌∙◌, subst}
 use mathlib.Core.List.{List, map}
 use denote.Param.Members.{Mut, Called}
 use lib.ListN.{length, length-map, get_or-map}

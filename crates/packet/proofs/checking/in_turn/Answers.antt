@@ -6,12 +6,6 @@ use Rattle.packet.specs.Inner.{turn_entry}
 use Rattle.packet.proofs.Climb.{turned_before, turned_here, turned_behind}
 use Rattle.packet.proofs.checking.in_turn.Goals as goal
 
-pub overflow_add-at : goal.overflow_add-at
-overflow_add-at c = omega (arith, c.requires.before c.if-j-place.true)
-
-pub entry_node-requires : goal.entry_node-requires
-entry_node-requires c = c.requires.before c.if-j-place.true
-
 pub returns-then-j-place : goal.returns-then-j-place
 unfolding turn_entry
 returns-then-j-place c = c.entry_node.ensures ∙ sym (turned_before _ _ _ _ c.if-j-place.true)

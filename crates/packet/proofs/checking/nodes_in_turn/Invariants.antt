@@ -1,8 +1,6 @@
 -- `packet::checking::nodes_in_turn` meets its contract: its hashes and its lengths are filled from the front. Assumes nothing.
-use Prim.Native.Nat.{ℕ}
 use mathlib.Core.List.{map}
 use Rattle.byte_strings.specs.Lists.{zeros}
-use Rattle.file_format.specs.Entries.{Entry}
 use Rattle.file_format.proofs.ByValue.{Filling}
 use Rattle.packet.specs.declared.checking.Node.{Node}
 use Rattle.packet.specs.Inner.{turn_entry, entry_of}

@@ -20,24 +20,12 @@ lies {t} is {j = j} w h e = subst (λ (x : ℕ). x + 40 ≤ length t) (sym e) (s
 pub loop-j-init : goal.loop-j-init
 loop-j-init c = let a = c.args in writing_none a.tree.now (numbers a.indexes) a.out.now a.at
 
-pub offset_bounds-indexes-j : goal.offset_bounds-indexes-j
-offset_bounds-indexes-j c = omega (arith, c.requires.0.few)
-
-pub bounds-indexes-j : goal.bounds-indexes-j
-bounds-indexes-j c = omega (arith, c.requires.0.few)
-
 pub entry_place-start-requires : goal.entry_place-start-requires
 entry_place-start-requires c = (subst (EntryIn c.args.tree.now) (number_at c.args.indexes c.loop-j.j) (c.requires.0.each c.loop-j.j c.loop-j-test.true)).small
 
 pub overflow_add-end : goal.overflow_add-end
 overflow_add-end c =
     omega (arith, lies _ c.requires.0 c.loop-j-test.true c.entry_place-start.ensures)
-
-pub overflow_mul-j : goal.overflow_mul-j
-overflow_mul-j c = omega (arith, c.requires.0.few)
-
-pub overflow_add-at : goal.overflow_add-at
-overflow_add-at c = omega (arith, c.requires.1, c.requires.0.few, c.loop-j.invariant.long)
 
 pub slice_bounds-copy_to-end : goal.slice_bounds-copy_to-end
 slice_bounds-copy_to-end c =
@@ -61,9 +49,6 @@ loop-j-preserved c =
     c.loop-j-test.true c.requires.1 l.invariant c.copy_to.auto.dst
     (lent_entry a.tree.now p.result (entry_place (get_or (numbers a.indexes) l.j 0)) (p.ensures ∙ ap entry_place (sym (number_at a.indexes l.j))))
     c.copy_to.ensures
-
-pub shape_of-out : goal.shape_of-out
-shape_of-out c = c.loop-j.invariant.long
 
 pub returns : goal.returns
 returns c =

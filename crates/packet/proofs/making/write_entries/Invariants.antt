@@ -1,5 +1,4 @@
 -- `packet::making::write_entries` meets its contract. Assumes nothing.
-use Prim.Native.Nat.{◌≤◌}
 use Rattle.tree_index.specs.Numbers.{numbers}
 use Rattle.packet.proofs.Rows.{Writing}
 use Rattle.packet.proofs.making.write_entries.Given as goal

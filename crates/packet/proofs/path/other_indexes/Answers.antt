@@ -20,15 +20,9 @@ other_place place n {count} {j} h e l f =
     subst (λ (x : ℕ). x < length (roots n)) (sym f)
     (skipped_below place j (length (roots n)) (subst (λ (x : ℕ). j < x - 1) e l) h)
 
-pub overflow_sub-count : goal.overflow_sub-count
-overflow_sub-count c = omega (arith, c.root_count-count.ensures)
-
 pub loop-j-init : goal.loop-j-init
 unfolding numbers
 loop-j-init c = filling_none _ _ _ (omega (arith, c.root_count-count.ensures, length_roots_le c.args.n c.requires.0))
-
-pub skipping-requires : goal.skipping-requires
-skipping-requires c = omega (arith, c.root_count-count.ensures, length_roots_le c.args.n c.requires.0)
 
 pub offset_bounds-indexes-skipping : goal.offset_bounds-indexes-skipping
 offset_bounds-indexes-skipping c =
@@ -37,12 +31,6 @@ offset_bounds-indexes-skipping c =
 pub bounds-indexes-skipping : goal.bounds-indexes-skipping
 bounds-indexes-skipping c =
     omega (arith, other_place _ _ c.requires.1 c.root_count-count.ensures c.loop-j-test.true c.skipping.ensures, length_roots_le c.args.n c.requires.0)
-
-pub offset_bounds-found-j : goal.offset_bounds-found-j
-offset_bounds-found-j c = omega (arith, c.root_count-count.ensures, length_roots_le c.args.n c.requires.0)
-
-pub bounds-found-j : goal.bounds-found-j
-bounds-found-j c = omega (arith, c.root_count-count.ensures, length_roots_le c.args.n c.requires.0)
 
 pub loop-j-preserved : goal.loop-j-preserved
 loop-j-preserved c =

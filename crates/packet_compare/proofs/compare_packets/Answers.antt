@@ -1,49 +1,28 @@
 -- `packet_compare::compare_packets` meets its contract. Assumes nothing.
-use mathlib.Core.Path.{◌≡◌, sym, ap, ◌∙◌}
-use Rattle.answer_types.specs.Verdict.{done}
-use Rattle.answer_types.specs.Meaning.{said, spot_of}
+use mathlib.Core.Path.{sym, ◌∙◌}
+use Rattle.answer_types.specs.Meaning.{spot_of}
 use Rattle.blake2b.specs.Hash.{node_hash}
-use Rattle.packet.specs.Check.{packet_verdict}
 use Rattle.packet_compare.proofs.Tells.{both_done, first_refused_lem, second_refused_lem}
 use Rattle.packet_compare.proofs.compare_packets.Goals as goal
 
 pub walk-requires : goal.walk-requires
-walk-requires c =
-    -- the first packet passes
-    let first_passes : (packet_verdict node_hash c.args.first.now
-    c.args.n c.args.chunk.0 c.args.root.now
-    ≡ done) = sym c.check_answer.ensures ∙ ap said c.in-Done.is in
-    -- and the second
-    let second-passes : (packet_verdict node_hash c.args.second.now
-    c.args.n c.args.chunk.0
-    c.args.root.now
-    ≡ done) = sym c.check_answer-in-Done.ensures ∙ ap said c.in-Done-check_answer.is in
-    record { root = c.args.root.now; first = first_passes; second = second-passes }
+walk-requires c = record { root = c.args.root.now; first = sym c.in-Done.ensures; second = sym c.in-Done-check_answer.ensures }
 
 pub returns-in-Refused : goal.returns-in-Refused
 returns-in-Refused c =
     let a = c.args in
     sym (first_refused_lem node_hash a.first.now a.second.now a.n a.chunk.0 a.root.now c.in-Refused.refusal.number (spot_of c.in-Refused.refusal.place)
-    (sym c.check_answer.ensures ∙ ap said c.in-Refused.is))
+    (sym c.in-Refused.ensures))
 
 pub returns-in-Refused-check_answer : goal.returns-in-Refused-check_answer
 returns-in-Refused-check_answer c =
-    let first_passes : (packet_verdict node_hash c.args.first.now
-    c.args.n c.args.chunk.0 c.args.root.now
-    ≡ done) = sym c.check_answer.ensures ∙ ap said c.in-Done.is in
     let a = c.args in
-    sym (second_refused_lem node_hash a.first.now a.second.now a.n a.chunk.0 a.root.now c.in-Refused-check_answer.refusal.number (spot_of c.in-Refused-check_answer.refusal.place)
-    first_passes (sym c.check_answer-in-Done.ensures ∙ ap said c.in-Refused-check_answer.is))
+    let r = c.in-Refused-check_answer.refusal in
+    sym (second_refused_lem node_hash a.first.now a.second.now a.n a.chunk.0 a.root.now r.number (spot_of r.place)
+    (sym c.in-Done.ensures) (sym c.in-Refused-check_answer.ensures))
 
 pub returns-in-Done-check_answer : goal.returns-in-Done-check_answer
 returns-in-Done-check_answer c =
-    let first_passes : (packet_verdict node_hash c.args.first.now
-    c.args.n c.args.chunk.0 c.args.root.now
-    ≡ done) = sym c.check_answer.ensures ∙ ap said c.in-Done.is in
-    let second-passes : (packet_verdict node_hash c.args.second.now
-    c.args.n c.args.chunk.0
-    c.args.root.now
-    ≡ done) = sym c.check_answer-in-Done.ensures ∙ ap said c.in-Done-check_answer.is in
     let a = c.args in
     c.walk.ensures
-    ∙ sym (both_done node_hash a.first.now a.second.now a.n a.chunk.0 a.root.now first_passes second-passes)
+    ∙ sym (both_done node_hash a.first.now a.second.now a.n a.chunk.0 a.root.now (sym c.in-Done.ensures) (sym c.in-Done-check_answer.ensures))

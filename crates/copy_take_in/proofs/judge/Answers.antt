@@ -3,25 +3,22 @@ use mathlib.Core.Path.{refl, sym, ap, ◌∙◌}
 use Rattle.answer_types.specs.Meaning.{said, spot_of}
 use Rattle.blake2b.specs.Hash.{node_hash}
 use Rattle.packet.proofs.Right.{handed_by}
-use Rattle.copy_checks.specs.Copy.{Copy, copy_of}
 use Rattle.copy_take_in.proofs.Stages.{judge_copy, judge_own_lem}
 use Rattle.copy_take_in.proofs.judge.Goals as goal
 
 pub returns-in-Refused : goal.returns-in-Refused
 returns-in-Refused c =
-    let given : Copy = copy_of c.args.tree.now c.args.bitfield.now c.args.content.now c.args.n c.args.size in
     let a = c.args in
-    let e = judge_copy node_hash given a.packet.now a.chunk.0 a.root.now c.in-Refused.refusal.number (spot_of c.in-Refused.refusal.place)
-    (sym (ap said c.in-Refused.is) ∙ c.judge_partly.ensures) in record {
+    let e = judge_copy node_hash _ a.packet.now a.chunk.0 a.root.now c.in-Refused.refusal.number (spot_of c.in-Refused.refusal.place)
+    c.in-Refused.ensures in record {
       judged = ap said c.unhashed.ensures.same ∙ e;
       led = handed_by node_hash a.packet.now a.n a.chunk.0 e c.unhashed.ensures.empty;
     }
 
 pub returns-in-Done : goal.returns-in-Done
 returns-in-Done c =
-    let given : Copy = copy_of c.args.tree.now c.args.bitfield.now c.args.content.now c.args.n c.args.size in
     let a = c.args in
-    let e = judge_own_lem node_hash given a.packet.now a.chunk.0 a.root.now (sym (ap said c.in-Done.is) ∙ c.judge_partly.ensures)
+    let e = judge_own_lem node_hash _ a.packet.now a.chunk.0 a.root.now c.in-Done.ensures
     _ refl in record {
       judged = c.judge_packet.ensures.judged ∙ e;
       led = handed_by node_hash a.packet.now a.n a.chunk.0 e c.judge_packet.ensures.led;

@@ -26,20 +26,10 @@ returns c =
     c.left_in_row.ensures
 
 pub overflow_mul-second : goal.overflow_mul-second
-overflow_mul-second c =
-    -- the rows' places fit
-    let fits : c.siblings_place-first.result + 40 * c.args.way.up + 1 < 2 ^ 64 =
-    places_fit c.requires.0.shaped c.siblings_place-first.ensures c.requires.1.up in
-    omega (arith, fits)
+overflow_mul-second c = omega (arith, places_fit c.requires.0.shaped c.siblings_place-first.ensures c.requires.1.up)
 
 pub overflow_add-second : goal.overflow_add-second
-overflow_add-second c =
-    let fits : c.siblings_place-first.result + 40 * c.args.way.up + 1 < 2 ^ 64 =
-    places_fit c.requires.0.shaped c.siblings_place-first.ensures c.requires.1.up in
-    omega (arith, fits)
+overflow_add-second c = omega (arith, places_fit c.requires.0.shaped c.siblings_place-first.ensures c.requires.1.up)
 
 pub overflow_add-second-2 : goal.overflow_add-second-2
-overflow_add-second-2 c =
-    let fits : c.siblings_place-first.result + 40 * c.args.way.up + 1 < 2 ^ 64 =
-    places_fit c.requires.0.shaped c.siblings_place-first.ensures c.requires.1.up in
-    omega (arith, fits)
+overflow_add-second-2 c = omega (arith, places_fit c.requires.0.shaped c.siblings_place-first.ensures c.requires.1.up)

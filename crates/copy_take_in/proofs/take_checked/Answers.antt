@@ -14,35 +14,14 @@ way_of-way-requires c = c.requires.room.packet.shaped.chunk
 
 pub contradiction_of-found-requires : goal.contradiction_of-found-requires
 contradiction_of-found-requires c =
-    -- all is ready
-    let ready : (Ready c.args.tree.now c.args.bitfield.now c.args.content.now c.args.packet.now c.args.n
-    c.args.chunk.0 c.way_of-way.result c.start_of-start.result c.entry_row-row.result c.args.path.now) = record {
-      room = c.requires.room;
-      way = c.way_of-way.ensures;
-      begins = c.start_of-start.ensures;
-      led = led_rows _ _ _ c.requires.led c.entry_row-row.ensures;
-    } in
-    ready
+    record { room = c.requires.room; way = c.way_of-way.ensures; begins = c.start_of-start.ensures; led = led_rows _ _ _ c.requires.led c.entry_row-row.ensures }
 
 pub write_all-requires : goal.write_all-requires
 write_all-requires c =
-    let ready : (Ready c.args.tree.now c.args.bitfield.now c.args.content.now c.args.packet.now c.args.n
-    c.args.chunk.0 c.way_of-way.result c.start_of-start.result c.entry_row-row.result c.args.path.now) = record {
-      room = c.requires.room;
-      way = c.way_of-way.ensures;
-      begins = c.start_of-start.ensures;
-      led = led_rows _ _ _ c.requires.led c.entry_row-row.ensures;
-    } in
-    ready
+    record { room = c.requires.room; way = c.way_of-way.ensures; begins = c.start_of-start.ensures; led = led_rows _ _ _ c.requires.led c.entry_row-row.ensures }
 
 pub returns-in-At : goal.returns-in-At
-returns-in-At c =
-    let given : Copy = copy_of c.args.tree.now c.args.bitfield.now c.args.content.now c.args.n 0 in
-    own_refused node_hash given c.args.packet.now c.args.chunk.0 (said c.refuse_entry.result) c.in-At.i.0
-    (sym (ap first_entry c.in-At.is) ∙ c.contradiction_of-found.ensures) c.refuse_entry.ensures
+returns-in-At c = own_refused node_hash _ _ _ (said c.refuse_entry.result) c.in-At.i.0 c.in-At.ensures c.refuse_entry.ensures
 
 pub returns-in-Nothing : goal.returns-in-Nothing
-returns-in-Nothing c =
-    let given : Copy = copy_of c.args.tree.now c.args.bitfield.now c.args.content.now c.args.n 0 in
-    own_done node_hash given c.args.packet.now c.args.chunk.0 _
-    (sym (ap first_entry c.in-Nothing.is) ∙ c.contradiction_of-found.ensures) c.write_all.ensures
+returns-in-Nothing c = own_done node_hash _ _ _ _ c.in-Nothing.ensures c.write_all.ensures

@@ -15,9 +15,6 @@ compared : (content bytes : List ℕ) (start : ℕ) {b : Bool} → b ≡ same_li
     → same_list (part content start (length bytes)) bytes ≡ b
 compared content bytes start f = sym (f ∙ ap (λ (x : List ℕ). same_list x bytes) (as_part_lem content start (length bytes)))
 
-pub is_held-requires : goal.is_held-requires
-is_held-requires c = c.requires.bit
-
 pub returns-then-not-is_held : goal.returns-then-not-is_held
 unfolding bytes_contradicted
 returns-then-not-is_held c = rw (sym c.is_held.ensures ∙ c.if-not-is_held.true)
@@ -25,9 +22,6 @@ returns-then-not-is_held c = rw (sym c.is_held.ensures ∙ c.if-not-is_held.true
 pub returns-then-same : goal.returns-then-same
 unfolding bytes_contradicted
 returns-then-same c = rw (sym c.is_held.ensures ∙ c.if-not-is_held.false, compared c.args.content.now c.args.bytes.now c.args.start c.same.ensures ∙ c.if-same.true)
-
-pub leaf_index-requires : goal.leaf_index-requires
-leaf_index-requires c = c.requires.small
 
 pub returns : goal.returns
 unfolding bytes_contradicted

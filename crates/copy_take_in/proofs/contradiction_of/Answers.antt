@@ -1,16 +1,11 @@
 -- `copy_take_in::contradiction_of` meets its contract. Assumes nothing.
-use Prim.Native.Nat.{◌+◌, ◌-◌, ◌*◌, ◌^◌, ◌≤◌, ◌<◌}
 use mathlib.Core.Path.{refl}
 use native.Mathlib.Omega.{arith}
-use lib.ListN.{length}
 use Rattle.copy_take_in.proofs.Places.{front, places_fit, chunk_in, chunk_part}
 use Rattle.copy_take_in.proofs.Start.{held_in_lem}
 use Rattle.copy_take_in.proofs.BroughtRows.{leaf_row, path_row_lem, beside_row, roots_row}
 use Rattle.copy_take_in.proofs.LowestFound.{lowest_found}
 use Rattle.copy_take_in.proofs.contradiction_of.Goals as goal
-
-pub leaf_index-leaf-requires : goal.leaf_index-leaf-requires
-leaf_index-leaf-requires c = omega (arith, c.requires.room.packet.shaped.chunk.count, c.requires.room.packet.shaped.chunk.below)
 
 pub siblings_place-first-requires : goal.siblings_place-first-requires
 siblings_place-first-requires c = front c.requires.room.packet.shaped

@@ -1,5 +1,5 @@
 -- `copy_take_in::judge` meets its contract. Assumes nothing.
-use mathlib.Core.Path.{refl, sym, ap, ◌∙◌}
+use mathlib.Core.Path.{refl, ap, ◌∙◌}
 use Rattle.answer_types.specs.Meaning.{said, spot_of}
 use Rattle.blake2b.specs.Hash.{node_hash}
 use Rattle.packet.proofs.Right.{handed_by}

@@ -1,12 +1,8 @@
 -- `copy_take_in::start_of` meets its contract. Assumes nothing.
-use Prim.Native.Nat.{◌+◌, ◌*◌, ◌^◌, ◌<◌}
 use native.Mathlib.Omega.{arith}
 use Rattle.copy_take_in.proofs.Places.{front, places_fit}
 use Rattle.copy_take_in.proofs.Start.{beside_adds, roots_add, start_is}
 use Rattle.copy_take_in.proofs.start_of.Goals as goal
-
-pub leaf_index-leaf-requires : goal.leaf_index-leaf-requires
-leaf_index-leaf-requires c = omega (arith, c.requires.0.shaped.chunk.count, c.requires.0.shaped.chunk.below)
 
 pub siblings_place-first-requires : goal.siblings_place-first-requires
 siblings_place-first-requires c = front c.requires.0.shaped

@@ -1,16 +1,9 @@
 -- `copy_take_in::take_checked` meets its contract. Assumes nothing.
-use mathlib.Core.Path.{sym, ap, ◌∙◌}
 use Rattle.answer_types.specs.Meaning.{said}
 use Rattle.blake2b.specs.Hash.{node_hash}
-use Rattle.copy_checks.specs.Copy.{Copy, copy_of}
-use Rattle.lookup.specs.Unknown.{first_entry}
-use Rattle.copy_take_in.specs.Inner.{Ready}
 use Rattle.copy_take_in.proofs.BroughtRows.{led_rows}
 use Rattle.copy_take_in.proofs.Written.{own_refused, own_done}
 use Rattle.copy_take_in.proofs.take_checked.Goals as goal
-
-pub way_of-way-requires : goal.way_of-way-requires
-way_of-way-requires c = c.requires.room.packet.shaped.chunk
 
 pub contradiction_of-found-requires : goal.contradiction_of-found-requires
 contradiction_of-found-requires c =

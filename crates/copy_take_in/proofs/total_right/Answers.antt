@@ -19,9 +19,6 @@ pub overflow_add-first-2 : goal.overflow_add-first-2
 unfolding chunk_length
 overflow_add-first-2 c = omega (arith, c.read_be32-length.ensures, placed _ _ _ c.requires.shaped)
 
-pub overflow_mul-second : goal.overflow_mul-second
-overflow_mul-second c = omega (arith, c.sibling_count-up.ensures.few)
-
 pub overflow_add-second : goal.overflow_add-second
 unfolding chunk_length
 overflow_add-second c = omega (arith, c.read_be32-length.ensures, placed _ _ _ c.requires.shaped, c.sibling_count-up.ensures.few)

@@ -1,10 +1,7 @@
 -- `copy_take_in::write_all` meets its contract. Assumes nothing.
-use Prim.Native.Nat.{◌-◌}
-use mathlib.Core.Path.{◌≡◌, refl}
+use mathlib.Core.Path.{refl}
 use native.Mathlib.Omega.{arith}
-use lib.ListN.{take, drop}
 use Rattle.blake2b.specs.Hash.{node_hash}
-use Rattle.packet.specs.Check.{packet_chunk}
 use Rattle.copy_take_in.proofs.Places.{front, chunk_in, chunk_part}
 use Rattle.copy_take_in.proofs.Start.{held_in_lem}
 use Rattle.copy_take_in.proofs.Written.{all_written}

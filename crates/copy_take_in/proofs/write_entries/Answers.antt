@@ -1,5 +1,4 @@
 -- `copy_take_in::write_entries` meets its contract: one row after the other. Assumes nothing.
-use Prim.Native.Nat.{◌+◌, ◌*◌, ◌^◌, ◌<◌}
 use mathlib.Core.Path.{◌∙◌}
 use mathlib.Core.List.{[], ◌∷◌}
 use native.Mathlib.Omega.{arith}
@@ -9,9 +8,6 @@ use Rattle.copy_take_in.proofs.Entries.{with_more}
 use Rattle.copy_take_in.proofs.Places.{front, places_fit}
 use Rattle.copy_take_in.proofs.BroughtRows.{leaf_row, path_row_lem, beside_row, roots_row, all_rows}
 use Rattle.copy_take_in.proofs.write_entries.Goals as goal
-
-pub leaf_index-leaf-requires : goal.leaf_index-leaf-requires
-leaf_index-leaf-requires c = omega (arith, c.requires.room.packet.shaped.chunk.count, c.requires.room.packet.shaped.chunk.below)
 
 pub siblings_place-first-requires : goal.siblings_place-first-requires
 siblings_place-first-requires c = front c.requires.room.packet.shaped

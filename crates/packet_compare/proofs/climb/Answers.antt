@@ -2,7 +2,6 @@
 use Prim.Native.Nat.{ℕ}
 use mathlib.Core.Path.{sym, ◌∙◌, subst}
 use native.Mathlib.Nat.{div-one}
-use native.Mathlib.Omega.{arith}
 use Rattle.packet.specs.Inner.{entry_of}
 use Rattle.packet_compare.proofs.Climbs.{Walking, walking_none, walking_end, step_first, step_second, walking_found, walking_next}
 use Rattle.packet_compare.proofs.climb.Goals as goal
@@ -15,29 +14,11 @@ loop-j-init c =
     (λ (k : ℕ). Walking a.first.now a.at (entry_of a.leaf) a.second.now a.at2 (entry_of a.leaf2) a.count a.chunk.0 (entry_of a.leaf) (entry_of a.leaf2) k 0)
     (sym (c.block_over-k.ensures ∙ div-one a.chunk.0)) (walking_none _ _ _ _ _ _ _ _ c.requires)
 
-pub overflow_mul-j : goal.overflow_mul-j
-overflow_mul-j c = omega (arith, c.requires.first.row.few)
-
-pub overflow_add-at : goal.overflow_add-at
-overflow_add-at c = omega (arith, c.requires.first.row.inside)
-
 pub above-node-requires : goal.above-node-requires
 above-node-requires c = step_first _ _ _ _ _ _ _ _ c.requires _ _ _ _ c.loop-j.invariant c.loop-j-test.true
 
-pub overflow_mul-j-in-loop-j : goal.overflow_mul-j-in-loop-j
-overflow_mul-j-in-loop-j c = omega (arith, c.requires.first.row.few)
-
-pub overflow_add-at2 : goal.overflow_add-at2
-overflow_add-at2 c = omega (arith, c.requires.second.row.inside)
-
 pub above-node2-requires : goal.above-node2-requires
 above-node2-requires c = step_second _ _ _ _ _ _ _ _ c.requires _ _ _ _ c.loop-j.invariant c.loop-j-test.true
-
-pub overflow_cast-j : goal.overflow_cast-j
-overflow_cast-j c = omega (arith, c.requires.first.row.few, c.loop-j-test.true)
-
-pub node_index-requires : goal.node_index-requires
-node_index-requires c = (omega (arith, c.requires.first.row.few, c.loop-j-test.true), omega (arith, c.loop-j.invariant.small))
 
 pub returns-then-same : goal.returns-then-same
 returns-then-same c =

@@ -4,7 +4,6 @@ use mathlib.Core.Path.{◌≡◌, refl, sym, ap₂, ◌∙◌}
 use mathlib.Core.Bool.{Bool}
 use mathlib.Core.List.{List}
 use lib.ListN.{length, take, drop}
-use native.Mathlib.Omega.{arith}
 use Rattle.byte_strings.specs.Lists.{Bytes, part, same_list}
 use Rattle.file_format.specs.Sizes.{entry_place}
 use Rattle.file_format.specs.Entries.{entry_bytes}
@@ -21,19 +20,9 @@ compared : (t row : List ℕ) (at place : ℕ) {start : ℕ} {b : Bool} → star
 compared t row at place {start} e w h f =
     sym (f ∙ ap₂ same_list (lent_entry t start _ e) (lent_entry row at _ refl ∙ sym (given_bytes row at w h)))
 
-pub is_known-requires : goal.is_known-requires
-is_known-requires c = c.requires.0.bit
-
 pub returns-then-not-is_known : goal.returns-then-not-is_known
 unfolding contradicted
 returns-then-not-is_known c = rw (sym c.is_known.ensures ∙ c.if-not-is_known.true)
-
-pub entry_place-start-requires : goal.entry_place-start-requires
-entry_place-start-requires c = c.requires.0.entry.small
-
--- the entry lies within the tree file
-pub slice_bounds-same-end : goal.slice_bounds-same-end
-slice_bounds-same-end c = omega (arith, c.entry_place-start.ensures, c.requires.0.entry.inside)
 
 pub returns-then-same : goal.returns-then-same
 unfolding contradicted

@@ -24,21 +24,6 @@ step leaf row at is j e =
 pub loop-j-init : goal.loop-j-init
 loop-j-init c = omega (arith, left_none c.args.leaf.0 c.args.row.now c.args.at (numbers c.args.indexes))
 
-pub overflow_mul-j : goal.overflow_mul-j
-overflow_mul-j c = omega (arith, c.requires.inside.few)
-
-pub overflow_add-at : goal.overflow_add-at
-overflow_add-at c = omega (arith, c.requires.inside.few, c.requires.inside.inside)
-
-pub offset_bounds-indexes-j : goal.offset_bounds-indexes-j
-offset_bounds-indexes-j c = omega (arith, c.requires.inside.few)
-
-pub bounds-indexes-j : goal.bounds-indexes-j
-bounds-indexes-j c = omega (arith, c.requires.inside.few)
-
-pub left_size-sum-requires : goal.left_size-sum-requires
-left_size-sum-requires c = omega (arith, c.requires.inside.inside)
-
 pub overflow_add-sum : goal.overflow_add-sum
 overflow_add-sum c =
     let a = c.args in

@@ -49,11 +49,9 @@ pub fn lowest_in_row(
         (least_of (map (contradicts tree.now bitfield.now) (row_given row.now at (numbers indexes) count))) }
 {
     let mut found = before;
-    let mut j: usize = 0;
-    while j < count {
+    for j in 0..count {
         let here = contradiction_at(tree, bitfield, indexes[j], row, at + 40 * j);
         found = copy_checks::lower_of(found, here);
-        j += 1;
     }
     found
 }
@@ -83,10 +81,8 @@ pub fn write_row(
     ensures { WithGiven tree.old bitfield.old (row_given row.now at (numbers indexes) count) tree.new
         bitfield.new }
 {
-    let mut j: usize = 0;
-    while j < count {
+    for j in 0..count {
         write_one(tree, bitfield, indexes[j], row, at + 40 * j);
-        j += 1;
     }
 }
 
@@ -114,10 +110,8 @@ pub fn left_in_row(
     ensures { result ≡ from + total (map (left_size leaf.0) (row_given row.now at (numbers indexes) count)) }
 {
     let mut sum = from;
-    let mut j: usize = 0;
-    while j < count {
+    for j in 0..count {
         sum += left_size(row, at + 40 * j, indexes[j], leaf);
-        j += 1;
     }
     sum
 }

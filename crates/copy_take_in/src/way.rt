@@ -25,12 +25,9 @@ fn above_indexes(chunk: ChunkNumber, count: u32) -> [TreeIndex; 20]
     ensures { numbers result ≡ padded 0 count (above_row chunk.0 count) }
 {
     let mut found = [TreeIndex(0); 20];
-    let mut h: u32 = 0;
-    while h < count {
-        let at = h as usize;
+    for h in 0..count {
         let k = tree_index::block_over(chunk, h + 1);
-        found[at] = tree_index::node_index(h + 1, k);
-        h += 1;
+        found[h as usize] = tree_index::node_index(h + 1, k);
     }
     found
 }
@@ -60,8 +57,7 @@ pub fn way_of(n: u64, chunk: ChunkNumber) -> Way
 pub fn entry_row(node: Node) -> [u8; 40]
     ensures { result ≡ entry_bytes (entry_of node) }
 {
-    let hash = node.hash;
     let mut row = [0u8; 40];
-    packet::put_entry(&mut row, 0, &hash, node.size);
+    packet::put_entry(&mut row, 0, &node.hash, node.size);
     row
 }

@@ -9,21 +9,18 @@ use native.Mathlib.Nat.{add-zero, zero-add, div-one, mul-one, mul_assoc, le_of_s
 use native.Mathlib.Numerals.{add-one}
 use native.Mathlib.Omega.{arith}
 use lib.Dec.{ltb}
-use lib.ListN.{length, get_or, take, drop, replicate, length-append, length-drop, get_or-append}
+use lib.ListN.{length, get_or, take, drop, length-append, length-drop, get_or-append}
 use lib.Seq.{drop-cons, drop-length, length-take-le, get_or-take, get_or-drop, ext_get_or}
 use lib.Pow.{shr-shr}
 use borrow.Author.Tests.{ltb-true, ltb-false, lt-ltb, le-ltb, leb-true, leb-false, eq-eqb, ne_eqb}
 use Rattle.byte_strings.specs.Lists.{run}
 use Rattle.byte_strings.proofs.Lists.{get_or_behind, length_run, get_or_run}
 use Rattle.byte_strings.proofs.Bools.{chosen}
-use Rattle.number_types.specs.declared.TreeIndex.{TreeIndex}
 use Rattle.tree_index.specs.Tree.{index, depth, block, filled, entries, root_of, roots_below, roots}
-use Rattle.tree_index.specs.Numbers.{numbers}
 use Rattle.file_format.specs.Sizes.{most_chunks}
 use Rattle.tree_index.proofs.Index.{depth_index, block_index, pow_twice}
 use Rattle.tree_index.proofs.Filled.{end_filled, end_hole}
 use Rattle.tree_index.proofs.Roots.{bit, no_root, one_root, root_at, root_below, length_roots_le}
-use Rattle.lookup.proofs.Capped.{root_of_lem}
 use Rattle.packet.specs.Packet.{root_above, siblings, without, other_roots, place_above}
 use Rattle.packet.specs.Inner.{ChunkOf, skipped}
 
@@ -74,11 +71,11 @@ module _ (is : List ℕ) (c j there : ℕ) (s : Seeking is c j there) where
             ∙ omega arith;
       })
 
-  pub seeking_end : length is ≤ j → j ≡ there
+  pub seeking_end : length is ≤ j → length is ≡ there
   unfolding place_above
   seeking_end h =
       let e : j ≡ length is = omega (arith, s.few) in
-      sym (s.same ∙ ap (λ (k : ℕ). j + k) (ap (λ (k : ℕ). place_above (drop k is) c) e ∙ ap (λ (l : List ℕ). place_above l c) (drop-length is)) ∙ add-zero j)
+      sym (s.same ∙ ap (λ (k : ℕ). j + k) (ap (λ (k : ℕ). place_above (drop k is) c) e ∙ ap (λ (l : List ℕ). place_above l c) (drop-length is)) ∙ add-zero j ∙ e)
 
 -- ---- there is a root above each chunk
 
@@ -244,10 +241,9 @@ few_others n c h = omega (arith, other_count_lem n c h, length_roots_le n h.coun
 
 -- ---- the roots in the code's array
 
-pub root_small : (is : List TreeIndex) (n j : ℕ) → n ≤ most_chunks → numbers is ≡ roots n ++ replicate (20 - length (roots n)) 0
-    → j < length (roots n) → (get_or is j (record { 0 = 0 })).0 < 4194304
+pub root_small : {n i j : ℕ} → n ≤ most_chunks → (j < length (roots n)) × (i ≡ get_or (roots n) j 0) → i < 4194304
 unfolding entries
-root_small is n j s e h = omega (arith, root_of_lem is n j e h, root_below n j h)
+root_small {n} {j = j} s a = omega (arith, root_below n j a.0)
 
 -- ---- the root's block holds the chunk
 

@@ -7,6 +7,8 @@ use mathlib.Core.List.{List}
 use lib.Dec.{leb, eqb}
 use lib.ListN.{length, get_or}
 use borrow.Author.Tests.{leb-true, le-leb, lt-leb, eqb-true, eq-eqb, ne_eqb}
+use Rattle.byte_strings.specs.Lists.{part}
+use Rattle.byte_strings.specs.Numbers.{number}
 use Rattle.byte_strings.proofs.Bools.{both_true}
 use Rattle.checks.proofs.Steps.{and_stop, and_pass}
 use Rattle.packet.specs.Packet.{siblings, other_roots}
@@ -17,6 +19,11 @@ pub record Counted (p : List ℕ) (n c l u o : ℕ) : Type 0 where
   pub long : l ≡ chunk_length p
   pub up : u ≡ length (siblings n c)
   pub others : o ≡ length (other_roots n c)
+
+-- the code reads the bytes of its chunk at its front
+pub counted : {p : List ℕ} {n c l u o : ℕ} → l ≡ number (part p 0 4) → u ≡ length (siblings n c) → o ≡ length (other_roots n c) → Counted p n c l u o
+unfolding chunk_length
+counted e f g = record { long = e; up = f; others = g }
 
 -- the five tests, for a chunk of l bytes, u siblings and o other roots
 abbrev tests : List ℕ → ℕ → ℕ → ℕ → Bool

@@ -1,6 +1,6 @@
 // The check of a packet: "takes packet, n, i and root hash; it answers the chunk's part of the packet unless 2, 9, 12 or 13 holds".
 // Any bytes may be lent as a packet: its counts and lengths are judged before anything is read at them.
-ghost use Rattle.std.specs.Prelude.{◌≡◌, ◌++◌, true, ◌+◌, ◌-◌, ◌*◌, ◌≤◌, ◌<◌, length};
+ghost use Rattle.std.specs.Prelude.{◌≡◌, ◌++◌, true, map, ◌+◌, ◌-◌, ◌*◌, ◌≤◌, ◌<◌, length};
 ghost use Rattle.answer_types.specs.Verdict.{unless_refused};
 ghost use Rattle.answer_types.specs.Meaning.{said};
 ghost use Rattle.byte_strings.specs.Lists.{put, total, zeros};
@@ -46,13 +46,6 @@ struct Hashed {
     row: [u8; 800],
 }
 
-// A byte as a count.
-fn wide(x: u8) -> usize
-    ensures { result ≡ x }
-{
-    x as usize
-}
-
 // Inner: "12. The packet's counts aren't those of n and i, its chunk is over 65,536, or bytes lack or remain."
 fn shape_right(packet: &[u8], n: u64, chunk: ChunkNumber) -> bool
     requires { ChunkOf n chunk.0 }
@@ -72,10 +65,10 @@ fn shape_right(packet: &[u8], n: u64, chunk: ChunkNumber) -> bool
     if packet.len() != second + 1 + 40 * others {
         return false;
     }
-    if wide(packet[first]) != up {
+    if usize::from(packet[first]) != up {
         return false;
     }
-    wide(packet[second]) == others
+    usize::from(packet[second]) == others
 }
 
 // Inner: the hash of the entry at a place within a packet.
@@ -83,9 +76,8 @@ fn entry_hash(packet: &[u8], at: usize) -> [u8; 32]
     requires { at + 40 ≤ length packet.now }
     ensures { result ≡ (entry_in packet.now at).hash }
 {
-    let end = at + 32;
     let mut hash = [0u8; 32];
-    byte_strings::copy_to(&mut hash, 0, &packet[at..end]);
+    hash.copy_from_slice(&packet[at..at + 32]);
     hash
 }
 
@@ -104,14 +96,12 @@ pub fn add_lengths(packet: &[u8], at: usize, count: usize, from: u64) -> u64
     ensures { Summed (from + total (sizes_in packet.now at count)) result }
 {
     let mut sum = from;
-    let mut j: usize = 0;
-    while j < count {
+    for j in 0..count {
         let here = entry_size(packet, at + 40 * j);
         if 68719476737 - sum <= here {
             return 68719476737;
         }
         sum += here;
-        j += 1;
     }
     sum
 }
@@ -121,9 +111,10 @@ pub fn entry_node(packet: &[u8], at: usize) -> Node
     requires { at + 40 ≤ length packet.now }
     ensures { entry_of result ≡ entry_in packet.now at }
 {
-    let hash = entry_hash(packet, at);
-    let size = entry_size(packet, at);
-    Node { hash, size }
+    Node {
+        hash: entry_hash(packet, at),
+        size: entry_size(packet, at),
+    }
 }
 
 // An entry where there is none: zeros.
@@ -140,9 +131,10 @@ fn no_node() -> Node
 pub fn leaf_node(chunk: &[u8]) -> Node
     ensures { entry_of result ≡ leaf node_hash chunk.now }
 {
-    let hash = file_format::hashes::leaf_hash(chunk);
-    let size = chunk.len() as u64;
-    Node { hash, size }
+    Node {
+        hash: file_format::hashes::leaf_hash(chunk),
+        size: chunk.len() as u64,
+    }
 }
 
 // Inner: the parent of the block k and of the block beside it.
@@ -151,13 +143,11 @@ pub fn step_up(k: u64, node: Node, beside: Node) -> Node
     ensures { entry_of result ≡ ordered k (parent_of node_hash) (entry_of node) (entry_of beside) }
 {
     let size = node.size + beside.size;
-    let own = node.hash;
-    let other = beside.hash;
-    if k % 2 == 0 {
-        let hash = file_format::hashes::parent_hash(size, &own, &other);
-        return Node { hash, size };
-    }
-    let hash = file_format::hashes::parent_hash(size, &other, &own);
+    let hash = if k % 2 == 0 {
+        file_format::hashes::parent_hash(size, &node.hash, &beside.hash)
+    } else {
+        file_format::hashes::parent_hash(size, &beside.hash, &node.hash)
+    };
     Node { hash, size }
 }
 
@@ -181,15 +171,11 @@ fn climb(packet: &[u8], at: usize, count: usize, chunk: ChunkNumber, leaf: Node)
     let mut row = [0u8; 800];
     let mut node = leaf;
     let mut k = tree_index::block_over(chunk, 0);
-    let mut j: usize = 0;
-    while j < count {
+    for j in 0..count {
         let beside = entry_node(packet, at + 40 * j);
-        let above = step_up(k, node, beside);
-        let hash = above.hash;
-        put_entry(&mut row, 40 * j, &hash, above.size);
-        node = above;
-        k = k / 2;
-        j += 1;
+        node = step_up(k, node, beside);
+        put_entry(&mut row, 40 * j, &node.hash, node.size);
+        k /= 2;
     }
     Ascent { top: node, row }
 }
@@ -208,41 +194,17 @@ fn in_turn(packet: &[u8], at: usize, place: usize, node: Node, j: usize) -> Node
     entry_node(packet, at + 40 * (j - 1))
 }
 
-// Inner: the hashes of all roots, the one above the chunk in its turn among the others.
-fn hashes_in_turn(
-    packet: &[u8],
-    at: usize,
-    place: usize,
-    node: Node,
-    count: usize,
-) -> [[u8; 32]; 20]
+// Inner: the entries of all roots, the one above the chunk in its turn among the others, and empty ones behind them.
+fn nodes_in_turn(packet: &[u8], at: usize, place: usize, node: Node, count: usize) -> [Node; 20]
     requires { TurnsIn packet.now at place count }
-    ensures { result ≡ padded (zeros 32) count (hash_row packet.now at place (entry_of node) count) }
+    ensures hashes { map (λ e. e.hash) result ≡ padded (zeros 32) count (hash_row packet.now at place (entry_of node) count) }
+    ensures sizes { map (λ e. e.size) result ≡ padded 0 count (size_row packet.now at place (entry_of node) count) }
 {
-    let mut hashes = [[0u8; 32]; 20];
-    let mut j: usize = 0;
-    while j < count {
-        let entry = in_turn(packet, at, place, node, j);
-        let hash = entry.hash;
-        hashes[j] = hash;
-        j += 1;
+    let mut nodes = [no_node(); 20];
+    for j in 0..count {
+        nodes[j] = in_turn(packet, at, place, node, j);
     }
-    hashes
-}
-
-// Inner: the lengths of all roots, the one above the chunk in its turn among the others.
-fn sizes_in_turn(packet: &[u8], at: usize, place: usize, node: Node, count: usize) -> [u64; 20]
-    requires { TurnsIn packet.now at place count }
-    ensures { result ≡ padded 0 count (size_row packet.now at place (entry_of node) count) }
-{
-    let mut sizes = [0u64; 20];
-    let mut j: usize = 0;
-    while j < count {
-        let entry = in_turn(packet, at, place, node, j);
-        sizes[j] = entry.size;
-        j += 1;
-    }
-    sizes
+    nodes
 }
 
 // Inner: the root hash that the root above a chunk and the other roots in a packet give.
@@ -253,8 +215,13 @@ fn root_hash_with(packet: &[u8], at: usize, n: u64, chunk: ChunkNumber, node: No
     let place = super::path::root_place(n, chunk);
     let count = tree_index::root_count(n);
     let indexes = tree_index::root_indexes(n);
-    let sizes = sizes_in_turn(packet, at, place, node, count);
-    let hashes = hashes_in_turn(packet, at, place, node, count);
+    let nodes = nodes_in_turn(packet, at, place, node, count);
+    let sizes = nodes.map(|entry| entry.size);
+    let hashes = nodes.map(
+        |entry|
+            ensures { result ≡ entry.hash }
+        { entry.hash },
+    );
     let roots = Roots {
         count,
         indexes,

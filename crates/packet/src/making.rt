@@ -22,12 +22,10 @@ fn write_entries(tree: &[u8], indexes: [TreeIndex; 20], count: usize, out: &mut 
     requires { EntriesIn tree.now (numbers indexes) count × at + 40 * count ≤ length out.old }
     ensures { out.new ≡ put out.old at (entries_at tree.now (numbers indexes) count) }
 {
-    let mut j: usize = 0;
-    while j < count {
+    for j in 0..count {
         let start = file_format::entries::entry_place(indexes[j]);
         let end = start + 40;
         byte_strings::copy_to(out, at + 40 * j, &tree[start..end]);
-        j += 1;
     }
 }
 

@@ -16,14 +16,12 @@ pub fn root_place(n: u64, chunk: ChunkNumber) -> usize
 {
     let count = tree_index::root_count(n);
     let indexes = tree_index::root_indexes(n);
-    let mut j: usize = 0;
-    while j < count {
-        if !tree_index::ends_before(indexes[j], chunk) {
+    for (j, &i) in indexes[0..count].iter().enumerate() {
+        if !tree_index::ends_before(i, chunk) {
             return j;
         }
-        j += 1;
     }
-    j
+    count
 }
 
 // Inner: how many siblings lie on the way up from a chunk: the depth of the root above it.
@@ -63,12 +61,9 @@ pub fn sibling_indexes(chunk: ChunkNumber, count: u32) -> [TreeIndex; 20]
     ensures { numbers result ≡ padded 0 count (sibling_row chunk.0 count) }
 {
     let mut found = [TreeIndex(0); 20];
-    let mut h: u32 = 0;
-    while h < count {
+    for h in 0..count {
         let k = beside(tree_index::block_over(chunk, h));
-        let at = h as usize;
-        found[at] = tree_index::node_index(h, k);
-        h += 1;
+        found[h as usize] = tree_index::node_index(h, k);
     }
     found
 }
@@ -92,11 +87,8 @@ pub fn other_indexes(n: u64, place: usize) -> [TreeIndex; 20]
     let indexes = tree_index::root_indexes(n);
     let count = tree_index::root_count(n) - 1;
     let mut found = [TreeIndex(0); 20];
-    let mut j: usize = 0;
-    while j < count {
-        let from = skipping(place, j);
-        found[j] = indexes[from];
-        j += 1;
+    for j in 0..count {
+        found[j] = indexes[skipping(place, j)];
     }
     found
 }

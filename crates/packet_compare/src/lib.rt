@@ -41,8 +41,7 @@ fn above(lent: &[u8], at: usize, k: u64, node: Node) -> Node
     requires { Steppable lent.now at node.size }
     ensures { entry_of result ≡ ordered k (parent_of node_hash) (entry_of node) (entry_in lent.now at) }
 {
-    let beside = packet::entry_node(lent, at);
-    packet::step_up(k, node, beside)
+    packet::step_up(k, node, packet::entry_node(lent, at))
 }
 
 // Inner: up from two leaves with different hashes along the siblings of both, to the first step with one hash.
@@ -62,18 +61,12 @@ fn climb(
     let mut node = leaf;
     let mut node2 = leaf2;
     let mut k = tree_index::block_over(chunk, 0);
-    let mut j: usize = 0;
-    while j < count {
-        let up = above(first, at + 40 * j, k, node);
-        node = up;
-        let up2 = above(second, at2 + 40 * j, k, node2);
-        node2 = up2;
-        k = k / 2;
-        j += 1;
-        let hash = node.hash;
-        let hash2 = node2.hash;
-        if byte_strings::same(&hash, &hash2) {
-            return Walked::AtIndex(tree_index::node_index(j as u32, k));
+    for j in 0..count {
+        node = above(first, at + 40 * j, k, node);
+        node2 = above(second, at2 + 40 * j, k, node2);
+        k /= 2;
+        if byte_strings::same(&node.hash, &node2.hash) {
+            return Walked::AtIndex(tree_index::node_index(j as u32 + 1, k));
         }
     }
     Walked::AtRoots
@@ -91,9 +84,7 @@ fn walk(first: &[u8], second: &[u8], n: u64, chunk: ChunkNumber) -> Walked
     }
     let leaf = packet::leaf_node(part);
     let leaf2 = packet::leaf_node(part2);
-    let hash = leaf.hash;
-    let hash2 = leaf2.hash;
-    if byte_strings::same(&hash, &hash2) {
+    if byte_strings::same(&leaf.hash, &leaf2.hash) {
         return Walked::AtIndex(tree_index::leaf_index(chunk));
     }
     let at = 4 + part.len() + 1;

@@ -1,16 +1,11 @@
 -- `copy_take_in::contradiction_of` meets its contract. Assumes nothing.
-use Prim.Native.Nat.{◌+◌, ◌-◌, ◌*◌, ◌^◌, ◌≤◌, ◌<◌}
 use mathlib.Core.Path.{refl}
 use native.Mathlib.Omega.{arith}
-use lib.ListN.{length}
 use Rattle.copy_take_in.proofs.Places.{front, places_fit, chunk_in, chunk_part}
 use Rattle.copy_take_in.proofs.Start.{held_in_lem}
 use Rattle.copy_take_in.proofs.BroughtRows.{leaf_row, path_row_lem, beside_row, roots_row}
 use Rattle.copy_take_in.proofs.LowestFound.{lowest_found}
 use Rattle.copy_take_in.proofs.contradiction_of.Goals as goal
-
-pub leaf_index-leaf-requires : goal.leaf_index-leaf-requires
-leaf_index-leaf-requires c = omega (arith, c.requires.room.packet.shaped.chunk.count, c.requires.room.packet.shaped.chunk.below)
 
 pub siblings_place-first-requires : goal.siblings_place-first-requires
 siblings_place-first-requires c = front c.requires.room.packet.shaped
@@ -41,45 +36,22 @@ returns c =
     c.lowest_in_row.ensures
 
 pub overflow_mul-second : goal.overflow_mul-second
-overflow_mul-second c =
-    -- the rows' places fit
-    let fits : c.siblings_place-first.result + 40 * c.args.way.up + 1 < 2 ^ 64 =
-    places_fit c.requires.room.packet.shaped c.siblings_place-first.ensures c.requires.way.up in
-    omega (arith, fits)
+overflow_mul-second c = omega (arith, places_fit c.requires.room.packet.shaped c.siblings_place-first.ensures c.requires.way.up)
 
 pub overflow_add-second : goal.overflow_add-second
-overflow_add-second c =
-    let fits : c.siblings_place-first.result + 40 * c.args.way.up + 1 < 2 ^ 64 =
-    places_fit c.requires.room.packet.shaped c.siblings_place-first.ensures c.requires.way.up in
-    omega (arith, fits)
+overflow_add-second c = omega (arith, places_fit c.requires.room.packet.shaped c.siblings_place-first.ensures c.requires.way.up)
 
 pub overflow_add-second-2 : goal.overflow_add-second-2
-overflow_add-second-2 c =
-    let fits : c.siblings_place-first.result + 40 * c.args.way.up + 1 < 2 ^ 64 =
-    places_fit c.requires.room.packet.shaped c.siblings_place-first.ensures c.requires.way.up in
-    omega (arith, fits)
+overflow_add-second-2 c = omega (arith, places_fit c.requires.room.packet.shaped c.siblings_place-first.ensures c.requires.way.up)
 
 pub overflow_sub-end : goal.overflow_sub-end
-overflow_sub-end c =
-    -- the chunk lies within the packet
-    let chunk : (4 ≤ c.siblings_place-first.result - 1) × (c.siblings_place-first.result - 1 ≤ length c.args.packet.now) × (1 ≤ c.siblings_place-first.result) =
-    chunk_in c.requires.room.packet.shaped c.siblings_place-first.ensures in
-    chunk.2
+overflow_sub-end c = (chunk_in c.requires.room.packet.shaped c.siblings_place-first.ensures).2
 
 pub slice_bounds-bytes_contradiction-count : goal.slice_bounds-bytes_contradiction-count
-slice_bounds-bytes_contradiction-count c =
-    let chunk : (4 ≤ c.siblings_place-first.result - 1) × (c.siblings_place-first.result - 1 ≤ length c.args.packet.now) × (1 ≤ c.siblings_place-first.result) =
-    chunk_in c.requires.room.packet.shaped c.siblings_place-first.ensures in
-    chunk.0
+slice_bounds-bytes_contradiction-count c = (chunk_in c.requires.room.packet.shaped c.siblings_place-first.ensures).0
 
 pub slice_bounds-bytes_contradiction-start : goal.slice_bounds-bytes_contradiction-start
-slice_bounds-bytes_contradiction-start c =
-    let chunk : (4 ≤ c.siblings_place-first.result - 1) × (c.siblings_place-first.result - 1 ≤ length c.args.packet.now) × (1 ≤ c.siblings_place-first.result) =
-    chunk_in c.requires.room.packet.shaped c.siblings_place-first.ensures in
-    chunk.0
+slice_bounds-bytes_contradiction-start c = (chunk_in c.requires.room.packet.shaped c.siblings_place-first.ensures).0
 
 pub slice_bounds-bytes_contradiction-end : goal.slice_bounds-bytes_contradiction-end
-slice_bounds-bytes_contradiction-end c =
-    let chunk : (4 ≤ c.siblings_place-first.result - 1) × (c.siblings_place-first.result - 1 ≤ length c.args.packet.now) × (1 ≤ c.siblings_place-first.result) =
-    chunk_in c.requires.room.packet.shaped c.siblings_place-first.ensures in
-    chunk.1
+slice_bounds-bytes_contradiction-end c = (chunk_in c.requires.room.packet.shaped c.siblings_place-first.ensures).1

@@ -1,12 +1,8 @@
 -- `copy_take_in::start_of` meets its contract. Assumes nothing.
-use Prim.Native.Nat.{◌+◌, ◌*◌, ◌^◌, ◌<◌}
 use native.Mathlib.Omega.{arith}
 use Rattle.copy_take_in.proofs.Places.{front, places_fit}
 use Rattle.copy_take_in.proofs.Start.{beside_adds, roots_add, start_is}
 use Rattle.copy_take_in.proofs.start_of.Goals as goal
-
-pub leaf_index-leaf-requires : goal.leaf_index-leaf-requires
-leaf_index-leaf-requires c = omega (arith, c.requires.0.shaped.chunk.count, c.requires.0.shaped.chunk.below)
 
 pub siblings_place-first-requires : goal.siblings_place-first-requires
 siblings_place-first-requires c = front c.requires.0.shaped
@@ -26,20 +22,10 @@ returns c =
     c.left_in_row.ensures
 
 pub overflow_mul-second : goal.overflow_mul-second
-overflow_mul-second c =
-    -- the rows' places fit
-    let fits : c.siblings_place-first.result + 40 * c.args.way.up + 1 < 2 ^ 64 =
-    places_fit c.requires.0.shaped c.siblings_place-first.ensures c.requires.1.up in
-    omega (arith, fits)
+overflow_mul-second c = omega (arith, places_fit c.requires.0.shaped c.siblings_place-first.ensures c.requires.1.up)
 
 pub overflow_add-second : goal.overflow_add-second
-overflow_add-second c =
-    let fits : c.siblings_place-first.result + 40 * c.args.way.up + 1 < 2 ^ 64 =
-    places_fit c.requires.0.shaped c.siblings_place-first.ensures c.requires.1.up in
-    omega (arith, fits)
+overflow_add-second c = omega (arith, places_fit c.requires.0.shaped c.siblings_place-first.ensures c.requires.1.up)
 
 pub overflow_add-second-2 : goal.overflow_add-second-2
-overflow_add-second-2 c =
-    let fits : c.siblings_place-first.result + 40 * c.args.way.up + 1 < 2 ^ 64 =
-    places_fit c.requires.0.shaped c.siblings_place-first.ensures c.requires.1.up in
-    omega (arith, fits)
+overflow_add-second-2 c = omega (arith, places_fit c.requires.0.shaped c.siblings_place-first.ensures c.requires.1.up)

@@ -1,6 +1,6 @@
 -- `copy_take_in::total_right` meets its contract. Assumes nothing.
 use Prim.Native.Nat.{ℕ, ◌+◌}
-use mathlib.Core.Path.{◌≡◌, ap}
+use mathlib.Core.Path.{ap}
 use native.Mathlib.Omega.{arith}
 use lib.Dec.{eqb}
 use Rattle.packet.specs.Check.{chunk_length, siblings_place}
@@ -13,58 +13,40 @@ read_be32-length-requires c = front c.requires.shaped
 
 pub overflow_add-first : goal.overflow_add-first
 unfolding chunk_length
-overflow_add-first c =
-    let length-is : c.read_be32-length.result ≡ chunk_length c.args.packet.now = c.read_be32-length.ensures in
-    let z = placed c.args.packet.now c.args.n c.args.chunk.0 c.requires.shaped in omega (arith, length-is)
+overflow_add-first c = omega (arith, c.read_be32-length.ensures, placed _ _ _ c.requires.shaped)
 
 pub overflow_add-first-2 : goal.overflow_add-first-2
 unfolding chunk_length
-overflow_add-first-2 c =
-    let length-is : c.read_be32-length.result ≡ chunk_length c.args.packet.now = c.read_be32-length.ensures in
-    let z = placed c.args.packet.now c.args.n c.args.chunk.0 c.requires.shaped in omega (arith, length-is)
-
-pub overflow_mul-second : goal.overflow_mul-second
-overflow_mul-second c = omega (arith, c.sibling_count-up.ensures.few)
+overflow_add-first-2 c = omega (arith, c.read_be32-length.ensures, placed _ _ _ c.requires.shaped)
 
 pub overflow_add-second : goal.overflow_add-second
 unfolding chunk_length
-overflow_add-second c =
-    let length-is : c.read_be32-length.result ≡ chunk_length c.args.packet.now = c.read_be32-length.ensures in
-    let z = placed c.args.packet.now c.args.n c.args.chunk.0 c.requires.shaped in omega (arith, length-is, c.sibling_count-up.ensures.few)
+overflow_add-second c = omega (arith, c.read_be32-length.ensures, placed _ _ _ c.requires.shaped, c.sibling_count-up.ensures.few)
 
 pub overflow_add-second-2 : goal.overflow_add-second-2
 unfolding chunk_length
-overflow_add-second-2 c =
-    let length-is : c.read_be32-length.result ≡ chunk_length c.args.packet.now = c.read_be32-length.ensures in
-    let z = placed c.args.packet.now c.args.n c.args.chunk.0 c.requires.shaped in omega (arith, length-is, c.sibling_count-up.ensures.few)
+overflow_add-second-2 c = omega (arith, c.read_be32-length.ensures, placed _ _ _ c.requires.shaped, c.sibling_count-up.ensures.few)
 
 pub add_lengths-sum-requires : goal.add_lengths-sum-requires
 unfolding siblings_place chunk_length
-add_lengths-sum-requires c =
-    -- the places and the counts
-    let first_is : 4 + c.read_be32-length.result + 1 ≡ siblings_place c.args.packet.now + 1 = ap (λ (l : ℕ). 4 + l + 1) c.read_be32-length.ensures in
-    let length-is : c.read_be32-length.result ≡ chunk_length c.args.packet.now = c.read_be32-length.ensures in
-    let z = placed c.args.packet.now c.args.n c.args.chunk.0 c.requires.shaped in (
-      beside_in c.requires.shaped first_is c.sibling_count-up.ensures.same,
-      omega (arith, length-is),
-    )
+add_lengths-sum-requires c = (
+  beside_in c.requires.shaped (ap (λ (l : ℕ). 4 + l + 1) c.read_be32-length.ensures) c.sibling_count-up.ensures.same,
+  omega (arith, c.read_be32-length.ensures, placed _ _ _ c.requires.shaped),
+)
 
 pub add_lengths-whole-requires : goal.add_lengths-whole-requires
 unfolding siblings_place chunk_length
-add_lengths-whole-requires c =
-    let first_is : 4 + c.read_be32-length.result + 1 ≡ siblings_place c.args.packet.now + 1 = ap (λ (l : ℕ). 4 + l + 1) c.read_be32-length.ensures in (
-      roots_in c.requires.shaped first_is c.sibling_count-up.ensures.same c.other_count-others.ensures.same,
-      c.add_lengths-sum.ensures.small,
-    )
+add_lengths-whole-requires c = (
+  roots_in c.requires.shaped (ap (λ (l : ℕ). 4 + l + 1) c.read_be32-length.ensures) c.sibling_count-up.ensures.same c.other_count-others.ensures.same,
+  c.add_lengths-sum.ensures.small,
+)
 
 pub returns : goal.returns
 unfolding siblings_place chunk_length
 returns c =
-    let length-is : c.read_be32-length.result ≡ chunk_length c.args.packet.now = c.read_be32-length.ensures in
-    let first_is : 4 + c.read_be32-length.result + 1 ≡ siblings_place c.args.packet.now + 1 = ap (λ (l : ℕ). 4 + l + 1) c.read_be32-length.ensures in
+    let first = ap (λ (l : ℕ). 4 + l + 1) c.read_be32-length.ensures in
     ap (λ (x : ℕ). eqb x c.args.size)
     (total_summed c.args.packet.now c.args.n c.args.chunk.0 c.read_be32-length.result _ _ c.sibling_count-up.result
     c.other_count-others.result c.add_lengths-sum.result c.add_lengths-whole.result
-    length-is first_is
-    (second_is c.requires.shaped first_is c.sibling_count-up.ensures.same) c.sibling_count-up.ensures.same
+    c.read_be32-length.ensures first (second_is c.requires.shaped first c.sibling_count-up.ensures.same) c.sibling_count-up.ensures.same
     c.other_count-others.ensures.same c.requires.small c.add_lengths-sum.ensures c.add_lengths-whole.ensures)

@@ -1,10 +1,7 @@
 -- `copy_take_in::write_all` meets its contract. Assumes nothing.
-use Prim.Native.Nat.{◌-◌}
-use mathlib.Core.Path.{◌≡◌, refl}
+use mathlib.Core.Path.{refl}
 use native.Mathlib.Omega.{arith}
-use lib.ListN.{take, drop}
 use Rattle.blake2b.specs.Hash.{node_hash}
-use Rattle.packet.specs.Check.{packet_chunk}
 use Rattle.copy_take_in.proofs.Places.{front, chunk_in, chunk_part}
 use Rattle.copy_take_in.proofs.Start.{held_in_lem}
 use Rattle.copy_take_in.proofs.Written.{all_written}
@@ -28,19 +25,14 @@ slice_bounds-copy_to-end c = (chunk_in c.requires.room.packet.shaped c.siblings_
 
 pub copy_to-requires : goal.copy_to-requires
 copy_to-requires c =
-    -- the chunk's part of the packet
-    let chunk : take (c.siblings_place-end.result - 1 - 4) (drop 4 c.args.packet.now) ≡ packet_chunk c.args.packet.now =
-    chunk_part c.requires.room.packet.shaped c.siblings_place-end.ensures in
     let ready = c.requires in
-    (held_in_lem ready.room ready.begins chunk).inside
+    (held_in_lem ready.room ready.begins (chunk_part ready.room.packet.shaped c.siblings_place-end.ensures)).inside
 
 pub returns : goal.returns
 returns c =
-    let chunk : take (c.siblings_place-end.result - 1 - 4) (drop 4 c.args.packet.now) ≡ packet_chunk c.args.packet.now =
-    chunk_part c.requires.room.packet.shaped c.siblings_place-end.ensures in
     let a = c.args in
     all_written node_hash a.content.now a.packet.now a.n a.chunk.0 c.write_entries.ensures c.hold_bits.ensures
-    c.requires.begins chunk c.copy_to.ensures
+    c.requires.begins (chunk_part c.requires.room.packet.shaped c.siblings_place-end.ensures) c.copy_to.ensures
 
 pub overflow_sub-end : goal.overflow_sub-end
 overflow_sub-end c = (chunk_in c.requires.room.packet.shaped c.siblings_place-end.ensures).2

@@ -1,5 +1,4 @@
 -- `copy_take_in::write_entries` meets its contract: one row after the other. Assumes nothing.
-use Prim.Native.Nat.{◌+◌, ◌*◌, ◌^◌, ◌<◌}
 use mathlib.Core.Path.{◌∙◌}
 use mathlib.Core.List.{[], ◌∷◌}
 use native.Mathlib.Omega.{arith}
@@ -9,9 +8,6 @@ use Rattle.copy_take_in.proofs.Entries.{with_more}
 use Rattle.copy_take_in.proofs.Places.{front, places_fit}
 use Rattle.copy_take_in.proofs.BroughtRows.{leaf_row, path_row_lem, beside_row, roots_row, all_rows}
 use Rattle.copy_take_in.proofs.write_entries.Goals as goal
-
-pub leaf_index-leaf-requires : goal.leaf_index-leaf-requires
-leaf_index-leaf-requires c = omega (arith, c.requires.room.packet.shaped.chunk.count, c.requires.room.packet.shaped.chunk.below)
 
 pub siblings_place-first-requires : goal.siblings_place-first-requires
 siblings_place-first-requires c = front c.requires.room.packet.shaped
@@ -41,20 +37,10 @@ returns c =
     (with_more own (with_more c.write_row.ensures (with_more c.write_row-2.ensures c.write_row-3.ensures)))
 
 pub overflow_mul-second : goal.overflow_mul-second
-overflow_mul-second c =
-    -- the rows' places fit
-    let fits : c.siblings_place-first.result + 40 * c.args.way.up + 1 < 2 ^ 64 =
-    places_fit c.requires.room.packet.shaped c.siblings_place-first.ensures c.requires.way.up in
-    omega (arith, fits)
+overflow_mul-second c = omega (arith, places_fit c.requires.room.packet.shaped c.siblings_place-first.ensures c.requires.way.up)
 
 pub overflow_add-second : goal.overflow_add-second
-overflow_add-second c =
-    let fits : c.siblings_place-first.result + 40 * c.args.way.up + 1 < 2 ^ 64 =
-    places_fit c.requires.room.packet.shaped c.siblings_place-first.ensures c.requires.way.up in
-    omega (arith, fits)
+overflow_add-second c = omega (arith, places_fit c.requires.room.packet.shaped c.siblings_place-first.ensures c.requires.way.up)
 
 pub overflow_add-second-2 : goal.overflow_add-second-2
-overflow_add-second-2 c =
-    let fits : c.siblings_place-first.result + 40 * c.args.way.up + 1 < 2 ^ 64 =
-    places_fit c.requires.room.packet.shaped c.siblings_place-first.ensures c.requires.way.up in
-    omega (arith, fits)
+overflow_add-second-2 c = omega (arith, places_fit c.requires.room.packet.shaped c.siblings_place-first.ensures c.requires.way.up)

@@ -8,7 +8,7 @@ use Rattle.packet.specs.Inner.{entry_of}
 use Rattle.packet_compare.proofs.above.Goals as goal
 
 pub step_up-requires : goal.step_up-requires
-step_up-requires c = subst (λ (x : Entry). c.args.node.size + x.size ≤ 68719476736) (sym c.entry_node-beside.ensures) c.requires.sum
+step_up-requires c = subst (λ (x : Entry). c.args.node.size + x.size ≤ 68719476736) (sym c.entry_node.ensures) c.requires.sum
 
 pub returns : goal.returns
-returns c = c.step_up.ensures ∙ ap (ordered c.args.k (parent_of node_hash) (entry_of c.args.node)) c.entry_node-beside.ensures
+returns c = c.step_up.ensures ∙ ap (ordered c.args.k (parent_of node_hash) (entry_of c.args.node)) c.entry_node.ensures

@@ -1,5 +1,5 @@
 -- `copy_take_in::rows::left_in_row` meets its contract. Assumes nothing.
-use Prim.Native.Nat.{◌+◌, ◌-◌, ◌≤◌}
+use Prim.Native.Nat.{◌+◌}
 use mathlib.Core.Path.{◌≡◌}
 use mathlib.Core.List.{map}
 use Rattle.byte_strings.specs.Lists.{total}
@@ -9,7 +9,4 @@ use Rattle.copy_take_in.specs.Inner.{row_given}
 use Rattle.copy_take_in.proofs.rows.left_in_row.Given as goal
 
 abbrev pub invariant-loop-j : goal.invariant-loop-j
-invariant-loop-j l = (l.j ≤ l.count) × (l.sum ≡ l.from + total (map (left_size l.leaf.0) (row_given l.row l.at (numbers l.indexes) l.j)))
-
-abbrev pub decreases-loop-j : goal.decreases-loop-j
-decreases-loop-j l = l.count - l.j
+invariant-loop-j l = l.sum ≡ l.from + total (map (left_size l.leaf.0) (row_given l.row l.at (numbers l.indexes) l.j))

@@ -18,18 +18,6 @@ loop-j-init c =
     lowering_none (map (contradicts c.args.tree.now c.args.bitfield.now)
     (row_given c.args.row.now c.args.at (numbers c.args.indexes) c.args.count)) (first_entry c.args.before)
 
-pub offset_bounds-indexes-j : goal.offset_bounds-indexes-j
-offset_bounds-indexes-j c = omega (arith, c.requires.inside.few)
-
-pub bounds-indexes-j : goal.bounds-indexes-j
-bounds-indexes-j c = omega (arith, c.requires.inside.few)
-
-pub overflow_mul-j : goal.overflow_mul-j
-overflow_mul-j c = omega (arith, c.requires.inside.few)
-
-pub overflow_add-at : goal.overflow_add-at
-overflow_add-at c = omega (arith, c.requires.inside.few, c.requires.inside.inside)
-
 pub contradiction_at-here-requires : goal.contradiction_at-here-requires
 contradiction_at-here-requires c = (
   subst (KnowableIn c.args.tree.now c.args.bitfield.now) (number_at c.args.indexes c.loop-j.j)

@@ -5,14 +5,8 @@ use Rattle.packet.proofs.Rows.{lent_entry, lent_length}
 use Rattle.copy_take_in.proofs.Entries.{one_written}
 use Rattle.copy_take_in.proofs.rows.write_one.Goals as goal
 
-pub entry_place-start-requires : goal.entry_place-start-requires
-entry_place-start-requires c = c.requires.0.entry.small
-
 pub copy_to-requires : goal.copy_to-requires
 copy_to-requires c = omega (arith, c.entry_place-start.ensures, c.requires.0.entry.inside, lent_length c.args.row.now c.args.at c.requires.1)
-
-pub make_known-requires : goal.make_known-requires
-make_known-requires c = c.requires.0.bit
 
 pub returns : goal.returns
 returns c =

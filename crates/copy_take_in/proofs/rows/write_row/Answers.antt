@@ -9,18 +9,6 @@ use Rattle.copy_take_in.proofs.rows.write_row.Goals as goal
 pub loop-j-init : goal.loop-j-init
 loop-j-init c = written_none c.args.tree.now c.args.bitfield.now c.args.row.now c.args.at (numbers c.args.indexes) c.args.count
 
-pub offset_bounds-indexes-j : goal.offset_bounds-indexes-j
-offset_bounds-indexes-j c = omega (arith, c.requires.inside.few)
-
-pub bounds-indexes-j : goal.bounds-indexes-j
-bounds-indexes-j c = omega (arith, c.requires.inside.few)
-
-pub overflow_mul-j : goal.overflow_mul-j
-overflow_mul-j c = omega (arith, c.requires.inside.few)
-
-pub overflow_add-at : goal.overflow_add-at
-overflow_add-at c = omega (arith, c.requires.inside.few, c.requires.inside.inside)
-
 pub write_one-requires : goal.write_one-requires
 write_one-requires c = (
   still c.args.tree.now c.args.bitfield.now _ _ _ c.loop-j.invariant.tree_long_lem c.loop-j.invariant.bits_long_lem
@@ -33,12 +21,6 @@ loop-j-preserved c =
     written_next c.args.tree.now c.args.bitfield.now c.args.row.now c.args.at (numbers c.args.indexes) c.args.count c.loop-j.j
     _ _ _ _ _ c.loop-j.invariant
     c.loop-j-test.true (sym (number_at c.args.indexes c.loop-j.j)) c.write_one.ensures c.write_one.auto.tree c.write_one.auto.bitfield
-
-pub shape_of-tree : goal.shape_of-tree
-shape_of-tree c = c.loop-j.invariant.tree_long_lem
-
-pub shape_of-bitfield : goal.shape_of-bitfield
-shape_of-bitfield c = c.loop-j.invariant.bits_long_lem
 
 pub returns : goal.returns
 returns c =

@@ -13,21 +13,6 @@ pub loop-h-init : goal.loop-h-init
 unfolding numbers
 loop-h-init c = filling_none _ _ _ c.requires.1
 
-pub overflow_add-h : goal.overflow_add-h
-overflow_add-h c = omega (arith, c.requires.1)
-
-pub block_over-k-requires : goal.block_over-k-requires
-block_over-k-requires c = omega (arith, c.requires.1)
-
-pub overflow_add-h-in-loop-h : goal.overflow_add-h-in-loop-h
-overflow_add-h-in-loop-h c = omega (arith, c.requires.1)
-
-pub offset_bounds-found-at : goal.offset_bounds-found-at
-offset_bounds-found-at c = omega (arith, c.requires.1)
-
-pub bounds-found-at : goal.bounds-found-at
-bounds-found-at c = omega (arith, c.requires.1)
-
 pub node_index-requires : goal.node_index-requires
 node_index-requires c = omega (arith, c.requires.1, c.block_over-k.ensures, shr_le c.args.chunk.0 (c.loop-h.h + 1))
 

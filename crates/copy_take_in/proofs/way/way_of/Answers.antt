@@ -1,21 +1,11 @@
 -- `copy_take_in::way::way_of` meets its contract. Assumes nothing.
 use Prim.Native.Nat.{ℕ, ◌<◌}
 use mathlib.Core.Path.{refl, sym, subst}
-use native.Mathlib.Omega.{arith}
 use lib.ListN.{length}
 use Rattle.tree_index.specs.Tree.{roots}
 use Rattle.packet.proofs.Above.{place_below}
 use Rattle.copy_take_in.proofs.Paths.{way_is}
 use Rattle.copy_take_in.proofs.way.way_of.Goals as goal
-
-pub above_indexes-above-requires : goal.above_indexes-above-requires
-above_indexes-above-requires c = (omega (arith, c.requires.count, c.requires.below), c.sibling_count-count.ensures.few)
-
-pub sibling_indexes-beside-requires : goal.sibling_indexes-beside-requires
-sibling_indexes-beside-requires c = (omega (arith, c.requires.count, c.requires.below), c.sibling_count-count.ensures.few)
-
-pub root_place-place-requires : goal.root_place-place-requires
-root_place-place-requires c = c.requires.count
 
 pub other_indexes-roots-requires : goal.other_indexes-roots-requires
 other_indexes-roots-requires c = (

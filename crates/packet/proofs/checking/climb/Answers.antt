@@ -1,7 +1,6 @@
 use Prim.Native.Nat.{ℕ}
 use mathlib.Core.Path.{ap, ◌∙◌}
 use native.Mathlib.Nat.{div-one}
-use native.Mathlib.Omega.{arith}
 use Rattle.blake2b.specs.Hash.{node_hash}
 use Rattle.file_format.specs.Entries.{entry_bytes}
 use Rattle.packet.specs.Check.{entries_in, steps_above}
@@ -15,31 +14,19 @@ loop-j-init c =
     rising_none node_hash c.args.packet.now c.args.at c.args.count c.block_over-k.result
     (entry_of c.args.leaf) c.requires
 
-pub overflow_mul-j : goal.overflow_mul-j
-overflow_mul-j c = omega (arith, c.requires.row.few)
-
-pub entry_node-beside-requires : goal.entry_node-beside-requires
-entry_node-beside-requires c = omega (arith, c.requires.row.inside)
-
-pub step_up-above-requires : goal.step_up-above-requires
-step_up-above-requires c =
+pub step_up-node-requires : goal.step_up-node-requires
+step_up-node-requires c =
     climbing_fits node_hash c.args.packet.now c.args.at c.args.count c.block_over-k.result c.loop-j.k
     (entry_of c.args.leaf) (entry_of c.loop-j.node) c.loop-j.j c.loop-j.invariant.climbing
     c.loop-j-test.true (entry_of c.entry_node-beside.result) c.entry_node-beside.ensures
-
-pub overflow_mul-j-in-loop-j : goal.overflow_mul-j-in-loop-j
-overflow_mul-j-in-loop-j c = omega (arith, c.requires.row.few)
-
-pub put_entry-requires : goal.put_entry-requires
-put_entry-requires c = omega (arith, c.requires.row.few, c.loop-j.invariant.long)
 
 pub loop-j-preserved : goal.loop-j-preserved
 unfolding entry_bytes
 loop-j-preserved c =
     rising_next node_hash c.args.packet.now c.args.at c.args.count c.block_over-k.result (entry_of c.args.leaf) c.loop-j.k
     (entry_of c.loop-j.node) c.loop-j.j c.loop-j.row c.loop-j.invariant
-    (entry_of c.entry_node-beside.result) (entry_of c.step_up-above.result) c.put_entry.new.row c.loop-j-test.true c.requires.row.few
-    c.entry_node-beside.ensures c.step_up-above.ensures c.put_entry.ensures.placed
+    (entry_of c.entry_node-beside.result) (entry_of c.step_up-node.result) c.put_entry.new.row c.loop-j-test.true c.requires.row.few
+    c.entry_node-beside.ensures c.step_up-node.ensures c.put_entry.ensures.placed
     c.put_entry.ensures.whole c.put_entry.auto.row
 
 pub returns : goal.returns

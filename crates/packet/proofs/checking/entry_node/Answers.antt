@@ -8,4 +8,4 @@ use Rattle.packet.proofs.checking.entry_node.Goals as goal
 
 pub returns : goal.returns
 unfolding entry_in
-returns c = ap₂ (λ (h : List ℕ) (s : ℕ). entry h s) c.entry_hash-hash.ensures c.entry_size-size.ensures
+returns c = ap₂ (λ (h : List ℕ) (s : ℕ). entry h s) c.entry_hash.ensures c.entry_size.ensures

@@ -1,48 +1,25 @@
 -- `packet::checking::in_turn` meets its contract. Assumes nothing.
-use Prim.Native.Nat.{◌+◌, ◌*◌, ◌≤◌, ◌<◌}
-use lib.ListN.{length}
+use Prim.Native.Nat.{◌<◌}
 use mathlib.Core.Path.{sym, ◌∙◌}
 use native.Mathlib.Omega.{arith}
-use Rattle.packet.specs.Check.{entry_in}
-use Rattle.packet.specs.Inner.{entry_of, turn_entry}
+use Rattle.packet.specs.Inner.{turn_entry}
 use Rattle.packet.proofs.Climb.{turned_before, turned_here, turned_behind}
 use Rattle.packet.proofs.checking.in_turn.Goals as goal
 
-pub overflow_add-at : goal.overflow_add-at
-overflow_add-at c = omega (arith, c.requires.before c.if-j-place.true)
-
-pub entry_node-requires : goal.entry_node-requires
-entry_node-requires c = c.requires.before c.if-j-place.true
-
 pub returns-then-j-place : goal.returns-then-j-place
 unfolding turn_entry
-returns-then-j-place c =
-    let a = c.args in
-    c.entry_node.ensures
-    ∙ sym (turned_before (λ i. entry_in a.packet.now (a.at + 40 * i)) a.place (entry_of a.node) a.j c.if-j-place.true)
+returns-then-j-place c = c.entry_node.ensures ∙ sym (turned_before _ _ _ _ c.if-j-place.true)
 
 pub returns-then-j-place-2 : goal.returns-then-j-place-2
 unfolding turn_entry
-returns-then-j-place-2 c =
-    let a = c.args in
-    sym (turned_here (λ i. entry_in a.packet.now (a.at + 40 * i)) a.place (entry_of a.node) a.j c.if-j-place-2.true)
+returns-then-j-place-2 c = sym (turned_here _ _ _ _ c.if-j-place-2.true)
 
 pub overflow_add-at-2 : goal.overflow_add-at-2
-overflow_add-at-2 c =
-    -- a root behind the one above the chunk
-    let past : c.args.place < c.args.j = omega arith in
-    let behind : c.args.at + 40 * c.args.j ≤ length c.args.packet.now = c.requires.behind past in
-    omega (arith, behind)
+overflow_add-at-2 c = let past : c.args.place < c.args.j = omega arith in omega (arith, c.requires.behind past)
 
 pub entry_node-requires-2 : goal.entry_node-requires-2
-entry_node-requires-2 c =
-    let past : c.args.place < c.args.j = omega arith in
-    let behind : c.args.at + 40 * c.args.j ≤ length c.args.packet.now = c.requires.behind past in
-    omega (arith, behind)
+entry_node-requires-2 c = let past : c.args.place < c.args.j = omega arith in omega (arith, c.requires.behind past)
 
 pub returns : goal.returns
 unfolding turn_entry
-returns c =
-    let a = c.args in
-    c.entry_node-2.ensures
-    ∙ sym (turned_behind (λ i. entry_in a.packet.now (a.at + 40 * i)) a.place (entry_of a.node) a.j c.if-j-place.false c.if-j-place-2.false)
+returns c = c.entry_node-2.ensures ∙ sym (turned_behind _ _ _ _ c.if-j-place.false c.if-j-place-2.false)

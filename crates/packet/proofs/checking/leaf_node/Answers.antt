@@ -9,4 +9,4 @@ use Rattle.packet.proofs.checking.leaf_node.Goals as goal
 
 pub returns : goal.returns
 unfolding leaf
-returns c = ap (λ (h : List ℕ). entry h (length c.args.chunk.now)) c.leaf_hash-hash.ensures
+returns c = ap (λ (h : List ℕ). entry h (length c.args.chunk.now)) c.leaf_hash.ensures

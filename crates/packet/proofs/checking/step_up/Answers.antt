@@ -10,7 +10,7 @@ returns-then-k-eq0 c =
     let a = c.args in
     stepped_left node_hash a.k (entry_of a.node) (entry_of a.beside) c.parent_hash-hash.result (omega arith) c.parent_hash-hash.ensures
 
-pub returns : goal.returns
-returns c =
+pub returns-else-k-eq0 : goal.returns-else-k-eq0
+returns-else-k-eq0 c =
     let a = c.args in
-    stepped_right node_hash a.k (entry_of a.node) (entry_of a.beside) c.parent_hash-hash-2.result (omega arith) c.parent_hash-hash-2.ensures
+    stepped_right node_hash a.k (entry_of a.node) (entry_of a.beside) c.parent_hash-hash-else-k-eq0.result (omega arith) c.parent_hash-hash-else-k-eq0.ensures

@@ -5,7 +5,6 @@ use native.Mathlib.Omega.{arith}
 use lib.ListN.{length}
 use Rattle.byte_strings.proofs.Numbers.{length_be}
 use Rattle.tree_index.specs.Tree.{roots}
-use Rattle.tree_index.specs.Numbers.{numbers}
 use Rattle.packet.proofs.Above.{place_below}
 use Rattle.packet.proofs.Rows.{packet_long, siblings_in, siblings_section, others_in, others_section, packet_written}
 use Rattle.packet.proofs.making.write_packet.Goals as goal
@@ -18,76 +17,35 @@ other_indexes-beside-requires c =
 
 pub copy_to-requires : goal.copy_to-requires
 copy_to-requires c =
-    let a = c.args in
-    let r = c.requires in
-    let u = c.sibling_count-up in
-    let o = c.other_count-others in
-    omega (
-      arith,
-      packet_long a.tree.now a.n a.chunk.0 a.bytes.now r.readable u.result o.result u.ensures.same o.ensures.same,
-      r.room,
-      ap length
-          c.be32-length.ensures,
-      length_be 4 (length a.bytes.now),
-    )
+    let long = packet_long _ _ _ _ c.requires.readable _ _ c.sibling_count-up.ensures.same c.other_count-others.ensures.same in
+    omega (arith, long, c.requires.room, ap length c.be32-length.ensures, length_be 4 (length c.args.bytes.now))
 
 pub copy_to-requires-2 : goal.copy_to-requires-2
 copy_to-requires-2 c =
-    let a = c.args in
-    let r = c.requires in
-    let u = c.sibling_count-up in
-    let o = c.other_count-others in
-    omega (arith, packet_long a.tree.now a.n a.chunk.0 a.bytes.now r.readable u.result o.result u.ensures.same o.ensures.same, r.room, c.copy_to.auto.dst)
+    let long = packet_long _ _ _ _ c.requires.readable _ _ c.sibling_count-up.ensures.same c.other_count-others.ensures.same in
+    omega (arith, long, c.requires.room, c.copy_to.auto.dst)
 
 pub write_section-requires : goal.write_section-requires
 write_section-requires c =
-    let a = c.args in
-    let r = c.requires in
-    let u = c.sibling_count-up in
-    let o = c.other_count-others in (
-      siblings_in a.tree.now a.n a.chunk.0 a.bytes.now r.readable (numbers c.sibling_indexes-above.result) u.result u.ensures.same
-          c.sibling_indexes-above.ensures,
-      omega (
-        arith,
-        packet_long a.tree.now a.n a.chunk.0 a.bytes.now r.readable u.result o.result u.ensures.same
-            o.ensures.same,
-        r.room,
-        c.copy_to-2.auto.dst,
-        c.copy_to.auto.dst,
-      ),
+    let long = packet_long _ _ _ _ c.requires.readable _ _ c.sibling_count-up.ensures.same c.other_count-others.ensures.same in (
+      siblings_in _ _ _ _ c.requires.readable _ _ c.sibling_count-up.ensures.same c.sibling_indexes-above.ensures,
+      omega (arith, long, c.requires.room, c.copy_to-2.auto.dst, c.copy_to.auto.dst),
     )
 
 pub write_section-requires-2 : goal.write_section-requires-2
 write_section-requires-2 c =
-    let a = c.args in
-    let r = c.requires in
-    let u = c.sibling_count-up in
-    let o = c.other_count-others in (
-      others_in a.tree.now a.n a.chunk.0 a.bytes.now r.readable (numbers c.other_indexes-beside.result) o.result
-          c.root_place-place.result o.ensures.same c.root_place-place.ensures c.other_indexes-beside.ensures,
-      omega (
-        arith,
-        packet_long a.tree.now a.n a.chunk.0 a.bytes.now r.readable u.result o.result u.ensures.same
-            o.ensures.same,
-        r.room,
-        c.write_section.auto.out,
-        c.copy_to-2.auto.dst,
-        c.copy_to.auto.dst,
-      ),
+    let long = packet_long _ _ _ _ c.requires.readable _ _ c.sibling_count-up.ensures.same c.other_count-others.ensures.same in (
+      others_in _ _ _ _ c.requires.readable _ _ _ c.other_count-others.ensures.same c.root_place-place.ensures c.other_indexes-beside.ensures,
+      omega (arith, long, c.requires.room, c.write_section.auto.out, c.copy_to-2.auto.dst, c.copy_to.auto.dst),
     )
 
 pub returns : goal.returns
 returns c =
-    let a = c.args in
-    let r = c.requires in
-    let u = c.sibling_count-up in
-    let o = c.other_count-others in
-    packet_written a.tree.now a.n a.chunk.0 a.bytes.now r.readable a.out.now c.copy_to.new.dst c.copy_to-2.new.dst
-    c.write_section.new.out c.write_section-2.new.out c.be32-length.result _ _ u.result u.ensures.same
-    r.room c.be32-length.ensures c.copy_to.ensures c.copy_to-2.ensures
-    (siblings_section a.tree.now a.n a.chunk.0 a.bytes.now r.readable (numbers c.sibling_indexes-above.result) u.result u.ensures.same
-    c.sibling_indexes-above.ensures)
-    c.write_section.ensures
-    (others_section a.tree.now a.n a.chunk.0 a.bytes.now r.readable (numbers c.other_indexes-beside.result) o.result
-    c.root_place-place.result o.ensures.same c.root_place-place.ensures c.other_indexes-beside.ensures)
-    c.write_section-2.ensures
+    let r = c.requires.readable in
+    let up = c.sibling_count-up.ensures.same in
+    let others = c.other_count-others.ensures.same in
+    packet_written _ _ _ _ r c.args.out.now c.copy_to.new.dst c.copy_to-2.new.dst
+    c.write_section.new.out c.write_section-2.new.out c.be32-length.result _ _ _ up
+    c.requires.room c.be32-length.ensures c.copy_to.ensures c.copy_to-2.ensures
+    (siblings_section _ _ _ _ r _ _ up c.sibling_indexes-above.ensures) c.write_section.ensures
+    (others_section _ _ _ _ r _ _ _ others c.root_place-place.ensures c.other_indexes-beside.ensures) c.write_section-2.ensures

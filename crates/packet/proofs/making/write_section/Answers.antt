@@ -1,14 +1,11 @@
 -- `packet::making::write_section` meets its contract. Assumes nothing.
-use mathlib.Core.Path.{refl, ◌∙◌}
+use mathlib.Core.Path.{refl}
 use native.Mathlib.Omega.{arith}
-use lib.ListN.{set, length-set}
+use lib.ListN.{set}
 use Rattle.tree_index.specs.Numbers.{numbers}
 use Rattle.packet.specs.Inner.{entries_at}
 use Rattle.packet.proofs.Rows.{section_written}
 use Rattle.packet.proofs.making.write_section.Goals as goal
-
-pub shape_of-out : goal.shape_of-out
-shape_of-out c = c.write_entries.auto.out ∙ simp length-set
 
 pub returns : goal.returns
 returns c =

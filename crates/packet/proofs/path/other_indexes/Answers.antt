@@ -1,5 +1,5 @@
 use Prim.Native.Nat.{ℕ, ◌-◌, ◌<◌}
-use mathlib.Core.Path.{sym, ap, ◌∙◌, subst}
+use mathlib.Core.Path.{◌≡◌, sym, ap, ◌∙◌, subst}
 use native.Mathlib.Omega.{arith}
 use lib.ListN.{length, get_or}
 use Rattle.byte_strings.specs.Lists.{run}
@@ -14,48 +14,33 @@ use Rattle.packet.specs.Inner.{skipped, other_row}
 use Rattle.packet.proofs.Rows.{skipped_below}
 use Rattle.packet.proofs.path.other_indexes.Goals as goal
 
-pub overflow_sub-count : goal.overflow_sub-count
-overflow_sub-count c = omega (arith, c.root_count-count.ensures)
+-- the place that is read is that of a root
+other_place : (place n : ℕ) {count j from : ℕ} → place < length (roots n) → count ≡ length (roots n) → j < count - 1 → from ≡ skipped place j → from < length (roots n)
+other_place place n {count} {j} h e l f =
+    subst (λ (x : ℕ). x < length (roots n)) (sym f)
+    (skipped_below place j (length (roots n)) (subst (λ (x : ℕ). j < x - 1) e l) h)
 
 pub loop-j-init : goal.loop-j-init
 unfolding numbers
 loop-j-init c = filling_none _ _ _ (omega (arith, c.root_count-count.ensures, length_roots_le c.args.n c.requires.0))
 
-pub skipping-from-requires : goal.skipping-from-requires
-skipping-from-requires c = omega (arith, c.root_count-count.ensures, length_roots_le c.args.n c.requires.0)
+pub offset_bounds-indexes-skipping : goal.offset_bounds-indexes-skipping
+offset_bounds-indexes-skipping c =
+    omega (arith, other_place _ _ c.requires.1 c.root_count-count.ensures c.loop-j-test.true c.skipping.ensures, length_roots_le c.args.n c.requires.0)
 
-pub offset_bounds-indexes-from : goal.offset_bounds-indexes-from
-offset_bounds-indexes-from c =
-    -- the place that is read lies in the array
-    let place : c.skipping-from.result < 20 = let a = c.args in
-    let g : c.loop-j.j < length (roots a.n) - 1 = subst (λ (x : ℕ). c.loop-j.j < x - 1) c.root_count-count.ensures c.loop-j-test.true in
-    omega (arith, c.skipping-from.ensures, skipped_below a.place c.loop-j.j (length (roots a.n)) g c.requires.1, length_roots_le a.n c.requires.0) in
-    omega (arith, place)
-
-pub bounds-indexes-from : goal.bounds-indexes-from
-bounds-indexes-from c =
-    let place : c.skipping-from.result < 20 = let a = c.args in
-    let g : c.loop-j.j < length (roots a.n) - 1 = subst (λ (x : ℕ). c.loop-j.j < x - 1) c.root_count-count.ensures c.loop-j-test.true in
-    omega (arith, c.skipping-from.ensures, skipped_below a.place c.loop-j.j (length (roots a.n)) g c.requires.1, length_roots_le a.n c.requires.0) in
-    place
-
-pub offset_bounds-found-j : goal.offset_bounds-found-j
-offset_bounds-found-j c = omega (arith, c.root_count-count.ensures, length_roots_le c.args.n c.requires.0)
-
-pub bounds-found-j : goal.bounds-found-j
-bounds-found-j c = omega (arith, c.root_count-count.ensures, length_roots_le c.args.n c.requires.0)
+pub bounds-indexes-skipping : goal.bounds-indexes-skipping
+bounds-indexes-skipping c =
+    omega (arith, other_place _ _ c.requires.1 c.root_count-count.ensures c.loop-j-test.true c.skipping.ensures, length_roots_le c.args.n c.requires.0)
 
 pub loop-j-preserved : goal.loop-j-preserved
 loop-j-preserved c =
     let a = c.args in
     let l = c.loop-j in
     let is = c.root_indexes-indexes in
-    let q = c.skipping-from in
-    let g : l.j < length (roots a.n) - 1 = subst (λ (x : ℕ). l.j < x - 1) c.root_count-count.ensures c.loop-j-test.true in
-    let s : q.result < length (roots a.n) =
-    subst (λ (x : ℕ). x < length (roots a.n)) (sym q.ensures) (skipped_below a.place l.j (length (roots a.n)) g c.requires.1) in
+    let q = c.skipping in
     filling_next _ _ _ l.j (numbers l.found) l.invariant _ (get_or is.result q.result (record { 0 = 0 })).0 c.loop-j-test.true
-    (root_of_lem is.result a.n q.result is.ensures s ∙ ap (λ (i : ℕ). get_or (roots a.n) i 0) q.ensures)
+    (root_of_lem is.result a.n q.result is.ensures (other_place _ _ c.requires.1 c.root_count-count.ensures c.loop-j-test.true q.ensures)
+    ∙ ap (λ (i : ℕ). get_or (roots a.n) i 0) q.ensures)
     (numbers_set l.found l.j (get_or is.result q.result (record { 0 = 0 })))
 
 pub returns : goal.returns

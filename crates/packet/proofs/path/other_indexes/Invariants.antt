@@ -1,5 +1,4 @@
 -- `packet::path::other_indexes` meets its contract. Assumes nothing.
-use Prim.Native.Nat.{◌-◌}
 use lib.ListN.{get_or}
 use Rattle.tree_index.specs.Tree.{roots}
 use Rattle.tree_index.specs.Numbers.{numbers}
@@ -9,6 +8,3 @@ use Rattle.packet.proofs.path.other_indexes.Given as goal
 
 abbrev pub invariant-loop-j : goal.invariant-loop-j
 invariant-loop-j l = Filling 0 (λ i. get_or (roots l.n) (skipped l.place i) 0) l.count l.j (numbers l.found)
-
-abbrev pub decreases-loop-j : goal.decreases-loop-j
-decreases-loop-j l = l.count - l.j

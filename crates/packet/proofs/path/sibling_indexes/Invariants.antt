@@ -1,5 +1,5 @@
 -- `packet::path::sibling_indexes` meets its contract. Assumes nothing.
-use Prim.Native.Nat.{◌-◌, ◌/◌, ◌^◌}
+use Prim.Native.Nat.{◌/◌, ◌^◌}
 use Rattle.tree_index.specs.Tree.{index}
 use Rattle.tree_index.specs.Numbers.{numbers}
 use Rattle.file_format.proofs.ByValue.{Filling}
@@ -8,6 +8,3 @@ use Rattle.packet.proofs.path.sibling_indexes.Given as goal
 
 abbrev pub invariant-loop-h : goal.invariant-loop-h
 invariant-loop-h l = Filling 0 (λ d. index d (beside (l.chunk.0 / 2 ^ d))) l.count l.h (numbers l.found)
-
-abbrev pub decreases-loop-h : goal.decreases-loop-h
-decreases-loop-h l = l.count - l.h

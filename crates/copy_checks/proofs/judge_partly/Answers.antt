@@ -1,45 +1,28 @@
 -- `copy_checks::judge_partly` meets its contract. Assumes nothing.
-use mathlib.Core.Path.{◌≡◌, sym, ap, ◌∙◌}
-use Rattle.answer_types.specs.Verdict.{done}
+use mathlib.Core.Path.{sym, ap, ◌∙◌}
 use Rattle.answer_types.specs.Meaning.{said, spot_of}
-use Rattle.checks.specs.Checks.{judged}
-use Rattle.copy_checks.specs.Copy.{Copy, copy_of}
-use Rattle.copy_checks.specs.Checks.{lent_checks, unknown_root}
+use Rattle.copy_checks.specs.Checks.{unknown_root}
 use Rattle.lookup.specs.Unknown.{first_entry}
-use Rattle.copy_checks.proofs.Steps.{Lent, lent_passed, bits_in, roots_in, partly_refused, partly_unknown, partly_known}
+use Rattle.copy_checks.proofs.Steps.{lent_of, bits_in, roots_in, partly_refused, partly_unknown, partly_known}
 use Rattle.copy_checks.proofs.judge_partly.Goals as goal
 
 pub unknown_root-requires : goal.unknown_root-requires
-unknown_root-requires c =
-    let given : Copy = copy_of c.args.tree.now c.args.bitfield.now c.args.content.now c.args.n c.args.size in
-    -- 2, 4 and 5 are passed
-    let passed : done ≡ judged (lent_checks given) done = sym (ap said c.in-Done.is) ∙ c.judge_lent.ensures in
-    let lent : Lent given = (lent_passed given _ (sym passed)).0 in
-    bits_in given lent
+unknown_root-requires c = bits_in _ (lent_of _ (sym (ap said c.in-Done.is) ∙ c.judge_lent.ensures))
 
 pub judge_size-requires : goal.judge_size-requires
-judge_size-requires c =
-    let given : Copy = copy_of c.args.tree.now c.args.bitfield.now c.args.content.now c.args.n c.args.size in
-    let passed : done ≡ judged (lent_checks given) done = sym (ap said c.in-Done.is) ∙ c.judge_lent.ensures in
-    let lent : Lent given = (lent_passed given _ (sym passed)).0 in
-    roots_in given lent
+judge_size-requires c = roots_in _ (lent_of _ (sym (ap said c.in-Done.is) ∙ c.judge_lent.ensures))
 
 pub returns-in-Refused : goal.returns-in-Refused
 returns-in-Refused c =
-    let given : Copy = copy_of c.args.tree.now c.args.bitfield.now c.args.content.now c.args.n c.args.size in
-    partly_refused given c.in-Refused.refusal.number (spot_of c.in-Refused.refusal.place) (sym (ap said c.in-Refused.is) ∙ c.judge_lent.ensures)
+    partly_refused _ c.in-Refused.refusal.number (spot_of c.in-Refused.refusal.place) (sym (ap said c.in-Refused.is) ∙ c.judge_lent.ensures)
 
 pub returns-in-At : goal.returns-in-At
 unfolding unknown_root
 returns-in-At c =
-    let given : Copy = copy_of c.args.tree.now c.args.bitfield.now c.args.content.now c.args.n c.args.size in
-    let passed : done ≡ judged (lent_checks given) done = sym (ap said c.in-Done.is) ∙ c.judge_lent.ensures in
-    partly_unknown given passed c.in-At.field-0.0 (sym (ap first_entry c.in-At.is) ∙ c.unknown_root.ensures)
+    partly_unknown _ (sym (ap said c.in-Done.is) ∙ c.judge_lent.ensures) c.in-At.field-0.0 (sym (ap first_entry c.in-At.is) ∙ c.unknown_root.ensures)
 
 pub returns-in-Nothing : goal.returns-in-Nothing
 unfolding unknown_root
 returns-in-Nothing c =
-    let given : Copy = copy_of c.args.tree.now c.args.bitfield.now c.args.content.now c.args.n c.args.size in
-    let passed : done ≡ judged (lent_checks given) done = sym (ap said c.in-Done.is) ∙ c.judge_lent.ensures in
-    partly_known given passed (said c.judge_size.result)
+    partly_known _ (sym (ap said c.in-Done.is) ∙ c.judge_lent.ensures) (said c.judge_size.result)
     (sym (ap first_entry c.in-Nothing.is) ∙ c.unknown_root.ensures) c.judge_size.ensures

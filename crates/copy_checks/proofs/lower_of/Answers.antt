@@ -18,13 +18,9 @@ returns-in-Nothing-b c = sym (ap₂ lower_of (ap first_entry c.in-At.is) (ap fir
 pub returns-then-i-j : goal.returns-then-i-j
 unfolding lower_of
 returns-then-i-j c =
-    let i = c.in-At.i.0 in
-    let j = c.in-At-b.j.0 in
-    sym (ap₂ lower_of (ap first_entry c.in-At.is) (ap first_entry c.in-At-b.is) ∙ ap (λ (x : Bool). cond x (first i) (first j)) (lt-ltb i j c.if-i-j.true))
+    sym (ap₂ lower_of (ap first_entry c.in-At.is) (ap first_entry c.in-At-b.is) ∙ ap (λ (x : Bool). cond x (first c.in-At.i.0) (first c.in-At-b.j.0)) (lt-ltb c.in-At.i.0 c.in-At-b.j.0 c.if-i-j.true))
 
 pub returns-else-i-j : goal.returns-else-i-j
 unfolding lower_of
 returns-else-i-j c =
-    let i = c.in-At.i.0 in
-    let j = c.in-At-b.j.0 in
-    sym (ap₂ lower_of (ap first_entry c.in-At.is) (ap first_entry c.in-At-b.is) ∙ ap (λ (x : Bool). cond x (first i) (first j)) (le-ltb i j c.if-i-j.false))
+    sym (ap₂ lower_of (ap first_entry c.in-At.is) (ap first_entry c.in-At-b.is) ∙ ap (λ (x : Bool). cond x (first c.in-At.i.0) (first c.in-At-b.j.0)) (le-ltb c.in-At.i.0 c.in-At-b.j.0 c.if-i-j.false))

@@ -6,14 +6,9 @@ use Rattle.prefix_root.proofs.Calls.{before_refused, behind_checks}
 use Rattle.prefix_root.proofs.judge.Goals as goal
 
 pub returns-in-Refused : goal.returns-in-Refused
-returns-in-Refused c =
-    let given : Register = register_of c.args.tree.now c.args.signatures.now c.args.bitfield.now c.args.content.now c.args.n c.args.s
-    c.args.size in
-    before_refused given c.args.m c.judge.result c.judge.ensures c.in-Refused.refusal c.in-Refused.is
+returns-in-Refused c = before_refused _ c.args.m c.judge.result c.judge.ensures c.in-Refused.refusal c.in-Refused.is
 
 pub returns-in-Done : goal.returns-in-Done
 returns-in-Done c =
-    let given : Register = register_of c.args.tree.now c.args.signatures.now c.args.bitfield.now c.args.content.now c.args.n c.args.s
-    c.args.size in
-    behind_checks given c.args.m c.judge.result c.judge.ensures c.in-Done.is
+    behind_checks _ c.args.m c.judge.result c.judge.ensures c.in-Done.is
     (said c.up_to.result) c.up_to.ensures

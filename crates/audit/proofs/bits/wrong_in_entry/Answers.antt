@@ -16,13 +16,11 @@ slice_bounds-index_of-end c = let room = entry_within c.requires c.entry_offset-
 pub index_of-index-requires : goal.index_of-index-requires
 index_of-index-requires c =
     let room = entry_within c.requires c.entry_offset-at.ensures in
-    let o = c.entry_offset-at in
-    part_long c.args.xs.now o.result.0 (o.result.0 + 1024 - o.result.0) (omega (arith, room.1)) (omega arith)
+    part_long c.args.xs.now c.entry_offset-at.result.0 (c.entry_offset-at.result.0 + 1024 - c.entry_offset-at.result.0) (omega (arith, room.1)) (omega arith)
 
 pub loop-j-init : goal.loop-j-init
 loop-j-init c =
-    let o = c.entry_offset-at in
-    passing_start o.ensures (index_by c.args.xs.now c.args.e (o.result.0 + 1024 - o.result.0) o.ensures c.index_of-index.ensures (omega arith))
+    passing_start c.entry_offset-at.ensures (index_by c.args.xs.now c.args.e (c.entry_offset-at.result.0 + 1024 - c.entry_offset-at.result.0) c.entry_offset-at.ensures c.index_of-index.ensures (omega arith))
 
 pub overflow_add-place : goal.overflow_add-place
 overflow_add-place c = let room = entry_within c.requires c.entry_offset-at.ensures in omega (arith, room.0, room.1)

@@ -33,17 +33,8 @@ read_be32-len-requires c =
     let l = c.loop-n in
     omega (arith, (stands_facts c.args.input.now l.at (4096 - l.size) l.invariant.0 (sym c.stands.ensures ∙ c.if-not-stands.false)).0)
 
-pub overflow_add-start : goal.overflow_add-start
-overflow_add-start c = omega (arith, (room (goal.at.overflow_add-start c).After-read_be32-len).0)
-
 pub overflow_add-end : goal.overflow_add-end
 overflow_add-end c = omega (arith, (room (goal.at.overflow_add-end c).After-read_be32-len).0)
-
-pub slice_bounds-add-count : goal.slice_bounds-add-count
-slice_bounds-add-count c = omega (arith, (room (goal.at.slice_bounds-add-count c).After-read_be32-len).0)
-
-pub slice_bounds-add-start : goal.slice_bounds-add-start
-slice_bounds-add-start c = omega (arith, (room (goal.at.slice_bounds-add-start c).After-read_be32-len).0)
 
 pub slice_bounds-add-end : goal.slice_bounds-add-end
 slice_bounds-add-end c = omega (arith, (room (goal.at.slice_bounds-add-end c).After-read_be32-len).0)
@@ -53,9 +44,6 @@ add-requires c =
     let fits = room (goal.at.add-requires c).After-read_be32-len in
     let l = c.loop-n in
     (omega (arith, c.loop-n-test.true, c.requires.1), lent_length c.args.input.now (l.at + 4) c.read_be32-len.result l.size fits.0 fits.1)
-
-pub overflow_add-size : goal.overflow_add-size
-overflow_add-size c = omega (arith, (room (goal.at.overflow_add-size c).After-read_be32-len).1)
 
 pub loop-n-preserved : goal.loop-n-preserved
 loop-n-preserved c =

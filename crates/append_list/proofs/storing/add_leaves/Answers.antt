@@ -9,9 +9,6 @@ pub overflow_add-end : goal.overflow_add-end
 overflow_add-end c =
     record { fits = omega (arith, (going_fits c.loop-j.invariant c.loop-j-test.true c.well_formed.1.0.0).content, c.well_formed.1.0.0) }
 
-pub overflow_add-n : goal.overflow_add-n
-overflow_add-n c = record { fits = omega (arith, c.loop-j.invariant.left.few) }
-
 pub add_chunk-requires : goal.add_chunk-requires
 add_chunk-requires c = going_fits c.loop-j.invariant c.loop-j-test.true c.well_formed.1.0.0
 

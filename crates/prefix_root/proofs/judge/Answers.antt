@@ -1,7 +1,5 @@
 -- `prefix_root::judge` meets its contract: the checks 2 to 6, and what comes behind them. Assumes nothing.
 use Rattle.answer_types.specs.Meaning.{said}
-use Rattle.file_format.specs.Belongs.{Register}
-use Rattle.checks.specs.Lent.{register_of}
 use Rattle.prefix_root.proofs.Calls.{before_refused, behind_checks}
 use Rattle.prefix_root.proofs.judge.Goals as goal
 

@@ -1,8 +1,6 @@
 -- `prefix_root::prefix_root` meets its contract. Assumes nothing.
 use mathlib.Core.Path.{sym, ◌∙◌}
 use Rattle.answer_types.specs.Meaning.{said}
-use Rattle.file_format.specs.Belongs.{Register}
-use Rattle.checks.specs.Lent.{register_of}
 use Rattle.prefix_root.proofs.Calls.{old_fits, old_post}
 use Rattle.prefix_root.proofs.prefix_root.Goals as goal
 

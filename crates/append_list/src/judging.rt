@@ -15,11 +15,11 @@ fn adds_up(lengths: &[u64], whole: u64) -> bool
     ensures { result ≡ eqb (total lengths.now) whole }
 {
     let mut left = whole;
-    for here in lengths {
-        if left < *here {
+    for &here in lengths {
+        if left < here {
             return false;
         }
-        left -= *here;
+        left -= here;
     }
     left == 0
 }

@@ -27,8 +27,8 @@ fn add_leaves(tree: &mut [u8], content: &[u8], n: u64, start: usize, lengths: &[
         tree_with node_hash tree.old n (chunks_of lengths.now (drop start content.now)) }
 {
     let mut at = start;
-    for (j, length) in lengths.iter().enumerate() {
-        let end = at + (*length as usize);
+    for (j, &length) in lengths.iter().enumerate() {
+        let end = at + (length as usize);
         add_chunk(tree, content, n + (j as u64), at, end);
         at = end;
     }
@@ -63,6 +63,7 @@ fn add_bits(bitfield: &mut [u8], n: u64, k: u64)
 }
 
 // Inner: the signatures of all chunks but the last, 64 zero bytes each.
+#[tactic(auto, unfolding(file_format::specs::Sizes::used_signatures))]
 fn add_zeros(signatures: &mut [u8], n: u64, k: usize)
     requires { (1 ≤ k) × (n + k ≤ 1048576) × (used_signatures (n + k - 1) ≤ length signatures.old) }
     ensures { signatures.new ≡ put signatures.old (used_signatures n) (zeros (64 * (k - 1))) }

@@ -250,9 +250,9 @@ module _ (t : List ℕ) (n : ℕ) (x : Entry) (few : n < most_chunks) (c : Carri
       (ap at (zero-add k) ∙ comes)
       ∙ sym (ap (λ (ys : List ℕ). map (item t) ys ++ (root_item x.hash (place n (completed n)) x.size ∷ [])) (kept_roots_lem n few c)))
 
--- how many roots there are with the chunk n
-pub some_roots : (n count : ℕ) → n < most_chunks → count ≡ length (roots (n + 1)) → (1 ≤ count) × (count ≤ 20)
-some_roots n count few e = (omega (arith, new_count n few (carried n few)), omega (arith, length_roots_le (n + 1) (omega arith)))
+-- there is a root with the chunk n
+pub some_roots : (n count : ℕ) → n < most_chunks → count ≡ length (roots (n + 1)) → 1 ≤ count
+some_roots n count few e = omega (arith, new_count n few (carried n few))
 
 pub message_with_lem : (t : List ℕ) (n : ℕ) (x : Entry) (few : n < most_chunks) (hashes : List (List ℕ)) (is sizes : List ℕ) (count : ℕ)
     → hashes ≡ padded (zeros 32) (length (roots n)) (map (stored_hash t) (roots n)) → is ≡ roots (n + 1) ++ replicate (20 - length (roots (n + 1))) 0

@@ -26,16 +26,14 @@ fn climbed(tree: &[u8], n: u64, leaf: Node) -> Node
 {
     let last = tree_index::completed(number_types::chunk_behind(n));
     let mut node = leaf;
-    let mut d: u32 = 0;
-    while d < last {
-        let next = writing::parent_above(tree, n, d, node);
-        node = next;
-        d += 1;
+    for d in 0..last {
+        node = writing::parent_above(tree, n, d, node);
     }
     node
 }
 
 // Inner: the root hash of n + 1 chunks, from the stored roots of n. The chunk n takes up the last of them, and its node stands in their place.
+#[tactic(auto, using(tree_index::proofs::Roots::length_roots_le))]
 fn hash_with(tree: &[u8], n: u64, top: Node) -> [u8; 32]
     requires { (n < 1048576) × (used_tree n ≤ length tree.now) }
     ensures { result ≡ node_hash (message_with tree.now n (entry_of top)) }

@@ -146,6 +146,7 @@ fn wrong_in_entry(xs: &[u8], n: u64, e: u64, partly: bool) -> Result<(), Refusal
 }
 
 // Inner: how many entries the bitfield file of n chunks has.
+#[tactic(auto, unfolding(bitfield::specs::Image::entry_count))]
 pub fn row_count(n: u64) -> u64
     requires { n ≤ 1048576 }
     ensures { result ≡ entry_count n }

@@ -16,6 +16,7 @@ use answer_types::Refusal;
 use number_types::{ByteOffset, ChunkNumber, TreeIndex};
 
 // Inner: how many entries the tree file of n chunks has.
+#[tactic(auto, unfolding(tree_index::specs::Tree::entries))]
 pub fn entry_count(n: u64) -> u64
     requires { n ≤ 1048576 }
     ensures { result ≡ entries_of n }

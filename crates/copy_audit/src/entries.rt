@@ -158,11 +158,9 @@ pub fn wrong_between(
         (end.0 - from.0)) }
 {
     let mut found = None;
-    let mut i = from;
-    while i.0 < end.0 {
-        let here = wrong_by(tree, bitfield, content, n, size, i);
+    for i in from.0..end.0 {
+        let here = wrong_by(tree, bitfield, content, n, size, TreeIndex(i));
         found = copy_checks::lower_of(found, here);
-        i = TreeIndex(i.0 + 1);
     }
     found
 }

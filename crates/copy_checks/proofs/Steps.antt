@@ -103,6 +103,9 @@ lent_right c p = (
 pub lent_passed : (c : Copy) (next : Verdict) → judged (lent_checks c) next ≡ done → Lent c × (next ≡ done)
 lent_passed c next e = let a = judged_done (lent_checks c) next e in (right_lent c a.0, a.1)
 
+pub lent_of : (c : Copy) → done ≡ judged (lent_checks c) done → Lent c
+lent_of c e = (lent_passed c done (sym e)).0
+
 pub lent_passes : (c : Copy) (next : Verdict) → Lent c → judged (lent_checks c) next ≡ next
 lent_passes c next p = judged_right (lent_checks c) next (lent_right c p)
 
@@ -127,13 +130,13 @@ module _ (c : Copy) where
     unfolding copy_judged refused_at
     judge_unknown i f =
         ap (λ (l : Lowest). refused_at 20 tree l (sized c)) f
-        ∙ sym (lent_passes c (refused_at 20 tree (unknown_root c) (sized c)) (lent_passed c done (sym e)).0)
+        ∙ sym (lent_passes c (refused_at 20 tree (unknown_root c) (sized c)) (lent_of c e))
 
     pub judge_known : (v : Verdict) → nowhere ≡ unknown_root c → v ≡ sized c → v ≡ copy_judged c done
     unfolding copy_judged refused_at
     judge_known v f g =
         g ∙ ap (λ (l : Lowest). refused_at 20 tree l (sized c)) f
-        ∙ sym (lent_passes c (refused_at 20 tree (unknown_root c) (sized c)) (lent_passed c done (sym e)).0)
+        ∙ sym (lent_passes c (refused_at 20 tree (unknown_root c) (sized c)) (lent_of c e))
 
 -- ---- a copy that passes the checks of every other call
 
@@ -200,13 +203,13 @@ module _ (c : Copy) where
     unfolding partly_judged judged
     partly_unknown i f =
         ap (λ (l : Lowest). judged (size_check (passed_over l (adds_up c.tree c.n c.size))) done) f
-        ∙ sym (lent_passes c (partly c) (lent_passed c done (sym e)).0)
+        ∙ sym (lent_passes c (partly c) (lent_of c e))
 
     pub partly_known : (v : Verdict) → nowhere ≡ unknown_root c → v ≡ sized c → v ≡ partly_judged c done
     unfolding partly_judged
     partly_known v f g =
         g ∙ ap (λ (l : Lowest). judged (size_check (passed_over l (adds_up c.tree c.n c.size))) done) f
-        ∙ sym (lent_passes c (partly c) (lent_passed c done (sym e)).0)
+        ∙ sym (lent_passes c (partly c) (lent_of c e))
 
 -- ---- a copy that passes the checks of the taking in and of the audit
 

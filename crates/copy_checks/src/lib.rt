@@ -39,13 +39,10 @@ pub fn unknown_root(bitfield: &[u8], n: u64) -> Option<TreeIndex>
 {
     let count = tree_index::root_count(n);
     let indexes = tree_index::root_indexes(n);
-    let mut j: usize = 0;
-    while j < count {
-        let i = indexes[j];
+    for &i in &indexes[0..count] {
         if !bitfield::is_known(bitfield, i) {
             return Some(i);
         }
-        j += 1;
     }
     None
 }

@@ -130,6 +130,14 @@ read_all whole input count n at left r h l f s g =
     rest : chunks_in (count - n) (drop at input) left ≡ elim (eqb (length (drop at input)) 0) [ true ↦ chunks [] | false ↦ other ]
     rest = ended (drop at input) (count - n) left (omega arith)
 
+-- the same where the loop ends
+pub read_ended : (whole : Input) (input t s b d : List ℕ) (count n at size : ℕ) → n ≡ count → at ≤ length input → count ≤ 64 → size ≤ 4096
+    → Reading whole (chunks_in (count - n) (drop at input) (4096 - size)) (register_of t s b d n n size)
+    → Read whole (eqb at (length input)) (register_of t s b d count count size)
+read_ended whole input t s b d count n at size e l f z g =
+    subst (λ (k : ℕ). Read whole (eqb at (length input)) (register_of t s b d k k size)) e
+    (read_all whole input count n at (4096 - size) (register_of t s b d n n size) (omega arith) l (omega arith) z g)
+
 lent_part : (input : List ℕ) (a len : ℕ) → a + len ≤ length input → length (take len (drop a input)) ≡ len
 unfolding part
 lent_part input a len h = length_part input a len h

@@ -7,8 +7,8 @@ use mathlib.Core.List.{List, [], ◌∷◌, ◌++◌, map, map-append}
 use native.Mathlib.Nat.{mod-eq_of_lt, zero-add, add-zero}
 use native.Mathlib.Numerals.{add-one}
 use native.Mathlib.Omega.{arith}
-use lib.ListN.{length, take, get_or, replicate}
-use lib.Seq.{take-suc, take_all}
+use lib.ListN.{length, take, get_or, replicate, length-append, length-map, length-take}
+use lib.Seq.{get_or-take, take-suc, take_all}
 use lib.Pow.{pow_pos}
 use Rattle.byte_strings.specs.Lists.{run, joined, total}
 use Rattle.byte_strings.proofs.Lists.{run_add, total_append}
@@ -35,10 +35,6 @@ roots_up_to n j = joined (map (λ i. 32 ∷ decimal i) (take j (roots n)))
 run_one : (f : ℕ → List ℕ) (i : ℕ) → run f (0 + i) 1 ≡ f i ∷ []
 unfolding run
 run_one f i = ap (λ (k : ℕ). f k ∷ []) (zero-add i)
-
-last : (n i : ℕ) → i ≤ entries n → 2 * n ≤ i + 1 → i ≡ entries n
-unfolding entries
-last n i l e = omega arith
 
 pub most : (n i : ℕ) → n ≤ 64 → i ≤ entries n → i ≤ 127
 unfolding entries
@@ -112,10 +108,6 @@ pub entry_small : (n i : ℕ) → n ≤ 64 → i < entries n → i < 127
 unfolding entries
 entry_small n i h l = omega arith
 
-pub entry_next : (n i : ℕ) → i + 1 < 2 * n → i < entries n
-unfolding entries
-entry_next n i h = omega arith
-
 -- fewer chunks can be printed too
 pub fewer_printable : {tree : List ℕ} {n : ℕ} (k : ℕ) → k ≤ n → Printable tree n → Printable tree k
 fewer_printable k h p = record { few = omega (arith, p.few); room = p.room; small = λ j l. p.small j (omega arith) }
@@ -133,11 +125,11 @@ entries_more f i p q =
     (sym (ap joined (run_add f 0 i 1 ∙ ap (λ (t : List (List ℕ)). run f 0 i ++ t) (run_one f i)) ∙ joined_snoc (run f 0 i) (f i)))
     (wider_put (70 * (i + 1)) (omega arith) (both_put p q))
 
-pub entries_all : {xs ys : List ℕ} {at r : ℕ} (tree : List ℕ) (n i : ℕ) → n ≤ 64 → i ≤ entries n → 2 * n ≤ i + 1
+pub entries_all : {xs ys : List ℕ} {at r : ℕ} (tree : List ℕ) (n i : ℕ) → n ≤ 64 → i ≡ entries n
     → Put xs at (70 * i) (joined (run (stored_line tree n) 0 i)) r ys → Put xs at 8890 (stored_entries tree n) r ys
 unfolding stored_entries
-entries_all tree n i h l e p =
-    same_put (ap (λ (k : ℕ). joined (run (stored_line tree n) 0 k)) (last n i l e)) (wider_put 8890 (omega (arith, most n i h l)) p)
+entries_all tree n i h e p =
+    same_put (ap (λ (k : ℕ). joined (run (stored_line tree n) 0 k)) e) (wider_put 8890 (omega (arith, most n i h (omega arith))) p)
 
 -- ---- the roots
 
@@ -145,23 +137,38 @@ pub roots_none : (n : ℕ) (xs : List ℕ) (at : ℕ) → Put xs at (21 * 0) (ro
 unfolding joined roots_up_to
 roots_none n xs at = nothing_put xs at 0
 
-pub roots_more : {xs ys zs us : List ℕ} {at r s t : ℕ} (n j : ℕ) (l : List TreeIndex) → numbers l ≡ roots n ++ replicate (20 - length (roots n)) 0
-    → j < length (roots n) → Put xs at (21 * j) (roots_up_to n j) r ys → Put ys r 1 (32 ∷ []) s zs
-    → Put zs s 20 (decimal (get_or l j (record { 0 = 0 })).0) t us → Put xs at (21 * (j + 1)) (roots_up_to n (j + 1)) t us
+-- where the loop over the roots at the front of the array is, and where it ends
+module _ (is : List TreeIndex) (n : ℕ) {m j : ℕ} (f : m ≡ length (roots n)) (e : numbers is ≡ roots n ++ replicate (20 - length (roots n)) 0) where
+  pub root_read : j < length (take (m - 0) is) → (j < length (roots n)) × ((get_or (take (m - 0) is) j (record { 0 = 0 })).0 ≡ get_or (roots n) j 0)
+  root_read h =
+      let l : j < m - 0 = omega (arith, length-take (m - 0) is) in
+      let g : j < length (roots n) = omega arith in (
+        g,
+        ap (λ (i : TreeIndex). i.0) (get_or-take (m - 0) is j (record { 0 = 0 }) l)
+            ∙ number_in is (roots n) (replicate (20 - length (roots n)) 0) j (record { 0 = 0 }) e g,
+      )
+
+  pub roots_read : j ≤ length (take (m - 0) is) → length (take (m - 0) is) ≤ j → j ≡ length (roots n)
+  unfolding numbers
+  roots_read l h =
+      omega (arith, length-take (m - 0) is, length-map is (λ (i : TreeIndex). i.0), ap length e, length-append (roots n) (replicate (20 - length (roots n)) 0))
+
+pub roots_more : {xs ys zs us : List ℕ} {at r s t i : ℕ} (n j : ℕ) → (j < length (roots n)) × (i ≡ get_or (roots n) j 0)
+    → Put xs at (21 * j) (roots_up_to n j) r ys → Put ys r 1 (32 ∷ []) s zs → Put zs s 20 (decimal i) t us
+    → Put xs at (21 * (j + 1)) (roots_up_to n (j + 1)) t us
 unfolding roots_up_to
-roots_more n j l e h p q s =
-    let i : (get_or l j (record { 0 = 0 })).0 ≡ get_or (roots n) j 0 = number_in l (roots n) (replicate (20 - length (roots n)) 0) j (record { 0 = 0 }) e h in
+roots_more n j a p q s =
     same_put
-    (ap (λ (x : ℕ). roots_up_to n j ++ (32 ∷ decimal x)) i
+    (ap (λ (x : ℕ). roots_up_to n j ++ (32 ∷ decimal x)) a.1
     ∙ sym (ap (λ (k : ℕ). joined (map (λ i. 32 ∷ decimal i) (take k (roots n)))) (add-one j)
-    ∙ ap (λ (k : List ℕ). joined (map (λ i. 32 ∷ decimal i) k)) (take-suc (roots n) j 0 h)
+    ∙ ap (λ (k : List ℕ). joined (map (λ i. 32 ∷ decimal i) k)) (take-suc (roots n) j 0 a.0)
     ∙ ap joined (map-append (λ i. 32 ∷ decimal i) (take j (roots n)) (get_or (roots n) j 0 ∷ []))
     ∙ joined_snoc (map (λ i. 32 ∷ decimal i) (take j (roots n))) (32 ∷ decimal (get_or (roots n) j 0))))
     (wider_put (21 * (j + 1)) (omega arith) (both_put p (both_put q s)))
 
-pub roots_all : {xs ys : List ℕ} {at r : ℕ} (n j : ℕ) → n ≤ 64 → j ≤ length (roots n) → length (roots n) ≤ j
+pub roots_all : {xs ys : List ℕ} {at r : ℕ} (n j : ℕ) → n ≤ 64 → j ≡ length (roots n)
     → Put xs at (21 * j) (roots_up_to n j) r ys → Put xs at 420 (roots_of n) r ys
 unfolding roots_up_to roots_of
-roots_all n j h l g p =
-    same_put (ap (λ (k : List ℕ). joined (map (λ i. 32 ∷ decimal i) k)) (take_all j (roots n) g))
+roots_all n j h g p =
+    same_put (ap (λ (k : List ℕ). joined (map (λ i. 32 ∷ decimal i) k)) (take_all j (roots n) (omega arith)))
     (wider_put 420 (omega (arith, length_roots_le n (omega arith))) p)

@@ -74,9 +74,8 @@ fn read_chunks(
         (register_of tree.new signatures.new bitfield.new content.new result.n result.n result.size) }
 {
     let mut at: usize = 4;
-    let mut n: u64 = 0;
     let mut size: u64 = 0;
-    while n < count {
+    for n in 0..count {
         if !stands(input, at, size) {
             return Told {
                 read: false,
@@ -98,11 +97,10 @@ fn read_chunks(
         );
         at = end;
         size += len;
-        n += 1;
     }
     Told {
         read: at == input.len(),
-        n,
+        n: count,
         size,
     }
 }

@@ -38,11 +38,9 @@ fn start_of(tree: &[u8], c: ChunkNumber) -> ByteOffset
     ensures { result.0 ≡ stored_start tree.now c.0 }
 {
     let mut start = ByteOffset(0);
-    let mut j = ChunkNumber(0);
-    while j.0 < c.0 {
-        let size = file_format::entries::stored_size(tree, tree_index::leaf_index(j));
-        start = ByteOffset(start.0 + size);
-        j = ChunkNumber(j.0 + 1);
+    for j in 0..c.0 {
+        let leaf = tree_index::leaf_index(ChunkNumber(j));
+        start = ByteOffset(start.0 + file_format::entries::stored_size(tree, leaf));
     }
     start
 }
@@ -69,11 +67,8 @@ fn put_entries(out: &mut [u8], at: usize, tree: &[u8], n: u64) -> usize
     ensures { Put out.old at 8890 (stored_entries tree.now n) result out.new }
 {
     let mut next = at;
-    let mut i = TreeIndex(0);
-    while i.0 + 1 < 2 * n {
-        let behind = put_entry(out, next, tree, n, i);
-        next = behind;
-        i = TreeIndex(i.0 + 1);
+    for i in 0..audit::entry_count(n) {
+        next = put_entry(out, next, tree, n, TreeIndex(i));
     }
     next
 }
@@ -86,13 +81,9 @@ fn put_roots(out: &mut [u8], at: usize, n: u64) -> usize
     let count = tree_index::root_count(n);
     let roots = tree_index::root_indexes(n);
     let mut next = at;
-    let mut j: usize = 0;
-    while j < count {
-        let i = roots[j];
+    for &i in &roots[0..count] {
         let a = put_text(out, next, b" ");
-        let b = put_digits(out, a, i.0, 20);
-        next = b;
-        j += 1;
+        next = put_digits(out, a, i.0, 20);
     }
     next
 }

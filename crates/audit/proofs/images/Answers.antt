@@ -19,9 +19,6 @@ returns-in_default c =
     tree_refuses node_hash (register_of a.tree.now [] a.bitfield.now a.content.now a.n 0 a.size) c.wrong_entry-entry.result
     c.wrong_entry-entry.ensures _ c.in_default.is
 
-pub wrong_byte-requires : goal.wrong_byte-requires
-wrong_byte-requires c = c.requires.field
-
 pub returns : goal.returns
 returns c =
     let a = c.args in

@@ -8,8 +8,7 @@ use Rattle.listing_lines.proofs.put_listing.Goals as goal
 pub returns-then-not-told : goal.returns-then-not-told
 unfolding refused_line
 returns-then-not-told c =
-    let g = c.read-told in
-    refused_put c.args.input.now g.result.read _ g.ensures (not-true g.result.read c.if-not-told.true) c.put_text.ensures
+    refused_put c.args.input.now c.read-told.result.read _ c.read-told.ensures (not-true c.read-told.result.read c.if-not-told.true) c.put_text.ensures
 
 pub put_lines-requires : goal.put_lines-requires
 put_lines-requires c =
@@ -20,5 +19,4 @@ put_lines-requires c =
 
 pub returns : goal.returns
 returns c =
-    let g = c.read-told in
-    lines_put c.args.input.now g.result.read _ g.ensures (not-false g.result.read c.if-not-told.false) c.put_lines.ensures
+    lines_put c.args.input.now c.read-told.result.read _ c.read-told.ensures (not-false c.read-told.result.read c.if-not-told.false) c.put_lines.ensures

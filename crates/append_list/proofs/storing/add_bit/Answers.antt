@@ -1,26 +1,12 @@
 -- `append_list::storing::add_bit` meets its contract: the cases of the definition. Assumes nothing.
-use borrow.Author.Rules.{rules}
-use Rattle.bitfield.specs.Append.{bits_place}
 use Rattle.append_list.proofs.Once.{last_listed, last_held, not_last}
 use Rattle.append_list.proofs.storing.add_bit.Goals as goal
-
-pub set_bits-requires : goal.set_bits-requires
-unfolding bits_place
-set_bits-requires c = search rules
-
-pub make_index-requires : goal.make_index-requires
-unfolding bits_place
-make_index-requires c = search rules
 
 pub returns-then-last : goal.returns-then-last
 returns-then-last c =
     let a = c.args in
     last_listed a.bitfield.now _ a.n _ a.last c.chunk_behind-c.ensures c.set_bits.ensures _
     c.make_index.ensures c.if-last.true
-
-pub make_index-requires-then-n-eq0 : goal.make_index-requires-then-n-eq0
-unfolding bits_place
-make_index-requires-then-n-eq0 c = search rules
 
 pub returns-then-n-eq0 : goal.returns-then-n-eq0
 returns-then-n-eq0 c =

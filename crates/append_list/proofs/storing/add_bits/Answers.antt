@@ -1,11 +1,7 @@
 use Prim.Native.Nat.{◌+◌}
-use native.Mathlib.Omega.{arith}
 use borrow.Author.Rules.{rules}
 use Rattle.append_list.proofs.Once.{once_first, once_next, once_all, bit_room}
 use Rattle.append_list.proofs.storing.add_bits.Goals as goal
-
-pub overflow_add-end : goal.overflow_add-end
-overflow_add-end c = record { fits = omega (arith, c.requires.few) }
 
 pub loop-i-init : goal.loop-i-init
 loop-i-init c = let a = c.args in once_first a.bitfield.now a.n a.k

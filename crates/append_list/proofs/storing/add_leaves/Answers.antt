@@ -9,16 +9,11 @@ pub overflow_add-end : goal.overflow_add-end
 overflow_add-end c =
     record { fits = omega (arith, (going_fits c.loop-j.invariant c.loop-j-test.true c.well_formed.1.0.0).content, c.well_formed.1.0.0) }
 
-pub overflow_add-n : goal.overflow_add-n
-overflow_add-n c = record { fits = omega (arith, c.loop-j.invariant.left.few) }
-
 pub add_chunk-requires : goal.add_chunk-requires
-add_chunk-requires c =
-    going_fits c.loop-j.invariant c.loop-j-test.true c.well_formed.1.0.0
+add_chunk-requires c = going_fits c.loop-j.invariant c.loop-j-test.true c.well_formed.1.0.0
 
 pub loop-j-preserved : goal.loop-j-preserved
-loop-j-preserved c =
-    going_next c.loop-j.invariant c.loop-j-test.true c.well_formed.1.0.0 c.add_chunk.ensures
+loop-j-preserved c = going_next c.loop-j.invariant c.loop-j-test.true c.well_formed.1.0.0 c.add_chunk.ensures
 
 pub returns : goal.returns
 returns c = going_all c.loop-j.invariant c.loop-j-test.false

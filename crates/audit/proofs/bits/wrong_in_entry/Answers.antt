@@ -7,34 +7,23 @@ use Rattle.audit.proofs.bits.wrong_in_entry.Goals as goal
 pub entry_offset-at-requires : goal.entry_offset-at-requires
 entry_offset-at-requires c = (entry_room c.requires).0
 
-pub overflow_add-end : goal.overflow_add-end
-overflow_add-end c = let room = entry_within c.requires c.entry_offset-at.ensures in omega (arith, room.0)
-
 pub slice_bounds-index_of-end : goal.slice_bounds-index_of-end
 slice_bounds-index_of-end c = let room = entry_within c.requires c.entry_offset-at.ensures in omega (arith, room.1)
 
 pub index_of-index-requires : goal.index_of-index-requires
 index_of-index-requires c =
     let room = entry_within c.requires c.entry_offset-at.ensures in
-    let o = c.entry_offset-at in
-    part_long c.args.xs.now o.result.0 (o.result.0 + 1024 - o.result.0) (omega (arith, room.1)) (omega arith)
+    part_long c.args.xs.now c.entry_offset-at.result.0 (c.entry_offset-at.result.0 + 1024 - c.entry_offset-at.result.0) (omega (arith, room.1)) (omega arith)
 
 pub loop-j-init : goal.loop-j-init
 loop-j-init c =
-    let o = c.entry_offset-at in
-    passing_start o.ensures (index_by c.args.xs.now c.args.e (o.result.0 + 1024 - o.result.0) o.ensures c.index_of-index.ensures (omega arith))
-
-pub overflow_add-place : goal.overflow_add-place
-overflow_add-place c = let room = entry_within c.requires c.entry_offset-at.ensures in omega (arith, room.0, room.1)
+    passing_start c.entry_offset-at.ensures (index_by c.args.xs.now c.args.e (c.entry_offset-at.result.0 + 1024 - c.entry_offset-at.result.0) c.entry_offset-at.ensures c.index_of-index.ensures (omega arith))
 
 pub bounds-xs-place : goal.bounds-xs-place
 bounds-xs-place c = let room = entry_within c.requires c.entry_offset-at.ensures in omega (arith, room.0, room.1)
 
 pub expected_byte-requires : goal.expected_byte-requires
 expected_byte-requires c = ((entry_room c.requires).0, omega (arith, c.loop-j-test.true), c.requires.file)
-
-pub overflow_add-at : goal.overflow_add-at
-overflow_add-at c = let room = entry_within c.requires c.entry_offset-at.ensures in omega (arith, room.0, room.1)
 
 pub returns-then-xs-place : goal.returns-then-xs-place
 returns-then-xs-place c =

@@ -7,5 +7,4 @@ use Rattle.audit.proofs.tree.hole_right.Goals as goal
 
 pub returns : goal.returns
 returns c =
-    let at = c.entry_place-from in
-    hole_same node_hash (at.result + 40 - at.result) c.requires at.ensures c.is_zero.ensures (omega arith)
+    hole_same node_hash (c.entry_place-from.result + 40 - c.entry_place-from.result) c.requires c.entry_place-from.ensures c.is_zero.ensures (omega arith)

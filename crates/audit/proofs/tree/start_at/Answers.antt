@@ -21,8 +21,7 @@ stored_size-requires c =
     (before_leaf c.args.i.0 c.loop-c.c c.requires.0 c.requires.1 (omega (arith, c.next_chunk-end.ensures, c.loop-c-test.true)))
 
 pub loop-c-preserved : goal.loop-c-preserved
-loop-c-preserved c =
-    adding_next c.loop-c.invariant c.leaf_index-leaf.ensures c.stored_size.ensures c.add_capped-start.ensures
+loop-c-preserved c = adding_next c.loop-c.invariant c.leaf_index-leaf.ensures c.stored_size.ensures c.add_capped-start.ensures
 
 pub returns : goal.returns
 returns c = adding_all c.loop-c.invariant _ (omega (arith, c.next_chunk-end.ensures, c.loop-c.auto.c-end)) (omega (arith, c.next_chunk-end.ensures, c.loop-c-test.false))

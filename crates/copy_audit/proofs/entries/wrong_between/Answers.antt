@@ -1,4 +1,3 @@
-use Prim.Native.Nat.{◌-◌}
 use native.Mathlib.Omega.{arith}
 use Rattle.copy_audit.proofs.Judged.{seeking_none, seeking_next, seeking_all}
 use Rattle.copy_audit.proofs.entries.wrong_between.Goals as goal

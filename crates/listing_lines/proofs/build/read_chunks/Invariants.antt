@@ -8,9 +8,6 @@ use Rattle.listing_lines.specs.Inner.{Reading}
 use Rattle.listing_lines.proofs.build.read_chunks.Given as goal
 
 abbrev pub invariant-loop-n : goal.invariant-loop-n
-invariant-loop-n l = (l.n ≤ l.count) × (l.at ≤ length l.input) × (l.size ≤ 4096)
+invariant-loop-n l = (l.at ≤ length l.input) × (l.size ≤ 4096)
     × Reading (chunks_in l.count (drop 4 l.input) 4096) (chunks_in (l.count - l.n) (drop l.at l.input) (4096 - l.size))
     (register_of l.tree l.signatures l.bitfield l.content l.n l.n l.size)
-
-abbrev pub decreases-loop-n : goal.decreases-loop-n
-decreases-loop-n l = l.count - l.n

@@ -7,16 +7,10 @@ use Rattle.listing_lines.proofs.build.stands.Goals as goal
 pub returns-then-left-lt4 : goal.returns-then-left-lt4
 returns-then-left-lt4 c = stands_short c.args.input.now c.args.at (4096 - c.args.size) c.requires.0 c.if-left-lt4.true
 
-pub read_be32-len-requires : goal.read_be32-len-requires
-read_be32-len-requires c = omega (arith, c.if-left-lt4.false, c.requires.0)
-
 pub returns-then-size-len : goal.returns-then-size-len
 returns-then-size-len c =
     stands_large c.args.input.now c.args.at (4096 - c.args.size) c.requires.0 c.read_be32-len.result c.if-left-lt4.false
     c.read_be32-len.ensures c.if-size-len.true
-
-pub overflow_add-result : goal.overflow_add-result
-overflow_add-result c = omega (arith, c.if-size-len.false)
 
 pub returns : goal.returns
 returns c =

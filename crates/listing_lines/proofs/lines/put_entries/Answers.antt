@@ -1,45 +1,25 @@
 use native.Mathlib.Omega.{arith}
-use Prim.Native.Nat.{◌-◌}
+use Prim.Native.Nat.{◌<◌}
+use mathlib.Core.Path.{◌≡◌}
+use Rattle.tree_index.specs.Tree.{entries}
 use Rattle.listing_lines.specs.Inner.{stored_line}
-use Rattle.listing_lines.proofs.Entries.{most, entry_small, entry_next, entries_none, entries_more, entries_all}
+use Rattle.listing_lines.proofs.Entries.{entry_small, entries_none, entries_more, entries_all}
 use Rattle.listing_lines.proofs.lines.put_entries.Goals as goal
 
 pub loop-i-init : goal.loop-i-init
-loop-i-init c = (omega arith, entries_none (stored_line c.args.tree.now c.args.n) c.args.out.now c.args.at)
+loop-i-init c = entries_none (stored_line c.args.tree.now c.args.n) c.args.out.now c.args.at
 
-pub overflow_add-i : goal.overflow_add-i
-overflow_add-i c = omega (arith, most c.args.n c.loop-i.i.0 c.requires.1.few c.loop-i.invariant.0)
-
-pub overflow_mul-n : goal.overflow_mul-n
-overflow_mul-n c = omega (arith, c.requires.1.few)
-
-pub put_entry-behind-requires : goal.put_entry-behind-requires
-put_entry-behind-requires c = (
-  omega (
-    arith,
-    c.loop-i.invariant.1.few,
-    c.loop-i.invariant.1.next,
-    c.loop-i.invariant.1.same,
-    c.requires.0,
-    entry_small c.args.n c.loop-i.i.0
-        c.requires.1.few (entry_next c.args.n c.loop-i.i.0 c.loop-i-test.true),
-  ),
-  c.requires.1,
-  entry_next c.args.n c.loop-i.i.0 c.loop-i-test.true,
-)
-
-pub overflow_add-i-in-loop-i : goal.overflow_add-i-in-loop-i
-overflow_add-i-in-loop-i c = omega (arith, c.loop-i-test.true, c.requires.1.few)
-
-pub loop-i-smaller : goal.loop-i-smaller
-loop-i-smaller c = omega (arith, c.loop-i-test.true)
+pub put_entry-next-requires : goal.put_entry-next-requires
+put_entry-next-requires c =
+    let here : c.loop-i.i < entries c.args.n = omega (arith, c.loop-i-test.true, c.entry_count-i-end.ensures) in
+    let small = entry_small c.args.n c.loop-i.i c.requires.1.few here in
+    let w = c.loop-i.invariant in
+    (omega (arith, w.few, w.next, w.same, c.requires.0, small), c.requires.1, here)
 
 pub loop-i-preserved : goal.loop-i-preserved
-loop-i-preserved c = (
-  omega (arith, entry_next c.args.n c.loop-i.i.0 c.loop-i-test.true),
-  entries_more (stored_line c.args.tree.now c.args.n) c.loop-i.i.0
-      c.loop-i.invariant.1 c.put_entry-behind.ensures,
-)
+loop-i-preserved c = entries_more (stored_line c.args.tree.now c.args.n) c.loop-i.i c.loop-i.invariant c.put_entry-next.ensures
 
 pub returns : goal.returns
-returns c = entries_all c.args.tree.now c.args.n c.loop-i.i.0 c.requires.1.few c.loop-i.invariant.0 c.loop-i-test.false c.loop-i.invariant.1
+returns c =
+    let all : c.loop-i.i ≡ entries c.args.n = omega (arith, c.loop-i.auto.i-end, c.loop-i-test.false, c.entry_count-i-end.ensures) in
+    entries_all c.args.tree.now c.args.n c.loop-i.i c.requires.1.few all c.loop-i.invariant

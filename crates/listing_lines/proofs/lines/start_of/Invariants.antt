@@ -1,11 +1,7 @@
 -- `listing_lines::lines::start_of` meets its contract. The loop's invariant: `start` is where the chunk j starts. Assumes nothing.
 use mathlib.Core.Path.{◌≡◌}
-use Prim.Native.Nat.{◌-◌, ◌≤◌}
 use Rattle.file_format.specs.Stored.{stored_start}
 use Rattle.listing_lines.proofs.lines.start_of.Given as goal
 
 abbrev pub invariant-loop-j : goal.invariant-loop-j
-invariant-loop-j l = (l.j.0 ≤ l.c.0) × (l.start.0 ≡ stored_start l.tree l.j.0)
-
-abbrev pub decreases-loop-j : goal.decreases-loop-j
-decreases-loop-j l = l.c.0 - l.j.0
+invariant-loop-j l = l.start.0 ≡ stored_start l.tree l.j

@@ -9,9 +9,6 @@ returns-then-k-eq0 t c = none_digits c.args.out.now c.args.at c.args.k c.args.x 
 pub returns-then-x-lt10 : goal.returns-then-x-lt10
 returns-then-x-lt10 t c = one_digit c.args.k c.args.x c.if-k-eq0.false c.if-x-lt10.true c.put_digit.ensures
 
-pub put_digits-next-requires : goal.put_digits-next-requires
-put_digits-next-requires t c = (omega (arith, c.if-k-eq0.false), omega (arith, c.requires))
-
 pub returns : goal.returns
 returns t c =
     more_digits c.args.k c.args.x c.if-k-eq0.false c.if-x-lt10.false c.put_digits-next.ensures c.put_digit-2.ensures

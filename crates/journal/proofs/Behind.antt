@@ -1,6 +1,7 @@
 -- Where a range ends. Assumes nothing.
 use Prim.Native.Nat.{ℕ, ◌+◌, ◌*◌, ◌≤◌, ◌<◌}
 use native.Mathlib.Omega.{arith}
+use native.Mathlib.Decide.{ℕ_discrete}
 use mathlib.Core.Path.{◌≡◌, refl, sym, ap, ◌∙◌}
 use mathlib.Core.Logic.{⊎_elim}
 use mathlib.Core.Bool.{Bool, true, false, ◌&&◌}
@@ -137,10 +138,27 @@ module _ (j : List ℕ) (q k s : ℕ) (e : k ≡ kind_at j q) (d : s ≡ size_at
   unfolding new_bytes new_place
   new_is = rw (e, d)
 
--- what was found has room for its numbers, and lies before the end
-pub range_room : {j : List ℕ} {m q : ℕ} {r : RangeAt} → IsRangeAt j m q r → (q + 18 ≤ r.behind) × (r.behind ≤ m)
+pub place_within : (j : List ℕ) (q : ℕ) → (q + 18 ≤ new_place j q) × (new_place j q ≤ behind j q)
+place_within j q = go (ℕ_discrete (kind_at j q) 1)
+  where
+    s : new_bytes (kind_at j q) (size_at j q) (q + 18) ≡ new_place j q
+    s = new_is j q (kind_at j q) (size_at j q) refl refl
+
+    b : behind j q ≡ q + 18 + times_long (kind_at j q) * size_at j q
+    b = behind_is j q (kind_at j q) (size_at j q) refl refl
+
+    go : Dec (kind_at j q ≡ 1) → (q + 18 ≤ new_place j q) × (new_place j q ≤ behind j q)
+    go (yes e) =
+        let t = end_twice (kind_at j q) (size_at j q) (q + 18) e in
+        let n = new_second (kind_at j q) (size_at j q) (q + 18) e in
+        (omega (arith, s, n), omega (arith, s, n, b, t))
+    go (no e) = let l = behind_least j q in let n = new_first (kind_at j q) (size_at j q) (q + 18) e in (omega (arith, s, n), omega (arith, s, n))
+
+-- what was found has room for its numbers, then the bytes that stand there after the change, and lies before the end
+pub range_room : {j : List ℕ} {m q : ℕ} {r : RangeAt} → IsRangeAt j m q r → (q + 18 ≤ r.bytes) × (r.bytes ≤ r.behind) × (r.behind ≤ m)
 range_room {j} {m} {q} {r} i =
     let e : r.behind ≡ behind j q = i.reads.behind in
-    let l = behind_least j q in
+    let n : r.bytes ≡ new_place j q = i.reads.bytes in
+    let p = place_within j q in
     let g = whole_end j m q i.is in
-    (omega arith, omega arith)
+    (omega arith, omega arith, omega arith)

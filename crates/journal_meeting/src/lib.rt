@@ -1,22 +1,25 @@
 // A file as it is, held against its ranges in a journal: of its bytes only those are read that the ranges of kinds 1 and 4 hold.
 #![tactic(auto)]
 
-ghost use Rattle.std.specs.Prelude.{◌≡◌, suc, ◌+◌, ◌≤◌, ◌<◌, true, length};
-ghost use Rattle.byte_strings.specs.Lowest.{lowest};
+ghost use Rattle.std.specs.Prelude.{◌≡◌, suc, ◌+◌, ◌≤◌, ◌<◌, length};
+ghost use Rattle.journal.specs.Ranges.{replaced};
 ghost use Rattle.journal.specs.Form.{state_of};
 ghost use Rattle.journal.specs.Places.{range_at};
-ghost use Rattle.journal.specs.Found.{IsRangeAt};
+ghost use Rattle.journal.specs.Found.{Reads};
 ghost use Rattle.journal.specs.Reading.{place_of};
-ghost use Rattle.journal_meeting.specs.Between.{right_at, shifted, met_range, state_met};
+ghost use Rattle.journal_meeting.specs.Between.{met_range, state_met};
 ghost use Rattle.journal_meeting.specs.Between as Between;
 
 use journal::{JournalError, Kind, RangeAt};
 
-// Inner: the first byte behind the offset that is neither the old one nor the new one.
+// Inner: the first byte of a range that lies outside the file, or is neither the old one nor the new one.
 fn first_strange(file: &[u8], at: usize, old: &[u8], new: &[u8]) -> Option<usize>
-    requires { (at + length new.now ≤ length file.now) × (length old.now ≡ length new.now) }
-    ensures { place_of result ≡ shifted at (lowest (right_at file.now old.now new.now at) 0 (length new.now)) }
+    requires { length old.now ≡ length new.now }
+    ensures { place_of result ≡ met_range file.now (replaced at old.now new.now) }
 {
+    if file.len() < at || file.len() - at < new.len() {
+        return Some(at);
+    }
     for i in 0..new.len() {
         let byte = file[at + i];
         if byte != old[i] && byte != new[i] {
@@ -26,29 +29,35 @@ fn first_strange(file: &[u8], at: usize, old: &[u8], new: &[u8]) -> Option<usize
     None
 }
 
-// Inner: the first wrong byte of a whole range of a journal.
+// Inner: the first wrong byte of a range of a journal.
 fn met_range(journal: &[u8], range: &RangeAt, file: &[u8]) -> Option<usize>
-    requires { IsRangeAt journal.now (length journal.now) range.now.at range.now }
+    requires read { Reads journal.now range.now.at range.now × (range.now.at + 18 ≤ range.now.bytes) }
+    requires in_journal { (range.now.bytes ≤ range.now.behind) × (range.now.behind ≤ length journal.now) }
     ensures { place_of result ≡ met_range file.now (range_at journal.now range.now.at) }
 {
-    if matches!(range.kind, Kind::Fresh | Kind::Blank) {
-        return None;
-    }
-    let offset = range.offset as usize;
-    let size = range.size as usize;
-    if file.len() < offset || file.len() - offset < size {
-        return Some(offset);
-    }
     let from = range.at + 18;
-    let middle = from + size;
-    if range.kind == Kind::Replaced {
-        return first_strange(file, offset, &journal[from..middle], &journal[middle..range.behind]);
+    let at = range.offset as usize;
+    let payload = &journal[from..range.behind];
+    match range.kind {
+        Kind::Replaced => first_strange(
+            file,
+            at,
+            &journal[from..range.bytes],
+            &journal[range.bytes..range.behind],
+        ),
+        Kind::Witness => first_strange(file, at, payload, payload),
+        Kind::Fresh | Kind::Blank => None,
     }
-    first_strange(file, offset, &journal[from..middle], &journal[from..middle])
 }
 
 // Inner: the ranges from a place on, as long as they are of the file. Where the next one begins is told by the one before.
-fn met(journal: &[u8], end: usize, file: u64, at: usize, bytes: &[u8]) -> Result<usize, JournalError>
+fn met(
+    journal: &[u8],
+    end: usize,
+    file: u64,
+    at: usize,
+    bytes: &[u8],
+) -> Result<usize, JournalError>
     requires { end ≤ length journal.now }
     ensures { result ≡ Between.met journal.now end file bytes.now (suc (length journal.now)) at }
 {
@@ -75,13 +84,20 @@ fn state_met(journal: &[u8], file: usize, there: bool, long: usize) -> bool
 {
     let states = journal::states_at(journal, file);
     if there {
-        return long as u64 < states.new && states.old_length() <= long as u64;
+        let long = long as u64;
+        return long < states.new && states.old_length() <= long;
     }
     states.old == 0
 }
 
 // Whether a file as it is, there or absent, is between; its ranges in the journal begin at a place.
-pub fn between(journal: &[u8], file: u64, at: usize, there: bool, bytes: &[u8]) -> Result<usize, JournalError>
+pub fn between(
+    journal: &[u8],
+    file: u64,
+    at: usize,
+    there: bool,
+    bytes: &[u8],
+) -> Result<usize, JournalError>
     ensures { result ≡ Between.between journal.now file at there bytes.now }
 {
     if !journal::length_right(journal.len()) {

@@ -7,6 +7,8 @@ ghost use Rattle.journal_meeting.specs.Between.{between};
 ghost use Rattle.journal_making.specs.Making.{begin_said, begun, put_said, put_after, end_said, end_after};
 ghost use Rattle.journal.specs.Meaning.{encoded};
 
+use journal_making::Range;
+
 // Begins a journal with the old and the new state of each of ten files: 0 for absent, else the length and one. Done: where the first range goes.
 #[unsafe(no_mangle)]
 pub extern "C" fn sleep_flat_journal_begin(
@@ -37,9 +39,15 @@ pub extern "C" fn sleep_flat_journal_put(
     ensures journal_after { journal.new ≡ put_after journal.old at file kind offset length old.now new.now }
 {
     let place = at as usize;
-    *answer = c_journal::encode(journal_making::put(
-        journal, place, file, kind, offset, length, old, new,
-    ));
+    let range = Range {
+        file,
+        kind,
+        offset,
+        size: length,
+        old,
+        new,
+    };
+    *answer = c_journal::encode(journal_making::put(journal, place, &range));
 }
 
 // Ends a journal whose ranges end at `at`: judges it as `sleep_flat_journal_check` does, and writes its length and hash. Done: its length.
@@ -71,7 +79,13 @@ pub extern "C" fn sleep_flat_journal_states(
     ensures answer_after { answer.new ≡ encoded (states_said journal.now file) }
     ensures states_after { states.new ≡ if_done (states_said journal.now file) (old_at journal.now file ∷ new_at journal.now file ∷ []) states.old }
 {
-    *answer = c_journal::encode(journal::states(journal, file, states));
+    match journal::states(journal, file) {
+        Ok(found) => {
+            *states = [found.old, found.new];
+            *answer = c_journal::encode(Ok(0));
+        }
+        Err(error) => *answer = c_journal::encode(Err(error)),
+    }
 }
 
 // Whether a file as it is, there or absent (`there` is 0), is between; its ranges begin at the place `at`. Done: the place behind them.
@@ -102,5 +116,11 @@ pub extern "C" fn sleep_flat_journal_next(
     ensures range_after { range.new ≡ if_done (next_said journal.now at) (numbers_at journal.now at) range.old }
 {
     let place = at as usize;
-    *answer = c_journal::encode(journal::next(journal, place, range));
+    match journal::next(journal, place) {
+        Ok(found) => {
+            *range = c_journal::numbers(&found);
+            *answer = c_journal::encode(Ok(found.behind));
+        }
+        Err(error) => *answer = c_journal::encode(Err(error)),
+    }
 }

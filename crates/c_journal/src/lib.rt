@@ -1,10 +1,11 @@
-// What C is answered by the calls on journals: two numbers.
+// What C is answered by the calls on journals: two numbers, and five for a range.
 #![tactic(auto)]
 
 ghost use Rattle.std.specs.Prelude.{◌≡◌, Err};
+ghost use Rattle.journal.specs.Found.{numbers_of};
 ghost use Rattle.journal.specs.Meaning.{encoded};
 
-use journal::JournalError;
+use journal::{JournalError, RangeAt};
 
 // The number and the place of a refusal.
 fn refused(error: JournalError) -> [u64; 2]
@@ -32,4 +33,18 @@ pub fn encode(said: Result<usize, JournalError>) -> [u64; 2]
         Ok(place) => [0, place as u64],
         Err(error) => refused(error),
     }
+}
+
+// A range as five numbers: file, kind, offset, length, and the place of its bytes.
+pub fn numbers(range: &RangeAt) -> [u64; 5]
+    ensures { result ≡ numbers_of range.now }
+{
+    let kind = u8::from(range.kind);
+    [
+        u64::from(range.file),
+        u64::from(kind),
+        range.offset,
+        range.size,
+        range.bytes as u64,
+    ]
 }

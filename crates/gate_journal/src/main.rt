@@ -2,6 +2,7 @@
 #![tactic(auto)]
 
 use journal::JournalError;
+use journal_making::Range;
 
 fn main() {
     let mut held = [0u8; 216];
@@ -26,11 +27,44 @@ fn keys(held: &mut [u8]) -> Result<usize, JournalError> {
     states[16] = 33;
     states[17] = 33;
     states[19] = 33;
-    let at = journal_making::begin(held, &states)?;
-    let at = journal_making::put(held, at, 8, 1, 0, 2, &[0, 1], &[238, 255])?;
-    let at = journal_making::put(held, at, 8, 4, 2, 1, &[2], b"")?;
-    let at = journal_making::put(held, at, 9, 2, 0, 4, b"", &[0, 1, 2, 3])?;
-    let at = journal_making::put(held, at, 9, 3, 4, 28, b"", b"")?;
+    let mut at = journal_making::begin(held, &states)?;
+    let ranges = [
+        Range {
+            file: 8,
+            kind: 1,
+            offset: 0,
+            size: 2,
+            old: &[0, 1],
+            new: &[238, 255],
+        },
+        Range {
+            file: 8,
+            kind: 4,
+            offset: 2,
+            size: 1,
+            old: &[2],
+            new: b"",
+        },
+        Range {
+            file: 9,
+            kind: 2,
+            offset: 0,
+            size: 4,
+            old: b"",
+            new: &[0, 1, 2, 3],
+        },
+        Range {
+            file: 9,
+            kind: 3,
+            offset: 4,
+            size: 28,
+            old: b"",
+            new: b"",
+        },
+    ];
+    for range in &ranges {
+        at = journal_making::put(held, at, range)?;
+    }
     journal_making::end(held, at)
 }
 

@@ -1,7 +1,6 @@
 -- What the calls say, case by case. Assumes nothing.
 use Prim.Native.Nat.{ℕ, ◌+◌, ◌-◌, ◌≤◌, ◌<◌}
 use native.Mathlib.Omega.{arith}
-use native.Mathlib.Decide.{ℕ_discrete}
 use mathlib.Core.Path.{◌≡◌, refl, sym, ap, ap₂, ◌∙◌}
 use mathlib.Core.Bool.{Bool, true, false}
 use mathlib.Core.List.{List, [], ◌∷◌, ◌++◌}
@@ -11,11 +10,13 @@ use borrow.Author.Tests.{eq-eqb, ne_eqb, leb-true, lt-ltb, le-ltb}
 use Rattle.byte_strings.specs.Lists.{same_list}
 use Rattle.byte_strings.proofs.Bools.{both_true}
 use Rattle.blake2b.specs.Hash.{blake2b, node_hash}
-use Rattle.journal.specs.Places.{old_at, new_at, file_at, kind_at, start_at, size_at, behind, whole, length_right, body_length, new_place, numbers_at}
+use Rattle.journal.specs.Places.{kind_at, size_at, behind, whole, length_right, body_length, new_place, numbers_at}
 use Rattle.journal.specs.Reading.{Said, whether, and_then, begins, own_length, table, read, next_said, if_done, states_said}
-use Rattle.std.specs.Prelude.{Ok, Err, is_ok}
+use Rattle.std.specs.Prelude.{Option, Some, None, ok_or, MatchOption, Result, Ok, Err, is_ok, MatchResult}
+use Rattle.journal.specs.declared.JournalError.{JournalError}
+use Rattle.journal.specs.declared.ranges.RangeAt.{RangeAt}
+use Rattle.journal.specs.Found.{Reads, IsRangeAt, numbers_of}
 use Rattle.journal.specs.declared.JournalError.TheVariants.{Length, First, OwnLength, Range, Hash, Unfit}
-use Rattle.journal.proofs.Behind.{end_twice, behind_least}
 
 pub right_least : (n : ℕ) → length_right n ≡ true → 216 ≤ n
 unfolding length_right
@@ -95,6 +96,9 @@ same_said j h m r v e d g =
 -- ---- range by range
 
 module _ (j : List ℕ) (q : ℕ) where
+  numbers_are : (x : RangeAt) → Reads j q x → numbers_of x ≡ numbers_at j q
+  numbers_are x w = let a = w.file in let b = w.kind in let c = w.offset in let d = w.size in let e = w.bytes in cc
+
   pub next_length_lem : length_right (length j) ≡ false → Err Length ≡ next_said j q
   unfolding next_said whether
   next_length_lem e = rw e
@@ -115,15 +119,12 @@ module _ (j : List ℕ) (q : ℕ) where
   unfolding new_place
   new_once e = rw (ne_eqb (kind_at j q) 1 e, new_place)
 
-  pub place_within : new_place j q ≤ behind j q
-  place_within = go (ℕ_discrete (kind_at j q) 1)
-    where
-      go : Dec (kind_at j q ≡ 1) → new_place j q ≤ behind j q
-      go (yes e) = unfold behind in let x = new_twice (size_at j q) e refl in let y = end_twice (kind_at j q) (size_at j q) (q + 18) e in omega arith
-      go (no e) = let x = new_once e in let y = behind_least j 0 q 0 in omega arith
-
-  pub five_said : (a b c d e : ℕ) → a ≡ file_at j q → b ≡ kind_at j q → c ≡ start_at j q → d ≡ size_at j q → e ≡ new_place j q → (a ∷ b ∷ c ∷ d ∷ e ∷ []) ≡ numbers_at j q
-  five_said a b c d e u v w x y = cc
+  -- what was found is what is said, and its numbers are those at the place
+  pub next_found : (o : Option RangeAt) (r : Result RangeAt JournalError) → length_right (length j) ≡ true → r ≡ ok_or o (Range q)
+      → MatchOption o (whole j (body_length j) q ≡ false) (λ x. IsRangeAt j (body_length j) q x)
+      → MatchResult r (λ x. (next_said j q ≡ Ok x.behind) × (numbers_of x ≡ numbers_at j q)) (λ e. next_said j q ≡ Err e)
+  next_found None r l e d = rw e (sym (next_none l d))
+  next_found (Some x) r l e d = let w = d.reads in rw e (sym (next_some x.behind l d.is w.behind), numbers_are x w)
 
 module _ (j : List ℕ) (i : ℕ) where
   pub states_length : length_right (length j) ≡ false → Err Length ≡ states_said j i
@@ -137,6 +138,3 @@ module _ (j : List ℕ) (i : ℕ) where
   pub states_done_lem : length_right (length j) ≡ true → i < 10 → Ok 0 ≡ states_said j i
   unfolding states_said whether
   states_done_lem l h = rw (l, lt-ltb i 10 h)
-
-  pub two_said : (a b : ℕ) → a ≡ old_at j i → b ≡ new_at j i → (a ∷ b ∷ []) ≡ (old_at j i ∷ new_at j i ∷ [])
-  two_said a b x y = cc

@@ -1,23 +1,32 @@
 -- The test of a range, and the walk step by step. Assumes nothing.
 use Prim.Native.Nat.{ℕ, zero, suc, ◌+◌, ◌-◌, ◌*◌, ◌^◌, ◌≤◌, ◌<◌, max}
 use native.Mathlib.Omega.{arith}
-use mathlib.Core.Path.{◌≡◌, refl, sym, ap, ap₂, ◌∙◌}
+use native.Mathlib.Nat.{zero-add}
+use mathlib.Core.Path.{◌≡◌, refl, sym, ap, ap₂, ◌∙◌, subst}
+use Rattle.std.proofs.lemmas.List.{ext_get_or}
+use mathlib.Core.Logic.{⊎_elim}
 use mathlib.Core.Bool.{Bool, true, false, ◌&&◌, ◌||◌}
-use mathlib.Core.List.{List, [], ◌∷◌}
+use mathlib.Core.List.{List}
 use lib.ListN.{length, get_or, set}
 use lib.Dec.{eqb, leb, ltb}
 use borrow.Author.Tests.{eq-eqb, ne_eqb, le-leb, lt-leb, leb-true, lt-ltb, le-ltb, ltb-true}
-use Rattle.byte_strings.specs.Lists.{run, Bytes}
+use Rattle.byte_strings.specs.Lists.{Bytes}
+use Rattle.byte_strings.proofs.Lists.{length_run, get_or_run}
 use Rattle.byte_strings.proofs.Numbers.{eight_lt}
 use Rattle.byte_strings.specs.Lowest.{Lowest, lowest}
 use Rattle.byte_strings.proofs.Bools.{both_true}
 use Rattle.journal.specs.Form.{length_of, states_right}
 use Rattle.journal.specs.Places.{old_at, new_at, file_at, kind_at, start_at, size_at, behind, whole}
 use Rattle.journal.specs.Reading.{place_of, whether, numbers_right, reach_of, follows, range_right, stop_at, covered_by, is_full, gap_says, walk, walked, old_lengths, table, states_say, state_right}
-use Rattle.std.specs.Prelude.{Option, Some, None, Ok, Err}
+use Rattle.std.specs.Prelude.{◌⊎◌, Option, Some, None, MatchOption, Ok, Err}
 use Rattle.journal.specs.Reading.{Said}
 use Rattle.journal.specs.declared.JournalError.TheVariants.{State, Range, Gap}
-use Rattle.journal.proofs.Behind.{Whole}
+use Rattle.journal.specs.declared.ranges.RangeAt.{RangeAt}
+use Rattle.journal.specs.declared.kinds.Kind.{Kind}
+use Rattle.journal.specs.declared.kinds.Kind.TheVariants.{Replaced, Fresh, Blank, Witness}
+use Rattle.journal.specs.Kinds.{number_of}
+use Rattle.journal.specs.Found.{Reads, IsRangeAt}
+use Rattle.journal.proofs.Behind.{behind_least}
 
 -- ---- the test by numbers
 
@@ -48,6 +57,20 @@ module _ (kind at size old new a p : ℕ) where
 
     pub kept_old : (kind ≡ 2 → ⊥) → (kind ≡ 3 → ⊥) → leb (at + size) old ≡ numbers_right kind at size old new a p
     kept_old n m = sym (inner ∙ ap₂ (λ (b d : Bool). lastly (b || d) at size old p) (ne_eqb kind 2 n) (ne_eqb kind 3 m))
+
+-- by the kind itself
+module _ (kind : Kind) (at size old new a p : ℕ) (l : a ≤ at) (h : at + size ≤ new) where
+  pub free_kind : (kind ≡ Fresh) ⊎ (kind ≡ Blank) → leb at p ≡ numbers_right (number_of kind) at size old new a p
+  free_kind s = ⊎_elim (λ e. free_two (number_of kind) at size old new a p l h (ap number_of e)) (λ e. three (ap number_of e)) s
+    where
+      three : number_of kind ≡ 3 → leb at p ≡ numbers_right (number_of kind) at size old new a p
+      three n = free_three (number_of kind) at size old new a p l h (omega arith) n
+
+  pub kept_kind : (kind ≡ Replaced) ⊎ (kind ≡ Witness) → leb (at + size) old ≡ numbers_right (number_of kind) at size old new a p
+  kept_kind s = ⊎_elim (λ e. by 1 (ap number_of e) (omega arith) (omega arith)) (λ e. by 4 (ap number_of e) (omega arith) (omega arith)) s
+    where
+      by : (n : ℕ) → number_of kind ≡ n → (n ≡ 2 → ⊥) → (n ≡ 3 → ⊥) → leb (at + size) old ≡ numbers_right (number_of kind) at size old new a p
+      by n e x y = kept_old (number_of kind) at size old new a p l h (λ k. x (sym e ∙ k)) (λ k. y (sym e ∙ k))
 
 pub inside : (kind at size old new a p : ℕ) → numbers_right kind at size old new a p ≡ true → at + size ≤ new
 unfolding numbers_right
@@ -148,11 +171,12 @@ module _ (j : List ℕ) (m : ℕ) where
     walks_end (zero, l, e) g h = absurd (omega arith)
     walks_end (suc k, l, e) g h = sym (e ∙ walk_end k last reach covered q (omega arith))
 
-    pub walks_on : Walks last reach covered q → q < m → (r : ℕ) → Whole j m q r → follows j last reach covered q ≡ true
-        → (f s : ℕ) (cs : List ℕ) → f ≡ file_at j q → s ≡ stop_at j q → cs ≡ covered_by j covered q → Walks f s cs r
+    pub walks_on : Walks last reach covered q → q < m → (r : RangeAt) → IsRangeAt j m q r → follows j last reach covered q ≡ true
+        → (f s : ℕ) (cs : List ℕ) → f ≡ file_at j q → s ≡ stop_at j q → cs ≡ covered_by j covered q → Walks f s cs r.behind
     walks_on (zero, l, e) h r w t f s cs x y z = absurd (omega arith)
     walks_on (suc k, l, e) h r w t f s cs x y z =
-        (k, (let g = w.room in omega arith), (e ∙ walk_on k last reach covered q h w.is t ∙ rw (x, y, z, w.place)))
+        let b = w.reads.behind in
+        (k, (let g = behind_least j q in omega arith), (e ∙ walk_on k last reach covered q h w.is t ∙ rw (x, y, z, b)))
 
 -- what a range that follows has
 pub record Follows (j : List ℕ) (last q : ℕ) : Type 0 where
@@ -179,15 +203,33 @@ module _ (j : List ℕ) (last reach : ℕ) (covered : List ℕ) (q : ℕ) where
       let k = f.ends in
       omega arith
 
-pub ten_lengths : (j : List ℕ) (a b c d e f g h i k : ℕ) → a ≡ length_of (old_at j 0) → b ≡ length_of (old_at j 1) → c ≡ length_of (old_at j 2) → d ≡ length_of (old_at j 3)
-    → e ≡ length_of (old_at j 4) → f ≡ length_of (old_at j 5) → g ≡ length_of (old_at j 6) → h ≡ length_of (old_at j 7) → i ≡ length_of (old_at j 8) → k ≡ length_of (old_at j 9)
-    → (a ∷ b ∷ c ∷ d ∷ e ∷ f ∷ g ∷ h ∷ i ∷ k ∷ []) ≡ old_lengths j
-unfolding run
-ten_lengths j a b c d e f g h i k a' b' c' d' e' f' g' h' i' k' = rw (a', b', c', d', e', f', g', h', i', k')
+-- the lengths before the change, one for each file
+pub ten_lengths : (j xs : List ℕ) → length xs ≡ 10 → ((i : ℕ) → i < 10 → get_or xs i 0 ≡ length_of (old_at j i)) → xs ≡ old_lengths j
+ten_lengths j xs l h =
+    let n = length_run (λ i. length_of (old_at j i)) 0 10 in
+    ext_get_or 0 xs (old_lengths j) (l ∙ sym n)
+    (λ i g. h i (omega arith) ∙ sym (get_or_run (λ k. length_of (old_at j k)) 0 10 i 0 (omega arith) ∙ ap (λ (k : ℕ). length_of (old_at j k)) (zero-add i)))
 
-pub covered_said : (j covered : List ℕ) (q f s v : ℕ) → f ≡ file_at j q → s ≡ stop_at j q → v ≡ max (get_or covered f 0) s → set covered f v ≡ covered_by j covered q
+pub covered_said : (j covered cs : List ℕ) (q f s : ℕ) → f ≡ file_at j q → s ≡ stop_at j q → cs ≡ set covered f (max (get_or covered f 0) s) → cs ≡ covered_by j covered q
 unfolding covered_by
-covered_said j covered q f s v x y z = rw (z, x, y)
+covered_said j covered cs q f s x y z = z ∙ rw (x, y)
+
+-- ---- what the code found
+
+module _ (j : List ℕ) (m q : ℕ) where
+  pub none_found : (o : Option RangeAt) → ((r : RangeAt) → o ≡ Some r → ⊥) → MatchOption o (whole j m q ≡ false) (λ r. IsRangeAt j m q r) → whole j m q ≡ false
+  none_found None n d = d
+  none_found (Some r) n d = absurd (n r refl)
+
+  module _ (r : RangeAt) (w : IsRangeAt j m q r) where
+    pub own_place : Reads j r.at r
+    own_place = subst (λ (n : ℕ). Reads j n r) (sym w.reads.at) w.reads
+
+    pub stop_said : r.offset + r.size ≡ stop_at j q
+    stop_said = ap₂ (λ (x y : ℕ). x + y) w.reads.offset w.reads.size
+
+    pub allowed : (last reach : ℕ) (covered : List ℕ) (b v : Bool) → b ≡ follows j last reach covered r.at → b ≡ v → follows j last reach covered q ≡ v
+    allowed last reach covered b v x y = ap (λ (n : ℕ). follows j last reach covered n) (sym w.reads.at) ∙ sym x ∙ y
 
 -- ---- what a search found
 

@@ -2,5 +2,7 @@
 pub mod Ranges
 pub mod Form
 pub mod Places
+pub mod Kinds
+pub mod Found
 pub mod Reading
 pub mod Meaning

@@ -1,5 +1,5 @@
 -- What stands at a place of a byte string that is read as a journal.
-use Rattle.std.specs.Prelude.{ℕ, ◌+◌, ◌-◌, ◌*◌, Bool, true, false, ◌&&◌, List, [], ◌∷◌, length, get_or, eqb, leb}
+use Rattle.std.specs.Prelude.{ℕ, ◌+◌, ◌-◌, ◌*◌, Bool, true, false, ◌&&◌, List, [], ◌∷◌, length, get_or, eqb, leb, Option, Some, None}
 use Rattle.byte_strings.specs.Lists.{part}
 use Rattle.byte_strings.specs.Numbers.{number}
 use Rattle.journal.specs.Ranges.{Range, replaced, fresh, blank, witness}
@@ -37,13 +37,9 @@ behind j q = q + 18 + times_long (kind_at j q) * size_at j q
 unfoldable pub whole : List ℕ → ℕ → ℕ → Bool
 whole j m q = leb (q + 18) m && ((leb 1 (kind_at j q) && leb (kind_at j q) 4) && leb (behind j q) m)
 
--- the end of a range's bytes that begin at a place, or 0 where they do not end by m
-unfoldable pub bytes_end : ℕ → ℕ → ℕ → ℕ → ℕ
-bytes_end kind size from m = elim (leb (from + times_long kind * size) m) [ true ↦ from + times_long kind * size | false ↦ 0 ]
-
--- the place behind the range at q, or 0 where there is no whole one
-unfoldable pub place_behind : List ℕ → ℕ → ℕ → ℕ
-place_behind j m q = elim (whole j m q) [ true ↦ behind j q | false ↦ 0 ]
+-- the end of a range's bytes that begin at a place, where they end by m
+unfoldable pub bytes_end : ℕ → ℕ → ℕ → ℕ → Option ℕ
+bytes_end kind size from m = elim (leb (from + times_long kind * size) m) [ true ↦ Some (from + times_long kind * size) | false ↦ None ]
 
 -- a range by its numbers: its bytes stand at a place of the byte string j, old ones first
 unfoldable pub range_of : List ℕ → ℕ → ℕ → ℕ → ℕ → Range
@@ -64,6 +60,10 @@ length_right n = leb least_bytes n && leb n most_bytes
 -- all but the hash
 abbrev pub body_length : List ℕ → ℕ
 body_length j = length j - hash_bytes
+
+-- the place of the bytes that stand in the file after the change, among a range's bytes that begin at a place
+unfoldable pub new_bytes : ℕ → ℕ → ℕ → ℕ
+new_bytes kind size from = elim (eqb kind 1) [ true ↦ from + size | false ↦ from ]
 
 -- the place of the bytes that stand in the file after the change
 unfoldable pub new_place : List ℕ → ℕ → ℕ

@@ -1,10 +1,12 @@
 // A journal of a change of an archive, read: checked whole, and range by range.
 #![tactic(auto)]
 
+mod kinds;
 mod ranges;
 mod reading;
 
-pub use ranges::{length_right, place_behind, wide};
+pub use kinds::Kind;
+pub use ranges::{RangeAt, States, length_right, range_at, states_at};
 pub use reading::{begins, check, judge_table, next, states};
 
 // Why a call on a journal is refused. A place is one in the journal unless it says otherwise.

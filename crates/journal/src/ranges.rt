@@ -1,125 +1,125 @@
-// The numbers at a place of a byte string that is read as a journal, each held to a bound before it is used.
-ghost use Rattle.std.specs.Prelude.{◌≡◌, ◌+◌, ◌≤◌, ◌<◌, max, length};
+// What stands at a place of a byte string that is read as a journal, each number held to a bound before it is used.
+ghost use Rattle.std.specs.Prelude.{◌≡◌, ◌+◌, ◌*◌, ◌≤◌, ◌<◌, false, length, MatchOption};
 ghost use Rattle.journal.specs.Form.{length_of};
-ghost use Rattle.journal.specs.Places.{old_at, new_at, bytes_end, place_behind, length_right, new_place, numbers_at};
+ghost use Rattle.journal.specs.Kinds.{number_of};
+ghost use Rattle.journal.specs.Places.{times_long, old_at, new_at, bytes_end, new_bytes, whole, length_right};
+ghost use Rattle.journal.specs.Found.{IsRangeAt};
 
-// A byte as a number.
-pub fn wide(x: u8) -> u64
-    ensures { result ≡ x }
-{
-    x as u64
-}
-
-// The larger of two numbers.
-pub fn larger(x: u64, y: u64) -> u64
-    ensures { result ≡ max x y }
-{
-    if x < y {
-        return y;
-    }
-    x
-}
+use super::Kind;
 
 // Whether a journal may have this length.
 pub fn length_right(length: usize) -> bool
     ensures { result ≡ length_right length }
 {
-    if length < 216 {
-        return false;
-    }
-    length <= 268435456
+    216 <= length && length <= 268435456
 }
 
-// Inner: a file's length before the change.
-pub fn old_length(journal: &[u8], file: usize) -> u64
+// The old and the new state of a file: 0 where it is absent, else its length and one.
+#[derive(Clone, Copy, Debug, PartialEq, Eq)]
+pub struct States {
+    pub old: u64,
+    pub new: u64,
+}
+
+impl States {
+    // The length before the change.
+    pub fn old_length(&self) -> u64
+        ensures { result ≡ length_of self.now.old }
+    {
+        self.old.saturating_sub(1)
+    }
+
+    // The length after it.
+    pub fn new_length(&self) -> u64
+        ensures { result ≡ length_of self.now.new }
+    {
+        self.new.saturating_sub(1)
+    }
+}
+
+// Inner: the states of a file in a journal.
+pub fn states_at(journal: &[u8], file: usize) -> States
     requires { (file < 10) × (184 ≤ length journal.now) }
-    ensures { result ≡ length_of (old_at journal.now file) }
+    ensures old { result.old ≡ old_at journal.now file }
+    ensures new { result.new ≡ new_at journal.now file }
 {
-    let state = byte_strings::read_be64(journal, 24 + 16 * file);
-    if state == 0 {
-        return 0;
+    States {
+        old: byte_strings::read_be64(journal, 24 + 16 * file),
+        new: byte_strings::read_be64(journal, 32 + 16 * file),
     }
-    state - 1
 }
 
-// Inner: a file's length after the change.
-pub fn new_length(journal: &[u8], file: usize) -> u64
-    requires { (file < 10) × (184 ≤ length journal.now) }
-    ensures { result ≡ length_of (new_at journal.now file) }
-{
-    let state = byte_strings::read_be64(journal, 32 + 16 * file);
-    if state == 0 {
-        return 0;
-    }
-    state - 1
+// A whole range at a place of a journal.
+#[derive(Clone, Copy, Debug, PartialEq, Eq)]
+pub struct RangeAt {
+    // Its place, and the one behind it.
+    pub at: usize,
+    pub behind: usize,
+    // Its numbers.
+    pub file: u8,
+    pub kind: Kind,
+    pub offset: u64,
+    pub size: u64,
+    // The place of the bytes that stand in the file after the change.
+    pub bytes: usize,
 }
 
-// Inner: the end of a range's bytes that begin at a place, or 0 where they don't end by `end`.
-fn bytes_end(kind: u64, size: u64, from: usize, end: usize) -> usize
-    requires { (1 ≤ from) × (from ≤ end) }
-    ensures { result ≡ bytes_end kind size from end }
+// The end of so many bytes from a place on, where they end by `end`.
+fn step(from: usize, once: usize, end: usize) -> Option<usize>
+    requires { from ≤ end }
+    ensures { MatchOption result (end < from + once) (λ behind. (behind ≡ from + once) × (behind ≤ end)) }
 {
-    if kind == 3 {
-        return from;
-    }
-    let once = size as usize;
     if end - from < once {
-        return 0;
+        return None;
     }
-    let middle = from + once;
-    if kind == 1 {
-        if end - middle < once {
-            return 0;
-        }
-        return middle + once;
-    }
-    middle
+    Some(from + once)
 }
 
-// Inner: the place behind the range at a place, or 0 where there is no whole one up to `end`.
-pub fn place_behind(journal: &[u8], end: usize, at: usize) -> usize
+// Inner: the end of a range's bytes that begin at a place, where they end by `end`.
+fn bytes_end(kind: Kind, size: u64, from: usize, end: usize) -> Option<usize>
+    requires { from ≤ end }
+    ensures { result ≡ bytes_end (number_of kind) size from end }
+{
+    let once = size as usize;
+    match kind {
+        Kind::Replaced => step(step(from, once, end)?, once, end),
+        Kind::Fresh | Kind::Witness => step(from, once, end),
+        Kind::Blank => Some(from),
+    }
+}
+
+// Inner: the place of the bytes that stand in the file after the change, among a range's bytes that begin at a place.
+fn new_bytes(kind: Kind, size: u64, from: usize, behind: usize) -> usize
+    requires { behind ≡ from + times_long (number_of kind) * size }
+    ensures { result ≡ new_bytes (number_of kind) size from }
+{
+    match kind {
+        Kind::Replaced => behind - size as usize,
+        Kind::Fresh | Kind::Blank | Kind::Witness => from,
+    }
+}
+
+// Inner: the range at a place, where there is a whole one up to `end`.
+pub fn range_at(journal: &[u8], end: usize, at: usize) -> Option<RangeAt>
     requires { end ≤ length journal.now }
-    ensures { result ≡ place_behind journal.now end at }
+    ensures { MatchOption result (whole journal.now end at ≡ false) (λ range. IsRangeAt journal.now end at range) }
 {
-    if end < at {
-        return 0;
+    if end < at || end - at < 18 {
+        return None;
     }
-    if end - at < 18 {
-        return 0;
-    }
-    let kind = wide(journal[at + 1]);
-    if kind < 1 {
-        return 0;
-    }
-    if 4 < kind {
-        return 0;
-    }
+    let Ok(kind) = Kind::try_from(u64::from(journal[at + 1])) else {
+        return None;
+    };
     let size = byte_strings::read_be64(journal, at + 10);
-    bytes_end(kind, size, at + 18, end)
-}
-
-// Inner: the place of the bytes that stand in the file after the change.
-fn new_place(journal: &[u8], at: usize) -> u64
-    requires { (new_place journal.now at ≤ length journal.now) × (at + 18 ≤ length journal.now) }
-    ensures { result ≡ new_place journal.now at }
-{
-    let from = (at as u64) + 18;
-    if journal[at + 1] == 1 {
-        return from + byte_strings::read_be64(journal, at + 10);
-    }
-    from
-}
-
-// Inner: a whole range as five numbers.
-pub fn numbers(journal: &[u8], at: usize) -> [u64; 5]
-    requires { (new_place journal.now at ≤ length journal.now) × (at + 18 ≤ length journal.now) }
-    ensures { result ≡ numbers_at journal.now at }
-{
-    [
-        wide(journal[at]),
-        wide(journal[at + 1]),
-        byte_strings::read_be64(journal, at + 2),
-        byte_strings::read_be64(journal, at + 10),
-        new_place(journal, at),
-    ]
+    let from = at + 18;
+    let behind = bytes_end(kind, size, from, end)?;
+    Some(RangeAt {
+        at,
+        behind,
+        file: journal[at],
+        kind,
+        offset: byte_strings::read_be64(journal, at + 2),
+        size,
+        bytes: new_bytes(kind, size, from, behind),
+    })
 }

@@ -1,42 +1,33 @@
 // Reading a journal: the checks 1 to 7 in their order.
-ghost use Rattle.std.specs.Prelude.{◌≡◌, ◌+◌, ◌-◌, ◌≤◌, ◌<◌, ◌∷◌, [], length};
+ghost use Rattle.std.specs.Prelude.{◌≡◌, ◌+◌, ◌^◌, ◌≤◌, ◌<◌, max, set, get_or, length, Ok, Err, MatchResult};
 ghost use Rattle.byte_strings.specs.Lowest.{lowest};
 ghost use Rattle.blake2b.specs.Hash.{node_hash};
 ghost use Rattle.journal.specs.Form.{tree_length, signatures_length, bitfield_length, right_length, states_right};
+ghost use Rattle.journal.specs.Kinds.{number_of};
 ghost use Rattle.journal.specs.Places.{old_at, new_at, numbers_at};
-ghost use Rattle.journal.specs.Reading.{place_of, state_right, numbers_right, reach_of, old_lengths, is_full, walked, table, read, next_said, if_done, states_said};
+ghost use Rattle.journal.specs.Found.{Reads, numbers_of};
+ghost use Rattle.journal.specs.Reading.{place_of, state_right, numbers_right, reach_of, old_lengths, is_full, walked, table, read, next_said, states_said};
 ghost use Rattle.journal.specs.Reading as Reading;
 
-use super::JournalError;
+use super::ranges::{length_right, range_at, states_at};
+use super::{JournalError, Kind, RangeAt, States};
 
 fn is_tree(length: u64) -> bool
     ensures { result ≡ tree_length length }
 {
-    if 83886072 < length {
-        return false;
-    }
-    if length == 32 {
-        return true;
-    }
-    length % 80 == 72
+    length <= 83886072 && (length == 32 || length % 80 == 72)
 }
 
 fn is_signatures(length: u64) -> bool
     ensures { result ≡ signatures_length length }
 {
-    if 67108896 < length {
-        return false;
-    }
-    length % 64 == 32
+    length <= 67108896 && length % 64 == 32
 }
 
 fn is_bitfield(length: u64) -> bool
     ensures { result ≡ bitfield_length length }
 {
-    if 426016 < length {
-        return false;
-    }
-    length % 3328 == 32
+    length <= 426016 && length % 3328 == 32
 }
 
 // Whether a register's or a copy's file of this number can have this length.
@@ -46,29 +37,25 @@ fn right_length(file: usize, length: u64) -> bool
     if 8 <= file {
         return length == 32;
     }
-    if file % 4 == 0 {
-        return is_tree(length);
+    match file % 4 {
+        0 => is_tree(length),
+        1 => is_signatures(length),
+        2 => is_bitfield(length),
+        _ => length <= 68719476736,
     }
-    if file % 4 == 1 {
-        return is_signatures(length);
-    }
-    if file % 4 == 2 {
-        return is_bitfield(length);
-    }
-    length <= 68719476736
 }
 
 // Whether a file's states grow, to one that it can have.
-fn states_right(file: usize, old: u64, new: u64) -> bool
-    ensures { result ≡ states_right file old new }
+fn states_right(file: usize, states: States) -> bool
+    ensures { result ≡ states_right file states.old states.new }
 {
-    if new < old {
+    if states.new < states.old {
         return false;
     }
-    if new == 0 {
+    if states.new == 0 {
         return true;
     }
-    right_length(file, new - 1)
+    right_length(file, states.new_length())
 }
 
 // Inner: the lowest file whose states are wrong.
@@ -76,73 +63,87 @@ fn wrong_state(journal: &[u8]) -> Option<usize>
     requires { 184 ≤ length journal.now }
     ensures { place_of result ≡ lowest (state_right journal.now) 0 10 }
 {
-    let mut i: usize = 0;
-    while i < 10 {
-        let old = byte_strings::read_be64(journal, 24 + 16 * i);
-        let new = byte_strings::read_be64(journal, 32 + 16 * i);
-        if !states_right(i, old, new) {
-            return Some(i);
+    for file in 0..10 {
+        if !states_right(file, states_at(journal, file)) {
+            return Some(file);
         }
-        i += 1;
     }
     None
 }
 
-// The test of one range by its numbers.
-fn numbers_right(kind: u64, at: u64, size: u64, old: u64, new: u64, a: u64, p: u64) -> bool
-    ensures { result ≡ numbers_right kind at size old new a p }
+// The test of one range by its numbers: behind `start`, and with all up to `covered` covered before it.
+fn numbers_right(range: &RangeAt, old: u64, new: u64, start: u64, covered: u64) -> bool
+    ensures { result ≡ numbers_right (number_of range.now.kind) range.now.offset range.now.size old new start covered }
 {
-    if at < a {
+    if range.offset < start {
         return false;
     }
-    if new < at {
+    if new < range.offset || new - range.offset < range.size {
         return false;
     }
-    if new - at < size {
-        return false;
+    match range.kind {
+        Kind::Fresh | Kind::Blank => range.offset <= covered,
+        Kind::Replaced | Kind::Witness => range.offset + range.size <= old,
     }
-    if kind == 2 {
-        return at <= p;
-    }
-    if kind == 3 {
-        return at <= p;
-    }
-    at + size <= old
 }
 
-// Where a range of a file may begin, behind one of the file `last` that ended at `reach`.
-fn reach_of(file: u64, last: u64, reach: u64) -> u64
-    ensures { result ≡ reach_of file last reach }
-{
-    if file == last {
-        return reach;
-    }
-    0
+// How far a walk over the ranges has come: the last one's file and its end there, and up to where each file is covered.
+#[derive(Clone, Copy)]
+struct Progress {
+    last: u8,
+    reach: u64,
+    covered: [u64; 10],
 }
 
-// Inner: the test of a whole range at a place.
-fn follows(journal: &[u8], last: u64, reach: u64, covered: &[u64; 10], at: usize) -> bool
-    requires { (184 ≤ at) × (at + 18 ≤ length journal.now) }
-    ensures { result ≡ Reading.follows journal.now last reach covered.now at }
-{
-    let file = super::ranges::wide(journal[at]);
-    if 10 <= file {
-        return false;
+impl Progress {
+    // Where a range of a file may begin.
+    fn start_in(&self, file: u8) -> u64
+        ensures { result ≡ reach_of file self.now.last self.now.reach }
+    {
+        if file == self.last {
+            return self.reach;
+        }
+        0
     }
-    if file < last {
-        return false;
+
+    // Inner: the test of a whole range behind those that were passed.
+    fn allows(&self, journal: &[u8], range: &RangeAt) -> bool
+        requires { (184 ≤ length journal.now) × Reads journal.now range.now.at range.now }
+        ensures { result ≡ Reading.follows journal.now self.now.last self.now.reach self.now.covered range.now.at }
+    {
+        if 10 <= range.file {
+            return false;
+        }
+        if range.file < self.last {
+            return false;
+        }
+        if range.size < 1 {
+            return false;
+        }
+        let file = usize::from(range.file);
+        let states = states_at(journal, file);
+        let start = self.start_in(range.file);
+        numbers_right(
+            range,
+            states.old_length(),
+            states.new_length(),
+            start,
+            self.covered[file],
+        )
     }
-    let size = byte_strings::read_be64(journal, at + 10);
-    if size < 1 {
-        return false;
+
+    // Inner: passes a range.
+    fn pass(&mut self, range: &RangeAt)
+        requires { (range.now.file < 10) × (range.now.offset + range.now.size < 2 ^ 64) }
+        ensures last { self.new.last ≡ range.now.file }
+        ensures reach { self.new.reach ≡ range.now.offset + range.now.size }
+        ensures covered { self.new.covered ≡ set self.old.covered range.now.file (max (get_or self.old.covered range.now.file 0) (range.now.offset + range.now.size)) }
+    {
+        let file = usize::from(range.file);
+        self.last = range.file;
+        self.reach = range.offset + range.size;
+        self.covered[file] = self.covered[file].max(self.reach);
     }
-    let kind = super::ranges::wide(journal[at + 1]);
-    let offset = byte_strings::read_be64(journal, at + 2);
-    let number = file as usize;
-    let old = super::ranges::old_length(journal, number);
-    let new = super::ranges::new_length(journal, number);
-    let a = reach_of(file, last, reach);
-    numbers_right(kind, offset, size, old, new, a, covered[number])
 }
 
 // Inner: the lengths before the change.
@@ -150,18 +151,11 @@ fn old_lengths(journal: &[u8]) -> [u64; 10]
     requires { 184 ≤ length journal.now }
     ensures { result ≡ old_lengths journal.now }
 {
-    [
-        super::ranges::old_length(journal, 0),
-        super::ranges::old_length(journal, 1),
-        super::ranges::old_length(journal, 2),
-        super::ranges::old_length(journal, 3),
-        super::ranges::old_length(journal, 4),
-        super::ranges::old_length(journal, 5),
-        super::ranges::old_length(journal, 6),
-        super::ranges::old_length(journal, 7),
-        super::ranges::old_length(journal, 8),
-        super::ranges::old_length(journal, 9),
-    ]
+    let mut lengths = [0; 10];
+    for file in 0..10 {
+        lengths[file] = states_at(journal, file).old_length();
+    }
+    lengths
 }
 
 // Inner: the lowest file that is not covered up to its new length.
@@ -169,42 +163,37 @@ fn gap(journal: &[u8], covered: &[u64; 10]) -> Option<usize>
     requires { 184 ≤ length journal.now }
     ensures { place_of result ≡ lowest (is_full journal.now covered.now) 0 10 }
 {
-    let mut i: usize = 0;
-    while i < 10 {
-        if covered[i] < super::ranges::new_length(journal, i) {
-            return Some(i);
+    for file in 0..10 {
+        if covered[file] < states_at(journal, file).new_length() {
+            return Some(file);
         }
-        i += 1;
     }
     None
 }
 
-// Inner: all ranges up to the end, one behind another.
+// Inner: all ranges up to the end, one behind another. Where the next one begins is told by the one before, so no count of steps is known.
 fn walk(journal: &[u8], end: usize) -> Result<usize, JournalError>
     requires { (184 ≤ end) × (end ≤ length journal.now) }
     ensures { result ≡ walked journal.now end }
 {
-    let mut covered = old_lengths(journal);
-    let mut last: u64 = 0;
-    let mut reach: u64 = 0;
+    let mut progress = Progress {
+        last: 0,
+        reach: 0,
+        covered: old_lengths(journal),
+    };
     let mut at: usize = 184;
     while at < end {
-        let next = super::ranges::place_behind(journal, end, at);
-        if next == 0 {
+        let Some(range) = range_at(journal, end, at) else {
+            return Err(JournalError::Range(at));
+        };
+        if !progress.allows(journal, &range) {
             return Err(JournalError::Range(at));
         }
-        if !follows(journal, last, reach, &covered, at) {
-            return Err(JournalError::Range(at));
-        }
-        last = super::ranges::wide(journal[at]);
-        reach = byte_strings::read_be64(journal, at + 2)
-            + byte_strings::read_be64(journal, at + 10);
-        let file = last as usize;
-        covered[file] = super::ranges::larger(covered[file], reach);
-        at = next;
+        progress.pass(&range);
+        at = range.behind;
     }
-    match gap(journal, &covered) {
-        Some(i) => Err(JournalError::Gap(i)),
+    match gap(journal, &progress.covered) {
+        Some(file) => Err(JournalError::Gap(file)),
         None => Ok(end),
     }
 }
@@ -215,7 +204,7 @@ pub fn judge_table(journal: &[u8], end: usize) -> Result<usize, JournalError>
     ensures { result ≡ table journal.now end }
 {
     match wrong_state(journal) {
-        Some(i) => Err(JournalError::State(i)),
+        Some(file) => Err(JournalError::State(file)),
         None => walk(journal, end),
     }
 }
@@ -233,7 +222,7 @@ pub fn begins(journal: &[u8]) -> bool
 pub fn check(journal: &[u8]) -> Result<usize, JournalError>
     ensures { result ≡ read node_hash journal.now }
 {
-    if !super::ranges::length_right(journal.len()) {
+    if !length_right(journal.len()) {
         return Err(JournalError::Length);
     }
     if !begins(journal) {
@@ -245,42 +234,31 @@ pub fn check(journal: &[u8]) -> Result<usize, JournalError>
     let end = journal.len() - 32;
     judge_table(journal, end)?;
     let hash = blake2b::hash_parts(b"", b"", &journal[0..end]);
-    if byte_strings::same(&hash, &journal[end..]) {
-        return Ok(journal.len());
+    if !byte_strings::same(&hash, &journal[end..]) {
+        return Err(JournalError::Hash);
     }
-    Err(JournalError::Hash)
+    Ok(journal.len())
 }
 
-// The range at a place of a journal, as five numbers in `range`; the place behind it.
-pub fn next(journal: &[u8], at: usize, range: &mut [u64; 5]) -> Result<usize, JournalError>
-    ensures value { result ≡ next_said journal.now at }
-    ensures range_after { range.new ≡ if_done (next_said journal.now at) (numbers_at journal.now at) range.old }
+// The range at a place of a journal.
+pub fn next(journal: &[u8], at: usize) -> Result<RangeAt, JournalError>
+    ensures { MatchResult result (λ range. (next_said journal.now at ≡ Ok range.behind) × (numbers_of range ≡ numbers_at journal.now at)) (λ error. next_said journal.now at ≡ Err error) }
 {
-    if !super::ranges::length_right(journal.len()) {
+    if !length_right(journal.len()) {
         return Err(JournalError::Length);
     }
-    let next = super::ranges::place_behind(journal, journal.len() - 32, at);
-    if next == 0 {
-        return Err(JournalError::Range(at));
-    }
-    *range = super::ranges::numbers(journal, at);
-    Ok(next)
+    range_at(journal, journal.len() - 32, at).ok_or(JournalError::Range(at))
 }
 
-// The states of a file, in `states`.
-pub fn states(journal: &[u8], file: u64, states: &mut [u64; 2]) -> Result<usize, JournalError>
-    ensures value { result ≡ states_said journal.now file }
-    ensures states_after { states.new ≡ if_done (states_said journal.now file) (old_at journal.now file ∷ new_at journal.now file ∷ []) states.old }
+// The states of a file.
+pub fn states(journal: &[u8], file: u64) -> Result<States, JournalError>
+    ensures { MatchResult result (λ states. (states_said journal.now file ≡ Ok 0) × (states.old ≡ old_at journal.now file) × (states.new ≡ new_at journal.now file)) (λ error. states_said journal.now file ≡ Err error) }
 {
-    if !super::ranges::length_right(journal.len()) {
+    if !length_right(journal.len()) {
         return Err(JournalError::Length);
     }
     if 10 <= file {
         return Err(JournalError::Unfit);
     }
-    let number = file as usize;
-    let old = byte_strings::read_be64(journal, 24 + 16 * number);
-    let new = byte_strings::read_be64(journal, 32 + 16 * number);
-    *states = [old, new];
-    Ok(0)
+    Ok(states_at(journal, file as usize))
 }

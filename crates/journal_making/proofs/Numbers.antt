@@ -2,10 +2,10 @@
 use Prim.Native.Nat.{ℕ, ◌+◌, ◌-◌, ◌≤◌, ◌<◌}
 use native.Mathlib.Omega.{arith}
 use native.Mathlib.Decide.{dec_le}
-use mathlib.Core.Path.{◌≡◌, sym, ◌∙◌}
-use mathlib.Core.Bool.{true, false}
-use lib.Dec.{eqb, leb}
-use borrow.Author.Tests.{eq-eqb, ne_eqb, le-leb, lt-leb, leb-true}
+use mathlib.Core.Path.{◌≡◌, sym, subst, ◌∙◌}
+use mathlib.Core.Bool.{Bool, true, false}
+use lib.Dec.{leb}
+use borrow.Author.Tests.{ne_eqb, le-leb, lt-leb, leb-true}
 use Rattle.journal_making.specs.Making.{fitting, room_for}
 
 module _ (long q old new : ℕ) where
@@ -25,54 +25,21 @@ module _ (long q old new : ℕ) where
   unfolding room_for
   has_room e = leb-true _ _ e
 
-module _ (kind size old new : ℕ) where
-  pub one_no : kind ≡ 1 → (old ≡ size → ⊥) → false ≡ fitting kind size old new
-  unfolding fitting
-  one_no e n = rw (eq-eqb kind 1 e, ne_eqb old size n, fitting)
-
-  pub one_yes : kind ≡ 1 → old ≡ size → eqb new size ≡ fitting kind size old new
-  unfolding fitting
-  one_yes e d = rw (eq-eqb kind 1 e, eq-eqb old size d, fitting)
-
-  module _ (a : kind ≡ 1 → ⊥) where
-    pub two_no : kind ≡ 2 → (old ≡ 0 → ⊥) → false ≡ fitting kind size old new
-    unfolding fitting
-    two_no e n = rw (ne_eqb kind 1 a, eq-eqb kind 2 e, ne_eqb old 0 n, fitting)
-
-    pub two_yes : kind ≡ 2 → old ≡ 0 → eqb new size ≡ fitting kind size old new
-    unfolding fitting
-    two_yes e d = rw (ne_eqb kind 1 a, eq-eqb kind 2 e, eq-eqb old 0 d, fitting)
-
-    module _ (b : kind ≡ 2 → ⊥) where
-      pub three_no : kind ≡ 3 → (old ≡ 0 → ⊥) → false ≡ fitting kind size old new
-      unfolding fitting
-      three_no e n = rw (ne_eqb kind 1 a, ne_eqb kind 2 b, eq-eqb kind 3 e, ne_eqb old 0 n, fitting)
-
-      pub three_yes : kind ≡ 3 → old ≡ 0 → eqb new 0 ≡ fitting kind size old new
-      unfolding fitting
-      three_yes e d = rw (ne_eqb kind 1 a, ne_eqb kind 2 b, eq-eqb kind 3 e, eq-eqb old 0 d, fitting)
-
-      module _ (c : kind ≡ 3 → ⊥) where
-        pub none : (kind ≡ 4 → ⊥) → false ≡ fitting kind size old new
-        unfolding fitting
-        none n = rw (ne_eqb kind 1 a, ne_eqb kind 2 b, ne_eqb kind 3 c, ne_eqb kind 4 n, fitting)
-
-        pub four_no : kind ≡ 4 → (old ≡ size → ⊥) → false ≡ fitting kind size old new
-        unfolding fitting
-        four_no e n = rw (ne_eqb kind 1 a, ne_eqb kind 2 b, ne_eqb kind 3 c, eq-eqb kind 4 e, ne_eqb old size n, fitting)
-
-        pub four_yes : kind ≡ 4 → old ≡ size → eqb new 0 ≡ fitting kind size old new
-        unfolding fitting
-        four_yes e d = rw (ne_eqb kind 1 a, ne_eqb kind 2 b, ne_eqb kind 3 c, eq-eqb kind 4 e, eq-eqb old size d, fitting)
-
--- a kind that fits is one of four
-pub small_kind : (kind size old new : ℕ) → fitting kind size old new ≡ true → kind ≤ 4
-small_kind kind size old new e = go (dec_le kind 4)
+-- a number that is no kind's has no bytes that fit
+pub no_kind : (kind size old new : ℕ) → (1 ≤ kind → 4 < kind) → fitting kind size old new ≡ false
+unfolding fitting
+no_kind kind size old new h =
+    rw (
+      ne_eqb kind 1 (other 1 (omega arith) (omega arith)),
+      ne_eqb kind 2 (other 2 (omega arith) (omega arith)),
+      ne_eqb kind 3 (other 3 (omega arith) (omega arith)),
+      ne_eqb kind 4 (other 4 (omega arith) (omega arith)),
+      fitting,
+    )
   where
-    go : Dec (kind ≤ 4) → kind ≤ 4
-    go (yes h) = h
-    go (no h) =
-        let x = none kind size old new (omega arith) (omega arith) (omega arith) (omega arith) in
-        let y : false ≡ true = x ∙ e in
-        let z : ◌≡◌ {A = ℕ} 0 1 = cc in
-        absurd (omega arith)
+    other : (k : ℕ) → 1 ≤ k → k ≤ 4 → kind ≡ k → ⊥
+    other k a b e = let g = h (omega arith) in omega arith
+
+-- by the number of a kind as by the kind
+pub fits : (kind number size old new : ℕ) (v : Bool) → kind ≡ number → fitting kind size old new ≡ v → fitting number size old new ≡ v
+fits kind number size old new v e d = subst (λ (k : ℕ). fitting k size old new ≡ v) e d

@@ -1,24 +1,23 @@
 // Making a journal in a buffer that is lent: begin, put range by range, end. The end judges all of it as reading does, before it writes.
 #![tactic(auto)]
 
-ghost use Rattle.std.specs.Prelude.{◌≡◌, ◌+◌, ◌*◌, ◌≤◌, length};
+ghost use Rattle.std.specs.Prelude.{◌≡◌, ◌+◌, ◌*◌, ◌≤◌, ◌<◌, length};
 ghost use Rattle.byte_strings.specs.Lists.{put as put_at};
 ghost use Rattle.blake2b.specs.Hash.{node_hash};
 ghost use Rattle.journal.specs.Form.{words};
+ghost use Rattle.journal.specs.Kinds.{number_of};
 ghost use Rattle.journal_making.specs.Making.{begin_said, begun, fitting, range_bytes, room_for, put_said, put_after, end_said, end_after};
 
-use journal::JournalError;
+use journal::{JournalError, Kind};
 
 // Inner: numbers of eight bytes, one behind another.
 fn write_words(journal: &mut [u8], at: usize, numbers: &[u64])
     requires { at + 8 * length numbers.now ≤ length journal.old }
     ensures { journal.new ≡ put_at journal.old at (words numbers.now) }
 {
-    let mut i: usize = 0;
-    while i < numbers.len() {
+    for i in 0..numbers.len() {
         let bytes = byte_strings::be64(numbers[i]);
         byte_strings::copy_to(journal, at + 8 * i, &bytes);
-        i += 1;
     }
 }
 
@@ -37,111 +36,79 @@ pub fn begin(journal: &mut [u8], states: &[u64; 20]) -> Result<usize, JournalErr
 }
 
 // Whether so many old and new bytes are those of a range.
-fn is_fitting(kind: u64, size: u64, old: u64, new: u64) -> bool
-    ensures { result ≡ fitting kind size old new }
+#[tactic(auto, unfolding(crate::specs::Making::fitting))]
+fn is_fitting(kind: Kind, size: u64, old: u64, new: u64) -> bool
+    ensures { result ≡ fitting (number_of kind) size old new }
 {
-    if kind == 1 {
-        if old != size {
-            return false;
-        }
-        return new == size;
+    match kind {
+        Kind::Replaced => old == size && new == size,
+        Kind::Fresh => old == 0 && new == size,
+        Kind::Blank => old == 0 && new == 0,
+        Kind::Witness => old == size && new == 0,
     }
-    if kind == 2 {
-        if old != 0 {
-            return false;
-        }
-        return new == size;
-    }
-    if kind == 3 {
-        if old != 0 {
-            return false;
-        }
-        return new == 0;
-    }
-    if kind != 4 {
-        return false;
-    }
-    if old != size {
-        return false;
-    }
-    new == 0
 }
 
 // Whether a range and a hash have room behind a place.
 fn has_room(long: usize, at: usize, old: usize, new: usize) -> bool
     ensures { result ≡ room_for long at old new }
 {
-    if long < 50 {
-        return false;
-    }
-    if long - 50 < at {
-        return false;
-    }
-    if long - 50 - at < old {
+    if long < 50 || long - 50 < at || long - 50 - at < old {
         return false;
     }
     new <= long - 50 - at - old
 }
 
-// Inner: one range, with its bytes, at a place.
-fn write_range(
-    journal: &mut [u8],
-    at: usize,
-    file: u8,
-    kind: u8,
-    offset: u64,
-    size: u64,
-    old: &[u8],
-    new: &[u8],
-)
-    requires { at + 18 + (length old.now + length new.now) ≤ length journal.old }
-    ensures { journal.new ≡ put_at journal.old at (range_bytes file kind offset size old.now new.now) }
-{
-    let first = [file, kind];
-    let place = byte_strings::be64(offset);
-    let length = byte_strings::be64(size);
-    byte_strings::copy_to(journal, at, &first);
-    byte_strings::copy_to(journal, at + 2, &place);
-    byte_strings::copy_to(journal, at + 10, &length);
-    byte_strings::copy_to(journal, at + 18, old);
-    byte_strings::copy_to(journal, at + 18 + old.len(), new);
+// A range to be put: its numbers as FORMAT.md has them, and its old and its new bytes, as its kind asks.
+// File and kind are numbers that are judged: `put_said` refuses those that name none.
+#[derive(Clone, Copy)]
+pub struct Range<'a> {
+    pub file: u64,
+    pub kind: u64,
+    pub offset: u64,
+    pub size: u64,
+    pub old: &'a [u8],
+    pub new: &'a [u8],
 }
 
-// Puts a range at a place: its old and its new bytes, as its kind asks; the next range's place.
-pub fn put(
-    journal: &mut [u8],
-    at: usize,
-    file: u64,
-    kind: u64,
-    offset: u64,
-    size: u64,
-    old: &[u8],
-    new: &[u8],
-) -> Result<usize, JournalError>
-    ensures value { result ≡ put_said journal.old at file kind size old.now new.now }
-    ensures journal_after { journal.new ≡ put_after journal.old at file kind offset size old.now new.now }
+// Inner: a range of one of the ten files, with its bytes, at a place.
+fn write_range(journal: &mut [u8], at: usize, kind: Kind, range: &Range)
+    requires { (range.now.file < 10) × (at + 18 + (length range.now.old.now + length range.now.new.now) ≤ length journal.old) }
+    ensures { journal.new ≡ put_at journal.old at (range_bytes range.now.file (number_of kind) range.now.offset range.now.size range.now.old.now range.now.new.now) }
 {
-    if 10 <= file {
+    let first = [range.file as u8, u8::from(kind)];
+    byte_strings::copy_to(journal, at, &first);
+    byte_strings::copy_to(journal, at + 2, &byte_strings::be64(range.offset));
+    byte_strings::copy_to(journal, at + 10, &byte_strings::be64(range.size));
+    byte_strings::copy_to(journal, at + 18, range.old);
+    byte_strings::copy_to(journal, at + 18 + range.old.len(), range.new);
+}
+
+// Puts a range at a place; the next range's place.
+pub fn put(journal: &mut [u8], at: usize, range: &Range) -> Result<usize, JournalError>
+    ensures value { result ≡ put_said journal.old at range.now.file range.now.kind range.now.size range.now.old.now range.now.new.now }
+    ensures journal_after { journal.new ≡ put_after journal.old at range.now.file range.now.kind range.now.offset range.now.size range.now.old.now range.now.new.now }
+{
+    let old = range.old.len();
+    let new = range.new.len();
+    if 10 <= range.file {
         return Err(JournalError::Unfit);
     }
-    if !is_fitting(kind, size, old.len() as u64, new.len() as u64) {
+    let kind = Kind::try_from(range.kind)?;
+    if !is_fitting(kind, range.size, old as u64, new as u64) {
         return Err(JournalError::Unfit);
     }
-    if !has_room(journal.len(), at, old.len(), new.len()) {
+    if !has_room(journal.len(), at, old, new) {
         return Err(JournalError::Length);
     }
-    write_range(journal, at, file as u8, kind as u8, offset, size, old, new);
-    Ok(at + 18 + (old.len() + new.len()))
+    write_range(journal, at, kind, range);
+    Ok(at + 18 + (old + new))
 }
 
 // Inner: what the end says, and writes nothing yet.
 fn judge_end(journal: &[u8], at: usize) -> Result<usize, JournalError>
     ensures { result ≡ end_said journal.now at }
 {
-    if journal.len() < 32 {
-        return Err(JournalError::Length);
-    }
-    if journal.len() - 32 < at {
+    if journal.len() < 32 || journal.len() - 32 < at {
         return Err(JournalError::Length);
     }
     if !journal::length_right(at + 32) {

@@ -1,19 +1,23 @@
 -- A range by its numbers, kind by kind, and what judging it gives. Assumes nothing.
 use Prim.Native.Nat.{ℕ, ◌+◌, ◌-◌, ◌≤◌, ◌<◌}
 use native.Mathlib.Omega.{arith}
-use native.Mathlib.Decide.{ℕ_discrete}
 use mathlib.Core.Path.{◌≡◌, refl, sym, ap, ap₂, ◌∙◌}
+use mathlib.Core.Logic.{⊎_elim}
 use mathlib.Core.Bool.{Bool, true, false}
 use mathlib.Core.List.{List}
 use lib.ListN.{length, take, drop}
 use lib.Dec.{leb}
 use borrow.Author.Tests.{eq-eqb, ne_eqb, le-leb, lt-leb}
+use Rattle.std.specs.Prelude.{◌⊎◌}
 use Rattle.byte_strings.specs.Lists.{part}
 use Rattle.byte_strings.specs.Lowest.{Lowest, nowhere, first, lowest}
-use Rattle.byte_strings.proofs.Lists.{length_part}
+use Rattle.journal.specs.declared.kinds.Kind.TheVariants.{Replaced, Fresh, Blank, Witness}
+use Rattle.journal.specs.declared.ranges.RangeAt.{RangeAt}
+use Rattle.journal.specs.Kinds.{number_of}
 use Rattle.journal.specs.Ranges.{replaced, fresh, blank, witness}
-use Rattle.journal.specs.Places.{kind_at, start_at, size_at, behind, range_of, range_at}
-use Rattle.journal.proofs.Behind.{end_twice, end_once}
+use Rattle.journal.specs.Places.{range_of, range_at}
+use Rattle.journal.specs.Found.{Reads}
+use Rattle.journal.proofs.Behind.{end_twice, end_once, new_second, new_is, behind_is}
 use Rattle.journal_meeting.specs.Between.{right_at, judged_range, in_file, shifted, met_range}
 
 module _ (j : List ℕ) (kind at size place : ℕ) where
@@ -42,79 +46,64 @@ module _ (f : List ℕ) (at : ℕ) (o n : List ℕ) where
   unfolding met_range in_file judged_range
   met_replaced = refl
 
-  met_witness : met_range f (witness at o) ≡ judgement (leb (at + length o) (length f)) at (lowest (right_at f o o at) 0 (length o))
-  unfolding met_range in_file judged_range
-  met_witness = refl
+  pub outside : length f < at + length n → first at ≡ met_range f (replaced at o n)
+  outside h = sym (met_replaced ∙ ap (λ (b : Bool). judgement b at (lowest (right_at f o n at) 0 (length n))) (lt-leb (at + length n) (length f) h))
+
+  pub judged : at + length n ≤ length f → (l : Lowest) → l ≡ shifted at (lowest (right_at f o n at) 0 (length n)) → l ≡ met_range f (replaced at o n)
+  judged h l e = e ∙ sym (met_replaced ∙ ap (λ (b : Bool). judgement b at (lowest (right_at f o n at) 0 (length n))) (le-leb (at + length n) (length f) h))
+
+-- bytes that stay are judged as if they were written anew
+met_witness : (f : List ℕ) (at : ℕ) (w : List ℕ) → met_range f (replaced at w w) ≡ met_range f (witness at w)
+unfolding met_range in_file judged_range
+met_witness f at w = refl
 
 -- a part that is lent
-lent : (j : List ℕ) (a b k : ℕ) → b ≡ a + k → take (b - a) (drop a j) ≡ part j a k
+lent : (j : List ℕ) (a b k : ℕ) → b ≡ a + k → part j a k ≡ take (b - a) (drop a j)
 unfolding part
-lent j a b k e = let d : b - a ≡ k = omega arith in ap (λ (n : ℕ). take n (drop a j)) d
+lent j a b k e = let d : b - a ≡ k = omega arith in ap (λ (n : ℕ). take n (drop a j)) (sym d)
 
--- the first strange byte of parts that are lent
-abbrev pub strange : List ℕ → List ℕ → List ℕ → ℕ → Lowest
-strange f o n at = shifted at (lowest (right_at f o n at) 0 (length n))
+module _ (j : List ℕ) (q : ℕ) (r : RangeAt) (w : Reads j q r) where
+  numbers : range_at j q ≡ range_of j (number_of r.kind) r.offset r.size (q + 18)
+  unfolding range_at
+  numbers = let k = w.kind in let o = w.offset in let s = w.size in rw (k, o, s)
 
-module _ (j f : List ℕ) (q kind at size next : ℕ) (l : Lowest) (ke : kind ≡ kind_at j q) where
-  pub free_two : kind ≡ 2 → l ≡ nowhere → l ≡ met_range f (range_at j q)
-  unfolding range_at met_range in_file judged_range shifted
-  free_two e d = d ∙ sym (ap (met_range f) (is_fresh j (kind_at j q) (start_at j q) (size_at j q) (q + 18) (omega arith) (omega arith)))
+  -- where the bytes of a range end
+  pub ends_twice : r.kind ≡ Replaced → (r.bytes ≡ q + 18 + r.size) × (r.behind ≡ r.bytes + r.size)
+  ends_twice e =
+      let k : number_of r.kind ≡ 1 = ap number_of e in
+      let n = w.bytes ∙ sym (new_is j q (number_of r.kind) r.size w.kind w.size) ∙ sym (new_second (number_of r.kind) r.size (q + 18) k) in
+      (n, w.behind ∙ behind_is j q (number_of r.kind) r.size w.kind w.size ∙ end_twice (number_of r.kind) r.size (q + 18) k ∙ ap (λ (x : ℕ). x + r.size) (sym n))
 
-  pub free_three : kind ≡ 3 → l ≡ nowhere → l ≡ met_range f (range_at j q)
-  unfolding range_at met_range in_file judged_range shifted
-  free_three e d = d ∙ sym (ap (met_range f) (is_blank j (kind_at j q) (start_at j q) (size_at j q) (q + 18) (omega arith) (omega arith) (omega arith)))
+  ends_once : r.kind ≡ Witness → r.behind ≡ q + 18 + r.size
+  ends_once e =
+      let k : number_of r.kind ≡ 4 = ap number_of e in
+      w.behind ∙ behind_is j q (number_of r.kind) r.size w.kind w.size ∙ end_once (number_of r.kind) r.size (q + 18) (omega arith) (omega arith)
 
-  module _ (ae : at ≡ start_at j q) (se : size ≡ size_at j q) (ne : next ≡ behind j q) (nl : next ≤ length j) where
-    the_range : range_at j q ≡ range_of j kind at size (q + 18)
-    unfolding range_at
-    the_range = rw (ke, ae, se)
+  module _ (f : List ℕ) where
+    pub replaced_met : r.kind ≡ Replaced
+        → met_range f (replaced r.offset (take (r.bytes - (q + 18)) (drop (q + 18) j)) (take (r.behind - r.bytes) (drop r.bytes j))) ≡ met_range f (range_at j q)
+    replaced_met e =
+        let b = ends_twice e in
+        ap (met_range f)
+        (sym (numbers ∙ is_replaced j (number_of r.kind) r.offset r.size (q + 18) (ap number_of e)
+        ∙ ap₂ (replaced r.offset) (lent j (q + 18) r.bytes r.size b.0) (ap (λ (x : ℕ). part j x r.size) (sym b.0) ∙ lent j r.bytes r.behind r.size b.1)))
 
-    pub next_twice : kind ≡ 1 → next ≡ q + 18 + size + size
-    unfolding behind
-    next_twice e = let y = end_twice (kind_at j q) (size_at j q) (q + 18) (omega arith) in omega arith
+    pub witness_met : r.kind ≡ Witness
+        → met_range f (replaced r.offset (take (r.behind - (q + 18)) (drop (q + 18) j)) (take (r.behind - (q + 18)) (drop (q + 18) j))) ≡ met_range f (range_at j q)
+    witness_met e =
+        let k : number_of r.kind ≡ 4 = ap number_of e in
+        met_witness f r.offset (take (r.behind - (q + 18)) (drop (q + 18) j))
+        ∙ ap (met_range f)
+        (sym (numbers ∙ is_witness j (number_of r.kind) r.offset r.size (q + 18) (omega arith) (omega arith) (omega arith)
+        ∙ ap (witness r.offset) (lent j (q + 18) r.behind r.size (ends_once e))))
 
-    pub next_once : (kind ≡ 1 → ⊥) → (kind ≡ 3 → ⊥) → next ≡ q + 18 + size
-    unfolding behind
-    next_once n m = let y = end_once (kind_at j q) (size_at j q) (q + 18) (omega arith) (omega arith) in omega arith
-
-    -- a judged range: its bytes are as long as its size
-    one_is : kind ≡ 1 → met_range f (range_at j q) ≡ judgement (leb (at + size) (length f)) at
-        (lowest (right_at f (part j (q + 18) size) (part j (q + 18 + size) size) at) 0 (length (part j (q + 18 + size) size)))
-    one_is e =
-        let h = next_twice e in
-        let g : length (part j (q + 18 + size) size) ≡ size = length_part j (q + 18 + size) size (omega arith) in
-        ap (met_range f) (the_range ∙ is_replaced j kind at size (q + 18) e) ∙ met_replaced f at (part j (q + 18) size) (part j (q + 18 + size) size)
-        ∙ ap (λ (k : ℕ). judgement (leb (at + k) (length f)) at (lowest (right_at f (part j (q + 18) size) (part j (q + 18 + size) size) at) 0 (length (part j (q + 18 + size) size)))) g
-
-    four_is : (kind ≡ 1 → ⊥) → (kind ≡ 2 → ⊥) → (kind ≡ 3 → ⊥)
-        → met_range f (range_at j q) ≡ judgement (leb (at + size) (length f)) at (lowest (right_at f (part j (q + 18) size) (part j (q + 18) size) at) 0 (length (part j (q + 18) size)))
-    four_is n m o =
-        let h = next_once n o in
-        let g : length (part j (q + 18) size) ≡ size = length_part j (q + 18) size (omega arith) in
-        ap (met_range f) (the_range ∙ is_witness j kind at size (q + 18) n m o) ∙ met_witness f at (part j (q + 18) size) (part j (q + 18) size)
-        ∙ ap (λ (k : ℕ). judgement (leb (at + k) (length f)) at (lowest (right_at f (part j (q + 18) size) (part j (q + 18) size) at) 0 (length (part j (q + 18) size)))) g
-
-    pub outside : (kind ≡ 2 → ⊥) → (kind ≡ 3 → ⊥) → length f < at + size → l ≡ first at → l ≡ met_range f (range_at j q)
-    outside n m h d = go (ℕ_discrete kind 1)
+    -- bytes that may be any
+    pub free_met : (r.kind ≡ Fresh) ⊎ (r.kind ≡ Blank) → nowhere ≡ met_range f (range_at j q)
+    unfolding met_range in_file judged_range shifted
+    free_met s = ⊎_elim (λ e. is_two (ap number_of e)) (λ e. is_three (ap number_of e)) s
       where
-        go : Dec (kind ≡ 1) → l ≡ met_range f (range_at j q)
-        go (yes e) =
-            d ∙ sym (one_is e ∙ ap (λ (b : Bool). judgement b at
-            (lowest (right_at f (part j (q + 18) size) (part j (q + 18 + size) size) at) 0 (length (part j (q + 18 + size) size)))) (lt-leb (at + size) (length f) h))
-        go (no e) =
-            d ∙ sym (four_is e n m ∙ ap (λ (b : Bool). judgement b at (lowest (right_at f (part j (q + 18) size) (part j (q + 18) size) at) 0 (length (part j (q + 18) size))))
-            (lt-leb (at + size) (length f) h))
+        is_two : number_of r.kind ≡ 2 → nowhere ≡ met_range f (range_at j q)
+        is_two k = sym (ap (met_range f) (numbers ∙ is_fresh j (number_of r.kind) r.offset r.size (q + 18) (omega arith) k))
 
-    pub judged_one : kind ≡ 1 → at + size ≤ length f
-        → l ≡ strange f (take (q + 18 + size - (q + 18)) (drop (q + 18) j)) (take (next - (q + 18 + size)) (drop (q + 18 + size) j)) at → l ≡ met_range f (range_at j q)
-    judged_one e h d =
-        d ∙ ap₂ (λ (o n : List ℕ). strange f o n at) (lent j (q + 18) (q + 18 + size) size refl) (lent j (q + 18 + size) next size (next_twice e))
-        ∙ sym (one_is e ∙ ap (λ (b : Bool). judgement b at (lowest (right_at f (part j (q + 18) size) (part j (q + 18 + size) size) at) 0 (length (part j (q + 18 + size) size))))
-        (le-leb (at + size) (length f) h))
-
-    pub judged_four : (kind ≡ 1 → ⊥) → (kind ≡ 2 → ⊥) → (kind ≡ 3 → ⊥) → at + size ≤ length f
-        → l ≡ strange f (take (q + 18 + size - (q + 18)) (drop (q + 18) j)) (take (q + 18 + size - (q + 18)) (drop (q + 18) j)) at → l ≡ met_range f (range_at j q)
-    judged_four n m o h d =
-        d ∙ ap (λ (w : List ℕ). strange f w w at) (lent j (q + 18) (q + 18 + size) size refl)
-        ∙ sym (four_is n m o ∙ ap (λ (b : Bool). judgement b at (lowest (right_at f (part j (q + 18) size) (part j (q + 18) size) at) 0 (length (part j (q + 18) size))))
-        (le-leb (at + size) (length f) h))
+        is_three : number_of r.kind ≡ 3 → nowhere ≡ met_range f (range_at j q)
+        is_three k = sym (ap (met_range f) (numbers ∙ is_blank j (number_of r.kind) r.offset r.size (q + 18) (omega arith) (omega arith) k))

@@ -13,7 +13,7 @@ use Rattle.journal.specs.Places.{file_at, kind_at, behind, whole, range_at, leng
 use Rattle.journal.specs.Reading.{Said, place_of, whether}
 use Rattle.std.specs.Prelude.{Option, Some, None, Ok, Err}
 use Rattle.journal.specs.declared.JournalError.TheVariants.{Length, NotBetween, Byte, Unfit}
-use Rattle.journal.proofs.Behind.{Whole}
+use Rattle.journal.proofs.Behind.{behind_least}
 use Rattle.journal_meeting.specs.Between.{met_range, or_byte, is_of, met, state_met, between}
 
 module _ (j : List ℕ) (m i : ℕ) (f : List ℕ) where
@@ -68,11 +68,11 @@ module _ (j : List ℕ) (m i : ℕ) (f : List ℕ) where
       mets_byte (zero, l, e) h o d = absurd (omega arith)
       mets_byte (suc k, l, e) h o d = sym (e ∙ goes k q (first o) (of_it q w (sym x ∙ y)) (sym (ap place_of d) ∙ z))
 
-      pub mets_on : Mets start q → q < m → (r : ℕ) → Whole j m q r → p ≡ None → Mets start r
+      pub mets_on : Mets start q → q < m → (r : ℕ) → r ≡ behind j q → p ≡ None → Mets start r
       unfolding or_byte
       mets_on (zero, l, e) h r v d = absurd (omega arith)
       mets_on (suc k, l, e) h r v d =
-          (k, (let g = v.room in omega arith), (e ∙ goes k q nowhere (of_it q w (sym x ∙ y)) (sym (ap place_of d) ∙ z) ∙ ap (met j m i f k) (sym v.place)))
+          (k, (let g = behind_least j q in omega arith), (e ∙ goes k q nowhere (of_it q w (sym x ∙ y)) (sym (ap place_of d) ∙ z) ∙ ap (met j m i f k) (sym v)))
 
 -- ---- the call
 

@@ -15,16 +15,18 @@ use Rattle.journal.specs.Form.{state_of}
 use Rattle.journal.specs.Places.{old_at, new_at}
 use Rattle.journal_meeting.specs.Between.{right_at, shifted, state_met}
 
-pub either_first : (x a b : ℕ) → x ≡ a → true ≡ (eqb x a || eqb x b)
-either_first x a b e = sym (ap (λ (t : Bool). t || eqb x b) (eq-eqb x a e))
+module _ (f o n : List ℕ) (at i : ℕ) where
+  pub is_old : get_or f (at + i) 0 ≡ get_or o i 0 → right_at f o n at i ≡ true
+  unfolding right_at
+  is_old e = ap (λ (t : Bool). t || eqb (get_or f (at + i) 0) (get_or n i 0)) (eq-eqb (get_or f (at + i) 0) (get_or o i 0) e)
 
-pub either_second : (x a b : ℕ) → (x ≡ a → ⊥) → eqb x b ≡ (eqb x a || eqb x b)
-either_second x a b e = sym (ap (λ (t : Bool). t || eqb x b) (ne_eqb x a e))
+  pub is_new : (get_or f (at + i) 0 ≡ get_or o i 0 → ⊥) → get_or f (at + i) 0 ≡ get_or n i 0 → right_at f o n at i ≡ true
+  unfolding right_at
+  is_new d e = ap₂ (λ (t u : Bool). t || u) (ne_eqb (get_or f (at + i) 0) (get_or o i 0) d) (eq-eqb (get_or f (at + i) 0) (get_or n i 0) e)
 
-pub right_said : (f o n : List ℕ) (at i : ℕ) (t : Bool) → t ≡ (eqb (get_or f (at + i) 0) (get_or o i 0) || eqb (get_or f (at + i) 0) (get_or n i 0)) → (v : Bool) → t ≡ v
-    → right_at f o n at i ≡ v
-unfolding right_at
-right_said f o n at i t e v d = sym e ∙ d
+  pub is_strange : (get_or f (at + i) 0 ≡ get_or o i 0 → ⊥) → (get_or f (at + i) 0 ≡ get_or n i 0 → ⊥) → right_at f o n at i ≡ false
+  unfolding right_at
+  is_strange d e = ap₂ (λ (t u : Bool). t || u) (ne_eqb (get_or f (at + i) 0) (get_or o i 0) d) (ne_eqb (get_or f (at + i) 0) (get_or n i 0) e)
 
 pub shifted_first : (at i : ℕ) (l : Lowest) → l ≡ first i → first (at + i) ≡ shifted at l
 unfolding shifted
@@ -36,8 +38,8 @@ shifted_none at l e = sym (ap (shifted at) e)
 
 -- ---- a file's state
 
-leb_less : (a b : ℕ) → (a ≡ 0 → ⊥) → leb (a - 1) b ≡ leb a (b + 1)
-leb_less a b n = go (dec_le a (b + 1))
+leb_less : (a b : ℕ) → leb (a - 1) b ≡ leb a (b + 1)
+leb_less a b = go (dec_le a (b + 1))
   where
     go : Dec (a ≤ b + 1) → leb (a - 1) b ≡ leb a (b + 1)
     go (yes h) = le-leb (a - 1) b (omega arith) ∙ sym (le-leb a (b + 1) h)
@@ -60,11 +62,8 @@ module _ (j : List ℕ) (i : ℕ) (there : Bool) (long o n : ℕ) (x : o ≡ old
   pub met_over : there ≡ true → n ≤ long → false ≡ state_met j i (state_of there long)
   met_over t h = sym (is_there_lem t ∙ ap (λ (b : Bool). leb o (long + 1) && b) (lt-leb (long + 1) n (omega arith)) ∙ and_false (leb o (long + 1)))
 
-  pub met_new : there ≡ true → long < n → o ≡ 0 → true ≡ state_met j i (state_of there long)
-  met_new t h e = sym (is_there_lem t ∙ ap₂ (λ (a b : Bool). a && b) (le-leb o (long + 1) (omega arith)) (le-leb (long + 1) n (omega arith)))
-
-  pub met_old : there ≡ true → long < n → (o ≡ 0 → ⊥) → leb (o - 1) long ≡ state_met j i (state_of there long)
-  met_old t h e = leb_less o long e ∙ sym (is_there_lem t ∙ ap (λ (b : Bool). leb o (long + 1) && b) (le-leb (long + 1) n (omega arith)) ∙ and_true (leb o (long + 1)))
+  pub met_old : there ≡ true → long < n → leb (o - 1) long ≡ state_met j i (state_of there long)
+  met_old t h = leb_less o long ∙ sym (is_there_lem t ∙ ap (λ (b : Bool). leb o (long + 1) && b) (le-leb (long + 1) n (omega arith)) ∙ and_true (leb o (long + 1)))
 
   pub met_absent : there ≡ false → eqb o 0 ≡ state_met j i (state_of there long)
   unfolding state_met

@@ -163,8 +163,8 @@ module _ (j : List ℕ) (m : ℕ) (ml : m ≤ length j) where
   passes (p ∷ ps) (suc k) last reach covered q c g l h r =
       let e : part j q (m - q) ≡ encode p ++ encode_all ps = h ∙ one_encoded p ps in
       let s : Stands j m q p = stands j m q g ml p (r.each p (Memᴰ.head refl)).0 (encode_all ps) e in
-      let b = behind_least j m q 0 in
-      let w = whole_end j m q 0 s.is_whole in
+      let b = behind_least j q in
+      let w = whole_end j m q s.is_whole in
       let z = s.ends in
       let d : m - behind j q ≡ m - q - length (encode p) = omega arith in
       walk_on j m k last reach covered q (omega arith) s.is_whole (goes_on last reach covered q p ps c r s)

@@ -157,7 +157,7 @@ placed_at j q = record { file = file_at j q; range = range_at j q }
 
 module _ (j : List ℕ) (m q : ℕ) (l : m ≤ length j) (w : whole j m q ≡ true) where
   inside : behind j q ≤ length j
-  inside = let h = whole_end j m q 0 w in omega arith
+  inside = let h = whole_end j m q w in omega arith
 
   pub whole_kind : (1 ≤ kind_at j q) × (kind_at j q ≤ 4)
   unfolding whole

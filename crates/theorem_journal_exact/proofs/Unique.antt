@@ -39,8 +39,8 @@ module _ (j : List ℕ) (m : ℕ) (ml : m ≤ length j) where
       let x : length (part j q (m - q)) ≡ m - q = length_part j q (m - q) (omega arith) in
       let y : length (part j q (m - q)) ≡ 0 = ap length a.0 ∙ none_long in
       let s = first_at_lem q p ps g b in
-      let l = behind_least j m q 0 in
-      let e = whole_end j m q 0 s.is_whole in
+      let l = behind_least j q in
+      let e = whole_end j m q s.is_whole in
       omega arith
 
   same_ranges : (ps qs : List Placed) (q : ℕ) → q ≤ m → At q ps → At q qs → ps ≡ qs
@@ -50,7 +50,7 @@ module _ (j : List ℕ) (m : ℕ) (ml : m ≤ length j) where
   same_ranges (p ∷ ps) (r ∷ rs) q g a b =
       let s = first_at_lem q p ps g a in
       let t = first_at_lem q r rs g b in
-      let e = whole_end j m q 0 s.is_whole in
+      let e = whole_end j m q s.is_whole in
       let same : p ≡ r = ap₂ (λ (f : ℕ) (z : Range). record { file = f; range = z }) (sym s.file ∙ t.file) (sym s.range ∙ t.range) in
       ap₂ (λ (z : Placed) (zs : List Placed). z ∷ zs) same (same_ranges ps rs (behind j q) e (rest_at q p ps g a) (rest_at q r rs g b))
 

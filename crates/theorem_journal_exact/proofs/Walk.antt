@@ -146,7 +146,7 @@ module _ (j : List ℕ) (bytes : Bytes j) (m : ℕ) (ml : m ≤ length j) where
     unfolding encode_all
     more_encodes =
         let l = behind_long j m q ml w in
-        let g = whole_end j m q 0 w in
+        let g = whole_end j m q w in
         let d : m - q ≡ 18 + times_long (kind_at j q) * size_at j q + (m - behind j q) = omega arith in
         let e : q + (18 + times_long (kind_at j q) * size_at j q) ≡ behind j q = omega arith in
         ap (part j q) d ∙ part_add j q (18 + times_long (kind_at j q) * size_at j q) (m - behind j q)
@@ -228,7 +228,7 @@ module _ (j : List ℕ) (bytes : Bytes j) (m : ℕ) (ml : m ≤ length j) where
       go
       (λ w t l.
       one_more_lem last reach covered q w t h c
-      (accepted k (file_at j q) (stop_at j q) (covered_by j covered q) (behind j q) (covered_long j covered q ∙ c) (whole_end j m q 0 w) (follows_has j last reach covered q t).ends
+      (accepted k (file_at j q) (stop_at j q) (covered_by j covered q) (behind j q) (covered_long j covered q ∙ c) (whole_end j m q w) (follows_has j last reach covered q t).ends
       (sym (ap is_ok (walk_on j m k last reach covered q l w t)) ∙ e)))
       (ℕ_discrete q m) (whole j m q) refl (follows j last reach covered q) refl
     where

@@ -134,7 +134,7 @@ module _ (j : List ℕ) (m : ℕ) (ml : m ≤ length j) where
         let s = first_stands (suc k) q p ps g in
         let b = behind_first q p ps g.0 g.2 in
         let z = s.ends in
-        let l = behind_least j m q 0 in
+        let l = behind_least j q in
         let n = g.1 in
         let c = b.0 in (
           omega arith,

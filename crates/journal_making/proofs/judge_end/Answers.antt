@@ -6,13 +6,14 @@ use Rattle.std.proofs.lemmas.Result.{err_from_is_err_and}
 use Rattle.journal.proofs.Answers.{right_least}
 use Rattle.journal_making.proofs.Answers.{end_no_room, end_length, end_first, end_table, end_done}
 use borrow.Author.Rules.{rules}
+use Rattle.journal_making.proofs.judge_end.Goals.{then-journal-lt32-via-then-journal-lt32, then-journal-lt32-via-else-journal-lt32+then-journal-at}
 use Rattle.journal_making.proofs.judge_end.Goals as goal
 
 pub returns-then-journal-lt32 : goal.returns-then-journal-lt32
-returns-then-journal-lt32 c = end_no_room _ _ (omega arith)
-
-pub returns-then-journal-at : goal.returns-then-journal-at
-returns-then-journal-at c = end_no_room _ _ (omega arith)
+returns-then-journal-lt32 c = elim c.then-journal-lt32.branch [
+  | then-journal-lt32-via-then-journal-lt32 w ↦ end_no_room _ _ (omega arith)
+  | then-journal-lt32-via-else-journal-lt32+then-journal-at w ↦ end_no_room _ _ (omega arith)
+]
 
 pub returns-then-not-length_right : goal.returns-then-not-length_right
 returns-then-not-length_right c = end_length _ _ (omega arith) (sym c.length_right.ensures ∙ c.if-not-length_right.true)

@@ -5,13 +5,13 @@ use Rattle.journal_making.proofs.Puts.{words_none, words_next, words_all, words_
 use Rattle.journal_making.proofs.write_words.Goals as goal
 
 pub loop-i-init : goal.loop-i-init
-loop-i-init c = (omega arith, words_none _ _ c.args.numbers.now, refl)
+loop-i-init c = (words_none _ _ c.args.numbers.now, refl)
 
 pub loop-i-preserved : goal.loop-i-preserved
 loop-i-preserved c =
-    let w = words_next c.args.journal.now c.args.at c.args.numbers.now (omega arith) c.loop-i.journal _ _ c.loop-i.i (omega arith) c.loop-i.invariant.1
+    let w = words_next c.args.journal.now c.args.at c.args.numbers.now (omega arith) c.loop-i.journal _ _ c.loop-i.i (omega arith) c.loop-i.invariant.0
     c.be64-bytes.ensures c.copy_to.ensures in
-    (omega arith, w, words_long c.args.journal.now c.args.at c.args.numbers.now (omega arith) _ (c.loop-i.i + 1) (omega arith) (omega arith) w)
+    (w, words_long c.args.journal.now c.args.at c.args.numbers.now (omega arith) _ (c.loop-i.i + 1) (omega arith) (omega arith) w)
 
 pub returns : goal.returns
-returns c = words_all c.args.journal.now c.args.at c.args.numbers.now (omega arith) _ c.loop-i.i (omega arith) c.loop-i.invariant.1
+returns c = words_all c.args.journal.now c.args.at c.args.numbers.now (omega arith) _ c.loop-i.i (omega arith) c.loop-i.invariant.0

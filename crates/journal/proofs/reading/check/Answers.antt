@@ -40,18 +40,18 @@ returns-in_err-judge_table c =
     (read_table _ _ (sym c.length_right.ensures ∙ c.if-not-length_right.false) (sym c.begins.ensures ∙ c.if-not-begins.false)
     (eq-eqb _ _ (sym c.read_be64.ensures ∙ c.if-read_be64-journal.false)) (Err _) c.in_err-judge_table.ensures refl)
 
-pub returns-then-same : goal.returns-then-same
-returns-then-same c =
+pub returns : goal.returns
+returns c =
     let j = c.args.journal.now in
     read_done_lem _ _ (sym c.length_right.ensures ∙ c.if-not-length_right.false)
     (sym c.begins.ensures ∙ c.if-not-begins.false)
     (eq-eqb _ _ (sym c.read_be64.ensures ∙ c.if-read_be64-journal.false)) (Ok _) c.in_ok-judge_table.ensures refl
-    (same_said j _ (length j - 32) _ true (hash_said j _ (length j - 32) c.hash_parts-hash.ensures) c.same.ensures c.if-same.true)
+    (same_said j _ (length j - 32) _ true (hash_said j _ (length j - 32) c.hash_parts-hash.ensures) c.same.ensures c.if-not-same.false)
 
-pub returns : goal.returns
-returns c =
+pub returns-then-not-same : goal.returns-then-not-same
+returns-then-not-same c =
     let j = c.args.journal.now in
     read_hash _ _ (sym c.length_right.ensures ∙ c.if-not-length_right.false)
     (sym c.begins.ensures ∙ c.if-not-begins.false)
     (eq-eqb _ _ (sym c.read_be64.ensures ∙ c.if-read_be64-journal.false)) (Ok _) c.in_ok-judge_table.ensures refl
-    (same_said j _ (length j - 32) _ false (hash_said j _ (length j - 32) c.hash_parts-hash.ensures) c.same.ensures c.if-same.false)
+    (same_said j _ (length j - 32) _ false (hash_said j _ (length j - 32) c.hash_parts-hash.ensures) c.same.ensures c.if-not-same.true)

@@ -1,146 +1,71 @@
-use Rattle.journal.specs.Reading.{follows, stop_at}
-use borrow.Author.Rules.{rules}
 use native.Mathlib.Omega.{arith}
-use mathlib.Core.Path.{◌≡◌, sym, ap₂, ◌∙◌, subst}
-use mathlib.Core.Bool.{true}
+use mathlib.Core.Path.{sym, ◌∙◌, subst}
 use mathlib.Core.List.{List}
-use Prim.Native.Nat.{ℕ, ◌+◌}
-use Rattle.journal.proofs.Behind.{behind_none, behind_some}
+use Prim.Native.Nat.{ℕ}
+use Rattle.journal.proofs.Behind.{range_room}
 use Rattle.journal.proofs.Steps.{Walks, walks_start, walks_cut, walks_off, walks_on, walks_end, follows_has, stop_fits, covered_said, gap_at, gap_none}
+use Rattle.journal.proofs.Steps.{none_found, own_place, stop_said, allowed}
 use Rattle.journal.proofs.reading.walk.Goals as goal
 
 pub loop-at-init : goal.loop-at-init
 loop-at-init c =
     let j = c.args.journal.now in
-    (omega arith, omega arith, subst (λ (cs : List ℕ). Walks j c.args.end 0 0 cs 184) (sym c.old_lengths-covered.ensures) (walks_start j c.args.end))
+    (omega arith, subst (λ (cs : List ℕ). Walks j c.args.end 0 0 cs 184) (sym c.old_lengths.ensures) (walks_start j c.args.end))
 
-pub returns-then-next-eq0 : goal.returns-then-next-eq0
-returns-then-next-eq0 c =
+pub returns-in_default : goal.returns-in_default
+returns-in_default c =
     let j = c.args.journal.now in
-    walks_cut j c.args.end c.loop-at.last c.loop-at.reach c.loop-at.covered c.loop-at.at c.loop-at.invariant.2 (omega arith)
-    (behind_none j c.args.end c.loop-at.at _ c.place_behind-next.ensures c.if-next-eq0.true)
+    let p = c.loop-at.progress in
+    walks_cut j c.args.end p.last p.reach p.covered c.loop-at.at c.loop-at.invariant.1 (omega arith)
+    (none_found j c.args.end c.loop-at.at _ c.in_default.not-Some c.range_at.ensures)
 
-pub follows-requires : goal.follows-requires
-follows-requires c =
-    let w = behind_some c.args.journal.now c.args.end c.loop-at.at _ c.place_behind-next.ensures c.if-next-eq0.false in
-    search rules
+pub allows-requires : goal.allows-requires
+allows-requires c = (omega arith, own_place _ _ _ _ c.in-Some.ensures)
 
-pub returns-then-not-follows : goal.returns-then-not-follows
-returns-then-not-follows c =
+pub returns-then-not-allows : goal.returns-then-not-allows
+returns-then-not-allows c =
     let j = c.args.journal.now in
-    let w = behind_some j c.args.end c.loop-at.at _ c.place_behind-next.ensures c.if-next-eq0.false in
-    walks_off j c.args.end c.loop-at.last c.loop-at.reach c.loop-at.covered c.loop-at.at c.loop-at.invariant.2 (omega arith) w.is
-    (sym c.follows.ensures ∙ c.if-not-follows.true)
+    let p = c.loop-at.progress in
+    walks_off j c.args.end p.last p.reach p.covered c.loop-at.at c.loop-at.invariant.1 (omega arith) c.in-Some.ensures.is
+    (allowed j c.args.end c.loop-at.at _ c.in-Some.ensures p.last p.reach p.covered _ _ c.allows.ensures c.if-not-allows.true)
 
-pub bounds-journal-at : goal.bounds-journal-at
-bounds-journal-at c =
-    let w = behind_some c.args.journal.now c.args.end c.loop-at.at _ c.place_behind-next.ensures c.if-next-eq0.false in
-    search rules
-
-pub overflow_add-at : goal.overflow_add-at
-overflow_add-at c =
-    let w = behind_some c.args.journal.now c.args.end c.loop-at.at _ c.place_behind-next.ensures c.if-next-eq0.false in
-    search rules
-
-pub read_be64-requires : goal.read_be64-requires
-read_be64-requires c =
-    let w = behind_some c.args.journal.now c.args.end c.loop-at.at _ c.place_behind-next.ensures c.if-next-eq0.false in
-    search rules
-
-pub overflow_add-at-in-loop-at : goal.overflow_add-at-in-loop-at
-overflow_add-at-in-loop-at c =
-    let w = behind_some c.args.journal.now c.args.end c.loop-at.at _ c.place_behind-next.ensures
-    c.if-next-eq0.false in
-    search rules
-
-pub read_be64-requires-in-loop-at : goal.read_be64-requires-in-loop-at
-read_be64-requires-in-loop-at c =
-    let w = behind_some c.args.journal.now c.args.end c.loop-at.at _ c.place_behind-next.ensures
-    c.if-next-eq0.false in
-    search rules
-
-pub overflow_add-reach : goal.overflow_add-reach
-overflow_add-reach c =
+pub pass-requires : goal.pass-requires
+pass-requires c =
     let j = c.args.journal.now in
-    let w = behind_some j c.args.end c.loop-at.at _ c.place_behind-next.ensures
-    c.if-next-eq0.false in
-    let t : follows j c.loop-at.last c.loop-at.reach c.loop-at.covered c.loop-at.at ≡ true = sym c.follows.ensures ∙ c.if-not-follows.false in
-    let f = follows_has j c.loop-at.last c.loop-at.reach c.loop-at.covered c.loop-at.at t in
-    let h = stop_fits j c.loop-at.last c.loop-at.reach c.loop-at.covered c.loop-at.at
-    (λ i. (c.type_inv.journal i).fits) (omega arith) t _ _
-    c.read_be64.ensures c.read_be64-in-loop-at.ensures in
-    search rules
-
-pub offset_bounds-covered-file : goal.offset_bounds-covered-file
-offset_bounds-covered-file c =
-    let j = c.args.journal.now in
-    let w = behind_some j c.args.end c.loop-at.at _ c.place_behind-next.ensures
-    c.if-next-eq0.false in
-    let t : follows j c.loop-at.last c.loop-at.reach c.loop-at.covered c.loop-at.at ≡ true = sym c.follows.ensures ∙ c.if-not-follows.false in
-    let f = follows_has j c.loop-at.last c.loop-at.reach c.loop-at.covered c.loop-at.at t in
-    let h = c.wide-last.ensures in
-    search rules
-
-pub bounds-covered-file : goal.bounds-covered-file
-bounds-covered-file c =
-    let j = c.args.journal.now in
-    let w = behind_some j c.args.end c.loop-at.at _ c.place_behind-next.ensures
-    c.if-next-eq0.false in
-    let t : follows j c.loop-at.last c.loop-at.reach c.loop-at.covered c.loop-at.at ≡ true = sym c.follows.ensures ∙ c.if-not-follows.false in
-    let f = follows_has j c.loop-at.last c.loop-at.reach c.loop-at.covered c.loop-at.at t in
-    let h = c.wide-last.ensures in
-    search rules
-
-pub offset_bounds-covered-file-in-loop-at : goal.offset_bounds-covered-file-in-loop-at
-offset_bounds-covered-file-in-loop-at c =
-    let j = c.args.journal.now in
-    let w = behind_some j c.args.end c.loop-at.at _ c.place_behind-next.ensures
-    c.if-next-eq0.false in
-    let t : follows j c.loop-at.last c.loop-at.reach c.loop-at.covered c.loop-at.at ≡ true = sym c.follows.ensures
-    ∙ c.if-not-follows.false in
-    let f = follows_has j c.loop-at.last c.loop-at.reach c.loop-at.covered c.loop-at.at t in
-    let h = c.wide-last.ensures in
-    search rules
-
-pub bounds-covered-file-in-loop-at : goal.bounds-covered-file-in-loop-at
-bounds-covered-file-in-loop-at c =
-    let j = c.args.journal.now in
-    let w = behind_some j c.args.end c.loop-at.at _ c.place_behind-next.ensures
-    c.if-next-eq0.false in
-    let t : follows j c.loop-at.last c.loop-at.reach c.loop-at.covered c.loop-at.at ≡ true = sym c.follows.ensures
-    ∙ c.if-not-follows.false in
-    let f = follows_has j c.loop-at.last c.loop-at.reach c.loop-at.covered c.loop-at.at t in
-    let h = c.wide-last.ensures in
-    search rules
+    let p = c.loop-at.progress in
+    let w = c.in-Some.ensures.reads in
+    let t = allowed j c.args.end c.loop-at.at _ c.in-Some.ensures p.last p.reach p.covered _ _ c.allows.ensures c.if-not-allows.false in
+    let f = follows_has j p.last p.reach p.covered c.loop-at.at t in (
+      omega (arith, f.file, w.file),
+      stop_fits j p.last p.reach p.covered c.loop-at.at (λ i. (c.type_inv.journal i).fits) (omega arith) t _ _ w.offset w.size,
+    )
 
 pub loop-at-smaller : goal.loop-at-smaller
-loop-at-smaller c =
-    let w = behind_some c.args.journal.now c.args.end c.loop-at.at _ c.place_behind-next.ensures
-    c.if-next-eq0.false in
-    search rules
+loop-at-smaller c = let r = range_room c.in-Some.ensures in omega arith
 
 pub loop-at-preserved : goal.loop-at-preserved
 loop-at-preserved c =
     let j = c.args.journal.now in
-    let w = behind_some j c.args.end c.loop-at.at _ c.place_behind-next.ensures c.if-next-eq0.false in
-    let t : follows j c.loop-at.last c.loop-at.reach c.loop-at.covered c.loop-at.at ≡ true = sym c.follows.ensures ∙ c.if-not-follows.false in
-    let f = follows_has j c.loop-at.last c.loop-at.reach c.loop-at.covered c.loop-at.at t in
-    let s : c.read_be64.result + c.read_be64-in-loop-at.result ≡ stop_at j c.loop-at.at = ap₂ (λ (x y : ℕ). x + y) c.read_be64.ensures
-    c.read_be64-in-loop-at.ensures in (
+    let p = c.loop-at.progress in
+    let w = c.in-Some.ensures in
+    let r = range_room w in
+    let t = allowed j c.args.end c.loop-at.at _ w p.last p.reach p.covered _ _ c.allows.ensures c.if-not-allows.false in
+    let s = stop_said j c.args.end c.loop-at.at _ w in (
       omega arith,
-      omega arith,
-      walks_on j c.args.end c.loop-at.last c.loop-at.reach c.loop-at.covered c.loop-at.at c.loop-at.invariant.2 (omega arith) _ w t _ _ _ c.wide-last.ensures s
-          (covered_said j c.loop-at.covered c.loop-at.at _ _ _ c.wide-last.ensures s c.larger.ensures),
+      walks_on j c.args.end p.last p.reach p.covered c.loop-at.at c.loop-at.invariant.1 (omega arith) _ w t _ _ _ (c.pass.ensures.last ∙ w.reads.file)
+          (c.pass.ensures.reach ∙ s) (covered_said j p.covered _ c.loop-at.at _ _ w.reads.file s c.pass.ensures.covered),
     )
 
-pub returns-in-Some : goal.returns-in-Some
-returns-in-Some c =
+pub returns-in-Some-gap : goal.returns-in-Some-gap
+returns-in-Some-gap c =
     let j = c.args.journal.now in
-    gap_at j c.loop-at.covered c.args.end c.in-Some.i _ _ c.in-Some.is c.gap.ensures
-    (walks_end j c.args.end c.loop-at.last c.loop-at.reach c.loop-at.covered c.loop-at.at c.loop-at.invariant.2 (omega arith) (omega arith))
+    let p = c.loop-at.progress in
+    gap_at j p.covered c.args.end c.in-Some-gap.file _ _ c.in-Some-gap.is c.gap.ensures
+    (walks_end j c.args.end p.last p.reach p.covered c.loop-at.at c.loop-at.invariant.1 (omega arith) (omega arith))
 
 pub returns-in-None : goal.returns-in-None
 returns-in-None c =
     let j = c.args.journal.now in
-    gap_none j c.loop-at.covered c.args.end _ _ c.in-None.is c.gap.ensures
-    (walks_end j c.args.end c.loop-at.last c.loop-at.reach c.loop-at.covered c.loop-at.at c.loop-at.invariant.2 (omega arith) (omega arith))
+    let p = c.loop-at.progress in
+    gap_none j p.covered c.args.end _ _ c.in-None.is c.gap.ensures
+    (walks_end j c.args.end p.last p.reach p.covered c.loop-at.at c.loop-at.invariant.1 (omega arith) (omega arith))

@@ -6,7 +6,6 @@ use mathlib.Core.List.{List, [], ◌++◌}
 use mathlib.Core.Option.{none, some}
 use native.Mathlib.Omega.{arith}
 use native.Mathlib.Nat.{zero-add}
-use lib.Dec.{ltb}
 use lib.ListN.{length, get_or, take, drop, get_or-eq_default}
 use borrow.Author.Tests.{lt-ltb, le-ltb}
 use Rattle.answer_types.specs.Verdict.{Verdict}
@@ -32,7 +31,6 @@ use Rattle.record_format.specs.declared.headers.HeaderRead.TheVariants.{Refused 
 use Rattle.record_format.proofs.From.{each_read}
 use Rattle.record_format.proofs.Whole.{told_refused, told_some, content_placed}
 use Rattle.record_node.specs.Post.{writer_of, writers_of, writer_at, no_writer, node_of, node_placed, no_node, node_told, read_node, WriterInside, WritersInside, NodeInside}
-use Rattle.record_node.specs.declared.writers.Writer.{Writer as CodeWriter}
 use Rattle.record_node.specs.declared.writers.Writers.{Writers}
 use Rattle.record_node.specs.declared.reading.Node.{Node as CodeNode}
 use Rattle.record_node.proofs.Lying.{nodes_placed}
@@ -68,17 +66,6 @@ writer_none ws j h = simp (le-ltb j ws.count h)
 pub writer_beyond : (ws : Writers) (j : ℕ) → j < ws.count → 8 ≤ j → no_writer ≡ writer_in ws j
 unfolding writer_in
 writer_beyond ws j h k = simp (lt-ltb j ws.count h, le-ltb j 8 k)
-
--- ---- where a part of a Node lies, from the case that it is
-
-pub chosen_as : (n : CodeNode) (f g : Field) → f ≡ g → chosen_of n g ≡ chosen_of n f
-chosen_as n f g e = ap (chosen_of n) (sym e)
-
-pub chosen_key : (n : CodeNode) (f : Field) (j : ℕ) (w : CodeWriter) → f ≡ Key j → w ≡ writer_in n.writers j → Some w.key ≡ chosen_of n f
-chosen_key n f j w e q = ap (λ (x : CodeWriter). Some x.key) q ∙ chosen_as n f (Key j) e
-
-pub chosen_permission : (n : CodeNode) (f : Field) (j : ℕ) (w : CodeWriter) → f ≡ Permission j → w ≡ writer_in n.writers j → w.permission ≡ chosen_of n f
-chosen_permission n f j w e q = ap (λ (x : CodeWriter). x.permission) q ∙ chosen_as n f (Permission j) e
 
 -- ---- of the bytes d
 

@@ -8,7 +8,7 @@ use record_parts::Field;
 
 // The register lent, and the chunk asked of it.
 #[derive(Clone, Copy)]
-struct Asked<'a> {
+struct Lent<'a> {
     tree: &'a [u8],
     signatures: &'a [u8],
     bitfield: &'a [u8],
@@ -29,7 +29,7 @@ pub fn asked(
     step: &[u8],
     path: bool,
 ) -> Told {
-    let a = Asked {
+    let a = Lent {
         tree: first(tree, number(step, 0)),
         signatures: first(signatures, number(step, 1)),
         bitfield: first(bitfield, number(step, 2)),
@@ -50,7 +50,7 @@ pub fn asked(
     told
 }
 
-fn found(a: Asked, path: &[u8]) {
+fn found(a: Lent, path: &[u8]) {
     match record_find::find(
         a.tree,
         a.signatures,
@@ -67,7 +67,7 @@ fn found(a: Asked, path: &[u8]) {
     }
 }
 
-fn header(a: Asked) {
+fn header(a: Lent) {
     match record_find::header_of(
         a.tree,
         a.signatures,
@@ -94,7 +94,7 @@ fn header(a: Asked) {
     ));
 }
 
-fn node(a: Asked) {
+fn node(a: Lent) {
     let read = record_find::node_of(
         a.tree,
         a.signatures,
@@ -124,7 +124,7 @@ fn node(a: Asked) {
 }
 
 // The parts of the Node, as they are handed back: nothing after a refusal, and of a field that is absent.
-fn parts(a: Asked) {
+fn parts(a: Lent) {
     gate_printing::text(b" parts");
     for field in [
         Field::Path,

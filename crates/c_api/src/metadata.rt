@@ -13,10 +13,11 @@ ghost use Rattle.c_encoding.specs.Encoding.{encoded};
 ghost use Rattle.c_api.specs.Metadata.{WritesHeader, WritesNode, Told, GivesHeader, encoded_node, encoded_found};
 
 use answer_types::Refusal;
+use c_records::FlatNode;
 use number_types::ChunkNumber;
 use record_find::Found;
 use record_format::{HeaderRead, Written};
-use record_node::NodeRead;
+use record_node::{Node, NodeRead};
 
 // What writing answers; the number of the bytes written into `length`, unless it is refused.
 fn give_length(written: Written, length: &mut u64) -> [u64; 3]
@@ -55,7 +56,7 @@ pub extern "C" fn sleep_flat_write_node(
 )
     ensures { WritesNode bytes.now node.now out.old length.old answer.new out.new length.new }
 {
-    let fields = c_records::node_in(c_records::flat_at(node));
+    let fields = Node::from(c_records::flat_at(node));
     *answer = give_length(record_node::write_node(bytes, fields, out), length);
 }
 
@@ -87,7 +88,7 @@ pub fn flat(read: NodeRead) -> [u64; 70]
     let said = read.answer;
     let node = read.node;
     let answer = c_encoding::encode(said);
-    c_records::answered(answer, c_records::flat_node(node))
+    c_records::answered(answer, FlatNode::from(node))
 }
 
 // The fields of the Node that `bytes` are.

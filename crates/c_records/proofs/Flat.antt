@@ -1,6 +1,6 @@
 -- Nothing is lost between the fields of a Node and their numbers. Assumes nothing.
 use Prim.Native.Nat.{ℕ, ◌+◌, ◌≤◌, ◌<◌}
-use mathlib.Core.Path.{◌≡◌, refl, ap, ◌∙◌}
+use mathlib.Core.Path.{◌≡◌, refl, sym, ap, ◌∙◌}
 use mathlib.Core.List.{List, [], ◌∷◌}
 use native.Mathlib.Nat.{zero-add}
 use native.Mathlib.Omega.{arith}
@@ -102,6 +102,10 @@ flat_restored n e =
     (number_back n.sequence)
 
 -- ---- eight of them
+
+-- a list of as many, each told by its place
+pub mapped : {A : Type 0} (f : ℕ → A) (xs : List A) (d : A) → length xs ≡ 8 → ((j : ℕ) → j < 8 → get_or xs j d ≡ f j) → xs ≡ run f 0 8
+mapped f xs d e h = sym (run_get_or xs 8 d e) ∙ run_ext (λ j. get_or xs j d) f 0 8 (λ j a b. h j (omega arith))
 
 pub eight : {A : Type 0} (f : ℕ → A) {a b c d e g h i : A} → a ≡ f 0 → b ≡ f 1 → c ≡ f 2 → d ≡ f 3 → e ≡ f 4 → g ≡ f 5 → h ≡ f 6 → i ≡ f 7
     → a ∷ b ∷ c ∷ d ∷ e ∷ g ∷ h ∷ i ∷ [] ≡ run f 0 8

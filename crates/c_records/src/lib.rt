@@ -119,7 +119,7 @@ impl From<Writer> for FlatWriter {
 fn flat_writers(list: [Writer; 8]) -> [FlatWriter; 8]
     ensures { result ≡ flat_writers list }
 {
-    list.map(FlatWriter::from)
+    list.map(|writer| FlatWriter::from(writer))
 }
 
 const NO_NUMBER: FlatNumber = FlatNumber { given: 0, value: 0 };
@@ -224,7 +224,7 @@ impl From<FlatWriter> for Writer {
 fn writers_in(list: [FlatWriter; 8]) -> [Writer; 8]
     ensures { result ≡ writers_in list }
 {
-    list.map(Writer::from)
+    list.map(|flat| Writer::from(flat))
 }
 
 fn stat_in(flat: FlatStat) -> Stat

@@ -1,9 +1,9 @@
 // What a step gives: numbers, and the bytes behind them.
 ghost use Rattle.std.specs.Prelude.{◌<◌};
 
-use record_fields::{Bytes, Number, Part};
+use record_fields::Part;
 use record_format::Stat;
-use record_node::{Node, Value, Writer, Writers};
+use record_node::{Node, Writer, Writers};
 
 // What is told of the register that is made.
 #[derive(Clone, Copy)]
@@ -38,46 +38,44 @@ pub fn behind(step: &[u8], k: usize) -> &[u8]
 
 // The first bytes; all where there are fewer.
 pub fn first(bytes: &[u8], count: u64) -> &[u8] {
-    let end = count as usize;
-    if bytes.len() < end {
-        return bytes;
-    }
-    &bytes[0..end]
+    let end = bytes.len().min(count as usize);
+    &bytes[..end]
 }
 
 // A field that is a number: whether it is there, and the number.
-fn field(step: &[u8], k: usize) -> Number
+fn field(step: &[u8], k: usize) -> Option<u64>
     requires { k < 90 }
 {
     if number(step, k) == 0 {
-        return Number::Absent;
+        return None;
     }
-    Number::Given(number(step, k + 1))
+    Some(number(step, k + 1))
 }
 
 fn part(step: &[u8], k: usize) -> Part
     requires { k < 90 }
 {
-    let at = number(step, k) as usize;
-    let len = number(step, k + 1) as usize;
-    Part { at, len }
+    Part {
+        at: number(step, k) as usize,
+        len: number(step, k + 1) as usize,
+    }
 }
 
 // A field that is a part: whether it is there, and the part.
-fn bytes(step: &[u8], k: usize) -> Bytes
+fn bytes(step: &[u8], k: usize) -> Option<Part>
     requires { k < 80 }
 {
     if number(step, k) == 0 {
-        return Bytes::Absent;
+        return None;
     }
-    Bytes::Given(part(step, k + 1))
+    Some(part(step, k + 1))
 }
 
-fn value(step: &[u8]) -> Value {
+fn value(step: &[u8]) -> Option<Stat> {
     if number(step, 2) == 0 {
-        return Value::Absent;
+        return None;
     }
-    Value::Given(Stat {
+    Some(Stat {
         mode: field(step, 3),
         uid: field(step, 5),
         gid: field(step, 7),
@@ -100,30 +98,24 @@ fn writer(step: &[u8], k: usize) -> Writer
 }
 
 fn writers(step: &[u8]) -> Writers {
-    let first = writer(step, 27);
-    let mut list = [first; 8];
-    let mut i: usize = 0;
-    while i < 8 {
+    let mut list = [writer(step, 27); 8];
+    for i in 0..8 {
         list[i] = writer(step, 27 + 5 * i);
-        i += 1;
     }
-    let count = number(step, 26) as usize;
-    Writers { count, list }
+    Writers {
+        count: number(step, 26) as usize,
+        list,
+    }
 }
 
 // The Node of 67 numbers: the path, whether there is a Stat and its nine fields, the trie, the sequence, the count of the Writers, and eight of
 // them.
 pub fn node(step: &[u8]) -> Node {
-    let path = part(step, 0);
-    let value = value(step);
-    let trie = bytes(step, 21);
-    let sequence = field(step, 24);
-    let writers = writers(step);
     Node {
-        path,
-        value,
-        trie,
-        writers,
-        sequence,
+        path: part(step, 0),
+        value: value(step),
+        trie: bytes(step, 21),
+        writers: writers(step),
+        sequence: field(step, 24),
     }
 }

@@ -23,16 +23,13 @@ pub fn taken(step: &[u8], told: Told, kind: u8) -> Told {
 fn room(count: u64) -> usize
     ensures { result ≤ 4096 }
 {
-    if 4096 < count {
-        return 4096;
-    }
-    count as usize
+    count.min(4096) as usize
 }
 
 fn write_node(step: &[u8]) {
     let mut out = [0xa5u8; 4096];
     let end = room(number(step, 67));
-    node_into(step, &mut out[0..end]);
+    node_into(step, &mut out[..end]);
 }
 
 fn node_into(step: &[u8], out: &mut [u8]) {
@@ -43,7 +40,7 @@ fn node_into(step: &[u8], out: &mut [u8]) {
 fn write_header(step: &[u8]) {
     let mut out = [0xa5u8; 4096];
     let end = room(number(step, 0));
-    header_into(step, &mut out[0..end]);
+    header_into(step, &mut out[..end]);
 }
 
 fn header_into(step: &[u8], out: &mut [u8]) {
@@ -103,10 +100,8 @@ fn judge(kind: u64, bytes: &[u8]) {
 
 // Each beginning of a record.
 fn beginnings(kind: u64, record: &[u8]) {
-    let mut end: usize = 0;
-    while end < record.len() {
-        judge(kind, &record[0..end]);
-        end += 1;
+    for end in 0..record.len() {
+        judge(kind, &record[..end]);
     }
     judge(kind, record);
 }
@@ -121,11 +116,9 @@ fn spoilt(kind: u64, bits: u64, record: &[u8]) {
 }
 
 fn turned(kind: u64, bits: u64, record: &mut [u8]) {
-    let mut at: usize = 0;
-    while at < record.len() {
+    for at in 0..record.len() {
         super::making::turn(record, at as u64, bits);
         judge(kind, record);
         super::making::turn(record, at as u64, bits);
-        at += 1;
     }
 }

@@ -9,8 +9,6 @@ mod judging;
 mod making;
 mod show;
 
-ghost use Rattle.std.specs.Prelude.{◌<◌};
-
 use given::Told;
 
 // The letter of a step, and how many bytes follow.
@@ -44,17 +42,9 @@ fn all(
     step: &mut [u8],
 ) {
     let mut told = given::none();
-    let mut k: u64 = 0;
-    while k < 10000 {
+    for _ in 0..10000 {
         told = one(tree, signatures, bitfield, data, step, told, heading());
-        k += 1;
     }
-}
-
-fn wide(x: u8) -> usize
-    ensures { result < 256 }
-{
-    x as usize
 }
 
 // Behind the last step nothing more is read: no letter.
@@ -65,7 +55,7 @@ fn heading() -> Head {
     }
     Head {
         kind: bytes[0],
-        len: wide(bytes[1]) * 256 + wide(bytes[2]),
+        len: usize::from(u16::from_be_bytes([bytes[1], bytes[2]])),
     }
 }
 

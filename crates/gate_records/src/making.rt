@@ -23,8 +23,8 @@ pub fn appended(
     let n = told.n;
     let size = told.size;
     writing::append(tree, signatures, bitfield, data, n, n, size, chunk);
-    let more = std::num::wrapping_add_u64(n, 1);
-    let after = std::num::wrapping_add_u64(size, chunk.len() as u64);
+    let more = n.wrapping_add(1);
+    let after = size.wrapping_add(chunk.len() as u64);
     let zeros = [0u8; 64];
     writing::store_signature(tree, signatures, bitfield, data, more, n, after, &zeros);
     Told {
@@ -56,6 +56,6 @@ pub fn turned(
 pub fn turn(bytes: &mut [u8], place: u64, bits: u64) {
     let at = place as usize;
     if at < bytes.len() {
-        bytes[at] = bytes[at] ^ ((bits % 256) as u8);
+        bytes[at] ^= (bits % 256) as u8;
     }
 }

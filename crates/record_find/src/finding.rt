@@ -47,9 +47,8 @@ fn search(tree: &[u8], bitfield: &[u8], partly: bool, content: &[u8], n: u64, pa
         (judge_behind partly tree.now bitfield.now content.now n node_hash done path.now)
         (n - 1) }
 {
-    let mut chunk = number_types::chunk_behind(n);
-    while 1 < chunk.0 {
-        chunk = ChunkNumber(chunk.0 - 1);
+    for c in (1..n).rev() {
+        let chunk = ChunkNumber(c);
         let read = read_in(tree, bitfield, partly, content, n, chunk);
         match super::chunks::path_behind(read, content, chunk, path) {
             Compared::Refused(refusal) => {

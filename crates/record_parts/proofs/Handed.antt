@@ -7,7 +7,6 @@ use mathlib.Core.List.{List, [], ◌++◌}
 use mathlib.Core.Option.{none, some}
 use native.Mathlib.Omega.{arith}
 use native.Mathlib.Nat.{zero-add}
-use lib.Dec.{ltb}
 use lib.ListN.{length, get_or, take, drop, get_or-eq_default}
 use borrow.Author.Tests.{lt-ltb, le-ltb}
 use Rattle.answer_types.specs.Verdict.{Verdict}
@@ -22,8 +21,7 @@ use Rattle.record_fields.specs.Fronts.{or_nothing}
 use Rattle.record_fields.specs.Inner.{bytes_of, part_of, Inside, BytesInside}
 use Rattle.record_fields.proofs.Digits.{two}
 use Rattle.record_fields.specs.declared.rows.Part.{Part}
-use Rattle.record_fields.specs.declared.rows.Bytes.{Bytes}
-use Rattle.record_fields.specs.declared.rows.Bytes.TheVariants.{Absent, Given}
+use Rattle.std.specs.Prelude.{Option, None, Some}
 use Rattle.record_format.specs.Records.{Header, header_bytes, Writer, Node, node_bytes}
 use Rattle.record_format.specs.From.{header_from, node_from}
 use Rattle.record_format.specs.Post.{told_of, no_part, content_part, read_header, header_told}
@@ -32,7 +30,6 @@ use Rattle.record_format.specs.declared.headers.HeaderRead.TheVariants.{Err as N
 use Rattle.record_format.proofs.From.{each_read}
 use Rattle.record_format.proofs.Whole.{told_refused, told_some, content_placed}
 use Rattle.record_node.specs.Post.{writer_of, writers_of, writer_at, no_writer, node_of, node_placed, no_node, node_told, read_node, WriterInside, WritersInside, NodeInside}
-use Rattle.record_node.specs.declared.writers.Writer.{Writer as CodeWriter}
 use Rattle.record_node.specs.declared.writers.Writers.{Writers}
 use Rattle.record_node.specs.declared.reading.Node.{Node as CodeNode}
 use Rattle.record_node.proofs.Lying.{nodes_placed}
@@ -43,17 +40,17 @@ use Rattle.record_parts.specs.declared.Field.TheVariants.{Path, Trie, Key, Permi
 
 -- ---- a part of the bytes lent
 
-pub part_inside : (d : List ℕ) (o : Bytes) (p : Part) → o ≡ Given p → BytesInside d o → p.at + p.len ≤ length d
+pub part_inside : (d : List ℕ) (o : Option Part) (p : Part) → o ≡ Some p → BytesInside d o → p.at + p.len ≤ length d
 part_inside d o p e h = subst (BytesInside d) e h
 
-pub part_absent : (d : List ℕ) (o : Bytes) → o ≡ Absent → [] ≡ or_nothing (bytes_of d o)
-part_absent d o e = sym (ap (λ (x : Bytes). or_nothing (bytes_of d x)) e)
+pub part_absent : (d : List ℕ) (o : Option Part) → o ≡ None → [] ≡ or_nothing (bytes_of d o)
+part_absent d o e = sym (ap (λ (x : Option Part). or_nothing (bytes_of d x)) e)
 
-pub part_given : (d : List ℕ) (o : Bytes) (p : Part) → o ≡ Given p → take (p.at + p.len - p.at) (drop p.at d) ≡ or_nothing (bytes_of d o)
+pub part_given : (d : List ℕ) (o : Option Part) (p : Part) → o ≡ Some p → take (p.at + p.len - p.at) (drop p.at d) ≡ or_nothing (bytes_of d o)
 unfolding part
 part_given d o p e =
     let k : p.at + p.len - p.at ≡ p.len = omega arith in
-    ap (λ (m : ℕ). take m (drop p.at d)) k ∙ sym (ap (λ (x : Bytes). or_nothing (bytes_of d x)) e)
+    ap (λ (m : ℕ). take m (drop p.at d)) k ∙ sym (ap (λ (x : Option Part). or_nothing (bytes_of d x)) e)
 
 -- ---- the Writer at a place
 
@@ -68,17 +65,6 @@ writer_none ws j h = simp (le-ltb j ws.count h)
 pub writer_beyond : (ws : Writers) (j : ℕ) → j < ws.count → 8 ≤ j → no_writer ≡ writer_in ws j
 unfolding writer_in
 writer_beyond ws j h k = simp (lt-ltb j ws.count h, le-ltb j 8 k)
-
--- ---- where a part of a Node lies, from the case that it is
-
-pub chosen_as : (n : CodeNode) (f g : Field) → f ≡ g → chosen_of n g ≡ chosen_of n f
-chosen_as n f g e = ap (chosen_of n) (sym e)
-
-pub chosen_key : (n : CodeNode) (f : Field) (j : ℕ) (w : CodeWriter) → f ≡ Key j → w ≡ writer_in n.writers j → Given w.key ≡ chosen_of n f
-chosen_key n f j w e q = ap (λ (x : CodeWriter). Given x.key) q ∙ chosen_as n f (Key j) e
-
-pub chosen_permission : (n : CodeNode) (f : Field) (j : ℕ) (w : CodeWriter) → f ≡ Permission j → w ≡ writer_in n.writers j → w.permission ≡ chosen_of n f
-chosen_permission n f j w e q = ap (λ (x : CodeWriter). x.permission) q ∙ chosen_as n f (Permission j) e
 
 -- ---- of the bytes d
 
@@ -164,11 +150,11 @@ module _ (d : List ℕ) where
         by (Err x) e =
             ap (λ (k : CodeNode). or_nothing (bytes_of d (chosen_of k f))) (refused_as_lem x e).1 ∙ no_bytes f ∙ ap (handed (field_of f)) (sym (refused_as_lem x e).0)
 
-    pub chosen_inside : (f : Field) (o : Bytes) → o ≡ chosen_of n f → BytesInside d o
+    pub chosen_inside : (f : Field) (o : Option Part) → o ≡ chosen_of n f → BytesInside d o
     chosen_inside f o e = subst (BytesInside d) (sym e) (field_inside n read_inside f)
 
-    pub node_handed_lem : (f : Field) (o : Bytes) → o ≡ chosen_of n f → (r : List ℕ) → r ≡ or_nothing (bytes_of d o) → r ≡ node_handed f d
-    node_handed_lem f o e r q = q ∙ ap (λ (x : Bytes). or_nothing (bytes_of d x)) e ∙ handed_as f
+    pub node_handed_lem : (f : Field) (o : Option Part) → o ≡ chosen_of n f → (r : List ℕ) → r ≡ or_nothing (bytes_of d o) → r ≡ node_handed f d
+    node_handed_lem f o e r q = q ∙ ap (λ (x : Option Part). or_nothing (bytes_of d x)) e ∙ handed_as f
 
   -- ---- the content of a Header
 

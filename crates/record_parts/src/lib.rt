@@ -13,7 +13,7 @@ ghost use Rattle.record_parts.specs.Parts.{header_handed, node_handed};
 ghost use Rattle.record_parts.specs.Chosen.{writer_in, chosen_of};
 
 use number_types::ChunkNumber;
-use record_fields::{Bytes, Part};
+use record_fields::Part;
 use record_format::HeaderRead;
 use record_node::{Node, Writer, Writers};
 
@@ -27,55 +27,43 @@ pub enum Field {
 }
 
 // The Writer at a place; nobody behind the last.
+#[tactic(auto, using(crate::proofs::Handed::writer_there, crate::proofs::Handed::writer_none, crate::proofs::Handed::writer_beyond))]
 fn writer_in(writers: Writers, place: usize) -> Writer
     ensures { result ≡ writer_in writers place }
 {
-    let count = writers.count;
-    let list = writers.list;
-    if place < count {
+    if place < writers.count {
         if place < 8 {
-            return list[place];
+            return writers.list[place];
         }
     }
     Writer {
         key: Part { at: 0, len: 0 },
-        permission: Bytes::Absent,
+        permission: None,
     }
 }
 
 // Where a part of a Node lies.
-fn chosen(node: Node, field: Field) -> Bytes
+fn chosen(node: Node, field: Field) -> Option<Part>
     ensures { result ≡ chosen_of node field }
 {
-    let path = node.path;
-    let trie = node.trie;
-    let writers = node.writers;
     match field {
-        Field::Path => Bytes::Given(path),
-        Field::Trie => trie,
-        Field::Key(place) => {
-            let writer = writer_in(writers, place);
-            let key = writer.key;
-            Bytes::Given(key)
-        }
-        Field::Permission(place) => {
-            let writer = writer_in(writers, place);
-            writer.permission
-        }
+        Field::Path => Some(node.path),
+        Field::Trie => node.trie,
+        Field::Key(place) => Some(writer_in(node.writers, place).key),
+        Field::Permission(place) => writer_in(node.writers, place).permission,
     }
 }
 
 // Inner: the bytes that a part stands for.
-fn taken<'a>(bytes: &'a [u8], part: Bytes) -> &'a [u8]
+fn taken<'a>(bytes: &'a [u8], part: Option<Part>) -> &'a [u8]
     requires { BytesInside bytes.now part }
     ensures { result.now ≡ or_nothing (bytes_of bytes.now part) }
 {
     match part {
-        Bytes::Absent => &bytes[0..0],
-        Bytes::Given(p) => {
-            let from = p.at;
-            let to = from + p.len;
-            &bytes[from..to]
+        None => &bytes[0..0],
+        Some(p) => {
+            let to = p.at + p.len;
+            &bytes[p.at..to]
         }
     }
 }
@@ -94,8 +82,8 @@ pub fn header_content<'a>(bytes: &'a [u8]) -> &'a [u8]
     ensures { result.now ≡ header_handed bytes.now }
 {
     match record_format::read_header(bytes) {
-        HeaderRead::Refused(_) => taken(bytes, Bytes::Absent),
-        HeaderRead::Content(part) => taken(bytes, Bytes::Given(part)),
+        HeaderRead::Refused(_) => taken(bytes, None),
+        HeaderRead::Content(part) => taken(bytes, Some(part)),
     }
 }
 

@@ -4,13 +4,13 @@ use native.Mathlib.Omega.{arith}
 use Rattle.record_parts.proofs.taken.Goals as goal
 
 pub overflow_add-to : goal.overflow_add-to
-overflow_add-to c = omega (arith, part_inside c.args.bytes.now c.args.part c.in-Given.p c.in-Given.is c.requires)
+overflow_add-to c = omega (arith, part_inside c.args.bytes.now c.args.part c.in-Some.p c.in-Some.is c.requires)
 
-pub slice_bounds-result-end-in-Given : goal.slice_bounds-result-end-in-Given
-slice_bounds-result-end-in-Given c = omega (arith, part_inside c.args.bytes.now c.args.part c.in-Given.p c.in-Given.is c.requires)
+pub slice_bounds-result-end-in-Some : goal.slice_bounds-result-end-in-Some
+slice_bounds-result-end-in-Some c = omega (arith, part_inside c.args.bytes.now c.args.part c.in-Some.p c.in-Some.is c.requires)
 
-pub returns-in-Absent : goal.returns-in-Absent
-returns-in-Absent c = part_absent _ _ c.in-Absent.is
+pub returns-in-None : goal.returns-in-None
+returns-in-None c = part_absent _ _ c.in-None.is
 
-pub returns-in-Given : goal.returns-in-Given
-returns-in-Given c = part_given _ _ c.in-Given.p c.in-Given.is
+pub returns-in-Some : goal.returns-in-Some
+returns-in-Some c = part_given _ _ c.in-Some.p c.in-Some.is

@@ -1,5 +1,4 @@
 -- The answer of the checks, the empty register, chunk 0, and then the search.
-use Prim.Native.Nat.{◌-◌}
 use mathlib.Core.Path.{sym, ap, ◌∙◌}
 use Rattle.answer_types.specs.Verdict.{Verdict}
 use Rattle.answer_types.specs.Meaning.{said}

@@ -1,5 +1,5 @@
 use Prim.Native.Nat.{◌-◌}
-use mathlib.Core.Path.{ap, ◌∙◌}
+use mathlib.Core.Path.{refl, ap, ◌∙◌}
 use native.Mathlib.Omega.{arith}
 use Rattle.blake2b.specs.Hash.{node_hash}
 use Rattle.record_find.specs.Inner.{path_behind}
@@ -14,32 +14,26 @@ pub returns-in-Refused : goal.returns-in-Refused
 returns-in-Refused c =
     let a = c.args in
     -- what is told of the chunk below decides, or leaves those below it
-    left_told c.loop-chunk.invariant c.loop-chunk-test.true
-    (c.path_behind.ensures ∙ ap (λ f. path_behind a.content.now (c.loop-chunk.chunk.0 - 1) f a.path.now) c.read_in-read.ensures) c.in-Refused.is
+    left_told c.loop-c.invariant c.loop-c-test.true
+    (c.path_behind.ensures ∙ ap (λ f. path_behind a.content.now (c.loop-c.c - 1) f a.path.now) c.read_in-read.ensures) c.in-Refused.is
 
-pub loop-chunk-smaller : goal.loop-chunk-smaller
-loop-chunk-smaller c = omega (arith, c.loop-chunk-test.true)
-
-pub loop-chunk-preserved : goal.loop-chunk-preserved
-loop-chunk-preserved c =
+pub loop-c-preserved : goal.loop-c-preserved
+loop-c-preserved c =
     let a = c.args in
     record {
-      most = omega (arith, c.loop-chunk.invariant.most);
-      rest = left_told c.loop-chunk.invariant c.loop-chunk-test.true
-          (c.path_behind.ensures ∙ ap (λ f. path_behind a.content.now (c.loop-chunk.chunk.0 - 1) f a.path.now) c.read_in-read.ensures) c.in-Other.is;
+      most = omega (arith, c.loop-c.invariant.most);
+      rest = left_told c.loop-c.invariant c.loop-c-test.true
+          (c.path_behind.ensures ∙ ap (λ f. path_behind a.content.now (c.loop-c.c - 1) f a.path.now) c.read_in-read.ensures) c.in-Other.is;
     }
 
-pub loop-chunk-init : goal.loop-chunk-init
-loop-chunk-init c = left_all c.chunk_behind-chunk.ensures
-
-pub overflow_sub-chunk : goal.overflow_sub-chunk
-overflow_sub-chunk c = omega (arith, c.loop-chunk-test.true)
+pub loop-c-init : goal.loop-c-init
+loop-c-init c = left_all refl
 
 pub returns-in-Same : goal.returns-in-Same
 returns-in-Same c =
     let a = c.args in
-    left_told c.loop-chunk.invariant c.loop-chunk-test.true
-    (c.path_behind.ensures ∙ ap (λ f. path_behind a.content.now (c.loop-chunk.chunk.0 - 1) f a.path.now) c.read_in-read.ensures) c.in-Same.is
+    left_told c.loop-c.invariant c.loop-c-test.true
+    (c.path_behind.ensures ∙ ap (λ f. path_behind a.content.now (c.loop-c.c - 1) f a.path.now) c.read_in-read.ensures) c.in-Same.is
 
 pub returns : goal.returns
-returns c = left_none c.loop-chunk.invariant c.loop-chunk-test.false
+returns c = left_none c.loop-c.invariant c.loop-c-test.false

@@ -106,8 +106,8 @@ fn node(a: Lent) {
         a.chunk,
     );
     match read.answer {
-        Answer::Refused(refusal) => gate_printing::refusal(refusal),
-        Answer::Done => {
+        Err(refusal) => gate_printing::refusal(refusal),
+        Ok(()) => {
             let bytes = lookup::read_one(
                 a.tree,
                 a.signatures,

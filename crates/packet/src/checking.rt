@@ -217,6 +217,7 @@ fn root_hash_with(packet: &[u8], at: usize, n: u64, chunk: ChunkNumber, node: No
     let indexes = tree_index::root_indexes(n);
     let nodes = nodes_in_turn(packet, at, place, node, count);
     let sizes = nodes.map(|entry| entry.size);
+    // Of a closure that hands out an array nothing is known but what it says.
     let hashes = nodes.map(
         |entry|
             ensures { result ≡ entry.hash }

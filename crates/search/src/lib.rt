@@ -24,6 +24,7 @@ pub enum Searched {
 }
 
 // Inner: the first chunk that is not held, from a given number on, behind the answer of a register's checks 2 to 6 or of a copy's own.
+#[tactic(auto, unfolding(crate::specs::Search::first_missing))]
 pub fn search_behind(checked: Answer, bitfield: &[u8], n: u64, from: ChunkNumber) -> Searched
     requires { said checked ≡ done → (n ≤ 1048576) × DataIn bitfield.now n }
     ensures { searched_of result ≡ sought_unless (said checked) (first_missing bitfield.now n from.0) }

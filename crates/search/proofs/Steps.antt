@@ -5,11 +5,10 @@ use mathlib.Core.Bool.{Bool, true, ◌||◌}
 use mathlib.Core.List.{List}
 use native.Mathlib.Nat.{div-one}
 use native.Mathlib.Omega.{arith}
-use lib.Dec.{eqb}
 use lib.ListN.{length, get_or}
 use borrow.Author.Tests.{eq-eqb, ne_eqb}
 use Rattle.number_types.specs.declared.ChunkNumber.{ChunkNumber}
-use Rattle.byte_strings.specs.Lowest.{Lowest, nowhere, lowest}
+use Rattle.byte_strings.specs.Lowest.{nowhere, lowest}
 use Rattle.byte_strings.proofs.Lowest.{lowest_agree}
 use Rattle.bitfield.specs.Image.{entry_count}
 use Rattle.bitfield.specs.Append.{bits_place}

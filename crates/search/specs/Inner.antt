@@ -1,15 +1,9 @@
 -- What the inner functions require and ensure.
-use Rattle.std.specs.Prelude.{ℕ, ◌+◌, ◌*◌, ◌/◌, ◌≤◌, ◌<◌, ◌≡◌, List, length}
+use Rattle.std.specs.Prelude.{ℕ, ◌+◌, ◌*◌, ◌/◌, ◌≤◌, ◌≡◌, List, length}
 use Rattle.bitfield.specs.Image.{entry_count}
 use Rattle.bitfield.specs.Append.{bits_place}
 use Rattle.file_format.specs.Sizes.{most_chunks}
 use Rattle.search.specs.Search.{stored_tuples, stored_tuple}
-
--- r is the smaller of a and b
-pub record Smaller (a b r : ℕ) : Type 0 where
-  pub left : r ≤ a
-  pub right : r ≤ b
-  pub above : (x : ℕ) → x < a → x < b → x < r
 
 -- the bitfield entries of the chunks below `end` lie in the file
 abbrev pub DataIn : List ℕ → ℕ → Type 0

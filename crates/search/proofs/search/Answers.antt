@@ -1,17 +1,11 @@
 -- `search::search` meets its contract: the checks 2 to 6, and what comes behind them. Assumes nothing.
 use mathlib.Core.Path.{sym, ◌∙◌}
 use Rattle.answer_types.specs.Meaning.{said}
-use Rattle.file_format.specs.Belongs.{Register}
-use Rattle.checks.specs.Lent.{register_of}
 use Rattle.search.proofs.Answers.{search_by, search_room}
 use Rattle.search.proofs.search.Goals as goal
 
 pub search_behind-requires : goal.search_behind-requires
-search_behind-requires c =
-    let given : Register = register_of c.args.tree.now c.args.signatures.now c.args.bitfield.now c.args.content.now c.args.n c.args.s c.args.size in
-    λ e. search_room given c.args.from.0 (sym e ∙ c.judge-checked.ensures)
+search_behind-requires c = λ e. search_room _ c.args.from.0 (sym e ∙ c.judge-checked.ensures)
 
 pub returns : goal.returns
-returns c =
-    let given : Register = register_of c.args.tree.now c.args.signatures.now c.args.bitfield.now c.args.content.now c.args.n c.args.s c.args.size in
-    c.search_behind.ensures ∙ search_by given c.args.from.0 (said c.judge-checked.result) c.judge-checked.ensures
+returns c = c.search_behind.ensures ∙ search_by _ c.args.from.0 (said c.judge-checked.result) c.judge-checked.ensures

@@ -21,7 +21,8 @@ fn put_digit(out: &mut [u8], at: usize, x: u64) -> usize
     put_text(out, at, &digit)
 }
 
-// A number in decimal, of at most k digits. The digits before the last are those of x / 10.
+// A number in decimal, of at most k digits. The digits before the last are those of x / 10. Printing through Display is no plainer: `write!` into a
+// fixed buffer needs a writer of its own, and a proof of what it has written.
 pub fn put_digits(out: &mut [u8], at: usize, x: u64, k: usize) -> usize
     requires { at + k ≤ length out.old }
     ensures { Put out.old at k (digits k x) result out.new }

@@ -28,6 +28,7 @@ pub fn place_in(
     }
     let mut start = ByteOffset(0);
     let mut length = 0;
+    // Not `0..=chunk.0`: behind its last turn the proof has no fact that this was the chunk.
     for k in 0..chunk.0 + 1 {
         start = ByteOffset(start.0 + length);
         let leaf = tree_index::leaf_index(ChunkNumber(k));

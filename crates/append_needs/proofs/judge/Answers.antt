@@ -18,7 +18,7 @@ returns-then-end-gt1048576 c =
 pub returns-then-count-gt256 : goal.returns-then-count-gt256
 returns-then-count-gt256 c =
     let a = c.args in
-    by_tests a.n a.size a.lengths.now (sym c.count_after-end.ensures ∙ le-leb _ _ c.if-end-gt1048576.false) (lt-leb _ _ c.if-count-gt256.true) refl refl (search rules)
+    by_tests a.n a.size a.lengths.now (sym c.count_after-end.ensures ∙ le-leb _ _ (omega arith)) (lt-leb _ _ c.if-count-gt256.true) refl refl (search rules)
 
 pub returns-then-not-all_short : goal.returns-then-not-all_short
 returns-then-not-all_short c =

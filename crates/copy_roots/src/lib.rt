@@ -56,10 +56,8 @@ fn judge_old(
     ensures { said result ≡ copy_prefix_verdict (copy_of tree.now bitfield.now content.now n size) m }
 {
     copy_checks::judge(tree, bitfield, content, n, size)?;
-    match prefix_root::up_to(n, m) {
-        Err(refusal) => Err(refusal),
-        Ok(()) => roots_known(bitfield, m),
-    }
+    prefix_root::up_to(n, m)?;
+    roots_known(bitfield, m)
 }
 
 // The root hash of the first m chunks of a copy, from its stored entries.

@@ -25,7 +25,8 @@ pub enum Served {
     Station(u64, Result<(), Refusal>),
 }
 
-// The number under which a table keeps the name of a register.
+// The number under which a table keeps the name of a register. `From` for this and for the way back could stand only in the crate of `Name`, which knows of
+// no table.
 pub fn number_of(name: Name) -> u64
     ensures { result ≡ number_of (name_of name) }
 {

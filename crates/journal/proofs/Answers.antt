@@ -10,12 +10,9 @@ use borrow.Author.Tests.{eq-eqb, ne_eqb, leb-true, lt-ltb, le-ltb}
 use Rattle.byte_strings.specs.Lists.{same_list}
 use Rattle.byte_strings.proofs.Bools.{both_true}
 use Rattle.blake2b.specs.Hash.{blake2b, node_hash}
-use Rattle.journal.specs.Places.{kind_at, size_at, behind, whole, length_right, body_length, new_place, numbers_at}
+use Rattle.journal.specs.Places.{kind_at, size_at, behind, whole, length_right, body_length, new_place}
 use Rattle.journal.specs.Reading.{Said, whether, and_then, begins, own_length, table, read, next_said, if_done, states_said}
-use Rattle.std.specs.Prelude.{Option, Some, None, ok_or, MatchOption, Result, Ok, Err, is_ok, MatchResult}
-use Rattle.journal.specs.declared.JournalError.{JournalError}
-use Rattle.journal.specs.declared.ranges.RangeAt.{RangeAt}
-use Rattle.journal.specs.Found.{Reads, IsRangeAt, numbers_of}
+use Rattle.std.specs.Prelude.{Ok, Err, is_ok}
 use Rattle.journal.specs.declared.JournalError.TheVariants.{Length, First, OwnLength, Range, Hash, Unfit}
 
 pub right_least : (n : ℕ) → length_right n ≡ true → 216 ≤ n
@@ -96,13 +93,6 @@ same_said j h m r v e d g =
 -- ---- range by range
 
 module _ (j : List ℕ) (q : ℕ) where
-  numbers_are : (x : RangeAt) → Reads j q x → numbers_of x ≡ numbers_at j q
-  numbers_are x w = let a = w.file in let b = w.kind in let c = w.offset in let d = w.size in let e = w.bytes in cc
-
-  pub next_length_lem : length_right (length j) ≡ false → Err Length ≡ next_said j q
-  unfolding next_said whether
-  next_length_lem e = rw e
-
   pub next_none : length_right (length j) ≡ true → whole j (body_length j) q ≡ false → Err (Range q) ≡ next_said j q
   unfolding next_said whether
   next_none l e = rw (l, e)
@@ -119,18 +109,7 @@ module _ (j : List ℕ) (q : ℕ) where
   unfolding new_place
   new_once e = rw (ne_eqb (kind_at j q) 1 e, new_place)
 
-  -- what was found is what is said, and its numbers are those at the place
-  pub next_found : (o : Option RangeAt) (r : Result RangeAt JournalError) → length_right (length j) ≡ true → r ≡ ok_or o (Range q)
-      → MatchOption o (whole j (body_length j) q ≡ false) (λ x. IsRangeAt j (body_length j) q x)
-      → MatchResult r (λ x. (next_said j q ≡ Ok x.behind) × (numbers_of x ≡ numbers_at j q)) (λ e. next_said j q ≡ Err e)
-  next_found None r l e d = rw e (sym (next_none l d))
-  next_found (Some x) r l e d = let w = d.reads in rw e (sym (next_some x.behind l d.is w.behind), numbers_are x w)
-
 module _ (j : List ℕ) (i : ℕ) where
-  pub states_length : length_right (length j) ≡ false → Err Length ≡ states_said j i
-  unfolding states_said whether
-  states_length e = rw e
-
   pub states_unfit : length_right (length j) ≡ true → 10 ≤ i → Err Unfit ≡ states_said j i
   unfolding states_said whether
   states_unfit l h = rw (l, le-ltb i 10 h)

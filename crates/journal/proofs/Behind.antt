@@ -2,12 +2,11 @@
 use Prim.Native.Nat.{ℕ, ◌+◌, ◌*◌, ◌≤◌, ◌<◌}
 use native.Mathlib.Omega.{arith}
 use native.Mathlib.Decide.{ℕ_discrete}
-use mathlib.Core.Path.{◌≡◌, refl, sym, ap, ◌∙◌}
-use mathlib.Core.Logic.{⊎_elim}
+use mathlib.Core.Path.{◌≡◌, refl, ◌∙◌}
 use mathlib.Core.Bool.{Bool, true, false, ◌&&◌}
 use mathlib.Core.List.{List}
 use lib.Dec.{leb}
-use Rattle.std.specs.Prelude.{◌⊎◌, Option, Some, None, Result, Ok, Err, MatchOption}
+use Rattle.std.specs.Prelude.{Option, Some, None, Result, Ok, Err}
 use borrow.Author.Tests.{eq-eqb, ne_eqb, le-leb, lt-leb, leb-true}
 use Rattle.byte_strings.proofs.Bools.{both_true}
 use Rattle.journal.specs.declared.JournalError.{JournalError}
@@ -38,38 +37,8 @@ number_low Fresh = (omega arith, omega arith)
 number_low Blank = (omega arith, omega arith)
 number_low Witness = (omega arith, omega arith)
 
--- kinds whose bytes stand there once
-pub once_kind : (k : Kind) → (k ≡ Fresh) ⊎ (k ≡ Witness) → (number_of k ≡ 1 → ⊥) × (number_of k ≡ 3 → ⊥)
-once_kind k s = ⊎_elim (λ e. by 2 (ap number_of e) (omega arith) (omega arith)) (λ e. by 4 (ap number_of e) (omega arith) (omega arith)) s
-  where
-    by : (n : ℕ) → number_of k ≡ n → (n ≡ 1 → ⊥) → (n ≡ 3 → ⊥) → (number_of k ≡ 1 → ⊥) × (number_of k ≡ 3 → ⊥)
-    by n e a b = (λ h. a (sym e ∙ h), λ h. b (sym e ∙ h))
-
--- kinds that have no old bytes before the new ones
-pub not_first : (k : Kind) → (k ≡ Fresh) ⊎ ((k ≡ Blank) ⊎ (k ≡ Witness)) → number_of k ≡ 1 → ⊥
-not_first k s h = ⊎_elim (λ e. by 2 (ap number_of e) (omega arith)) (λ t. ⊎_elim (λ e. by 3 (ap number_of e) (omega arith)) (λ e. by 4 (ap number_of e) (omega arith)) t) s
-  where
-    by : (n : ℕ) → number_of k ≡ n → (n ≡ 1 → ⊥) → ⊥
-    by n e a = a (sym e ∙ h)
-
 abbrev end_or : Bool → ℕ → Option ℕ
 end_or b x = elim b as (λ y. Option ℕ) [ true ↦ Some x | false ↦ None ]
-
-module _ (kind size from m x : ℕ) (e : from + times_long kind * size ≡ x) where
-  ended : bytes_end kind size from m ≡ end_or (leb x m) x
-  unfolding bytes_end
-  ended = ap (λ (y : ℕ). end_or (leb y m) y) e
-
-  pub ends : x ≤ m → Some x ≡ bytes_end kind size from m
-  ends h = sym (ended ∙ ap (λ (b : Bool). end_or b x) (le-leb x m h))
-
-  pub ends_not : m < x → None ≡ bytes_end kind size from m
-  ends_not h = sym (ended ∙ ap (λ (b : Bool). end_or b x) (lt-leb x m h))
-
-  -- the last step to the end
-  pub steps : (o : Option ℕ) → MatchOption o (m < x) (λ b. (b ≡ x) × (b ≤ m)) → o ≡ bytes_end kind size from m
-  steps None d = ends_not d
-  steps (Some b) d = let f = d.0 in let l = d.1 in ap Some f ∙ ends (omega arith)
 
 -- ---- the bytes that stand in the file after the change
 

@@ -1,76 +1,28 @@
 -- The test of a range, and the walk step by step. Assumes nothing.
-use Prim.Native.Nat.{ℕ, zero, suc, ◌+◌, ◌-◌, ◌*◌, ◌^◌, ◌≤◌, ◌<◌, max}
+use Prim.Native.Nat.{ℕ, zero, suc, ◌+◌, ◌*◌, ◌^◌, ◌≤◌, ◌<◌, max}
 use native.Mathlib.Omega.{arith}
 use native.Mathlib.Nat.{zero-add}
 use mathlib.Core.Path.{◌≡◌, refl, sym, ap, ap₂, ◌∙◌, subst}
 use Rattle.std.proofs.lemmas.List.{ext_get_or}
-use mathlib.Core.Logic.{⊎_elim}
-use mathlib.Core.Bool.{Bool, true, false, ◌&&◌, ◌||◌}
+use mathlib.Core.Bool.{Bool, true, false, ◌&&◌}
 use mathlib.Core.List.{List}
 use lib.ListN.{length, get_or, set}
-use lib.Dec.{eqb, leb, ltb}
-use borrow.Author.Tests.{eq-eqb, ne_eqb, le-leb, lt-leb, leb-true, lt-ltb, le-ltb, ltb-true}
+use lib.Dec.{leb, ltb}
+use borrow.Author.Tests.{eq-eqb, ne_eqb, leb-true, ltb-true}
 use Rattle.byte_strings.specs.Lists.{Bytes}
 use Rattle.byte_strings.proofs.Lists.{length_run, get_or_run}
 use Rattle.byte_strings.proofs.Numbers.{eight_lt}
 use Rattle.byte_strings.specs.Lowest.{Lowest, lowest}
 use Rattle.byte_strings.proofs.Bools.{both_true}
-use Rattle.journal.specs.Form.{length_of, states_right}
-use Rattle.journal.specs.Places.{old_at, new_at, file_at, kind_at, start_at, size_at, behind, whole}
-use Rattle.journal.specs.Reading.{place_of, whether, numbers_right, reach_of, follows, range_right, stop_at, covered_by, is_full, gap_says, walk, walked, old_lengths, table, states_say, state_right}
-use Rattle.std.specs.Prelude.{◌⊎◌, Option, Some, None, MatchOption, Ok, Err}
+use Rattle.journal.specs.Form.{length_of}
+use Rattle.journal.specs.Places.{old_at, new_at, file_at, start_at, size_at, behind, whole}
+use Rattle.journal.specs.Reading.{place_of, whether, numbers_right, reach_of, follows, range_right, stop_at, covered_by, is_full, gap_says, walk, walked, old_lengths}
+use Rattle.std.specs.Prelude.{Option, Some, None, MatchOption, Ok, Err}
 use Rattle.journal.specs.Reading.{Said}
-use Rattle.journal.specs.declared.JournalError.TheVariants.{State, Range, Gap}
+use Rattle.journal.specs.declared.JournalError.TheVariants.{Range, Gap}
 use Rattle.journal.specs.declared.ranges.RangeAt.{RangeAt}
-use Rattle.journal.specs.declared.kinds.Kind.{Kind}
-use Rattle.journal.specs.declared.kinds.Kind.TheVariants.{Replaced, Fresh, Blank, Witness}
-use Rattle.journal.specs.Kinds.{number_of}
 use Rattle.journal.specs.Found.{Reads, IsRangeAt}
 use Rattle.journal.proofs.Behind.{behind_least}
-
--- ---- the test by numbers
-
--- the last part of it
-abbrev pub lastly : Bool → ℕ → ℕ → ℕ → ℕ → Bool
-lastly b at size old p = elim b as (λ x. Bool) [ true ↦ leb at p | false ↦ leb (at + size) old ]
-
-module _ (kind at size old new a p : ℕ) where
-  pub too_low : at < a → false ≡ numbers_right kind at size old new a p
-  unfolding numbers_right
-  too_low h = sym (ap (λ (b : Bool). b && (leb (at + size) new && lastly (eqb kind 2 || eqb kind 3) at size old p)) (lt-leb a at h))
-
-  pub too_high : a ≤ at → new < at + size → false ≡ numbers_right kind at size old new a p
-  unfolding numbers_right
-  too_high l h =
-      sym (ap₂ (λ (b d : Bool). b && (d && lastly (eqb kind 2 || eqb kind 3) at size old p)) (le-leb a at l) (lt-leb (at + size) new h))
-
-  module _ (l : a ≤ at) (h : at + size ≤ new) where
-    inner : numbers_right kind at size old new a p ≡ lastly (eqb kind 2 || eqb kind 3) at size old p
-    unfolding numbers_right
-    inner = ap₂ (λ (b d : Bool). b && (d && lastly (eqb kind 2 || eqb kind 3) at size old p)) (le-leb a at l) (le-leb (at + size) new h)
-
-    pub free_two : kind ≡ 2 → leb at p ≡ numbers_right kind at size old new a p
-    free_two e = sym (inner ∙ ap (λ (b : Bool). lastly (b || eqb kind 3) at size old p) (eq-eqb kind 2 e))
-
-    pub free_three : (kind ≡ 2 → ⊥) → kind ≡ 3 → leb at p ≡ numbers_right kind at size old new a p
-    free_three n e = sym (inner ∙ ap₂ (λ (b d : Bool). lastly (b || d) at size old p) (ne_eqb kind 2 n) (eq-eqb kind 3 e))
-
-    pub kept_old : (kind ≡ 2 → ⊥) → (kind ≡ 3 → ⊥) → leb (at + size) old ≡ numbers_right kind at size old new a p
-    kept_old n m = sym (inner ∙ ap₂ (λ (b d : Bool). lastly (b || d) at size old p) (ne_eqb kind 2 n) (ne_eqb kind 3 m))
-
--- by the kind itself
-module _ (kind : Kind) (at size old new a p : ℕ) (l : a ≤ at) (h : at + size ≤ new) where
-  pub free_kind : (kind ≡ Fresh) ⊎ (kind ≡ Blank) → leb at p ≡ numbers_right (number_of kind) at size old new a p
-  free_kind s = ⊎_elim (λ e. free_two (number_of kind) at size old new a p l h (ap number_of e)) (λ e. three (ap number_of e)) s
-    where
-      three : number_of kind ≡ 3 → leb at p ≡ numbers_right (number_of kind) at size old new a p
-      three n = free_three (number_of kind) at size old new a p l h (omega arith) n
-
-  pub kept_kind : (kind ≡ Replaced) ⊎ (kind ≡ Witness) → leb (at + size) old ≡ numbers_right (number_of kind) at size old new a p
-  kept_kind s = ⊎_elim (λ e. by 1 (ap number_of e) (omega arith) (omega arith)) (λ e. by 4 (ap number_of e) (omega arith) (omega arith)) s
-    where
-      by : (n : ℕ) → number_of kind ≡ n → (n ≡ 2 → ⊥) → (n ≡ 3 → ⊥) → leb (at + size) old ≡ numbers_right (number_of kind) at size old new a p
-      by n e x y = kept_old (number_of kind) at size old new a p l h (λ k. x (sym e ∙ k)) (λ k. y (sym e ∙ k))
 
 pub inside : (kind at size old new a p : ℕ) → numbers_right kind at size old new a p ≡ true → at + size ≤ new
 unfolding numbers_right
@@ -84,41 +36,6 @@ module _ (file last reach : ℕ) where
   pub reach_other : (file ≡ last → ⊥) → 0 ≡ reach_of file last reach
   unfolding reach_of
   reach_other e = rw (ne_eqb file last e, reach_of)
-
--- ---- a range behind another
-
-module _ (j : List ℕ) (last reach : ℕ) (covered : List ℕ) (q : ℕ) where
-  pub no_file_lem : (f : ℕ) → f ≡ file_at j q → 10 ≤ f → false ≡ follows j last reach covered q
-  unfolding follows
-  no_file_lem f e h = rw (le-ltb (file_at j q) 10 (omega arith), follows)
-
-  pub falling : (f : ℕ) → f ≡ file_at j q → f < 10 → f < last → false ≡ follows j last reach covered q
-  unfolding follows
-  falling f e h l = rw (lt-ltb (file_at j q) 10 (omega arith), lt-leb last (file_at j q) (omega arith), follows)
-
-  pub empty : (f s : ℕ) → f ≡ file_at j q → s ≡ size_at j q → f < 10 → last ≤ f → s < 1 → false ≡ follows j last reach covered q
-  unfolding follows
-  empty f s e d h l g = rw (lt-ltb (file_at j q) 10 (omega arith), le-leb last (file_at j q) (omega arith), lt-leb 1 (size_at j q) (omega arith), follows)
-
-  pub by_numbers : (r : Bool) (f s k o x y a : ℕ) → f ≡ file_at j q → s ≡ size_at j q → k ≡ kind_at j q → o ≡ start_at j q → x ≡ length_of (old_at j f) → y ≡ length_of (new_at j f)
-      → a ≡ reach_of f last reach → f < 10 → last ≤ f → 1 ≤ s → r ≡ numbers_right k o s x y a (get_or covered f 0) → r ≡ follows j last reach covered q
-  unfolding follows
-  by_numbers r f s k o x y a fe se ke oe xe ye ae h l g e =
-      e ∙ rw (xe, ye, ae, fe, se, ke, oe)
-      (rw (lt-ltb (file_at j q) 10 (omega arith), le-leb last (file_at j q) (omega arith), le-leb 1 (size_at j q) (omega arith), follows))
-
--- ---- searches
-
-pub lowest_start : (right : ℕ → Bool) (n : ℕ) → lowest right 0 n ≡ lowest right 0 (n - 0)
-lowest_start right n = let e : n ≡ n - 0 = omega arith in ap (lowest right 0) e
-
-pub state_said : (j : List ℕ) (i o n : ℕ) (r v : Bool) → o ≡ old_at j i → n ≡ new_at j i → r ≡ states_right i o n → r ≡ v → state_right j i ≡ v
-unfolding state_right
-state_said j i o n r v x y e d = sym (ap₂ (states_right i) x y) ∙ sym e ∙ d
-
-pub full_said : (j covered : List ℕ) (i n : ℕ) (v : Bool) → n ≡ length_of (new_at j i) → leb n (get_or covered i 0) ≡ v → is_full j covered i ≡ v
-unfolding is_full
-full_said j covered i n v x e = ap (λ (k : ℕ). leb k (get_or covered i 0)) (sym x) ∙ e
 
 -- ---- the walk
 
@@ -242,11 +159,3 @@ pub gap_none : (j covered : List ℕ) (m : ℕ) (p : Option ℕ) (w : Said) → 
     → gap_says (lowest (is_full j covered) 0 10) (Ok m) ≡ w → Ok m ≡ w
 unfolding gap_says
 gap_none j covered m p w e d g = ap (λ (x : Lowest). gap_says x (Ok m)) (sym (ap place_of e) ∙ d) ∙ g
-
-pub state_at : (j : List ℕ) (m i : ℕ) (p : Option ℕ) → p ≡ Some i → place_of p ≡ lowest (state_right j) 0 10 → Err (State i) ≡ table j m
-unfolding table states_say
-state_at j m i p e d = ap (λ (x : Lowest). states_say x (walked j m)) (sym (ap place_of e) ∙ d)
-
-pub state_none : (j : List ℕ) (m : ℕ) (p : Option ℕ) (r : Said) → p ≡ None → place_of p ≡ lowest (state_right j) 0 10 → r ≡ walked j m → r ≡ table j m
-unfolding table states_say
-state_none j m p r e d g = g ∙ ap (λ (x : Lowest). states_say x (walked j m)) (sym (ap place_of e) ∙ d)

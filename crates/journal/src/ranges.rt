@@ -8,6 +8,7 @@ ghost use Rattle.journal.specs.Found.{IsRangeAt};
 use super::Kind;
 
 // Whether a journal may have this length.
+#[tactic(auto, unfolding(crate::specs::Places::length_right))]
 pub fn length_right(length: usize) -> bool
     ensures { result ≡ length_right length }
 {
@@ -76,6 +77,7 @@ fn step(from: usize, once: usize, end: usize) -> Option<usize>
 }
 
 // Inner: the end of a range's bytes that begin at a place, where they end by `end`.
+#[tactic(auto, unfolding(crate::specs::Places::bytes_end, crate::specs::Places::times_long))]
 fn bytes_end(kind: Kind, size: u64, from: usize, end: usize) -> Option<usize>
     requires { from ≤ end }
     ensures { result ≡ bytes_end (number_of kind) size from end }
@@ -89,6 +91,7 @@ fn bytes_end(kind: Kind, size: u64, from: usize, end: usize) -> Option<usize>
 }
 
 // Inner: the place of the bytes that stand in the file after the change, among a range's bytes that begin at a place.
+#[tactic(auto, unfolding(crate::specs::Places::new_bytes, crate::specs::Places::times_long))]
 fn new_bytes(kind: Kind, size: u64, from: usize, behind: usize) -> usize
     requires { behind ≡ from + times_long (number_of kind) * size }
     ensures { result ≡ new_bytes (number_of kind) size from }

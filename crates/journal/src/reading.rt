@@ -2,7 +2,7 @@
 ghost use Rattle.std.specs.Prelude.{◌≡◌, ◌+◌, ◌^◌, ◌≤◌, ◌<◌, max, set, get_or, length, Ok, Err, MatchResult};
 ghost use Rattle.byte_strings.specs.Lowest.{lowest};
 ghost use Rattle.blake2b.specs.Hash.{node_hash};
-ghost use Rattle.journal.specs.Form.{tree_length, signatures_length, bitfield_length, right_length, states_right};
+ghost use Rattle.journal.specs.Form.{right_length, states_right};
 ghost use Rattle.journal.specs.Kinds.{number_of};
 ghost use Rattle.journal.specs.Places.{old_at, new_at, numbers_at};
 ghost use Rattle.journal.specs.Found.{Reads, numbers_of};
@@ -12,25 +12,8 @@ ghost use Rattle.journal.specs.Reading as Reading;
 use super::ranges::{length_right, range_at, states_at};
 use super::{JournalError, Kind, RangeAt, States};
 
-fn is_tree(length: u64) -> bool
-    ensures { result ≡ tree_length length }
-{
-    length <= 83886072 && (length == 32 || length % 80 == 72)
-}
-
-fn is_signatures(length: u64) -> bool
-    ensures { result ≡ signatures_length length }
-{
-    length <= 67108896 && length % 64 == 32
-}
-
-fn is_bitfield(length: u64) -> bool
-    ensures { result ≡ bitfield_length length }
-{
-    length <= 426016 && length % 3328 == 32
-}
-
 // Whether a register's or a copy's file of this number can have this length.
+#[tactic(auto, unfolding(crate::specs::Form::right_length, crate::specs::Form::tree_length, crate::specs::Form::signatures_length, crate::specs::Form::bitfield_length, crate::specs::Form::data_length, crate::specs::Form::key_length))]
 fn right_length(file: usize, length: u64) -> bool
     ensures { result ≡ right_length file length }
 {
@@ -38,27 +21,23 @@ fn right_length(file: usize, length: u64) -> bool
         return length == 32;
     }
     match file % 4 {
-        0 => is_tree(length),
-        1 => is_signatures(length),
-        2 => is_bitfield(length),
+        0 => length <= 83886072 && (length == 32 || length % 80 == 72),
+        1 => length <= 67108896 && length % 64 == 32,
+        2 => length <= 426016 && length % 3328 == 32,
         _ => length <= 68719476736,
     }
 }
 
 // Whether a file's states grow, to one that it can have.
+#[tactic(auto, unfolding(crate::specs::Form::states_right))]
 fn states_right(file: usize, states: States) -> bool
     ensures { result ≡ states_right file states.old states.new }
 {
-    if states.new < states.old {
-        return false;
-    }
-    if states.new == 0 {
-        return true;
-    }
-    right_length(file, states.new_length())
+    states.old <= states.new && (states.new == 0 || right_length(file, states.new_length()))
 }
 
 // Inner: the lowest file whose states are wrong.
+#[tactic(auto, using(byte_strings::proofs::Lowest::lowest_on, byte_strings::proofs::Lowest::lowest_off, byte_strings::proofs::Lowest::lowest_end), unfolding(crate::specs::Reading::state_right))]
 fn wrong_state(journal: &[u8]) -> Option<usize>
     requires { 184 ≤ length journal.now }
     ensures { place_of result ≡ lowest (state_right journal.now) 0 10 }
@@ -72,6 +51,7 @@ fn wrong_state(journal: &[u8]) -> Option<usize>
 }
 
 // The test of one range by its numbers: behind `start`, and with all up to `covered` covered before it.
+#[tactic(auto, unfolding(crate::specs::Reading::numbers_right))]
 fn numbers_right(range: &RangeAt, old: u64, new: u64, start: u64, covered: u64) -> bool
     ensures { result ≡ numbers_right (number_of range.now.kind) range.now.offset range.now.size old new start covered }
 {
@@ -97,6 +77,7 @@ struct Progress {
 
 impl Progress {
     // Where a range of a file may begin.
+    #[tactic(auto, unfolding(crate::specs::Reading::reach_of))]
     fn start_in(&self, file: u8) -> u64
         ensures { result ≡ reach_of file self.now.last self.now.reach }
     {
@@ -107,6 +88,7 @@ impl Progress {
     }
 
     // Inner: the test of a whole range behind those that were passed.
+    #[tactic(auto, unfolding(crate::specs::Reading::follows))]
     fn allows(&self, journal: &[u8], range: &RangeAt) -> bool
         requires { (184 ≤ length journal.now) × Reads journal.now range.now.at range.now }
         ensures { result ≡ Reading.follows journal.now self.now.last self.now.reach self.now.covered range.now.at }
@@ -152,19 +134,20 @@ fn old_lengths(journal: &[u8]) -> [u64; 10]
     ensures { result ≡ old_lengths journal.now }
 {
     let mut lengths = [0; 10];
-    for file in 0..10 {
-        lengths[file] = states_at(journal, file).old_length();
+    for (file, before) in lengths.iter_mut().enumerate() {
+        *before = states_at(journal, file).old_length();
     }
     lengths
 }
 
 // Inner: the lowest file that is not covered up to its new length.
+#[tactic(auto, using(byte_strings::proofs::Lowest::lowest_on, byte_strings::proofs::Lowest::lowest_off, byte_strings::proofs::Lowest::lowest_end), unfolding(crate::specs::Reading::is_full))]
 fn gap(journal: &[u8], covered: &[u64; 10]) -> Option<usize>
     requires { 184 ≤ length journal.now }
     ensures { place_of result ≡ lowest (is_full journal.now covered.now) 0 10 }
 {
-    for file in 0..10 {
-        if covered[file] < states_at(journal, file).new_length() {
+    for (file, end) in covered.iter().enumerate() {
+        if *end < states_at(journal, file).new_length() {
             return Some(file);
         }
     }
@@ -199,6 +182,7 @@ fn walk(journal: &[u8], end: usize) -> Result<usize, JournalError>
 }
 
 // Inner: the table of a journal whose ranges end at `end`: its states, and its ranges.
+#[tactic(auto, unfolding(crate::specs::Reading::table, crate::specs::Reading::states_say))]
 pub fn judge_table(journal: &[u8], end: usize) -> Result<usize, JournalError>
     requires { (184 ≤ end) × (end ≤ length journal.now) }
     ensures { result ≡ table journal.now end }
@@ -210,6 +194,7 @@ pub fn judge_table(journal: &[u8], end: usize) -> Result<usize, JournalError>
 }
 
 // Inner: whether a journal begins as one does.
+#[tactic(auto, unfolding(byte_strings::specs::Lists::part))]
 pub fn begins(journal: &[u8]) -> bool
     requires { 16 ≤ length journal.now }
     ensures { result ≡ Reading.begins journal.now }
@@ -219,6 +204,7 @@ pub fn begins(journal: &[u8]) -> bool
 }
 
 // Whether bytes are a journal: the encoding of a well_formed one, and no other.
+#[tactic(auto, unfolding(crate::specs::Reading::read, crate::specs::Reading::whether, crate::specs::Reading::and_then, crate::specs::Places::length_right))]
 pub fn check(journal: &[u8]) -> Result<usize, JournalError>
     ensures { result ≡ read node_hash journal.now }
 {
@@ -241,6 +227,7 @@ pub fn check(journal: &[u8]) -> Result<usize, JournalError>
 }
 
 // The range at a place of a journal.
+#[tactic(auto, unfolding(crate::specs::Reading::next_said, crate::specs::Reading::whether, crate::specs::Places::length_right))]
 pub fn next(journal: &[u8], at: usize) -> Result<RangeAt, JournalError>
     ensures { MatchResult result (λ range. (next_said journal.now at ≡ Ok range.behind) × (numbers_of range ≡ numbers_at journal.now at)) (λ error. next_said journal.now at ≡ Err error) }
 {
@@ -251,6 +238,7 @@ pub fn next(journal: &[u8], at: usize) -> Result<RangeAt, JournalError>
 }
 
 // The states of a file.
+#[tactic(auto, unfolding(crate::specs::Reading::states_said, crate::specs::Reading::whether, crate::specs::Places::length_right))]
 pub fn states(journal: &[u8], file: u64) -> Result<States, JournalError>
     ensures { MatchResult result (λ states. (states_said journal.now file ≡ Ok 0) × (states.old ≡ old_at journal.now file) × (states.new ≡ new_at journal.now file)) (λ error. states_said journal.now file ≡ Err error) }
 {

@@ -1,7 +1,7 @@
 // Making a journal in a buffer that is lent: begin, put range by range, end. The end judges all of it as reading does, before it writes.
 #![tactic(auto)]
 
-ghost use Rattle.std.specs.Prelude.{◌≡◌, ◌+◌, ◌*◌, ◌≤◌, ◌<◌, length};
+ghost use Rattle.std.specs.Prelude.{◌≡◌, ◌+◌, ◌*◌, ◌≤◌, ◌<◌, length, OnOk};
 ghost use Rattle.byte_strings.specs.Lists.{put as put_at};
 ghost use Rattle.blake2b.specs.Hash.{node_hash};
 ghost use Rattle.journal.specs.Form.{words};
@@ -15,13 +15,14 @@ fn write_words(journal: &mut [u8], at: usize, numbers: &[u64])
     requires { at + 8 * length numbers.now ≤ length journal.old }
     ensures { journal.new ≡ put_at journal.old at (words numbers.now) }
 {
-    for i in 0..numbers.len() {
-        let bytes = byte_strings::be64(numbers[i]);
-        byte_strings::copy_to(journal, at + 8 * i, &bytes);
+    for (i, number) in numbers.iter().enumerate() {
+        byte_strings::copy_to(journal, at + 8 * i, &byte_strings::be64(*number));
     }
 }
 
 // Begins a journal with the old and the new state of each file; the first range's place.
+// The states are twenty numbers in a list, as `sleep_flat_journal_begin` is lent them.
+#[tactic(auto, unfolding(crate::specs::Making::begin_said, crate::specs::Making::begun, journal::specs::Reading::whether, journal::specs::Reading::if_done))]
 pub fn begin(journal: &mut [u8], states: &[u64; 20]) -> Result<usize, JournalError>
     ensures value { result ≡ begin_said journal.old }
     ensures journal_after { journal.new ≡ begun states.now journal.old }
@@ -49,6 +50,7 @@ fn is_fitting(kind: Kind, size: u64, old: u64, new: u64) -> bool
 }
 
 // Whether a range and a hash have room behind a place.
+#[tactic(auto, unfolding(crate::specs::Making::room_for))]
 fn has_room(long: usize, at: usize, old: usize, new: usize) -> bool
     ensures { result ≡ room_for long at old new }
 {
@@ -84,6 +86,7 @@ fn write_range(journal: &mut [u8], at: usize, kind: Kind, range: &Range)
 }
 
 // Puts a range at a place; the next range's place.
+#[tactic(auto, unfolding(crate::specs::Making::put_said, crate::specs::Making::put_after, crate::specs::Making::room_for, journal::specs::Reading::whether, journal::specs::Reading::if_done))]
 pub fn put(journal: &mut [u8], at: usize, range: &Range) -> Result<usize, JournalError>
     ensures value { result ≡ put_said journal.old at range.now.file range.now.kind range.now.size range.now.old.now range.now.new.now }
     ensures journal_after { journal.new ≡ put_after journal.old at range.now.file range.now.kind range.now.offset range.now.size range.now.old.now range.now.new.now }
@@ -105,8 +108,10 @@ pub fn put(journal: &mut [u8], at: usize, range: &Range) -> Result<usize, Journa
 }
 
 // Inner: what the end says, and writes nothing yet.
+#[tactic(auto, unfolding(crate::specs::Making::end_said, journal::specs::Reading::whether, journal::specs::Reading::and_then, journal::specs::Places::length_right))]
 fn judge_end(journal: &[u8], at: usize) -> Result<usize, JournalError>
-    ensures { result ≡ end_said journal.now at }
+    ensures value { result ≡ end_said journal.now at }
+    ensures room { OnOk result ((184 ≤ at) × (at + 32 ≤ length journal.now)) }
 {
     if journal.len() < 32 || journal.len() - 32 < at {
         return Err(JournalError::Length);

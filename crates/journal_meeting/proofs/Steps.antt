@@ -6,13 +6,13 @@ use mathlib.Core.Bool.{Bool, true, false, ◌&&◌}
 use mathlib.Core.List.{List}
 use lib.ListN.{length}
 use lib.Dec.{eqb, leb}
-use borrow.Author.Tests.{eq-eqb, ne_eqb, lt-leb, lt-ltb, le-ltb}
+use borrow.Author.Tests.{eq-eqb, ne_eqb, lt-leb, lt-ltb}
 use Rattle.byte_strings.specs.Lowest.{Lowest, nowhere, first}
 use Rattle.journal.specs.Form.{state_of}
 use Rattle.journal.specs.Places.{file_at, kind_at, behind, whole, range_at, length_right, body_length}
 use Rattle.journal.specs.Reading.{Said, place_of, whether}
 use Rattle.std.specs.Prelude.{Option, Some, None, Ok, Err}
-use Rattle.journal.specs.declared.JournalError.TheVariants.{Length, NotBetween, Byte, Unfit}
+use Rattle.journal.specs.declared.JournalError.TheVariants.{NotBetween, Byte}
 use Rattle.journal.proofs.Behind.{behind_least}
 use Rattle.journal_meeting.specs.Between.{met_range, or_byte, is_of, met, state_met, between}
 
@@ -77,15 +77,7 @@ module _ (j : List ℕ) (m i : ℕ) (f : List ℕ) where
 -- ---- the call
 
 module _ (j : List ℕ) (i q : ℕ) (there : Bool) (f : List ℕ) where
-  pub between_length : length_right (length j) ≡ false → Err Length ≡ between j i q there f
-  unfolding between whether
-  between_length e = rw e
-
   module _ (l : length_right (length j) ≡ true) where
-    pub between_unfit : 10 ≤ i → Err Unfit ≡ between j i q there f
-    unfolding between whether
-    between_unfit h = rw (l, le-ltb i 10 h)
-
     pub between_state : i < 10 → state_met j i (state_of there (length f)) ≡ false → Err (NotBetween i) ≡ between j i q there f
     unfolding between whether
     between_state h e = rw (l, lt-ltb i 10 h, e)

@@ -78,6 +78,7 @@ fn met(
 }
 
 // Inner: whether the state of a file, there or absent, is from the old to the new one.
+#[tactic(auto, unfolding(crate::specs::Between::state_met))]
 fn state_met(journal: &[u8], file: usize, there: bool, long: usize) -> bool
     requires { (file < 10) × (184 ≤ length journal.now) }
     ensures { result ≡ state_met journal.now file (state_of there long) }
@@ -91,6 +92,8 @@ fn state_met(journal: &[u8], file: usize, there: bool, long: usize) -> bool
 }
 
 // Whether a file as it is, there or absent, is between; its ranges in the journal begin at a place.
+// `there` stands beside the bytes, and no option holds both: `sleep_flat_journal_between` is lent bytes of an absent file too, and `between` judges them.
+#[tactic(auto, unfolding(crate::specs::Between::between, journal::specs::Reading::whether, journal::specs::Places::length_right))]
 pub fn between(
     journal: &[u8],
     file: u64,

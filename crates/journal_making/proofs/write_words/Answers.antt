@@ -10,7 +10,7 @@ loop-i-init c = (words_none _ _ c.args.numbers.now, refl)
 pub loop-i-preserved : goal.loop-i-preserved
 loop-i-preserved c =
     let w = words_next c.args.journal.now c.args.at c.args.numbers.now (omega arith) c.loop-i.journal _ _ c.loop-i.i (omega arith) c.loop-i.invariant.0
-    c.be64-bytes.ensures c.copy_to.ensures in
+    c.be64.ensures c.copy_to.ensures in
     (w, words_long c.args.journal.now c.args.at c.args.numbers.now (omega arith) _ (c.loop-i.i + 1) (omega arith) (omega arith) w)
 
 pub returns : goal.returns

@@ -10,7 +10,7 @@ loop-file-preserved c = (
   simp length-set c.loop-file.invariant.0,
   below_more _ _
       (λ k h. let ne : k ≢ c.loop-file.file = omega arith in rw get_or-set_other (c.loop-file.invariant.1 k h))
-      (let lt : c.loop-file.file < length c.loop-file.lengths = omega (arith, c.loop-file.invariant.0) in
+      (let lt : c.loop-file.file < length c.loop-file.before-items = omega (arith, c.loop-file.invariant.0) in
       rw get_or-set_same (c.old_length.ensures ∙ ap length_of c.states_at.ensures.old)),
 )
 

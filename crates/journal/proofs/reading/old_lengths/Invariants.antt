@@ -7,4 +7,4 @@ use Rattle.journal.specs.Places.{old_at}
 use Rattle.journal.proofs.reading.old_lengths.Given as goal
 
 abbrev pub invariant-loop-file : goal.invariant-loop-file
-invariant-loop-file l = (length l.lengths ≡ 10) × ((k : ℕ) → k < l.file → get_or l.lengths k 0 ≡ length_of (old_at l.journal k))
+invariant-loop-file l = (length l.before-items ≡ 10) × ((k : ℕ) → k < l.file → get_or l.before-items k 0 ≡ length_of (old_at l.journal k))

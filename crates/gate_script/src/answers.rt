@@ -6,7 +6,6 @@ use lookup::{Located, Placed};
 use number_types::{ChunkNumber, TreeIndex};
 use packet::Made;
 use packet_compare::Walked;
-use record_find::Found;
 use search::Searched;
 use stored_leaf::Stored;
 use writing::{Appended, Rooted};
@@ -38,11 +37,11 @@ pub fn search(answer: Searched) {
     }
 }
 
-pub fn found(answer: Found) {
+pub fn found(answer: Result<Option<ChunkNumber>, Refusal>) {
     match answer {
-        Found::Refused(r) => refusal(r),
-        Found::At(chunk) => number(chunk.0),
-        Found::Nowhere => text(b"none"),
+        Err(r) => refusal(r),
+        Ok(Some(chunk)) => number(chunk.0),
+        Ok(None) => text(b"none"),
     }
 }
 

@@ -13,11 +13,11 @@ returns-in-Refused c =
     -- what is told where the read answers so
     behind (λ v d. header_after v d c.args.chunk.0) c.in-Refused.is c.answer_of.ensures c.bytes_of-bytes.ensures refl
 
-pub returns-in-Refused-read_header : goal.returns-in-Refused-read_header
-returns-in-Refused-read_header c =
+pub returns-in-Err : goal.returns-in-Err
+returns-in-Err c =
     behind (λ v d. header_after v d c.args.chunk.0) c.in-Done.is c.answer_of.ensures c.bytes_of-bytes.ensures
-    (header_none _ _ c.no_record.result c.in-Refused-read_header.is c.read_header.ensures c.no_record.ensures)
+    (header_none _ _ c.no_record.result c.in-Err.is c.read_header.ensures c.no_record.ensures)
 
-pub returns-in-Content : goal.returns-in-Content
-returns-in-Content c =
-    behind (λ v d. header_after v d c.args.chunk.0) c.in-Done.is c.answer_of.ensures c.bytes_of-bytes.ensures (header_done _ _ c.in-Content.is c.read_header.ensures)
+pub returns-in-Ok : goal.returns-in-Ok
+returns-in-Ok c =
+    behind (λ v d. header_after v d c.args.chunk.0) c.in-Done.is c.answer_of.ensures c.bytes_of-bytes.ensures (header_done _ _ c.in-Ok.is c.read_header.ensures)

@@ -1,11 +1,11 @@
 -- The numbers that stand for what the calls on records say.
-use Rattle.std.specs.Prelude.{ℕ, ◌≤◌, ◌≡◌, Bool, List, [], ◌∷◌, ◌++◌, length, get_or, drop}
+use Rattle.std.specs.Prelude.{Result, ℕ, ◌≤◌, ◌≡◌, Bool, List, [], ◌∷◌, ◌++◌, length, get_or, drop}
 use Rattle.answer_types.specs.Verdict.{Verdict, none, done, refused, unless_refused}
 use Rattle.byte_strings.specs.Lists.{part, put}
 use Rattle.record_fields.specs.declared.rows.Part.{Part}
 use Rattle.record_format.specs.Records.{HeaderWithin, header_bytes, node_bytes}
 use Rattle.record_format.specs.Post.{Decides, write_verdict, front_unless, written_verdict, written_length, header_of, read_header}
-use Rattle.record_format.specs.declared.answers.Written.{Written}
+use Rattle.answer_types.specs.declared.Refusal.{Refusal}
 use Rattle.record_node.specs.Post.{NodeFits, node_of, read_node}
 use Rattle.record_node.specs.declared.reading.Node.{Node}
 use Rattle.c_records.specs.Flat.{flat_node}
@@ -16,7 +16,7 @@ use Rattle.c_encoding.specs.Encoding.{encoded}
 -- ---- writing
 
 -- what writing says, and the number lent for the length before and after
-pub record Told (w : Written) (long : ℕ) (answer : List ℕ) (long_after : ℕ) : Type 0 where
+pub record Told (w : Result ℕ Refusal) (long : ℕ) (answer : List ℕ) (long_after : ℕ) : Type 0 where
   pub answers : answer ≡ encoded (written_verdict w)
   pub number : long_after ≡ unless_refused (written_verdict w) (written_length w) long
 

@@ -12,22 +12,21 @@ ghost use Rattle.record_find.specs.Finding.{found_of, find_in};
 ghost use Rattle.c_encoding.specs.Encoding.{encoded};
 ghost use Rattle.c_api.specs.Metadata.{WritesHeader, WritesNode, Told, GivesHeader, encoded_node, encoded_found};
 
-use answer_types::Refusal;
+use answer_types::{Answer, Refusal};
 use c_records::FlatNode;
 use number_types::ChunkNumber;
-use record_find::Found;
-use record_format::{HeaderRead, Written};
-use record_node::{Node, NodeRead};
+use record_fields::Part;
+use record_node::Node;
 
 // What writing answers; the number of the bytes written into `length`, unless it is refused.
-fn give_length(written: Written, length: &mut u64) -> [u64; 3]
+fn give_length(written: Result<u64, Refusal>, length: &mut u64) -> [u64; 3]
     ensures { Told written length.old result length.new }
 {
     match written {
-        Written::Refused(refusal) => c_encoding::refused(refusal),
-        Written::Length(bytes) => {
+        Err(refusal) => c_encoding::refused(refusal),
+        Ok(bytes) => {
             *length = bytes;
-            c_encoding::encode(Ok(()))
+            c_encoding::encode(Answer::Done)
         }
     }
 }
@@ -61,14 +60,14 @@ pub extern "C" fn sleep_flat_write_node(
 }
 
 // What reading a Header answers; where its content bytes lie, as two numbers, unless it is refused.
-pub fn give_header(read: HeaderRead, out: &mut [u64; 2]) -> [u64; 3]
+pub fn give_header(read: Result<Part, Refusal>, out: &mut [u64; 2]) -> [u64; 3]
     ensures { GivesHeader (header_told read) out.old result out.new }
 {
     match read {
-        HeaderRead::Refused(refusal) => c_encoding::refused(refusal),
-        HeaderRead::Content(part) => {
+        Err(refusal) => c_encoding::refused(refusal),
+        Ok(part) => {
             *out = [part.at as u64, part.len as u64];
-            c_encoding::encode(Ok(()))
+            c_encoding::encode(Answer::Done)
         }
     }
 }
@@ -82,13 +81,19 @@ pub extern "C" fn sleep_flat_read_header(bytes: &[u8], out: &mut [u64; 2], answe
 }
 
 // What reading a Node answers, and behind it the 67 numbers of its fields, which are all 0 after a refusal.
-pub fn flat(read: NodeRead) -> [u64; 70]
-    ensures { result ≡ encoded_node (node_told read.answer read.node) }
+pub fn flat(read: Result<Node, Refusal>) -> [u64; 70]
+    ensures { result ≡ encoded_node (node_told read) }
 {
-    let said = read.answer;
-    let node = read.node;
-    let answer = c_encoding::encode(said);
-    c_records::answered(answer, FlatNode::from(node))
+    match read {
+        Err(refusal) => {
+            let answer = c_encoding::refused(refusal);
+            c_records::answered(answer, c_records::no_fields())
+        }
+        Ok(node) => {
+            let answer = c_encoding::encode(Answer::Done);
+            c_records::answered(answer, FlatNode::from(node))
+        }
+    }
 }
 
 // The fields of the Node that `bytes` are.
@@ -160,7 +165,7 @@ pub extern "C" fn sleep_flat_node_of(
 }
 
 // Whether a record has the path, 1 or 0, the number of its chunk, which is 0 where none has or the search is refused, and the three numbers of an answer.
-fn with_found(found: u64, chunk: u64, said: Result<(), Refusal>) -> [u64; 5]
+fn with_found(found: u64, chunk: u64, said: Answer) -> [u64; 5]
     ensures { result ≡ found ∷ chunk ∷ encoded (toldBy said) }
 {
     let answer = c_encoding::encode(said);
@@ -168,13 +173,13 @@ fn with_found(found: u64, chunk: u64, said: Result<(), Refusal>) -> [u64; 5]
 }
 
 // What a search answers, as numbers.
-pub fn found_as(found: Found) -> [u64; 5]
+pub fn found_as(found: Result<Option<ChunkNumber>, Refusal>) -> [u64; 5]
     ensures { result ≡ encoded_found (found_of found) }
 {
     match found {
-        Found::Refused(refusal) => with_found(0, 0, Err(refusal)),
-        Found::At(chunk) => with_found(1, chunk.0, Ok(())),
-        Found::Nowhere => with_found(0, 0, Ok(())),
+        Err(refusal) => with_found(0, 0, Answer::Refused(refusal)),
+        Ok(Some(chunk)) => with_found(1, chunk.0, Answer::Done),
+        Ok(None) => with_found(0, 0, Answer::Done),
     }
 }
 

@@ -5,6 +5,7 @@
 mod numbers;
 
 ghost use Rattle.std.specs.Prelude.{◌≡◌};
+ghost use Rattle.record_node.specs.Post.{no_node};
 ghost use Rattle.c_records.specs.Flat.{flat_number, flat_part, flat_bytes, flat_writer, flat_writers, flat_value, flat_node};
 ghost use Rattle.c_records.specs.Flat.{number_in, part_in, bytes_in, writer_in, writers_in, stat_in, value_in, node_in};
 
@@ -93,10 +94,7 @@ impl From<Option<Part>> for FlatBytes {
 
     fn from(field: Option<Part>) -> FlatBytes {
         match field {
-            None => FlatBytes {
-                given: 0,
-                part: FlatPart { at: 0, length: 0 },
-            },
+            None => NO_BYTES,
             Some(part) => FlatBytes {
                 given: 1,
                 part: FlatPart::from(part),
@@ -123,6 +121,18 @@ fn flat_writers(list: [Writer; 8]) -> [FlatWriter; 8]
 }
 
 const NO_NUMBER: FlatNumber = FlatNumber { given: 0, value: 0 };
+
+const NO_PART: FlatPart = FlatPart { at: 0, length: 0 };
+
+const NO_BYTES: FlatBytes = FlatBytes {
+    given: 0,
+    part: NO_PART,
+};
+
+const NOBODY: FlatWriter = FlatWriter {
+    key: NO_PART,
+    permission: NO_BYTES,
+};
 
 // A Stat that is absent.
 const NO_STAT: FlatStat = FlatStat {
@@ -157,6 +167,20 @@ impl From<Option<Stat>> for FlatStat {
                 ctime: FlatNumber::from(stat.ctime),
             },
         }
+    }
+}
+
+// The fields of no Node, all 0: what C is given beside a refusal.
+pub fn no_fields() -> FlatNode
+    ensures { result ≡ flat_node no_node }
+{
+    FlatNode {
+        path: NO_PART,
+        value: NO_STAT,
+        trie: NO_BYTES,
+        count: 0,
+        writers: [NOBODY; 8],
+        sequence: NO_NUMBER,
     }
 }
 

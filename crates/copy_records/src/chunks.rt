@@ -6,9 +6,10 @@ ghost use Rattle.record_format.specs.Post.{header_told};
 ghost use Rattle.record_node.specs.Post.{node_told};
 ghost use Rattle.copy_records.specs.Records.{copy_header, copy_node};
 
+use answer_types::Refusal;
 use number_types::ChunkNumber;
-use record_format::HeaderRead;
-use record_node::NodeRead;
+use record_fields::Part;
+use record_node::Node;
 
 // The Header that a chunk is, as a rule chunk 0: where its content bytes lie in the chunk.
 pub fn header_of(
@@ -18,7 +19,7 @@ pub fn header_of(
     n: u64,
     size: u64,
     chunk: ChunkNumber,
-) -> HeaderRead
+) -> Result<Part, Refusal>
     ensures { header_told result ≡ copy_header node_hash (copy_of tree.now bitfield.now content.now n size) chunk.0 }
 {
     let read = copy_lookup::verify(tree, bitfield, content, n, size, chunk);
@@ -33,8 +34,8 @@ pub fn node_of(
     n: u64,
     size: u64,
     chunk: ChunkNumber,
-) -> NodeRead
-    ensures { node_told result.answer result.node
+) -> Result<Node, Refusal>
+    ensures { node_told result
         ≡ copy_node node_hash (copy_of tree.now bitfield.now content.now n size) chunk.0 }
 {
     let read = copy_lookup::verify(tree, bitfield, content, n, size, chunk);

@@ -1,9 +1,6 @@
 // Records of chunks, and paths. A step gives how long the images are that are lent, n, s and the data size.
 use super::given::{Told, behind, first, number};
-use answer_types::Refusal;
 use number_types::ChunkNumber;
-use record_find::Found;
-use record_format::HeaderRead;
 use record_parts::Field;
 
 // The register lent, and the chunk asked of it.
@@ -61,9 +58,9 @@ fn found(a: Lent, path: &[u8]) {
         a.size,
         path,
     ) {
-        Found::Refused(refusal) => gate_printing::refusal(refusal),
-        Found::At(chunk) => gate_printing::number(chunk.0),
-        Found::Nowhere => gate_printing::text(b"none"),
+        Err(refusal) => gate_printing::refusal(refusal),
+        Ok(Some(chunk)) => gate_printing::number(chunk.0),
+        Ok(None) => gate_printing::text(b"none"),
     }
 }
 
@@ -78,8 +75,8 @@ fn header(a: Lent) {
         a.size,
         a.chunk,
     ) {
-        HeaderRead::Refused(refusal) => gate_printing::refusal(refusal),
-        HeaderRead::Content(_) => gate_printing::text(b"content"),
+        Err(refusal) => gate_printing::refusal(refusal),
+        Ok(_) => gate_printing::text(b"content"),
     }
     gate_printing::text(b" ");
     super::show::part(record_parts::header_content_of(
@@ -95,7 +92,7 @@ fn header(a: Lent) {
 }
 
 fn node(a: Lent) {
-    let read = record_find::node_of(
+    match record_find::node_of(
         a.tree,
         a.signatures,
         a.bitfield,
@@ -104,10 +101,9 @@ fn node(a: Lent) {
         a.s,
         a.size,
         a.chunk,
-    );
-    match read.answer {
+    ) {
         Err(refusal) => gate_printing::refusal(refusal),
-        Ok(()) => {
+        Ok(node) => {
             let bytes = lookup::read_one(
                 a.tree,
                 a.signatures,
@@ -118,7 +114,7 @@ fn node(a: Lent) {
                 a.size,
                 a.chunk,
             );
-            super::show::fields(bytes, read.node);
+            super::show::fields(bytes, node);
         }
     }
 }

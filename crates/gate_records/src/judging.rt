@@ -3,7 +3,6 @@ ghost use Rattle.std.specs.Prelude.{◌≤◌};
 
 use super::given::{Told, behind, number};
 use answer_types::Refusal;
-use record_format::{HeaderRead, Written};
 
 pub fn taken(step: &[u8], told: Told, kind: u8) -> Told {
     match kind {
@@ -48,10 +47,10 @@ fn header_into(step: &[u8], out: &mut [u8]) {
     wrote(written, out);
 }
 
-fn wrote(written: Written, out: &[u8]) {
+fn wrote(written: Result<u64, Refusal>, out: &[u8]) {
     match written {
-        Written::Refused(refusal) => gate_printing::refusal(refusal),
-        Written::Length(count) => {
+        Err(refusal) => gate_printing::refusal(refusal),
+        Ok(count) => {
             gate_printing::number(count);
             gate_printing::text(b" ");
             super::show::part(super::given::first(out, count));
@@ -62,19 +61,16 @@ fn wrote(written: Written, out: &[u8]) {
 }
 
 fn read_node(bytes: &[u8]) {
-    let read = record_node::read_node(bytes);
-    let answer = read.answer;
-    let node = read.node;
-    match answer {
+    match record_node::read_node(bytes) {
         Err(refusal) => gate_printing::refusal(refusal),
-        Ok(()) => super::show::fields(bytes, node),
+        Ok(node) => super::show::fields(bytes, node),
     }
 }
 
 fn read_header(bytes: &[u8]) {
     match record_format::read_header(bytes) {
-        HeaderRead::Refused(refusal) => gate_printing::refusal(refusal),
-        HeaderRead::Content(_) => {
+        Err(refusal) => gate_printing::refusal(refusal),
+        Ok(_) => {
             gate_printing::text(b"content ");
             super::show::part(record_parts::header_content(bytes));
         }
@@ -83,19 +79,12 @@ fn read_header(bytes: &[u8]) {
 
 // 1 where bytes are a Header (kind 0) or a Node, 0 where they are none.
 fn judge(kind: u64, bytes: &[u8]) {
-    if kind == 0 {
-        match record_format::read_header(bytes) {
-            HeaderRead::Refused(_) => gate_printing::text(b"0"),
-            HeaderRead::Content(_) => gate_printing::text(b"1"),
-        }
+    let taken = if kind == 0 {
+        record_format::read_header(bytes).is_ok()
     } else {
-        let read = record_node::read_node(bytes);
-        let answer = read.answer;
-        match answer {
-            Err(_) => gate_printing::text(b"0"),
-            Ok(()) => gate_printing::text(b"1"),
-        }
-    }
+        record_node::read_node(bytes).is_ok()
+    };
+    gate_printing::text(if taken { b"1" } else { b"0" });
 }
 
 // Each beginning of a record.

@@ -5,7 +5,6 @@ use gate_printing::{hex, number, refusal, text};
 use lookup::{Located, Placed};
 use number_types::{ChunkNumber, TreeIndex};
 use packet_compare::Walked;
-use record_find::Found;
 
 // An answer, and behind it the root hash, or zeros after a refusal.
 pub fn root(given: Result<[u8; 32], Refusal>) {
@@ -25,11 +24,11 @@ pub fn search(answer: Result<Option<ChunkNumber>, Refusal>) {
     }
 }
 
-pub fn found(answer: Found) {
+pub fn found(answer: Result<Option<ChunkNumber>, Refusal>) {
     match answer {
-        Found::Refused(r) => refusal(r),
-        Found::At(chunk) => number(chunk.0),
-        Found::Nowhere => text(b"none"),
+        Err(r) => refusal(r),
+        Ok(Some(chunk)) => number(chunk.0),
+        Ok(None) => text(b"none"),
     }
 }
 

@@ -4,7 +4,6 @@ use super::{answers, parts, words};
 use gate_printing::answer;
 use gate_samples::Told;
 use number_types::ChunkNumber;
-use record_format::HeaderRead;
 
 pub fn asked(t: &[u8], g: &[u8], b: &[u8], d: &[u8], text: &[u8], line: Line, told: Told) {
     let x = line.numbers;
@@ -57,12 +56,13 @@ fn packed(t: &[u8], b: &[u8], d: &[u8], n: u64, size: u64, chunk: ChunkNumber, r
 fn record(t: &[u8], b: &[u8], d: &[u8], n: u64, size: u64, chunk: ChunkNumber) {
     if chunk.0 == 0 {
         match copy_records::header_of(t, b, d, n, size, chunk) {
-            HeaderRead::Refused(refusal) => gate_printing::refusal(refusal),
-            HeaderRead::Content(_) => gate_printing::text(b"done"),
+            Err(refusal) => gate_printing::refusal(refusal),
+            Ok(_) => gate_printing::text(b"done"),
         }
     } else {
-        let read = copy_records::node_of(t, b, d, n, size, chunk);
-        let said = read.answer;
-        answer(said);
+        match copy_records::node_of(t, b, d, n, size, chunk) {
+            Err(refusal) => gate_printing::refusal(refusal),
+            Ok(_) => gate_printing::text(b"done"),
+        }
     }
 }

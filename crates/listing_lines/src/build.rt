@@ -12,7 +12,7 @@ pub struct Told {
     pub size: u64,
 }
 
-// One more chunk, and 64 zero bytes as its signature.
+// One more chunk, and 64 zero bytes as its signature. Neither call is refused here, as the contract says.
 fn add(
     tree: &mut [u8],
     signatures: &mut [u8],
@@ -29,9 +29,9 @@ fn add(
         (register_of tree.new signatures.new bitfield.new content.new (n + 1) (n + 1)
         (size + length chunk.now)) }
 {
-    writing::append(tree, signatures, bitfield, content, n, n, size, chunk);
+    let _ = writing::append(tree, signatures, bitfield, content, n, n, size, chunk);
     let signature = [0u8; 64];
-    writing::store_signature(
+    let _ = writing::store_signature(
         tree,
         signatures,
         bitfield,
@@ -129,6 +129,6 @@ pub fn read(
     if 64 < count {
         return nothing;
     }
-    writing::start(tree, signatures, bitfield, content);
+    let _ = writing::start(tree, signatures, bitfield, content);
     read_chunks(input, count, tree, signatures, bitfield, content)
 }

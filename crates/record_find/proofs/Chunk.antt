@@ -1,5 +1,4 @@
 -- What is told of a chunk, from its read and its bytes. Assumes nothing.
-use Rattle.std.specs.Prelude.{Result, Ok, Err, ⊤}
 use Prim.Native.Nat.{ℕ, ◌+◌, ◌-◌, ◌≤◌}
 use mathlib.Core.Path.{◌≡◌, refl, sym, ap, ap₂, ◌∙◌, subst}
 use mathlib.Core.Bool.{Bool, true, false, cond}
@@ -11,6 +10,7 @@ use Rattle.answer_types.specs.Verdict.{Spot, Verdict, tree, done, refused}
 use Rattle.answer_types.specs.Verdict as verdicts
 use Rattle.answer_types.specs.Meaning.{refusal_of, said, spot_of}
 use Rattle.answer_types.specs.declared.Refusal.{Refusal}
+use Rattle.answer_types.specs.declared.Answer.{Answer}
 use Rattle.byte_strings.specs.Lists.{part, same_list}
 use Rattle.tree_index.specs.Tree.{index}
 use Rattle.file_format.specs.Messages.{leaf_message}
@@ -26,8 +26,7 @@ use Rattle.record_fields.specs.declared.rows.Part.{Part}
 use Rattle.record_format.specs.Records.{Header, Node}
 use Rattle.record_format.specs.From.{header_from, node_from}
 use Rattle.record_format.specs.Post.{told_of, no_part, content_part, header_told, read_header}
-use Rattle.record_format.specs.declared.headers.HeaderRead.{HeaderRead}
-use Rattle.record_format.specs.declared.headers.HeaderRead.TheVariants.{Err as NoHeader, Content}
+use Rattle.std.specs.Prelude.{Result, Ok, Err}
 use Rattle.record_format.proofs.Whole.{told_done, told_some}
 use Rattle.record_node.specs.Post.{node_placed, no_node, node_told, read_node}
 use Rattle.record_node.specs.Theorems.{Placed}
@@ -35,7 +34,6 @@ use Rattle.record_node.specs.declared.reading.Node.{Node as CodeNode}
 use Rattle.record_node.proofs.Lying.{nodes_placed}
 use Rattle.record_find.specs.ChunkRecords.{compared_told, after_read, node_after, path_after}
 use Rattle.record_find.specs.Inner.{ReadIn, Readable, read_behind}
-use Rattle.record_find.specs.declared.chunks.Compared.TheVariants.{Err as NotCompared}
 
 -- ---- the bytes of a chunk
 
@@ -50,24 +48,24 @@ module _ (d : List ℕ) (i : ℕ) where
   abbrev content : Header → Part
   content h = content_part
 
-  pub header_none : {r : HeaderRead} {x : Refusal} (y : Refusal) → r ≡ NoHeader x → header_told r ≡ read_header verdicts.none d → refusal_of y ≡ refused 15 (tree i)
-      → header_told (NoHeader y) ≡ read_header (tree i) d
+  pub header_none : {r : Result Part Refusal} {x : Refusal} (y : Refusal) → r ≡ Err x → header_told r ≡ read_header verdicts.none d → refusal_of y ≡ refused 15 (tree i)
+      → header_told (Err y) ≡ read_header (tree i) d
   header_none y e h q = moved verdicts.none (tree i) no_part content (header_from d) (sym (ap header_told e) ∙ h) q
 
-  pub header_done : {r : HeaderRead} {p : Part} → r ≡ Content p → header_told r ≡ read_header verdicts.none d → header_told (Content p) ≡ read_header (tree i) d
+  pub header_done : {r : Result Part Refusal} {p : Part} → r ≡ Ok p → header_told r ≡ read_header verdicts.none d → header_told (Ok p) ≡ read_header (tree i) d
   header_done {r} {p} e h = told_done verdicts.none (tree i) no_part content (header_from d) p (sym (ap header_told e) ∙ h)
 
-  module _ (a : Result ⊤ Refusal) (n : CodeNode) (h : node_told a n ≡ read_node verdicts.none d) where
-    pub node_none : {x : Refusal} (y : Refusal) → a ≡ Err x → refusal_of y ≡ refused 15 (tree i) → node_told (Err y) n ≡ read_node (tree i) d
-    node_none y e q = moved verdicts.none (tree i) no_node node_placed (node_from d) (sym (ap (λ (z : Result ⊤ Refusal). node_told z n) e) ∙ h) q
+  pub node_none : {r : Result CodeNode Refusal} {x : Refusal} (y : Refusal) → r ≡ Err x → node_told r ≡ read_node verdicts.none d → refusal_of y ≡ refused 15 (tree i)
+      → node_told (Err y) ≡ read_node (tree i) d
+  node_none y e h q = moved verdicts.none (tree i) no_node node_placed (node_from d) (sym (ap node_told e) ∙ h) q
 
-    pub node_done : a ≡ (Ok tt) → node_told (Ok tt) n ≡ read_node (tree i) d
-    node_done e = told_done verdicts.none (tree i) no_node node_placed (node_from d) n (sym (ap (λ (x : Result ⊤ Refusal). node_told x n) e) ∙ h)
+  pub node_done : {r : Result CodeNode Refusal} {n : CodeNode} → r ≡ Ok n → node_told r ≡ read_node verdicts.none d → node_told (Ok n) ≡ read_node (tree i) d
+  node_done {r} {n} e h = told_done verdicts.none (tree i) no_node node_placed (node_from d) n (sym (ap node_told e) ∙ h)
 
 -- ---- behind the read
 
 -- what is told where the read answers b is told behind it
-pub behind : {T : Type 0} (after : Verdict → List ℕ → T) {a b : Result ⊤ Refusal} {v : Verdict} {d e : List ℕ} {x : T} → a ≡ b → said a ≡ v → d ≡ e → x ≡ after (said b) d → x ≡ after v e
+pub behind : {T : Type 0} (after : Verdict → List ℕ → T) {a b : Answer} {v : Verdict} {d e : List ℕ} {x : T} → a ≡ b → said a ≡ v → d ≡ e → x ≡ after (said b) d → x ≡ after v e
 behind after p q g h = h ∙ ap₂ after (sym (ap said p) ∙ q) g
 
 -- another thing that is told of the same record is refused as the first is
@@ -78,21 +76,22 @@ refused_alike {P} {Q} spot beside tell other tells done none m at p e = ap {B = 
 refused_alike {P} {Q} spot beside tell other tells done (some a) m at p e =
     let q : refused m at ≡ done = ap (λ (x : Verdict × P). x.0) e in let z : ◌≡◌ {A = ℕ} 0 1 = cc in absurd (omega arith)
 
--- of the Node n, where the read answers v and gives the bytes d
-module _ (v : Verdict) (d : List ℕ) (c : ℕ) (a : Result ⊤ Refusal) (n : CodeNode) (h : node_told a n ≡ node_after v d c) (path : List ℕ) where
+-- where the read answers v and gives the bytes d
+module _ (v : Verdict) (d : List ℕ) (c : ℕ) (path : List ℕ) where
   abbrev same_path : Node → Bool
   same_path m = same_list m.path path
 
-  pub path_none : {x : Refusal} → a ≡ Err x → compared_told (NotCompared x) ≡ path_after v d c path
-  path_none {x} e = refused_alike (tree (index 0 c)) no_node node_placed false same_path v (node_from d) x.number (spot_of x.place) n (sym (ap (λ (z : Result ⊤ Refusal). node_told z n) e) ∙ h)
+  pub path_none : (x : Refusal) → node_told (Err x) ≡ node_after v d c → compared_told (Err x) ≡ path_after v d c path
+  path_none x h = refused_alike (tree (index 0 c)) no_node node_placed false same_path v (node_from d) x.number (spot_of x.place) no_node h
 
-  module _ (e : a ≡ (Ok tt)) where
+  -- of the Node n
+  module _ (n : CodeNode) (h : node_told (Ok n) ≡ node_after v d c) where
     read : (w : Verdict) → ◌≡◌ {A = Verdict × CodeNode} (done, n) (node_after w d c) → (m : Node) × ((w ≡ done) × ((node_from d ≡ some m) × (n ≡ node_placed m)))
     read (refused m at) q = let p : done ≡ refused m at = ap (λ (x : Verdict × CodeNode). x.0) q in let z : ◌≡◌ {A = ℕ} 0 1 = cc in absurd (omega arith)
     read done q = let t = told_some (tree (index 0 c)) (tree (index 0 c)) no_node node_placed (node_from d) n q in (t.0, (refl, t.1))
 
     node : (m : Node) × ((v ≡ done) × ((node_from d ≡ some m) × (n ≡ node_placed m)))
-    node = read v (sym (ap (λ (x : Result ⊤ Refusal). node_told x n) e) ∙ h)
+    node = read v h
 
     placed : Placed d node.0
     placed = nodes_placed d node.0 node.1.1.0

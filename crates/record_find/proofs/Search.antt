@@ -13,7 +13,8 @@ use Rattle.lookup.proofs.Calls.{held_by, searched_held, placed_in, verified, rea
 use Rattle.record_find.specs.ChunkRecords.{compared_told, header_after, path_after}
 use Rattle.record_find.specs.Finding.{nowhere, unless_failed, goes, find_down, find_among, find_by, find_in}
 use Rattle.record_find.specs.Inner.{Readable, read_behind, find_behind}
-use Rattle.record_find.specs.declared.chunks.Compared.{Compared}
+use Rattle.answer_types.specs.declared.Refusal.{Refusal}
+use Rattle.std.specs.Prelude.{Result}
 
 -- ---- whatever `judge` tells of the chunks
 
@@ -32,7 +33,7 @@ module _ {judge : ℕ → Verdict × Bool} {n k : ℕ} where
     left_none h = let z : 0 ≡ k - 1 = omega arith in ap (find_down judge) z ∙ l.rest
 
     -- what is told of chunk k - 1 decides, or leaves those below it
-    pub left_told : 1 < k → {x y : Compared} → compared_told x ≡ judge (k - 1) → x ≡ y → goes (k - 1) (compared_told y) (find_down judge (k - 1 - 1)) ≡ find_down judge (n - 1)
+    pub left_told : 1 < k → {x y : Result Bool Refusal} → compared_told x ≡ judge (k - 1) → x ≡ y → goes (k - 1) (compared_told y) (find_down judge (k - 1 - 1)) ≡ find_down judge (n - 1)
     unfolding find_down
     left_told more p e =
         let below : k - 1 ≡ suc (k - 1 - 1) = omega arith in

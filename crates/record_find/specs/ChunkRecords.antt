@@ -1,5 +1,5 @@
 -- The record of a chunk: "It refuses with 15, after that chunk's own read, a chunk that is no such record, the place being its leaf's tree index".
-use Rattle.std.specs.Prelude.{ℕ, Bool, true, false, List}
+use Rattle.std.specs.Prelude.{Result, Ok, Err, ℕ, Bool, false, List}
 use Rattle.answer_types.specs.Verdict.{Spot, Verdict, tree, done, refused}
 use Rattle.answer_types.specs.Meaning.{refusal_of}
 use Rattle.byte_strings.specs.Lists.{same_list}
@@ -12,18 +12,16 @@ use Rattle.record_format.specs.From.{node_from}
 use Rattle.record_format.specs.Post.{told_of, no_part, read_header}
 use Rattle.record_node.specs.Post.{no_node, read_node}
 use Rattle.record_node.specs.declared.reading.Node.{Node as CodeNode}
-use Rattle.record_find.specs.declared.chunks.Compared.{Compared}
-use Rattle.record_find.specs.declared.chunks.Compared.TheVariants.{Refused as NotCompared, Same, Other}
+use Rattle.answer_types.specs.declared.Refusal.{Refusal}
 
 -- whether the path of the Node that bytes are has the same bytes as the one sought; no beside a refusal
 abbrev pub read_path : List ℕ → Spot → List ℕ → Verdict × Bool
 read_path path spot d = told_of spot false (λ (n : Node). same_list n.path path) (node_from d)
 
 -- what each case of the answer tells
-abbrev pub compared_told : Compared → Verdict × Bool
-compared_told (NotCompared x) = (refusal_of x, false)
-compared_told Same = (done, true)
-compared_told Other = (done, false)
+abbrev pub compared_told : Result Bool Refusal → Verdict × Bool
+compared_told (Err x) = (refusal_of x, false)
+compared_told (Ok same) = (done, same)
 
 -- the read comes first: its own refusal, or what is told of the bytes read
 abbrev pub after_read : {P : Type 0} → P → Verdict → Verdict × P → Verdict × P

@@ -1,12 +1,12 @@
 -- "Finding a path gives the highest chunk number from 1 up whose path has the same bytes, or none."
-use Rattle.std.specs.Prelude.{ℕ, zero, suc, Bool, cond, List}
+use Rattle.std.specs.Prelude.{Option as Maybe, None, Some, Result, Ok, Err, ℕ, zero, suc, Bool, cond, List}
 use Rattle.answer_types.specs.Verdict.{Spot, Verdict, done, refused}
 use Rattle.answer_types.specs.Meaning.{spot_of}
 use Rattle.file_format.specs.Belongs.{Register}
 use Rattle.checks.specs.Checks.{judged, register_checks}
 use Rattle.record_find.specs.ChunkRecords.{header_in, path_in}
-use Rattle.record_find.specs.declared.finding.Found.{Found}
-use Rattle.record_find.specs.declared.finding.Found.TheVariants.{Refused as NotFound, At, Nowhere}
+use Rattle.answer_types.specs.declared.Refusal.{Refusal}
+use Rattle.number_types.specs.declared.ChunkNumber.{ChunkNumber}
 
 -- what a search ends in: a failure, a chunk, or none
 pub data Outcome : Type 0 where
@@ -14,10 +14,10 @@ pub data Outcome : Type 0 where
   at : ℕ → Outcome
   nowhere : Outcome
 
-abbrev pub found_of : Found → Outcome
-found_of (NotFound x) = failed x.number (spot_of x.place)
-found_of (At c) = at c.0
-found_of Nowhere = nowhere
+abbrev pub found_of : Result (Maybe ChunkNumber) Refusal → Outcome
+found_of (Err x) = failed x.number (spot_of x.place)
+found_of (Ok None) = nowhere
+found_of (Ok (Some c)) = at c.0
 
 -- "the first failure is the answer"
 abbrev pub unless_failed : Verdict → Outcome → Outcome

@@ -11,19 +11,11 @@ ghost use Rattle.record_node.specs.Post.{node_told};
 ghost use Rattle.record_find.specs.ChunkRecords.{compared_told, header_in, node_in};
 ghost use Rattle.record_find.specs.Inner.{ReadIn, header_behind, node_behind, path_behind};
 
-use answer_types::{Place, Refusal};
+use answer_types::{Answer, Place, Refusal};
 use lookup::Verified;
 use number_types::ChunkNumber;
-use record_format::HeaderRead;
-use record_node::NodeRead;
-
-// Whether the path of a chunk's Node is the one sought.
-#[derive(Clone, Copy)]
-pub enum Compared {
-    Refused(Refusal),
-    Same,
-    Other,
-}
+use record_fields::Part;
+use record_node::Node;
 
 // Inner: number 15 at the leaf of a chunk.
 fn no_record(chunk: ChunkNumber) -> Refusal
@@ -38,77 +30,50 @@ fn no_record(chunk: ChunkNumber) -> Refusal
 }
 
 // Inner: the Header that a chunk is, behind its read.
-pub fn header_behind(read: Verified, content: &[u8], chunk: ChunkNumber) -> HeaderRead
+pub fn header_behind(read: Verified, content: &[u8], chunk: ChunkNumber) -> Result<Part, Refusal>
     requires { ReadIn content.now chunk.0 (verified_of read) }
     ensures { header_told result ≡ header_behind content.now chunk.0 (verified_of read) }
 {
     let bytes = lookup::bytes_of(content, read);
     match lookup::answer_of(read) {
-        Err(refusal) => HeaderRead::Refused(refusal),
-        Ok(()) => match record_format::read_header(bytes) {
-            HeaderRead::Refused(_) => HeaderRead::Refused(no_record(chunk)),
-            HeaderRead::Content(part) => HeaderRead::Content(part),
+        Answer::Refused(refusal) => Err(refusal),
+        Answer::Done => match record_format::read_header(bytes) {
+            Err(_) => Err(no_record(chunk)),
+            Ok(part) => Ok(part),
         },
     }
 }
 
 // Inner: the Node that a chunk is, behind its read.
-pub fn node_behind(read: Verified, content: &[u8], chunk: ChunkNumber) -> NodeRead
+pub fn node_behind(read: Verified, content: &[u8], chunk: ChunkNumber) -> Result<Node, Refusal>
     requires { ReadIn content.now chunk.0 (verified_of read) }
-    ensures { node_told result.answer result.node ≡ node_behind content.now chunk.0 (verified_of read) }
+    ensures { node_told result ≡ node_behind content.now chunk.0 (verified_of read) }
 {
     let bytes = lookup::bytes_of(content, read);
     match lookup::answer_of(read) {
-        Err(refusal) => {
-            let none = record_node::no_node();
-            let node = none.node;
-            NodeRead {
-                answer: Err(refusal),
-                node,
-            }
-        }
-        Ok(()) => {
-            let told = record_node::read_node(bytes);
-            let answer = told.answer;
-            let node = told.node;
-            match answer {
-                Ok(()) => NodeRead {
-                    answer: Ok(()),
-                    node,
-                },
-                Err(_) => {
-                    let refusal = no_record(chunk);
-                    NodeRead {
-                        answer: Err(refusal),
-                        node,
-                    }
-                }
-            }
-        }
+        Answer::Refused(refusal) => Err(refusal),
+        Answer::Done => match record_node::read_node(bytes) {
+            Err(_) => Err(no_record(chunk)),
+            Ok(node) => Ok(node),
+        },
     }
 }
 
 // Inner: whether the Node that a chunk is has a path, behind its read.
-pub fn path_behind(read: Verified, content: &[u8], chunk: ChunkNumber, path: &[u8]) -> Compared
+pub fn path_behind(
+    read: Verified,
+    content: &[u8],
+    chunk: ChunkNumber,
+    path: &[u8],
+) -> Result<bool, Refusal>
     requires { ReadIn content.now chunk.0 (verified_of read) }
     ensures { compared_told result ≡ path_behind content.now chunk.0 (verified_of read) path.now }
 {
-    let told = node_behind(read, content, chunk);
-    let answer = told.answer;
-    let node = told.node;
-    match answer {
-        Err(refusal) => Compared::Refused(refusal),
-        Ok(()) => {
-            let bytes = lookup::bytes_of(content, read);
-            let part = node.path;
-            let from = part.at;
-            let to = from + part.len;
-            if byte_strings::same(&bytes[from..to], path) {
-                return Compared::Same;
-            }
-            Compared::Other
-        }
-    }
+    let node = node_behind(read, content, chunk)?;
+    let bytes = lookup::bytes_of(content, read);
+    let part = node.path;
+    let to = part.at + part.len;
+    Ok(byte_strings::same(&bytes[part.at..to], path))
 }
 
 // The Header that a chunk is, as a rule chunk 0: where its content bytes lie in the chunk.
@@ -121,7 +86,7 @@ pub fn header_of(
     s: u64,
     size: u64,
     chunk: ChunkNumber,
-) -> HeaderRead
+) -> Result<Part, Refusal>
     ensures { header_told result
         ≡ header_in node_hash
         (register_of tree.now signatures.now bitfield.now content.now n s size)
@@ -131,7 +96,7 @@ pub fn header_of(
     header_behind(read, content, chunk)
 }
 
-// The Node that a chunk is: its fields, with parts of the chunk; a Node that says nothing beside a refusal.
+// The Node that a chunk is: its fields, with parts of the chunk.
 pub fn node_of(
     tree: &[u8],
     signatures: &[u8],
@@ -141,8 +106,8 @@ pub fn node_of(
     s: u64,
     size: u64,
     chunk: ChunkNumber,
-) -> NodeRead
-    ensures { node_told result.answer result.node
+) -> Result<Node, Refusal>
+    ensures { node_told result
         ≡ node_in node_hash
         (register_of tree.now signatures.now bitfield.now content.now n s size)
         chunk.0 }

@@ -8,19 +8,9 @@ ghost use Rattle.lookup.specs.Meaning.{verified_of};
 ghost use Rattle.record_find.specs.Finding.{found_of, find_down, find_in};
 ghost use Rattle.record_find.specs.Inner.{Readable, read_behind, judge_behind, find_behind};
 
-use super::chunks::Compared;
-use answer_types::Refusal;
+use answer_types::{Answer, Refusal};
 use lookup::Verified;
 use number_types::ChunkNumber;
-use record_format::HeaderRead;
-
-// What a search answers: a refusal, the chunk found, or that no record has the path.
-#[derive(Clone, Copy)]
-pub enum Found {
-    Refused(Refusal),
-    At(ChunkNumber),
-    Nowhere,
-}
 
 // The read of a chunk, in a register that passes the checks 2 to 6 or a copy that passes its own.
 fn read_in(
@@ -35,12 +25,19 @@ fn read_in(
     ensures { verified_of result
         ≡ read_behind partly tree.now bitfield.now content.now n node_hash done chunk.0 }
 {
-    let placed = lookup::held_place_behind(Ok(()), tree, bitfield, partly, n, chunk);
+    let placed = lookup::held_place_behind(Answer::Done, tree, bitfield, partly, n, chunk);
     lookup::verify_placed(tree, content, chunk, placed)
 }
 
 // The chunks from the latest down to chunk 1.
-fn search(tree: &[u8], bitfield: &[u8], partly: bool, content: &[u8], n: u64, path: &[u8]) -> Found
+fn search(
+    tree: &[u8],
+    bitfield: &[u8],
+    partly: bool,
+    content: &[u8],
+    n: u64,
+    path: &[u8],
+) -> Result<Option<ChunkNumber>, Refusal>
     requires { Readable partly tree.now bitfield.now content.now n }
     ensures { found_of result
         ≡ find_down
@@ -50,52 +47,45 @@ fn search(tree: &[u8], bitfield: &[u8], partly: bool, content: &[u8], n: u64, pa
     for c in (1..n).rev() {
         let chunk = ChunkNumber(c);
         let read = read_in(tree, bitfield, partly, content, n, chunk);
-        match super::chunks::path_behind(read, content, chunk, path) {
-            Compared::Refused(refusal) => {
-                return Found::Refused(refusal);
-            }
-            Compared::Same => {
-                return Found::At(chunk);
-            }
-            Compared::Other => {}
+        let same = super::chunks::path_behind(read, content, chunk, path)?;
+        if same {
+            return Ok(Some(chunk));
         }
     }
-    Found::Nowhere
+    Ok(None)
 }
 
 // Inner: what `find` says, behind the answer of the checks.
 pub fn find_behind(
-    checked: Result<(), Refusal>,
+    checked: Answer,
     tree: &[u8],
     bitfield: &[u8],
     partly: bool,
     content: &[u8],
     n: u64,
     path: &[u8],
-) -> Found
+) -> Result<Option<ChunkNumber>, Refusal>
     requires { said checked ≡ done → Readable partly tree.now bitfield.now content.now n }
     ensures { found_of result
         ≡ find_behind partly tree.now bitfield.now content.now n node_hash (said checked)
         path.now }
 {
     match checked {
-        Err(refusal) => Found::Refused(refusal),
-        Ok(()) => {
+        Answer::Refused(refusal) => Err(refusal),
+        Answer::Done => {
             if n == 0 {
-                return Found::Nowhere;
+                return Ok(None);
             }
             let first = ChunkNumber(0);
             let read = read_in(tree, bitfield, partly, content, n, first);
-            match super::chunks::header_behind(read, content, first) {
-                HeaderRead::Refused(refusal) => Found::Refused(refusal),
-                HeaderRead::Content(_) => search(tree, bitfield, partly, content, n, path),
-            }
+            let _header = super::chunks::header_behind(read, content, first)?;
+            search(tree, bitfield, partly, content, n, path)
         }
     }
 }
 
 // The highest chunk number from 1 up whose record has a path of the same bytes. Chunk 0, then the records from the latest down to the one
-// found, are read and judged in turn, and the first failure is the answer; an empty register has none.
+// found, are read and judged in turn, and the first failure is the answer; none where no record has the path, as in an empty register.
 pub fn find(
     tree: &[u8],
     signatures: &[u8],
@@ -105,7 +95,7 @@ pub fn find(
     s: u64,
     size: u64,
     path: &[u8],
-) -> Found
+) -> Result<Option<ChunkNumber>, Refusal>
     ensures { found_of result
         ≡ find_in node_hash
         (register_of tree.now signatures.now bitfield.now content.now n s size)

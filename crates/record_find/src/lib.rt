@@ -6,4 +6,4 @@ mod finding;
 
 // The functions ending in `_behind` are inner: the records of a copy share them.
 pub use chunks::{header_behind, header_of, node_behind, node_of};
-pub use finding::{Found, find, find_behind};
+pub use finding::{find, find_behind};

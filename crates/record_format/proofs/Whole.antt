@@ -22,15 +22,13 @@ use Rattle.record_format.specs.From.{header_from}
 use Rattle.record_format.specs.Theorems.{Rejected}
 use Rattle.record_format.specs.Post.{write_verdict, length_unless, front_unless, written_verdict, written_length, Decides, WrittenAs, header_of}
 use Rattle.record_format.specs.Post.{HeaderWrittenAs, header_start, told_of, no_part, content_part, read_header, header_told, ContentPlaced, HeadersWrittenBack}
-use Rattle.record_format.specs.declared.answers.Written.{Written}
-use Rattle.record_format.specs.declared.answers.Written.TheVariants.{Refused, Length}
-use Rattle.record_format.specs.declared.headers.HeaderRead.TheVariants.{Refused as NoHeader, Content}
+use Rattle.std.specs.Prelude.{Result, Ok, Err}
 use Rattle.record_format.proofs.From.{each_read}
 
 -- ---- writing, from the tests that led to the answer
 
 module _ (W : Type 0) (bytes out : List ℕ) where
-  says : (fits : Bool) (answer : Written) (after : List ℕ) (v : Verdict) → Decides W fits → write_verdict fits (length bytes) (length out) ≡ v → written_verdict answer ≡ v
+  says : (fits : Bool) (answer : Result ℕ Refusal) (after : List ℕ) (v : Verdict) → Decides W fits → write_verdict fits (length bytes) (length out) ≡ v → written_verdict answer ≡ v
       → written_length answer ≡ length_unless v (length bytes) → after ≡ front_unless v bytes out → WrittenAs W bytes out answer after
   says fits answer after v d e p q r = record {
     fits = fits;
@@ -40,20 +38,20 @@ module _ (W : Type 0) (bytes out : List ℕ) where
     buffer = r ∙ sym (ap (λ (x : Verdict). front_unless x bytes out) e);
   }
 
-  pub written_15 : (r : Refusal) → refusal_of r ≡ refused 15 verdicts.none → (W → ⊥) → WrittenAs W bytes out (Refused r) out
+  pub written_15 : (r : Refusal) → refusal_of r ≡ refused 15 verdicts.none → (W → ⊥) → WrittenAs W bytes out (Err r) out
   unfolding write_verdict
-  written_15 r e n = says false (Refused r) out (refused 15 verdicts.none) n refl e refl refl
+  written_15 r e n = says false (Err r) out (refused 15 verdicts.none) n refl e refl refl
 
-  pub written_14 : (r : Refusal) → refusal_of r ≡ refused 14 verdicts.none → W → length out < length bytes → WrittenAs W bytes out (Refused r) out
+  pub written_14 : (r : Refusal) → refusal_of r ≡ refused 14 verdicts.none → W → length out < length bytes → WrittenAs W bytes out (Err r) out
   unfolding write_verdict
-  written_14 r e w h = says true (Refused r) out (refused 14 verdicts.none) w (rw (lt-leb (length bytes) (length out) h)) e refl refl
+  written_14 r e w h = says true (Err r) out (refused 14 verdicts.none) w (rw (lt-leb (length bytes) (length out) h)) e refl refl
 
-  pub written_done : (k : ℕ) (after : List ℕ) → W → length bytes ≤ length out → k ≡ length bytes → after ≡ put out 0 bytes → WrittenAs W bytes out (Length k) after
+  pub written_done : (k : ℕ) (after : List ℕ) → W → length bytes ≤ length out → k ≡ length bytes → after ≡ put out 0 bytes → WrittenAs W bytes out (Ok k) after
   unfolding write_verdict
-  written_done k after w h e f = says true (Length k) after done w (rw (le-leb (length bytes) (length out) h)) refl e f
+  written_done k after w h e f = says true (Ok k) after done w (rw (le-leb (length bytes) (length out) h)) refl e f
 
 -- what is in bounds and was given as bytes was written
-pub written_given : (W : Type 0) (bytes given out : List ℕ) (answer : Written) (after : List ℕ) → W → given ≡ bytes → WrittenAs (Unit {0}) given out answer after
+pub written_given : (W : Type 0) (bytes given out : List ℕ) (answer : Result ℕ Refusal) (after : List ℕ) → W → given ≡ bytes → WrittenAs (Unit {0}) given out answer after
     → WrittenAs W bytes out answer after
 written_given W bytes given out answer after w e g =
     subst (λ (b : List ℕ). WrittenAs W b out answer after) e
@@ -102,15 +100,15 @@ module _ {A P : Type 0} (spot other : Spot) (beside : P) (tell : A → P) where
   pub told_none : (o : Option A) (v : Verdict) → o ≡ none → v ≡ refused 15 spot → ◌≡◌ {A = Verdict × P} (v, beside) (told_of spot beside tell o)
   told_none o v e q = ap {B = Verdict × P} (λ (x : Verdict). (x, beside)) q ∙ ap (told_of spot beside tell) (sym e)
 
-no_header : (d : List ℕ) (r : Refusal) → refusal_of r ≡ refused 15 verdicts.none → Rejected header_bytes HeaderWithin d → header_told (NoHeader r) ≡ read_header verdicts.none d
+no_header : (d : List ℕ) (r : Refusal) → refusal_of r ≡ refused 15 verdicts.none → Rejected header_bytes HeaderWithin d → header_told (Err r) ≡ read_header verdicts.none d
 no_header d r e n = told_none verdicts.none verdicts.none no_part (λ (h : Header). content_part) (header_from d) (refusal_of r) (each_read.headers.rejects d n) e
 
-pub read_sized : (d : List ℕ) (r : Refusal) → (length d ≡ 46 → ⊥) → refusal_of r ≡ refused 15 verdicts.none → header_told (NoHeader r) ≡ read_header verdicts.none d
+pub read_sized : (d : List ℕ) (r : Refusal) → (length d ≡ 46 → ⊥) → refusal_of r ≡ refused 15 verdicts.none → header_told (Err r) ≡ read_header verdicts.none d
 read_sized d r n e =
     no_header d r e (λ h w q. n (sym (ap length q) ∙ ap length (header_is h w) ∙ omega (arith, length-append header_start h.content, start_length, w.sized)))
 
 pub read_started : (d start : List ℕ) (same : Bool) (r : Refusal) → start ≡ header_start → same ≡ same_list (take 14 d) start → same ≡ false → refusal_of r ≡ refused 15 verdicts.none
-    → header_told (NoHeader r) ≡ read_header verdicts.none d
+    → header_told (Err r) ≡ read_header verdicts.none d
 read_started d start same r s e f q =
     no_header d r q (λ h w p. no (sym f ∙ e ∙ ap (λ (x : List ℕ). same_list x start) (front h w p) ∙ ap (same_list header_start) s ∙ same_refl header_start))
   where
@@ -121,7 +119,7 @@ read_started d start same r s e f q =
     front h w p = ap (take 14) (sym p ∙ header_is h w) ∙ take_at header_start h.content 14 start_length
 
 pub read_content : (d start : List ℕ) (same : Bool) → length d ≡ 46 → start ≡ header_start → same ≡ same_list (take 14 d) start → same ≡ true
-    → header_told (Content (record { at = 14; len = 32 })) ≡ read_header verdicts.none d
+    → header_told (Ok (record { at = 14; len = 32 })) ≡ read_header verdicts.none d
 read_content d start same l s e f =
     ap (told_of verdicts.none no_part (λ (h : Header). content_part))
     (sym (each_read.headers.accepts d (header_of (drop 14 d)) (record { within = record { named = refl; sized = sized }; bytes = bytes })))
@@ -159,16 +157,16 @@ unfolding write_verdict
 has_room true long room w d h = rw (le-leb long room h)
 has_room false long room w d h = absurd (d w)
 
-pub written_whole : (W : Type 0) (bytes out : List ℕ) (answer : Written) (after : List ℕ) → W → WrittenAs W bytes out answer after → length bytes ≤ length out
-    → (answer ≡ Length (length bytes)) × (after ≡ put out 0 bytes)
+pub written_whole : (W : Type 0) (bytes out : List ℕ) (answer : Result ℕ Refusal) (after : List ℕ) → W → WrittenAs W bytes out answer after → length bytes ≤ length out
+    → (answer ≡ Ok (length bytes)) × (after ≡ put out 0 bytes)
 written_whole W bytes out answer after w g h = go answer (g.verdict ∙ is_done_lem) (g.long ∙ ap (λ (v : Verdict). length_unless v (length bytes)) is_done_lem)
   where
     is_done_lem : write_verdict g.fits (length bytes) (length out) ≡ done
     is_done_lem = has_room g.fits (length bytes) (length out) w g.decides h
 
-    go : (x : Written) → written_verdict x ≡ done → written_length x ≡ length bytes → (x ≡ Length (length bytes)) × (after ≡ put out 0 bytes)
-    go (Refused r) e l = let z : ◌≡◌ {A = ℕ} 0 1 = cc in absurd (omega arith)
-    go (Length k) e l = (ap {B = Written} Length l, g.buffer ∙ ap (λ (v : Verdict). front_unless v bytes out) is_done_lem)
+    go : (x : Result ℕ Refusal) → written_verdict x ≡ done → written_length x ≡ length bytes → (x ≡ Ok (length bytes)) × (after ≡ put out 0 bytes)
+    go (Err r) e l = let z : ◌≡◌ {A = ℕ} 0 1 = cc in absurd (omega arith)
+    go (Ok k) e l = (ap {B = Result ℕ Refusal} Ok l, g.buffer ∙ ap (λ (v : Verdict). front_unless v bytes out) is_done_lem)
 
 pub headers_written_back : HeadersWrittenBack
 headers_written_back d p e out answer after g room =
@@ -180,22 +178,22 @@ headers_written_back d p e out answer after g room =
     let bytes : header_bytes (header_of (part_of d p)) ≡ d = ap header_bytes same ∙ a.bytes in
     let r = written_whole (HeaderWithin (header_of (part_of d p))) (header_bytes (header_of (part_of d p))) out answer after (subst HeaderWithin (sym same) a.within) g
     (omega (arith, ap length bytes)) in
-    (r.0 ∙ ap {B = Written} (λ (x : List ℕ). Length (length x)) bytes, r.1 ∙ ap (put out 0) bytes)
+    (r.0 ∙ ap {B = Result ℕ Refusal} (λ (x : List ℕ). Ok (length x)) bytes, r.1 ∙ ap (put out 0) bytes)
 
 -- ---- writing a Header
 
 sized_within : (c : List ℕ) → length c ≡ 32 → HeaderWithin (header_of c)
 sized_within c s = record { named = refl; sized = s }
 
-pub header_15 : (c out : List ℕ) (r : Refusal) → (length c ≡ 32 → ⊥) → refusal_of r ≡ refused 15 verdicts.none → HeaderWrittenAs c out (Refused r) out
+pub header_15 : (c out : List ℕ) (r : Refusal) → (length c ≡ 32 → ⊥) → refusal_of r ≡ refused 15 verdicts.none → HeaderWrittenAs c out (Err r) out
 header_15 c out r n e = written_15 (HeaderWithin (header_of c)) (header_bytes (header_of c)) out r e (λ w. n w.sized)
 
-pub header_14 : (c out : List ℕ) (r : Refusal) → length c ≡ 32 → length out < 46 → refusal_of r ≡ refused 14 verdicts.none → HeaderWrittenAs c out (Refused r) out
+pub header_14 : (c out : List ℕ) (r : Refusal) → length c ≡ 32 → length out < 46 → refusal_of r ≡ refused 14 verdicts.none → HeaderWrittenAs c out (Err r) out
 header_14 c out r s h e =
     written_14 (HeaderWithin (header_of c)) (header_bytes (header_of c)) out r e (sized_within c s) (omega (arith, header_length c s))
 
 pub header_done : (c out start mid after : List ℕ) → length c ≡ 32 → 46 ≤ length out → start ≡ header_start → mid ≡ put out 0 start → after ≡ put mid 14 c
-    → HeaderWrittenAs c out (Length 46) after
+    → HeaderWrittenAs c out (Ok 46) after
 header_done c out start mid after s h p q r =
     written_done (HeaderWithin (header_of c)) (header_bytes (header_of c)) out 46 after (sized_within c s) (omega (arith, header_length c s)) (sym (header_length c s))
     (r ∙ ap (λ (x : List ℕ). put x 14 c) (q ∙ ap (put out 0) p) ∙ behind ∙ ap (put out 0) (sym (start_bytes c s)))

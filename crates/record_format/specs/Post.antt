@@ -1,5 +1,5 @@
 -- The calls on records: what they answer, and what stands in the lent buffer afterwards.
-use Rattle.std.specs.Prelude.{Option as Maybe, None, Some, ℕ, ◌≤◌, ◌≡◌, Bool, true, false, cond, List, [], ◌∷◌, ◌++◌, length, leb}
+use Rattle.std.specs.Prelude.{Result, Ok, Err, Option as Maybe, None, Some, ℕ, ◌≤◌, ◌≡◌, Bool, true, false, cond, List, [], ◌∷◌, ◌++◌, length, leb}
 use Rattle.std.proofs.Math.Option.{Option, none as absent, some}
 use Rattle.answer_types.specs.Verdict.{Spot, Verdict, none, done, refused}
 use Rattle.answer_types.specs.Meaning.{refusal_of}
@@ -9,11 +9,8 @@ use Rattle.record_format.specs.Records.{Header, header_bytes, hyperdrive, Header
 use Rattle.record_format.specs.From.{header_from}
 use Rattle.record_format.specs.Theorems.{Accepted, Rejected}
 use Rattle.record_fields.specs.declared.rows.Part.{Part}
-use Rattle.record_format.specs.declared.answers.Written.{Written}
-use Rattle.record_format.specs.declared.answers.Written.TheVariants.{Refused, Length}
+use Rattle.answer_types.specs.declared.Refusal.{Refusal}
 use Rattle.record_format.specs.declared.stats.Stat.{Stat}
-use Rattle.record_format.specs.declared.headers.HeaderRead.{HeaderRead}
-use Rattle.record_format.specs.declared.headers.HeaderRead.TheVariants.{Refused as NoHeader, Content}
 
 -- ---- writing: "fields outside these bounds gives 15 without a place, before 14"
 
@@ -30,13 +27,13 @@ front_unless done bytes out = put out 0 bytes
 front_unless (refused m at) bytes out = out
 
 -- the verdict and the number that each case of the answer stands for
-abbrev pub written_verdict : Written → Verdict
-written_verdict (Refused r) = refusal_of r
-written_verdict (Length k) = done
+abbrev pub written_verdict : Result ℕ Refusal → Verdict
+written_verdict (Err r) = refusal_of r
+written_verdict (Ok k) = done
 
-abbrev pub written_length : Written → ℕ
-written_length (Refused r) = 0
-written_length (Length k) = k
+abbrev pub written_length : Result ℕ Refusal → ℕ
+written_length (Err r) = 0
+written_length (Ok k) = k
 
 -- whether something holds
 abbrev pub Decides : Type 0 → Bool → Type 0
@@ -44,7 +41,7 @@ Decides W true = W
 Decides W false = W → ⊥
 
 -- what writing these bytes answers, of fields whose being in bounds is W, and the buffer that it leaves, which was `out`
-pub record WrittenAs (W : Type 0) (bytes out : List ℕ) (answer : Written) (after : List ℕ) : Type 0 where
+pub record WrittenAs (W : Type 0) (bytes out : List ℕ) (answer : Result ℕ Refusal) (after : List ℕ) : Type 0 where
   pub fits : Bool
   pub decides : Decides W fits
   pub verdict : written_verdict answer ≡ write_verdict fits (length bytes) (length out)
@@ -52,7 +49,7 @@ pub record WrittenAs (W : Type 0) (bytes out : List ℕ) (answer : Written) (aft
   pub buffer : after ≡ front_unless (write_verdict fits (length bytes) (length out)) bytes out
 
 -- bytes that are in bounds anyway
-abbrev pub GivenAs : List ℕ → List ℕ → Written → List ℕ → Type 0
+abbrev pub GivenAs : List ℕ → List ℕ → Result ℕ Refusal → List ℕ → Type 0
 GivenAs = WrittenAs (Unit {0})
 
 -- ---- the Header
@@ -61,7 +58,7 @@ GivenAs = WrittenAs (Unit {0})
 abbrev pub header_of : List ℕ → Header
 header_of content = record { type = hyperdrive; content = content }
 
-abbrev pub HeaderWrittenAs : List ℕ → List ℕ → Written → List ℕ → Type 0
+abbrev pub HeaderWrittenAs : List ℕ → List ℕ → Result ℕ Refusal → List ℕ → Type 0
 HeaderWrittenAs content out answer after = WrittenAs (HeaderWithin (header_of content)) (header_bytes (header_of content)) out answer after
 
 -- what stands before the content bytes
@@ -85,9 +82,9 @@ abbrev pub read_header : Spot → List ℕ → Verdict × Part
 read_header spot d = told_of spot no_part (λ h. content_part) (header_from d)
 
 -- what each case of the answer tells
-abbrev pub header_told : HeaderRead → Verdict × Part
-header_told (NoHeader r) = (refusal_of r, no_part)
-header_told (Content p) = (done, p)
+abbrev pub header_told : Result Part Refusal → Verdict × Part
+header_told (Err r) = (refusal_of r, no_part)
+header_told (Ok p) = (done, p)
 
 -- the part is the content of the Header that the bytes are
 abbrev pub ContentPlaced : Type 0
@@ -97,9 +94,9 @@ ContentPlaced = (d : List ℕ) (h : Header) → header_from d ≡ some h → Ins
 -- number
 abbrev pub HeadersWrittenBack : Type 0
 HeadersWrittenBack =
-    (d : List ℕ) (p : Part) → header_told (Content p) ≡ read_header none d
-    → (out : List ℕ) (answer : Written) (after : List ℕ) → HeaderWrittenAs (part_of d p) out answer after → length d ≤ length out
-    → (answer ≡ Length (length d)) × (after ≡ put out 0 d)
+    (d : List ℕ) (p : Part) → header_told (Ok p) ≡ read_header none d
+    → (out : List ℕ) (answer : Result ℕ Refusal) (after : List ℕ) → HeaderWrittenAs (part_of d p) out answer after → length d ≤ length out
+    → (answer ≡ Ok (length d)) × (after ≡ put out 0 d)
 
 -- ---- Stat
 

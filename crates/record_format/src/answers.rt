@@ -1,17 +1,10 @@
-// What the calls on records answer.
+// What the calls on records answer: a refusal, or what they give.
 ghost use Rattle.std.specs.Prelude.{◌≡◌};
 ghost use Rattle.answer_types.specs.Verdict.{none, refused};
 ghost use Rattle.answer_types.specs.Meaning.{refusal_of};
 ghost use Rattle.record_format.specs.Post.{GivenAs};
 
 use answer_types::{Place, Refusal};
-
-// What writing answers: a refusal, or the number of bytes written.
-#[derive(Clone, Copy)]
-pub enum Written {
-    Refused(Refusal),
-    Length(u64),
-}
 
 // A refusal that has no place.
 pub fn refusal(number: u64) -> Refusal
@@ -23,13 +16,13 @@ pub fn refusal(number: u64) -> Refusal
     }
 }
 
-// Bytes at the front of the buffer, the rest as it was, or number 14.
-pub fn give(bytes: &[u8], out: &mut [u8]) -> Written
+// Bytes at the front of the buffer, the rest as it was, and how many they are; or number 14.
+pub fn give(bytes: &[u8], out: &mut [u8]) -> Result<u64, Refusal>
     ensures { GivenAs bytes.now out.old result out.new }
 {
     if out.len() < bytes.len() {
-        return Written::Refused(refusal(14));
+        return Err(refusal(14));
     }
     byte_strings::copy_to(out, 0, bytes);
-    Written::Length(bytes.len() as u64)
+    Ok(bytes.len() as u64)
 }

@@ -5,6 +5,6 @@ mod answers;
 mod headers;
 mod stats;
 
-pub use answers::{Written, give, refusal};
-pub use headers::{HeaderRead, read_header, write_header};
+pub use answers::{give, refusal};
+pub use headers::{read_header, write_header};
 pub use stats::{Stat, number_fits, put_stat, read_stat, stat_fits};

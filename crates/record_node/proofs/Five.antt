@@ -1,15 +1,15 @@
 -- The five fields of a Node, as its reader takes them. Assumes nothing.
-use Rattle.std.specs.Prelude.{Result, Ok, ⊤}
-use Rattle.answer_types.specs.declared.Refusal.{Refusal}
 use Prim.Native.Nat.{ℕ, ◌+◌, ◌-◌, ◌<◌, ◌≤◌}
 use mathlib.Core.Path.{◌≡◌, refl, sym, ap, ◌∙◌, subst}
 use mathlib.Core.List.{List, [], ◌++◌, append_assoc, append-nil}
 use mathlib.Core.Option.{Option, none, some}
 use native.Mathlib.Omega.{arith}
 use lib.ListN.{length, take, drop, length-append, length-drop, drop_of_length-le}
-use Rattle.std.specs.Prelude.{Option as Maybe, None, Some}
+use Rattle.std.specs.Prelude.{ok_or, Option as Maybe, None, Some}
 use Rattle.answer_types.specs.Verdict.{Verdict, refused}
 use Rattle.answer_types.specs.Verdict as verdicts
+use Rattle.answer_types.specs.declared.Refusal.{Refusal}
+use Rattle.answer_types.specs.Meaning.{refusal_of}
 use Rattle.byte_strings.specs.Lists.{part}
 use Rattle.record_fields.specs.Reading.{BeginsNot, both, Both}
 use Rattle.record_fields.specs.Fields.{number_field, part_field, Most, Longest, Later}
@@ -26,7 +26,7 @@ use Rattle.record_format.proofs.Unique.{stat_size, writers_later}
 use Rattle.record_format.proofs.From.{each_read}
 use Rattle.record_node.specs.Post.{writers_of, value_of, node_of, all_placed, value_told, node_placed, no_node, node_told, read_node}
 use Rattle.record_node.specs.Inner.{WritersFew, WritersUpto, WritersRead, three_parts, PartsLongest, PartsUpto, PartsRead, tail_bytes, TailWithin, TailAt}
-use Rattle.record_node.specs.Inner.{TailRead, RawFields, raw_bytes, RawWithin, RawAt, RawRead, PathLies, WithPathAs, ValueReadAs, NodeAt}
+use Rattle.record_node.specs.Inner.{TailRead, RawFields, raw_bytes, RawWithin, RawAt, RawRead, PathLies, WithPathAs, ValueReadAs, NodeAt, NodeFound}
 use Rattle.record_node.proofs.Keyed.{given_part}
 use Rattle.record_node.specs.declared.writers.Writers.{Writers}
 use Rattle.record_node.specs.declared.reading.Node.{Node as CodeNode}
@@ -303,12 +303,11 @@ module _ {d : List ℕ} {path value trie : Maybe Part} {ws : Writers} (sequence 
               (sym (number_back sequence));
         }
 
--- ---- a refusal, and a Node
+-- ---- a refusal, or a Node
 
-pub refused_node : (d : List ℕ) (a : Result ⊤ Refusal) {n : CodeNode} → node_told a n ≡ (refused 15 verdicts.none, no_node) → Rejected node_bytes NodeWithin d → node_told a n ≡ read_node verdicts.none d
-refused_node d a h x = h ∙ ap (told_of verdicts.none no_node node_placed) (sym (each_read.nodes.rejects d x))
-
-pub given_node : {d : List ℕ} {n : CodeNode} → NodeAt d n → node_told (Ok tt) n ≡ read_node verdicts.none d
-given_node {d} {n} h =
+pub node_answered : (d : List ℕ) (o : Maybe CodeNode) (r : Refusal) → NodeFound d o → refusal_of r ≡ refused 15 verdicts.none → node_told (ok_or o r) ≡ read_node verdicts.none d
+node_answered d None r h e =
+    ap {B = Verdict × CodeNode} (λ (v : Verdict). (v, no_node)) e ∙ ap (told_of verdicts.none no_node node_placed) (sym (each_read.nodes.rejects d h))
+node_answered d (Some n) r h e =
     ap {B = Verdict × CodeNode} (λ (m : CodeNode). (verdicts.done, m)) h.placed
     ∙ ap (told_of verdicts.none no_node node_placed) (sym (each_read.nodes.accepts d (node_of d n) h.accepted))

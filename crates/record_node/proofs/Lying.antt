@@ -14,8 +14,8 @@ use Rattle.record_fields.proofs.Placed.{field_head, part_inside, part_bytes, Lyi
 use Rattle.record_format.specs.Records.{Stat, Writer, writer_bytes, writers_bytes, Node, NodeWithin, node_bytes, stat_part}
 use Rattle.record_format.specs.From.{node_from}
 use Rattle.record_format.specs.Post.{stat_of, stat_told}
-use Rattle.record_format.specs.declared.answers.Written.{Written}
-use Rattle.record_format.specs.declared.answers.Written.TheVariants.{Length}
+use Rattle.std.specs.Prelude.{Result, Ok}
+use Rattle.answer_types.specs.declared.Refusal.{Refusal}
 use Rattle.record_format.proofs.Unique.{same_writer, same_node}
 use Rattle.record_format.proofs.From.{each_read}
 use Rattle.record_format.proofs.Whole.{told_some, written_whole}
@@ -162,4 +162,4 @@ nodes_written_back d c e out answer after g room =
     let fits : NodeFits d c = subst (NodeFits d) (sym t.1.1) p.fits in
     let bytes : node_bytes (node_of d c) ≡ d = ap (λ (x : _). node_bytes (node_of d x)) t.1.1 ∙ ap node_bytes p.fields ∙ (each_read.nodes.gives d n t.1.0).bytes in
     let r = written_whole (NodeFits d c) (node_bytes (node_of d c)) out answer after fits g (omega (arith, ap length bytes)) in
-    (r.0 ∙ ap {B = Written} (λ (x : List ℕ). Length (length x)) bytes, r.1 ∙ ap (put out 0) bytes)
+    (r.0 ∙ ap {B = Result ℕ Refusal} (λ (x : List ℕ). Ok (length x)) bytes, r.1 ∙ ap (put out 0) bytes)

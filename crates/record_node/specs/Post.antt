@@ -1,16 +1,15 @@
 -- The calls on Nodes: the fields that their parts stand for, what they answer, and what stands in the lent buffer afterwards.
-use Rattle.answer_types.specs.declared.Refusal.{Refusal}
-use Rattle.std.specs.Prelude.{Option as Maybe, None, Some, ℕ, ◌+◌, ◌-◌, ◌<◌, ◌≤◌, List, [], ◌∷◌, ◌++◌, length, get_or, replicate, Result, ⊤}
+use Rattle.std.specs.Prelude.{Result, Ok, Err, Option as Maybe, None, Some, ℕ, ◌+◌, ◌-◌, ◌<◌, ◌≤◌, List, [], ◌∷◌, ◌++◌, length, get_or, replicate}
 use Rattle.std.proofs.Math.Option.{Option, none as absent, some}
 use Rattle.byte_strings.specs.Lists.{run}
-use Rattle.answer_types.specs.Verdict.{Spot, Verdict}
-use Rattle.answer_types.specs.Meaning.{said}
+use Rattle.answer_types.specs.Verdict.{Spot, Verdict, done}
+use Rattle.answer_types.specs.Meaning.{refusal_of}
+use Rattle.answer_types.specs.declared.Refusal.{Refusal}
 use Rattle.record_fields.specs.Fields.{part_field, given_field}
 use Rattle.record_fields.specs.Inner.{number_of, number_told, part_of, bytes_of, Inside, BytesInside, head_of, part_placed, bytes_placed}
 use Rattle.record_format.specs.Records.{Stat, Writer, writer_bytes, Node, NodeWithin, node_bytes, stat_part}
 use Rattle.record_format.specs.From.{node_from}
 use Rattle.record_format.specs.Post.{stat_of, stat_told, no_part, told_of, WrittenAs}
-use Rattle.record_format.specs.declared.answers.Written.{Written}
 use Rattle.record_format.specs.declared.stats.Stat.{Stat as CodeStat}
 use Rattle.record_node.specs.declared.writers.Writer.{Writer as CodeWriter}
 use Rattle.record_node.specs.declared.writers.Writers.{Writers}
@@ -107,9 +106,10 @@ no_node = record { path = no_part; value = None; trie = None; writers = no_write
 abbrev pub read_node : Spot → List ℕ → Verdict × CodeNode
 read_node spot d = told_of spot no_node node_placed (node_from d)
 
--- what an answer and the Node beside it tell
-abbrev pub node_told : Result ⊤ Refusal → CodeNode → Verdict × CodeNode
-node_told answer n = (said answer, n)
+-- what each case of the answer tells
+abbrev pub node_told : Result CodeNode Refusal → Verdict × CodeNode
+node_told (Err r) = (refusal_of r, no_node)
+node_told (Ok n) = (done, n)
 
 -- ---- writing
 
@@ -118,5 +118,5 @@ pub record NodeFits (d : List ℕ) (n : CodeNode) : Type 0 where
   pub inside : NodeInside d n
   pub within : NodeWithin (node_of d n)
 
-abbrev pub NodeWrittenAs : List ℕ → CodeNode → List ℕ → Written → List ℕ → Type 0
+abbrev pub NodeWrittenAs : List ℕ → CodeNode → List ℕ → Result ℕ Refusal → List ℕ → Type 0
 NodeWrittenAs d n out answer after = WrittenAs (NodeFits d n) (node_bytes (node_of d n)) out answer after

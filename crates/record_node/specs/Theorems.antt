@@ -1,12 +1,11 @@
 -- What holds of the definitions and of the calls on Nodes.
-use Rattle.std.specs.Prelude.{ℕ, ◌≤◌, ◌≡◌, List, length, Ok}
+use Rattle.std.specs.Prelude.{Result, Ok, ℕ, ◌≤◌, ◌≡◌, List, length}
 use Rattle.std.proofs.Math.Option.{some}
 use Rattle.answer_types.specs.Verdict.{none}
+use Rattle.answer_types.specs.declared.Refusal.{Refusal}
 use Rattle.byte_strings.specs.Lists.{put}
 use Rattle.record_format.specs.Records.{Node, NodeWithin, node_bytes}
 use Rattle.record_format.specs.From.{node_from}
-use Rattle.record_format.specs.declared.answers.Written.{Written}
-use Rattle.record_format.specs.declared.answers.Written.TheVariants.{Length}
 use Rattle.record_node.specs.Post.{node_of, NodeFits, node_placed, node_told, read_node, NodeWrittenAs}
 use Rattle.record_node.specs.declared.reading.Node.{Node as CodeNode}
 
@@ -22,9 +21,9 @@ NodesPlaced = (d : List ℕ) (n : Node) → node_from d ≡ some n → Placed d 
 -- and their number
 abbrev pub NodesWrittenBack : Type 0
 NodesWrittenBack =
-    (d : List ℕ) (n : CodeNode) → node_told (Ok tt) n ≡ read_node none d
-    → (out : List ℕ) (answer : Written) (after : List ℕ) → NodeWrittenAs d n out answer after → length d ≤ length out
-    → (answer ≡ Length (length d)) × (after ≡ put out 0 d)
+    (d : List ℕ) (n : CodeNode) → node_told (Ok n) ≡ read_node none d
+    → (out : List ℕ) (answer : Result ℕ Refusal) (after : List ℕ) → NodeWrittenAs d n out answer after → length d ≤ length out
+    → (answer ≡ Ok (length d)) × (after ≡ put out 0 d)
 
 -- room for any Node
 abbrev pub node_room : ℕ

@@ -6,6 +6,6 @@ mod reading;
 mod writers;
 mod writing;
 
-pub use reading::{Node, NodeRead, no_node, read_node};
+pub use reading::{Node, read_node};
 pub use writers::{Writer, Writers};
 pub use writing::write_node;

@@ -1,8 +1,8 @@
 // A Node, read of lent bytes.
 ghost use Rattle.std.specs.Prelude.{◌≡◌, ◌≤◌, length};
 ghost use Rattle.record_fields.specs.Inner.{BytesInside};
-ghost use Rattle.answer_types.specs.Verdict.{none, refused};
-ghost use Rattle.record_node.specs.Post.{no_writers, no_node, node_told, read_node};
+ghost use Rattle.answer_types.specs.Verdict.{none};
+ghost use Rattle.record_node.specs.Post.{node_told, read_node};
 ghost use Rattle.record_node.specs.Inner.{PartsRead, TailRead, RawRead, RawJudged, WithPathAs, ValueReadAs, NodeFound};
 
 use super::writers::Writers;
@@ -18,13 +18,6 @@ pub struct Node {
     pub trie: Option<Part>,
     pub writers: Writers,
     pub sequence: Option<u64>,
-}
-
-// What reading a Node answers, and its fields; beside a refusal a Node that says nothing.
-#[derive(Clone, Copy)]
-pub struct NodeRead {
-    pub answer: Result<(), Refusal>,
-    pub node: Node,
 }
 
 // The first three fields, the path and the Stat not yet judged.
@@ -121,33 +114,6 @@ fn read_value(d: &[u8], field: Option<Part>) -> Option<Option<Stat>>
     }
 }
 
-// Nobody at all: what stands beside a refusal.
-fn no_writers() -> Writers
-    ensures { result ≡ no_writers }
-{
-    let none = super::writers::nobody();
-    let list = [none; 8];
-    Writers { count: 0, list }
-}
-
-// Number 15, and a Node that says nothing.
-pub fn no_node() -> NodeRead
-    ensures { node_told result.answer result.node ≡ (refused 15 none, no_node) }
-{
-    let writers = no_writers();
-    let node = Node {
-        path: Part { at: 0, len: 0 },
-        value: None,
-        trie: None,
-        writers,
-        sequence: None,
-    };
-    NodeRead {
-        answer: answer_types::refuse(15),
-        node,
-    }
-}
-
 // Inner: the Node of five fields, the path and the Stat judged.
 fn judged(d: &[u8], raw: Raw) -> Option<Node>
     requires { RawJudged d.now raw }
@@ -173,14 +139,8 @@ fn found_node(d: &[u8]) -> Option<Node>
 }
 
 // The Node that bytes are, or number 15.
-pub fn read_node(bytes: &[u8]) -> NodeRead
-    ensures { node_told result.answer result.node ≡ read_node none bytes.now }
+pub fn read_node(bytes: &[u8]) -> Result<Node, Refusal>
+    ensures { node_told result ≡ read_node none bytes.now }
 {
-    match found_node(bytes) {
-        None => no_node(),
-        Some(node) => NodeRead {
-            answer: Ok(()),
-            node,
-        },
-    }
+    found_node(bytes).ok_or(record_format::refusal(15))
 }

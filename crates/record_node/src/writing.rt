@@ -8,8 +8,8 @@ ghost use Rattle.record_node.specs.Inner.{WriterRoomy, WritersRoomy, NodeRoomy};
 
 use super::reading::Node;
 use super::writers::{Writer, Writers};
-use record_fields::Part;
-use record_format::{Stat, Written};
+use answer_types::Refusal;
+use record_format::Stat;
 
 // Inner: the bytes of a Writer at the front of a buffer that has room for them. How many they are.
 fn put_writer(out: &mut [u8], d: &[u8], writer: Writer) -> usize
@@ -68,11 +68,11 @@ fn put_node(out: &mut [u8], d: &[u8], node: Node) -> usize
 }
 
 // The Node with these fields, whose parts lie in `bytes`, at the front of the buffer, the rest as it was: number 15, then number 14.
-pub fn write_node(bytes: &[u8], node: Node, out: &mut [u8]) -> Written
+pub fn write_node(bytes: &[u8], node: Node, out: &mut [u8]) -> Result<u64, Refusal>
     ensures { NodeWrittenAs bytes.now node out.old result out.new }
 {
     if !super::judging::node_fits(bytes, node) {
-        return Written::Refused(record_format::refusal(15));
+        return Err(record_format::refusal(15));
     }
     let mut record = [0u8; 2070];
     let len = put_node(&mut record, bytes, node);

@@ -1,10 +1,9 @@
 -- A part that is handed back is that of the one record which the bytes are. Assumes nothing.
-use Rattle.std.specs.Prelude.{Result, Ok, Err, ⊤}
 use Prim.Native.Nat.{ℕ, ◌+◌, ◌-◌, ◌<◌, ◌≤◌}
 use mathlib.Core.Path.{◌≡◌, refl, sym, ap, ◌∙◌, subst}
 use mathlib.Core.Logic.{⊎_elim}
 use mathlib.Core.List.{List, [], ◌++◌}
-use mathlib.Core.Option.{none, some}
+use mathlib.Core.Option.{some}
 use native.Mathlib.Omega.{arith}
 use native.Mathlib.Nat.{zero-add}
 use lib.ListN.{length, get_or, take, drop, get_or-eq_default}
@@ -21,12 +20,10 @@ use Rattle.record_fields.specs.Fronts.{or_nothing}
 use Rattle.record_fields.specs.Inner.{bytes_of, part_of, Inside, BytesInside}
 use Rattle.record_fields.proofs.Digits.{two}
 use Rattle.record_fields.specs.declared.rows.Part.{Part}
-use Rattle.std.specs.Prelude.{Option, None, Some}
+use Rattle.std.specs.Prelude.{Option, None, Some, Result, Ok, Err}
 use Rattle.record_format.specs.Records.{Header, header_bytes, Writer, Node, node_bytes}
 use Rattle.record_format.specs.From.{header_from, node_from}
-use Rattle.record_format.specs.Post.{told_of, no_part, content_part, read_header, header_told}
-use Rattle.record_format.specs.declared.headers.HeaderRead.{HeaderRead}
-use Rattle.record_format.specs.declared.headers.HeaderRead.TheVariants.{Err as NoHeader, Content}
+use Rattle.record_format.specs.Post.{no_part, content_part, read_header, header_told}
 use Rattle.record_format.proofs.From.{each_read}
 use Rattle.record_format.proofs.Whole.{told_refused, told_some, content_placed}
 use Rattle.record_node.specs.Post.{writer_of, writers_of, writer_at, no_writer, node_of, node_placed, no_node, node_told, read_node, WriterInside, WritersInside, NodeInside}
@@ -108,65 +105,42 @@ module _ (d : List ℕ) where
   field_bytes n i (Key j) = ap (λ (w : Writer). w.key) (writer_in_lem n.writers i.writers.count j)
   field_bytes n i (Permission j) = ap (λ (w : Writer). or_nothing w.permission) (writer_in_lem n.writers i.writers.count j)
 
-  no_inside : NodeInside d no_node
-  no_inside =
-      record { path = omega arith; trie = tt; writers = record { count = omega arith; each = λ j h. absurd (omega arith) } }
-
-  no_bytes : (f : Field) → or_nothing (bytes_of d (chosen_of no_node f)) ≡ []
-  unfolding part run
-  no_bytes f = field_bytes no_node no_inside f ∙ by f
-    where
-      by : (g : Field) → field_of g (node_of d no_node) ≡ []
-      by Path = refl
-      by Trie = refl
-      by (Key j) = refl
-      by (Permission j) = refl
-
   -- what was read: no Node, or one whose parts lie in the bytes
-  module _ (a : Result ⊤ Refusal) (n : CodeNode) (h : node_told a n ≡ read_node verdicts.none d) where
-    refused_as_lem : (x : Refusal) → a ≡ Err x → (node_from d ≡ none) × (n ≡ no_node)
-    refused_as_lem x e =
-        let o = told_refused verdicts.none verdicts.none no_node node_placed (node_from d) x.number (spot_of x.place) n (sym (ap (λ (y : Result ⊤ Refusal). node_told y n) e) ∙ h) in
-        (o, ap (λ (y : Verdict × CodeNode). y.1) (h ∙ ap (told_of verdicts.none no_node node_placed) o))
+  module _ (x : Result CodeNode Refusal) (h : node_told x ≡ read_node verdicts.none d) where
+    pub node_none : (y : Refusal) → x ≡ Err y → (f : Field) (r : List ℕ) → r ≡ [] → r ≡ node_handed f d
+    node_none y e f r q =
+        q ∙ ap (handed (field_of f)) (sym (told_refused verdicts.none verdicts.none no_node node_placed (node_from d) y.number (spot_of y.place) no_node (sym (ap node_told e) ∙ h)))
 
-    read_as : a ≡ (Ok tt) → (m : Node) × ((node_from d ≡ some m) × (n ≡ node_placed m))
-    read_as e = told_some verdicts.none verdicts.none no_node node_placed (node_from d) n (sym (ap (λ (y : Result ⊤ Refusal). node_told y n) e) ∙ h)
+    module _ (n : CodeNode) (e : x ≡ Ok n) where
+      read_as : (m : Node) × ((node_from d ≡ some m) × (n ≡ node_placed m))
+      read_as = told_some verdicts.none verdicts.none no_node node_placed (node_from d) n (sym (ap node_told e) ∙ h)
 
-    read_inside : NodeInside d n
-    read_inside = by a refl
-      where
-        by : (y : Result ⊤ Refusal) → a ≡ y → NodeInside d n
-        by (Ok tt) e = let m = read_as e in subst (NodeInside d) (sym m.1.1) (nodes_placed d m.0 m.1.0).fits.inside
-        by (Err x) e = subst (NodeInside d) (sym (refused_as_lem x e).1) no_inside
+      read_inside : NodeInside d n
+      read_inside = let m = read_as in subst (NodeInside d) (sym m.1.1) (nodes_placed d m.0 m.1.0).fits.inside
 
-    handed_as : (f : Field) → or_nothing (bytes_of d (chosen_of n f)) ≡ node_handed f d
-    handed_as f = by a refl
-      where
-        by : (y : Result ⊤ Refusal) → a ≡ y → or_nothing (bytes_of d (chosen_of n f)) ≡ node_handed f d
-        by (Ok tt) e =
-            let m = read_as e in
-            field_bytes n read_inside f ∙ ap (λ (k : CodeNode). field_of f (node_of d k)) m.1.1 ∙ ap (field_of f) (nodes_placed d m.0 m.1.0).fields
-            ∙ ap (handed (field_of f)) (sym m.1.0)
-        by (Err x) e =
-            ap (λ (k : CodeNode). or_nothing (bytes_of d (chosen_of k f))) (refused_as_lem x e).1 ∙ no_bytes f ∙ ap (handed (field_of f)) (sym (refused_as_lem x e).0)
+      handed_as : (f : Field) → or_nothing (bytes_of d (chosen_of n f)) ≡ node_handed f d
+      handed_as f =
+          let m = read_as in
+          field_bytes n read_inside f ∙ ap (λ (k : CodeNode). field_of f (node_of d k)) m.1.1 ∙ ap (field_of f) (nodes_placed d m.0 m.1.0).fields
+          ∙ ap (handed (field_of f)) (sym m.1.0)
 
-    pub chosen_inside : (f : Field) (o : Option Part) → o ≡ chosen_of n f → BytesInside d o
-    chosen_inside f o e = subst (BytesInside d) (sym e) (field_inside n read_inside f)
+      pub chosen_inside : (f : Field) (o : Option Part) → o ≡ chosen_of n f → BytesInside d o
+      chosen_inside f o q = subst (BytesInside d) (sym q) (field_inside n read_inside f)
 
-    pub node_handed_lem : (f : Field) (o : Option Part) → o ≡ chosen_of n f → (r : List ℕ) → r ≡ or_nothing (bytes_of d o) → r ≡ node_handed f d
-    node_handed_lem f o e r q = q ∙ ap (λ (x : Option Part). or_nothing (bytes_of d x)) e ∙ handed_as f
+      pub node_handed_lem : (f : Field) (o : Option Part) → o ≡ chosen_of n f → (r : List ℕ) → r ≡ or_nothing (bytes_of d o) → r ≡ node_handed f d
+      node_handed_lem f o q r p = p ∙ ap (λ (y : Option Part). or_nothing (bytes_of d y)) q ∙ handed_as f
 
   -- ---- the content of a Header
 
   abbrev content : Header → Part
   content h = content_part
 
-  module _ (x : HeaderRead) (h : header_told x ≡ read_header verdicts.none d) where
-    pub header_none : (y : Refusal) → x ≡ NoHeader y → (r : List ℕ) → r ≡ [] → r ≡ header_handed d
+  module _ (x : Result Part Refusal) (h : header_told x ≡ read_header verdicts.none d) where
+    pub header_none : (y : Refusal) → x ≡ Err y → (r : List ℕ) → r ≡ [] → r ≡ header_handed d
     header_none y e r q =
         q ∙ ap (handed content_of) (sym (told_refused verdicts.none verdicts.none no_part content (header_from d) y.number (spot_of y.place) no_part (sym (ap header_told e) ∙ h)))
 
-    module _ (p : Part) (e : x ≡ Content p) where
+    module _ (p : Part) (e : x ≡ Ok p) where
       header_as : (m : Header) × ((header_from d ≡ some m) × (p ≡ content_part))
       header_as = told_some verdicts.none verdicts.none no_part content (header_from d) p (sym (ap header_told e) ∙ h)
 

@@ -14,7 +14,6 @@ ghost use Rattle.record_parts.specs.Chosen.{writer_in, chosen_of};
 
 use number_types::ChunkNumber;
 use record_fields::Part;
-use record_format::HeaderRead;
 use record_node::{Node, Writer, Writers};
 
 // A part of a Node; of a Writer's, by its place among them, from 0.
@@ -72,9 +71,10 @@ fn taken<'a>(bytes: &'a [u8], part: Option<Part>) -> &'a [u8]
 pub fn node_part<'a>(bytes: &'a [u8], field: Field) -> &'a [u8]
     ensures { result.now ≡ node_handed field bytes.now }
 {
-    let read = record_node::read_node(bytes);
-    let node = read.node;
-    taken(bytes, chosen(node, field))
+    match record_node::read_node(bytes) {
+        Err(_) => taken(bytes, None),
+        Ok(node) => taken(bytes, chosen(node, field)),
+    }
 }
 
 // The content bytes of the Header that bytes are.
@@ -82,8 +82,8 @@ pub fn header_content<'a>(bytes: &'a [u8]) -> &'a [u8]
     ensures { result.now ≡ header_handed bytes.now }
 {
     match record_format::read_header(bytes) {
-        HeaderRead::Refused(_) => taken(bytes, None),
-        HeaderRead::Content(part) => taken(bytes, Some(part)),
+        Err(_) => taken(bytes, None),
+        Ok(part) => taken(bytes, Some(part)),
     }
 }
 

@@ -2,17 +2,17 @@
 use Rattle.record_parts.proofs.Handed.{header_none, header_inside, header_handed_lem}
 use Rattle.record_parts.proofs.header_content.Goals as goal
 
-pub taken-requires-in-Content : goal.taken-requires-in-Content
-taken-requires-in-Content c =
+pub taken-requires-in-Ok : goal.taken-requires-in-Ok
+taken-requires-in-Ok c =
     let read = c.read_header in
-    header_inside _ read.result read.ensures c.in-Content.part c.in-Content.is
+    header_inside _ read.result read.ensures c.in-Ok.part c.in-Ok.is
 
-pub returns-in-Refused : goal.returns-in-Refused
-returns-in-Refused c =
+pub returns-in-Err : goal.returns-in-Err
+returns-in-Err c =
     let read = c.read_header in
-    header_none _ read.result read.ensures _ c.in-Refused.is _ c.taken.ensures
+    header_none _ read.result read.ensures _ c.in-Err.is _ c.taken.ensures
 
-pub returns-in-Content : goal.returns-in-Content
-returns-in-Content c =
+pub returns-in-Ok : goal.returns-in-Ok
+returns-in-Ok c =
     let read = c.read_header in
-    header_handed_lem _ read.result read.ensures c.in-Content.part c.in-Content.is _ c.taken-in-Content.ensures
+    header_handed_lem _ read.result read.ensures c.in-Ok.part c.in-Ok.is _ c.taken-in-Ok.ensures

@@ -1,16 +1,22 @@
--- The part that was chosen, of the Node that was read.
-use Rattle.record_parts.proofs.Handed.{chosen_inside, node_handed_lem}
+-- Nothing, or the part that was chosen, of the Node that was read.
+use Rattle.record_parts.proofs.Handed.{node_none, chosen_inside, node_handed_lem}
 use Rattle.record_parts.proofs.node_part.Goals as goal
 
-pub taken-requires : goal.taken-requires
-taken-requires c =
-    let read = c.read_node-read in
+pub taken-requires-in-Ok : goal.taken-requires-in-Ok
+taken-requires-in-Ok c =
+    let read = c.read_node in
     let a = c.args in
-    chosen_inside a.bytes.now read.result.answer read.result.node read.ensures a.field c.chosen.result c.chosen.ensures
+    chosen_inside a.bytes.now read.result read.ensures c.in-Ok.node c.in-Ok.is a.field c.chosen.result c.chosen.ensures
 
-pub returns : goal.returns
-returns c =
-    let read = c.read_node-read in
+pub returns-in-Err : goal.returns-in-Err
+returns-in-Err c =
+    let read = c.read_node in
     let a = c.args in
-    node_handed_lem a.bytes.now read.result.answer read.result.node read.ensures a.field c.chosen.result c.chosen.ensures _
-    c.taken.ensures
+    node_none a.bytes.now read.result read.ensures _ c.in-Err.is a.field _ c.taken.ensures
+
+pub returns-in-Ok : goal.returns-in-Ok
+returns-in-Ok c =
+    let read = c.read_node in
+    let a = c.args in
+    node_handed_lem a.bytes.now read.result read.ensures c.in-Ok.node c.in-Ok.is a.field c.chosen.result c.chosen.ensures _
+    c.taken-in-Ok.ensures

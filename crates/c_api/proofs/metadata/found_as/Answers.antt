@@ -2,11 +2,11 @@
 use Rattle.c_api.proofs.Told.{found_by}
 use Rattle.c_api.proofs.metadata.found_as.Goals as goal
 
-pub returns-in-Refused : goal.returns-in-Refused
-returns-in-Refused c = found_by _ _ _ c.in-Refused.is c.with_found.ensures
+pub returns-in-Err : goal.returns-in-Err
+returns-in-Err c = found_by _ _ _ c.in-Err.is c.with_found.ensures
 
-pub returns-in-At : goal.returns-in-At
-returns-in-At c = found_by _ _ _ c.in-At.is c.with_found-in-At.ensures
+pub returns-in-Ok-Some : goal.returns-in-Ok-Some
+returns-in-Ok-Some c = found_by _ _ _ c.in-Ok-Some.is c.with_found-in-Ok-Some.ensures
 
-pub returns-in-Nowhere : goal.returns-in-Nowhere
-returns-in-Nowhere c = found_by _ _ _ c.in-Nowhere.is c.with_found-in-Nowhere.ensures
+pub returns-in-Ok-None : goal.returns-in-Ok-None
+returns-in-Ok-None c = found_by _ _ _ c.in-Ok-None.is c.with_found-in-Ok-None.ensures

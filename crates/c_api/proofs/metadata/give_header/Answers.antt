@@ -2,8 +2,8 @@
 use Rattle.c_api.proofs.Told.{header_none, header_given}
 use Rattle.c_api.proofs.metadata.give_header.Goals as goal
 
-pub returns-in-Content : goal.returns-in-Content
-returns-in-Content c = header_given _ c.in-Content.part _ _ c.in-Content.is c.encode.ensures
+pub returns-in-Ok : goal.returns-in-Ok
+returns-in-Ok c = header_given _ c.in-Ok.part _ _ c.in-Ok.is c.encode.ensures
 
-pub returns-in-Refused : goal.returns-in-Refused
-returns-in-Refused c = header_none _ c.in-Refused.refusal _ _ c.in-Refused.is c.refused.ensures
+pub returns-in-Err : goal.returns-in-Err
+returns-in-Err c = header_none _ c.in-Err.refusal _ _ c.in-Err.is c.refused.ensures

@@ -2,5 +2,5 @@
 use Rattle.c_api.proofs.Told.{told_refused}
 use Rattle.c_api.proofs.metadata.give_length.Goals as goal
 
-pub returns-in-Refused : goal.returns-in-Refused
-returns-in-Refused c = told_refused _ c.in-Refused.refusal _ _ c.in-Refused.is c.refused.ensures
+pub returns-in-Err : goal.returns-in-Err
+returns-in-Err c = told_refused _ c.in-Err.refusal _ _ c.in-Err.is c.refused.ensures

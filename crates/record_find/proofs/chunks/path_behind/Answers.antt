@@ -3,6 +3,8 @@ use Prim.Native.Nat.{◌+◌, ◌≤◌}
 use mathlib.Core.Path.{◌≡◌, sym, ap, ◌∙◌}
 use native.Mathlib.Omega.{arith}
 use lib.ListN.{length}
+use Rattle.std.specs.Prelude.{Ok}
+use Rattle.std.proofs.lemmas.Result.{err_from_is_err_and}
 use Rattle.answer_types.specs.Verdict.{Verdict}
 use Rattle.lookup.specs.Read.{verdict_found}
 use Rattle.lookup.specs.Meaning.{verified_of}
@@ -11,44 +13,36 @@ use Rattle.record_find.specs.ChunkRecords.{node_after, path_after}
 use Rattle.record_find.proofs.Chunk.{path_none, path_inside, path_compared}
 use Rattle.record_find.proofs.chunks.path_behind.Goals as goal
 
-pub returns-in-Err : goal.returns-in-Err
-returns-in-Err c =
-    let verdict : Verdict = verdict_found (verified_of c.args.read) in
-    path_none (verdict) _ _ _ _ c.node_behind-told.ensures c.args.path.now c.in-Err.is
+pub returns-in_err-node : goal.returns-in_err-node
+returns-in_err-node c =
+    let p = err_from_is_err_and c.from_residual.result c.from_residual.ensures.1 in
+    rw (p.1, p.2) (path_none (verdict_found (verified_of c.args.read)) _ _ c.args.path.now c.in_err-node.field-0.0 c.in_err-node.ensures)
 
 pub overflow_add-to : goal.overflow_add-to
 overflow_add-to c =
     let verdict : Verdict = verdict_found (verified_of c.args.read) in
+    let node = c.in_ok-node.node in
     -- the Node is told of the bytes read
-    let told : node_told c.node_behind-told.result.answer c.node_behind-told.result.node ≡ node_after (verdict) c.bytes_of-bytes.result.now c.args.chunk.0 =
-    c.node_behind-told.ensures ∙ sym (ap (λ d. node_after (verdict) d c.args.chunk.0) c.bytes_of-bytes.ensures) in
-    let inside : c.node_behind-told.result.node.path.at + c.node_behind-told.result.node.path.len ≤ length c.bytes_of-bytes.result.now =
-    path_inside (verdict) _ _ _ _ (told) c.args.path.now c.in-Ok.is in
+    let told : node_told (Ok node) ≡ node_after verdict c.bytes_of-bytes.result.now c.args.chunk.0 =
+    c.in_ok-node.ensures ∙ sym (ap (λ d. node_after verdict d c.args.chunk.0) c.bytes_of-bytes.ensures) in
+    let inside : node.path.at + node.path.len ≤ length c.bytes_of-bytes.result.now = path_inside verdict _ _ c.args.path.now node told in
     omega (arith, inside)
 
 pub slice_bounds-same-end : goal.slice_bounds-same-end
 slice_bounds-same-end c =
     let verdict : Verdict = verdict_found (verified_of c.args.read) in
-    let told : node_told c.node_behind-told.result.answer c.node_behind-told.result.node ≡ node_after (verdict) c.bytes_of-bytes.result.now c.args.chunk.0 =
-    c.node_behind-told.ensures ∙ sym (ap (λ d. node_after (verdict) d c.args.chunk.0) c.bytes_of-bytes.ensures) in
-    let inside : c.node_behind-told.result.node.path.at + c.node_behind-told.result.node.path.len ≤ length c.bytes_of-bytes.result.now =
-    path_inside (verdict) _ _ _ _ (told) c.args.path.now c.in-Ok.is in
+    let node = c.in_ok-node.node in
+    let told : node_told (Ok node) ≡ node_after verdict c.bytes_of-bytes.result.now c.args.chunk.0 =
+    c.in_ok-node.ensures ∙ sym (ap (λ d. node_after verdict d c.args.chunk.0) c.bytes_of-bytes.ensures) in
+    let inside : node.path.at + node.path.len ≤ length c.bytes_of-bytes.result.now = path_inside verdict _ _ c.args.path.now node told in
     omega (arith, inside)
 
-pub returns-then-same : goal.returns-then-same
-returns-then-same c =
+pub returns : goal.returns
+returns c =
     let verdict : Verdict = verdict_found (verified_of c.args.read) in
-    let told : node_told c.node_behind-told.result.answer c.node_behind-told.result.node ≡ node_after (verdict) c.bytes_of-bytes.result.now c.args.chunk.0 =
-    c.node_behind-told.ensures ∙ sym (ap (λ d. node_after (verdict) d c.args.chunk.0) c.bytes_of-bytes.ensures) in
+    let node = c.in_ok-node.node in
+    let told : node_told (Ok node) ≡ node_after verdict c.bytes_of-bytes.result.now c.args.chunk.0 =
+    c.in_ok-node.ensures ∙ sym (ap (λ d. node_after verdict d c.args.chunk.0) c.bytes_of-bytes.ensures) in
     let a = c.args in
-    path_compared (verdict) _ _ _ _ (told) a.path.now c.in-Ok.is (sym c.if-same.true ∙ c.same.ensures)
-    ∙ ap (λ d. path_after (verdict) d a.chunk.0 a.path.now) c.bytes_of-bytes.ensures
-
-pub returns-else-same : goal.returns-else-same
-returns-else-same c =
-    let verdict : Verdict = verdict_found (verified_of c.args.read) in
-    let told : node_told c.node_behind-told.result.answer c.node_behind-told.result.node ≡ node_after (verdict) c.bytes_of-bytes.result.now c.args.chunk.0 =
-    c.node_behind-told.ensures ∙ sym (ap (λ d. node_after (verdict) d c.args.chunk.0) c.bytes_of-bytes.ensures) in
-    let a = c.args in
-    path_compared (verdict) _ _ _ _ (told) a.path.now c.in-Ok.is (sym c.if-same.false ∙ c.same.ensures)
-    ∙ ap (λ d. path_after (verdict) d a.chunk.0 a.path.now) c.bytes_of-bytes.ensures
+    path_compared verdict _ _ a.path.now node told c.same.ensures
+    ∙ ap (λ d. path_after verdict d a.chunk.0 a.path.now) c.bytes_of-bytes.ensures

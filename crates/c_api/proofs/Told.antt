@@ -5,7 +5,6 @@ use mathlib.Core.List.{List, [], ◌∷◌, ◌++◌}
 use lib.ListN.{length, get_or}
 use Rattle.answer_types.specs.Verdict.{Verdict, done, refused, unless_refused}
 use Rattle.answer_types.specs.Meaning.{said, refusal_of}
-use Rattle.answer_types.specs.declared.Answer.{Answer}
 use Rattle.answer_types.specs.declared.Refusal.{Refusal}
 use Rattle.record_fields.specs.declared.rows.Part.{Part}
 use Rattle.record_format.specs.Post.{WrittenAs, write_verdict, length_unless, header_told}

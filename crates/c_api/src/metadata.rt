@@ -12,7 +12,7 @@ ghost use Rattle.record_find.specs.Finding.{found_of, find_in};
 ghost use Rattle.c_encoding.specs.Encoding.{encoded};
 ghost use Rattle.c_api.specs.Metadata.{WritesHeader, WritesNode, Told, GivesHeader, encoded_node, encoded_found};
 
-use answer_types::{Answer, Refusal};
+use answer_types::{Refusal};
 use c_records::FlatNode;
 use number_types::ChunkNumber;
 use record_fields::Part;
@@ -26,7 +26,7 @@ fn give_length(written: Result<u64, Refusal>, length: &mut u64) -> [u64; 3]
         Err(refusal) => c_encoding::refused(refusal),
         Ok(bytes) => {
             *length = bytes;
-            c_encoding::encode(Answer::Done)
+            c_encoding::encode(Ok(()))
         }
     }
 }
@@ -67,7 +67,7 @@ pub fn give_header(read: Result<Part, Refusal>, out: &mut [u64; 2]) -> [u64; 3]
         Err(refusal) => c_encoding::refused(refusal),
         Ok(part) => {
             *out = [part.at as u64, part.len as u64];
-            c_encoding::encode(Answer::Done)
+            c_encoding::encode(Ok(()))
         }
     }
 }
@@ -90,7 +90,7 @@ pub fn flat(read: Result<Node, Refusal>) -> [u64; 70]
             c_records::answered(answer, c_records::no_fields())
         }
         Ok(node) => {
-            let answer = c_encoding::encode(Answer::Done);
+            let answer = c_encoding::encode(Ok(()));
             c_records::answered(answer, FlatNode::from(node))
         }
     }
@@ -165,7 +165,7 @@ pub extern "C" fn sleep_flat_node_of(
 }
 
 // Whether a record has the path, 1 or 0, the number of its chunk, which is 0 where none has or the search is refused, and the three numbers of an answer.
-fn with_found(found: u64, chunk: u64, said: Answer) -> [u64; 5]
+fn with_found(found: u64, chunk: u64, said: Result<(), Refusal>) -> [u64; 5]
     ensures { result ≡ found ∷ chunk ∷ encoded (toldBy said) }
 {
     let answer = c_encoding::encode(said);
@@ -177,9 +177,9 @@ pub fn found_as(found: Result<Option<ChunkNumber>, Refusal>) -> [u64; 5]
     ensures { result ≡ encoded_found (found_of found) }
 {
     match found {
-        Err(refusal) => with_found(0, 0, Answer::Refused(refusal)),
-        Ok(Some(chunk)) => with_found(1, chunk.0, Answer::Done),
-        Ok(None) => with_found(0, 0, Answer::Done),
+        Err(refusal) => with_found(0, 0, Err(refusal)),
+        Ok(Some(chunk)) => with_found(1, chunk.0, Ok(())),
+        Ok(None) => with_found(0, 0, Ok(())),
     }
 }
 

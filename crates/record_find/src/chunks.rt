@@ -11,7 +11,7 @@ ghost use Rattle.record_node.specs.Post.{node_told};
 ghost use Rattle.record_find.specs.ChunkRecords.{compared_told, header_in, node_in};
 ghost use Rattle.record_find.specs.Inner.{ReadIn, header_behind, node_behind, path_behind};
 
-use answer_types::{Answer, Place, Refusal};
+use answer_types::{Place, Refusal};
 use lookup::Verified;
 use number_types::ChunkNumber;
 use record_fields::Part;
@@ -36,8 +36,8 @@ pub fn header_behind(read: Verified, content: &[u8], chunk: ChunkNumber) -> Resu
 {
     let bytes = lookup::bytes_of(content, read);
     match lookup::answer_of(read) {
-        Answer::Refused(refusal) => Err(refusal),
-        Answer::Done => match record_format::read_header(bytes) {
+        Err(refusal) => Err(refusal),
+        Ok(()) => match record_format::read_header(bytes) {
             Err(_) => Err(no_record(chunk)),
             Ok(part) => Ok(part),
         },
@@ -51,8 +51,8 @@ pub fn node_behind(read: Verified, content: &[u8], chunk: ChunkNumber) -> Result
 {
     let bytes = lookup::bytes_of(content, read);
     match lookup::answer_of(read) {
-        Answer::Refused(refusal) => Err(refusal),
-        Answer::Done => match record_node::read_node(bytes) {
+        Err(refusal) => Err(refusal),
+        Ok(()) => match record_node::read_node(bytes) {
             Err(_) => Err(no_record(chunk)),
             Ok(node) => Ok(node),
         },

@@ -8,7 +8,7 @@ ghost use Rattle.lookup.specs.Meaning.{verified_of};
 ghost use Rattle.record_find.specs.Finding.{found_of, find_down, find_in};
 ghost use Rattle.record_find.specs.Inner.{Readable, read_behind, judge_behind, find_behind};
 
-use answer_types::{Answer, Refusal};
+use answer_types::{Refusal};
 use lookup::Verified;
 use number_types::ChunkNumber;
 
@@ -25,7 +25,7 @@ fn read_in(
     ensures { verified_of result
         ≡ read_behind partly tree.now bitfield.now content.now n node_hash done chunk.0 }
 {
-    let placed = lookup::held_place_behind(Answer::Done, tree, bitfield, partly, n, chunk);
+    let placed = lookup::held_place_behind(Ok(()), tree, bitfield, partly, n, chunk);
     lookup::verify_placed(tree, content, chunk, placed)
 }
 
@@ -57,7 +57,7 @@ fn search(
 
 // Inner: what `find` says, behind the answer of the checks.
 pub fn find_behind(
-    checked: Answer,
+    checked: Result<(), Refusal>,
     tree: &[u8],
     bitfield: &[u8],
     partly: bool,
@@ -71,8 +71,8 @@ pub fn find_behind(
         path.now }
 {
     match checked {
-        Answer::Refused(refusal) => Err(refusal),
-        Answer::Done => {
+        Err(refusal) => Err(refusal),
+        Ok(()) => {
             if n == 0 {
                 return Ok(None);
             }

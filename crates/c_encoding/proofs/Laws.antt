@@ -14,21 +14,6 @@ use Rattle.packet.specs.Post.{made_verdict, made_bytes}
 use Rattle.c_encoding.specs.Number.{number_of}
 use Rattle.c_encoding.specs.Encoding.{encoded, verdict_of, numbers_unless, Gives}
 
--- the number and what is written, from what the verdict is
-pub done_by : (v : Verdict) (written before d : List ℕ) → v ≡ done → d ≡ written → (0 ≡ number_of v) × (d ≡ unless_refused v written before)
-done_by v written before d q w = (ap number_of (sym q), w ∙ ap (λ (u : Verdict). unless_refused u written before) (sym q))
-
-pub refused_by : (v : Verdict) (m : ℕ) (at : Spot) (written before : List ℕ) → v ≡ refused m at
-    → (m ≡ number_of v) × (before ≡ unless_refused v written before)
-refused_by v m at written before q = (ap number_of (sym q), ap (λ (u : Verdict). unless_refused u written before) (sym q))
-
-module _ (a : Result ⊤ Refusal) (v : Verdict) (says : said a ≡ v) (written before : List ℕ) where
-  pub on_done : (d : List ℕ) → a ≡ (Ok tt) → d ≡ written → (0 ≡ number_of v) × (d ≡ unless_refused v written before)
-  on_done d e w = done_by v written before d (sym says ∙ ap said e) w
-
-  pub on_refused : (r : Refusal) → a ≡ Err r → (r.number ≡ number_of v) × (before ≡ unless_refused v written before)
-  on_refused r e = refused_by v r.number (spot_of r.place) written before (sym says ∙ ap said e)
-
 -- a refusal's numbers, from the case that its place is
 pub placed : (n : ℕ) (p q : Place) → p ≡ q → encoded (refused n (spot_of q)) ≡ encoded (refused n (spot_of p))
 placed n p q e = ap (λ (x : Place). encoded (refused n (spot_of x))) (sym e)
@@ -36,11 +21,6 @@ placed n p q e = ap (λ (x : Place). encoded (refused n (spot_of x))) (sym e)
 -- an answer's numbers, from the case that it is
 pub said_as : (a b : Result ⊤ Refusal) → a ≡ b → encoded (said b) ≡ encoded (said a)
 said_as a b e = ap (λ (x : Result ⊤ Refusal). encoded (said x)) (sym e)
-
-pub kept : (r : List ℕ) (a : Result ⊤ Refusal) (x : Refusal) (h before : List ℕ) → a ≡ Err x → r ≡ encoded (refusal_of x)
-    → (r ≡ encoded (said a)) × (before ≡ unless_refused (said a) h before)
-kept r a x h before e p =
-    (p ∙ ap (λ (y : Result ⊤ Refusal). encoded (said y)) (sym e), ap (λ (y : Result ⊤ Refusal). unless_refused (said y) h before) (sym e))
 
 -- an answer's numbers are those of the verdict that it says
 pub coded : (r : List ℕ) (a v : Verdict) → r ≡ encoded a → a ≡ v → r ≡ encoded v
@@ -88,7 +68,7 @@ pub numbered : (r : List ℕ) (a v : Verdict) → r ≡ encoded a → a ≡ v �
 numbered r a v e p = ap (λ (x : List ℕ). get_or x 0 0) e ∙ encoded_number a ∙ ap number_of p
 
 -- a packet made, from the case that the answer is
-pub made_refused : (m : Result ℕ Refusal) (x : Refusal) (long : ℕ) (r : List ℕ) → m ≡ Ok x → r ≡ encoded (refusal_of x)
+pub made_refused : (m : Result ℕ Refusal) (x : Refusal) (long : ℕ) (r : List ℕ) → m ≡ Err x → r ≡ encoded (refusal_of x)
     → (r ≡ encoded (made_verdict m)) × (long ≡ unless_refused (made_verdict m) (made_bytes m) long)
 made_refused m x long r e a =
     (a ∙ ap (λ (y : Result ℕ Refusal). encoded (made_verdict y)) (sym e), ap (λ (y : Result ℕ Refusal). unless_refused (made_verdict y) (made_bytes y) long) (sym e))

@@ -39,14 +39,16 @@ pub fn give_search(found: Result<Option<ChunkNumber>, Refusal>, out: &mut [u64; 
 {
     match found {
         Err(refusal) => super::answers::refused(refusal),
-        Ok(Some(chunk)) => {
-            *out = [1, chunk.0];
-            super::answers::encode(Ok(()))
-        }
-        Ok(None) => {
-            *out = [0, 0];
-            super::answers::encode(Ok(()))
-        }
+        Ok(first) => match first {
+            Some(chunk) => {
+                *out = [1, chunk.0];
+                super::answers::encode(Ok(()))
+            }
+            None => {
+                *out = [0, 0];
+                super::answers::encode(Ok(()))
+            }
+        },
     }
 }
 

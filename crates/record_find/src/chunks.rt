@@ -30,38 +30,34 @@ fn no_record(chunk: ChunkNumber) -> Refusal
 }
 
 // Inner: the Header that a chunk is, behind its read.
-pub fn header_behind(read: Verified, content: &[u8], chunk: ChunkNumber) -> Result<Part, Refusal>
+pub fn header_behind(read: Result<Verified, Refusal>, content: &[u8], chunk: ChunkNumber) -> Result<Part, Refusal>
     requires { ReadIn content.now chunk.0 (verified_of read) }
     ensures { header_told result ≡ header_behind content.now chunk.0 (verified_of read) }
 {
     let bytes = lookup::bytes_of(content, read);
-    match lookup::answer_of(read) {
-        Err(refusal) => Err(refusal),
-        Ok(()) => match record_format::read_header(bytes) {
-            Err(_) => Err(no_record(chunk)),
-            Ok(part) => Ok(part),
-        },
+    lookup::answer_of(read)?;
+    match record_format::read_header(bytes) {
+        Err(_) => Err(no_record(chunk)),
+        Ok(part) => Ok(part),
     }
 }
 
 // Inner: the Node that a chunk is, behind its read.
-pub fn node_behind(read: Verified, content: &[u8], chunk: ChunkNumber) -> Result<Node, Refusal>
+pub fn node_behind(read: Result<Verified, Refusal>, content: &[u8], chunk: ChunkNumber) -> Result<Node, Refusal>
     requires { ReadIn content.now chunk.0 (verified_of read) }
     ensures { node_told result ≡ node_behind content.now chunk.0 (verified_of read) }
 {
     let bytes = lookup::bytes_of(content, read);
-    match lookup::answer_of(read) {
-        Err(refusal) => Err(refusal),
-        Ok(()) => match record_node::read_node(bytes) {
-            Err(_) => Err(no_record(chunk)),
-            Ok(node) => Ok(node),
-        },
+    lookup::answer_of(read)?;
+    match record_node::read_node(bytes) {
+        Err(_) => Err(no_record(chunk)),
+        Ok(node) => Ok(node),
     }
 }
 
 // Inner: whether the Node that a chunk is has a path, behind its read.
 pub fn path_behind(
-    read: Verified,
+    read: Result<Verified, Refusal>,
     content: &[u8],
     chunk: ChunkNumber,
     path: &[u8],

@@ -8,7 +8,7 @@ ghost use Rattle.lookup.specs.Meaning.{verified_of};
 ghost use Rattle.record_find.specs.Finding.{found_of, find_down, find_in};
 ghost use Rattle.record_find.specs.Inner.{Readable, read_behind, judge_behind, find_behind};
 
-use answer_types::{Refusal};
+use answer_types::Refusal;
 use lookup::Verified;
 use number_types::ChunkNumber;
 
@@ -20,7 +20,7 @@ fn read_in(
     content: &[u8],
     n: u64,
     chunk: ChunkNumber,
-) -> Verified
+) -> Result<Verified, Refusal>
     requires { Readable partly tree.now bitfield.now content.now n }
     ensures { verified_of result
         ≡ read_behind partly tree.now bitfield.now content.now n node_hash done chunk.0 }
@@ -70,18 +70,14 @@ pub fn find_behind(
         ≡ find_behind partly tree.now bitfield.now content.now n node_hash (said checked)
         path.now }
 {
-    match checked {
-        Err(refusal) => Err(refusal),
-        Ok(()) => {
-            if n == 0 {
-                return Ok(None);
-            }
-            let first = ChunkNumber(0);
-            let read = read_in(tree, bitfield, partly, content, n, first);
-            let _header = super::chunks::header_behind(read, content, first)?;
-            search(tree, bitfield, partly, content, n, path)
-        }
+    checked?;
+    if n == 0 {
+        return Ok(None);
     }
+    let first = ChunkNumber(0);
+    let read = read_in(tree, bitfield, partly, content, n, first);
+    let _header = super::chunks::header_behind(read, content, first)?;
+    search(tree, bitfield, partly, content, n, path)
 }
 
 // The highest chunk number from 1 up whose record has a path of the same bytes. Chunk 0, then the records from the latest down to the one

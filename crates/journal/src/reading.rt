@@ -93,13 +93,7 @@ impl Progress {
         requires { (184 ≤ length journal.now) × Reads journal.now range.now.at range.now }
         ensures { result ≡ Reading.follows journal.now self.now.last self.now.reach self.now.covered range.now.at }
     {
-        if 10 <= range.file {
-            return false;
-        }
-        if range.file < self.last {
-            return false;
-        }
-        if range.size < 1 {
+        if 10 <= range.file || range.file < self.last || range.size < 1 {
             return false;
         }
         let file = usize::from(range.file);

@@ -30,6 +30,7 @@ fn first_strange(file: &[u8], at: usize, old: &[u8], new: &[u8]) -> Option<usize
 }
 
 // Inner: the first wrong byte of a range of a journal.
+#[tactic(auto, using(crate::proofs::Ranges::ends_twice, crate::proofs::Ranges::replaced_met, crate::proofs::Ranges::witness_met, crate::proofs::Ranges::free_met))]
 fn met_range(journal: &[u8], range: &RangeAt, file: &[u8]) -> Option<usize>
     requires read { Reads journal.now range.now.at range.now × (range.now.at + 18 ≤ range.now.bytes) }
     requires in_journal { (range.now.bytes ≤ range.now.behind) × (range.now.behind ≤ length journal.now) }

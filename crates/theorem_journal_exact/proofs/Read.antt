@@ -4,7 +4,7 @@ use native.Mathlib.Omega.{arith}
 use native.Mathlib.Decide.{ℕ_discrete}
 use native.Mathlib.Numerals.{add-one}
 use mathlib.Core.Path.{◌≡◌, refl, sym, ap, ap₂, ◌∙◌, subst}
-use mathlib.Core.Bool.{Bool, true, ◌&&◌, ◌||◌}
+use mathlib.Core.Bool.{Bool, true, false, ◌&&◌, ◌||◌}
 use mathlib.Core.List.{List, [], ◌∷◌, ◌++◌}
 use lib.ListN.{length, get_or, length-replicate}
 use lib.Dec.{eqb, leb}
@@ -20,11 +20,14 @@ use Rattle.journal.specs.Form.{kind_of, size_of, payload, header, encode}
 use Rattle.journal.specs.Places.{file_at, kind_at, start_at, size_at, times_long, behind, whole, range_of, range_at}
 use Rattle.journal.specs.Reading.{numbers_right}
 use Rattle.journal.proofs.Behind.{end_twice, end_bare, end_once, whole_end}
-use Rattle.journal.proofs.Steps.{lastly}
 use Rattle.journal_meeting.proofs.Ranges.{is_replaced, is_fresh, is_blank, is_witness}
 use Rattle.theorem_journal_exact.proofs.Test.{is_free, fitting, range_right}
 
 -- ---- the test by numbers, where the kind is known
+
+-- the last part of it
+abbrev lastly : Bool → ℕ → ℕ → ℕ → ℕ → Bool
+lastly b at size old p = elim b as (λ x. Bool) [ true ↦ leb at p | false ↦ leb (at + size) old ]
 
 module _ (kind at size old new a p : ℕ) where
   is_two : kind ≡ 2 → numbers_right kind at size old new a p ≡ (leb a at && (leb (at + size) new && leb at p))

@@ -19,9 +19,7 @@ pub extern "C" fn sleep_flat_hash(
     ensures digest_after { digest.new ≡ unless_refused (verdict length (List·length key.now)) (Call·digest length key.now message.now) digest.old }
 {
     let hashed = blake2b::hash(length as usize, key, message);
-    let bytes = hashed.digest;
-    let answer = hashed.answer;
-    c_encoding::give_digest(answer, bytes, digest)
+    c_encoding::give_digest(hashed.answer, hashed.digest, digest)
 }
 
 // The same with 32 bytes of output, of a message that lies in two parts: with the empty key the hash of leaves, parents and roots.
@@ -50,8 +48,6 @@ pub extern "C" fn sleep_flat_label(root: &[u8; 32], key: &[u8], out: &mut [u8; 3
     ensures out_after { out.new ≡ unless_refused (label_verdict key.now) (label_bytes key.now root.now) out.old }
 {
     let labelled = root_label::label(root, key);
-    let bytes = labelled.bytes;
-    let answer = labelled.answer;
-    let told = c_encoding::give_hash(answer, bytes, out);
+    let told = c_encoding::give_hash(labelled.answer, labelled.bytes, out);
     told[0]
 }

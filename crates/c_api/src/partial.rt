@@ -1,5 +1,6 @@
 // Partial copies: made, filled by packets, and their root hashes. A copy is lent as its three images `tree`, `bitfield` and `content` (the
 // data), and told the chunk count `n` and the data size `size`; it has no signatures.
+// Each is written out beside its kin in `registers`: C calls it by a name and parameters of its own, and its body is one call and the encoding they share.
 ghost use Rattle.std.specs.Prelude.{◌≡◌};
 ghost use Rattle.answer_types.specs.Verdict.{unless_refused};
 ghost use Rattle.blake2b.specs.Hash.{node_hash};
@@ -117,9 +118,7 @@ pub extern "C" fn sleep_flat_copy_root_hash(
         (copy_root_answer node_hash (copy_of tree.now bitfield.now content.now n size)) root.old }
 {
     let rooted = copy_roots::root_hash(tree, bitfield, content, n, size);
-    let hash = rooted.root;
-    let said = rooted.answer;
-    *answer = c_encoding::give_hash(said, hash, root);
+    *answer = c_encoding::give_hash(rooted.answer, rooted.root, root);
 }
 
 // The root hash of the first `m` chunks, from the stored entries, in `root`.
@@ -139,9 +138,7 @@ pub extern "C" fn sleep_flat_copy_old_root(
         (copy_prefix_root node_hash (copy_of tree.now bitfield.now content.now n size) m) root.old }
 {
     let rooted = copy_roots::prefix_root_hash(tree, bitfield, content, n, size, m);
-    let hash = rooted.root;
-    let said = rooted.answer;
-    *answer = c_encoding::give_hash(said, hash, root);
+    *answer = c_encoding::give_hash(rooted.answer, rooted.root, root);
 }
 
 // The packet of a chunk at the front of `out`, the rest as it was, and the packet's length in `length`. Both are as they were after a

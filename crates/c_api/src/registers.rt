@@ -58,9 +58,7 @@ pub extern "C" fn sleep_flat_append(
         (register_of tree.old signatures.now bitfield.old content.old n s size) chunk.now }
 {
     let appended = writing::append(tree, signatures, bitfield, content, n, s, size, chunk);
-    let hash = appended.root;
-    let said = appended.answer;
-    *answer = c_encoding::give_hash(said, hash, root);
+    *answer = c_encoding::give_hash(appended.answer, appended.root, root);
 }
 
 // All chunks of a list, lent as their lengths and their bytes one behind the other, or none; the new root hash in `root`.
@@ -93,9 +91,7 @@ pub extern "C" fn sleep_flat_append_list(
     let appended = append_list::append_list(
         tree, signatures, bitfield, content, n, s, size, lengths, bytes,
     );
-    let hash = appended.root;
-    let said = appended.answer;
-    *answer = c_encoding::give_hash(said, hash, root);
+    *answer = c_encoding::give_hash(appended.answer, appended.root, root);
 }
 
 // What an append of the chunk would answer on a copy of the images; its root hash in `root`.
@@ -121,9 +117,7 @@ pub extern "C" fn sleep_flat_preview(
         root.old }
 {
     let previewed = append_preview::preview(tree, signatures, bitfield, content, n, s, size, chunk);
-    let hash = previewed.root;
-    let said = previewed.answer;
-    *answer = c_encoding::give_hash(said, hash, root);
+    *answer = c_encoding::give_hash(previewed.answer, previewed.root, root);
 }
 
 // The signature of the newest chunk, which is owed where `s` is `n` - 1.
@@ -197,9 +191,7 @@ pub extern "C" fn sleep_flat_root_hash(
         root.old }
 {
     let rooted = writing::root_hash(tree, signatures, bitfield, content, n, s, size);
-    let hash = rooted.root;
-    let said = rooted.answer;
-    *answer = c_encoding::give_hash(said, hash, root);
+    *answer = c_encoding::give_hash(rooted.answer, rooted.root, root);
 }
 
 // The root hash of the first `m` chunks, from the stored entries, in `root`.
@@ -223,9 +215,7 @@ pub extern "C" fn sleep_flat_old_root(
         root.old }
 {
     let rooted = prefix_root::prefix_root(tree, signatures, bitfield, content, n, s, size, m);
-    let hash = rooted.root;
-    let said = rooted.answer;
-    *answer = c_encoding::give_hash(said, hash, root);
+    *answer = c_encoding::give_hash(rooted.answer, rooted.root, root);
 }
 
 // Whether the used bytes of all four images are those of some chunks, held or released, and some signatures.

@@ -6,14 +6,10 @@ use record_format::Stat;
 use record_node::{Node, Value, Writer, Writers};
 
 // What is told of the register that is made.
-#[derive(Clone, Copy)]
+#[derive(Clone, Copy, Default)]
 pub struct Told {
     pub n: u64,
     pub size: u64,
-}
-
-pub fn none() -> Told {
-    Told { n: 0, size: 0 }
 }
 
 // The number k of a step; 0 where it has none.
@@ -30,19 +26,12 @@ pub fn number(step: &[u8], k: usize) -> u64
 pub fn behind(step: &[u8], k: usize) -> &[u8]
     requires { k < 100 }
 {
-    if step.len() < 8 * k {
-        return &step[0..0];
-    }
-    &step[8 * k..]
+    step.get(8 * k..).unwrap_or(&[])
 }
 
 // The first bytes; all where there are fewer.
 pub fn first(bytes: &[u8], count: u64) -> &[u8] {
-    let end = count as usize;
-    if bytes.len() < end {
-        return bytes;
-    }
-    &bytes[0..end]
+    bytes.get(0..count as usize).unwrap_or(bytes)
 }
 
 // A field that is a number: whether it is there, and the number.
@@ -58,9 +47,10 @@ fn field(step: &[u8], k: usize) -> Number
 fn part(step: &[u8], k: usize) -> Part
     requires { k < 90 }
 {
-    let at = number(step, k) as usize;
-    let len = number(step, k + 1) as usize;
-    Part { at, len }
+    Part {
+        at: number(step, k) as usize,
+        len: number(step, k + 1) as usize,
+    }
 }
 
 // A field that is a part: whether it is there, and the part.
@@ -100,12 +90,9 @@ fn writer(step: &[u8], k: usize) -> Writer
 }
 
 fn writers(step: &[u8]) -> Writers {
-    let first = writer(step, 27);
-    let mut list = [first; 8];
-    let mut i: usize = 0;
-    while i < 8 {
+    let mut list = [writer(step, 27); 8];
+    for i in 1..8 {
         list[i] = writer(step, 27 + 5 * i);
-        i += 1;
     }
     let count = number(step, 26) as usize;
     Writers { count, list }
@@ -114,16 +101,11 @@ fn writers(step: &[u8]) -> Writers {
 // The Node of 67 numbers: the path, whether there is a Stat and its nine fields, the trie, the sequence, the count of the Writers, and eight of
 // them.
 pub fn node(step: &[u8]) -> Node {
-    let path = part(step, 0);
-    let value = value(step);
-    let trie = bytes(step, 21);
-    let sequence = field(step, 24);
-    let writers = writers(step);
     Node {
-        path,
-        value,
-        trie,
-        writers,
-        sequence,
+        path: part(step, 0),
+        value: value(step),
+        trie: bytes(step, 21),
+        writers: writers(step),
+        sequence: field(step, 24),
     }
 }

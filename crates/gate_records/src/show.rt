@@ -1,104 +1,93 @@
 // How the fields of a record are shown.
-use gate_printing::{number, text};
+use gate_printing::{InHex, front, print};
 use record_fields::{Bytes, Number};
 use record_node::{Node, Value, Writers};
-use record_parts::Field;
+use record_parts::{Field, node_part};
+use std::fmt;
+use std::fmt::Display;
 
 // A part in hexadecimal; of more than 40 bytes its length and the first 8 bytes of its hash.
-pub fn part(bytes: &[u8]) {
-    if bytes.len() == 0 {
-        text(b"empty");
-    } else if bytes.len() <= 40 {
-        gate_printing::hex(bytes);
-    } else {
-        number(bytes.len() as u64);
-        text(b":");
-        gate_printing::front(&blake2b::hash_parts(b"", b"", bytes), 8);
+#[derive(Clone, Copy)]
+pub struct Shown<'a>(pub &'a [u8]);
+
+impl Display for Shown<'_> {
+    fn fmt<W: fmt::Write>(&self, f: &mut fmt::Formatter<W>) -> fmt::Result {
+        let bytes = self.0;
+        if bytes.is_empty() {
+            write!(f, "empty")
+        } else if bytes.len() <= 40 {
+            write!(f, "{}", InHex(bytes))
+        } else {
+            let hash = blake2b::hash_parts(b"", b"", bytes);
+            write!(f, "{}:{}", bytes.len(), front(&hash, 8))
+        }
     }
 }
 
 // A part of the Node that bytes are, where the field is there.
 fn given(bytes: &[u8], field: Bytes, which: Field) {
     match field {
-        Bytes::Absent => text(b"-"),
-        Bytes::Given(_) => part(record_parts::node_part(bytes, which)),
+        Bytes::Absent => print("-"),
+        Bytes::Given(_) => print(Shown(node_part(bytes, which))),
     }
 }
 
-fn numeral(field: Number) {
-    match field {
-        Number::Absent => text(b"-"),
-        Number::Given(x) => number(x),
-    }
-}
+#[derive(Clone, Copy)]
+struct Numeral(Number);
 
-fn next(field: Number) {
-    text(b",");
-    numeral(field);
+impl Display for Numeral {
+    fn fmt<W: fmt::Write>(&self, f: &mut fmt::Formatter<W>) -> fmt::Result {
+        match self.0 {
+            Number::Absent => write!(f, "-"),
+            Number::Given(x) => write!(f, "{x}"),
+        }
+    }
 }
 
 fn value(v: Value) {
     match v {
-        Value::Absent => text(b"-"),
+        Value::Absent => print("-"),
         Value::Given(stat) => {
-            let mode = stat.mode;
-            let uid = stat.uid;
-            let gid = stat.gid;
-            let size = stat.size;
-            let blocks = stat.blocks;
-            let offset = stat.offset;
-            let byte_offset = stat.byte_offset;
-            let mtime = stat.mtime;
-            let ctime = stat.ctime;
-            numeral(mode);
-            next(uid);
-            next(gid);
-            next(size);
-            next(blocks);
-            next(offset);
-            next(byte_offset);
-            next(mtime);
-            next(ctime);
+            print(Numeral(stat.mode));
+            let others = [
+                stat.uid,
+                stat.gid,
+                stat.size,
+                stat.blocks,
+                stat.offset,
+                stat.byte_offset,
+                stat.mtime,
+                stat.ctime,
+            ];
+            for field in others {
+                print(format_args!(",{}", Numeral(field)));
+            }
         }
     }
 }
 
 fn writers(bytes: &[u8], several: Writers) {
-    let count = several.count;
     let list = several.list;
-    if count == 0 {
-        text(b"-");
+    if several.count == 0 {
+        print("-");
     }
-    let mut i: usize = 0;
-    while i < 8 {
-        if i < count {
-            let one = list[i];
-            let permission = one.permission;
-            if 0 < i {
-                text(b";");
-            }
-            part(record_parts::node_part(bytes, Field::Key(i)));
-            text(b"/");
-            given(bytes, permission, Field::Permission(i));
+    for (i, one) in list.iter().enumerate().take(several.count) {
+        if 0 < i {
+            print(";");
         }
-        i += 1;
+        print(format_args!("{}/", Shown(node_part(bytes, Field::Key(i)))));
+        given(bytes, one.permission, Field::Permission(i));
     }
 }
 
 // The fields of the Node that bytes are, its parts as they are handed back.
 pub fn fields(bytes: &[u8], node: Node) {
-    let stat = node.value;
-    let trie = node.trie;
-    let several = node.writers;
-    let sequence = node.sequence;
-    text(b"path ");
-    part(record_parts::node_part(bytes, Field::Path));
-    text(b" stat ");
-    value(stat);
-    text(b" trie ");
-    given(bytes, trie, Field::Trie);
-    text(b" writers ");
-    writers(bytes, several);
-    text(b" sequence ");
-    numeral(sequence);
+    print(format_args!("path {}", Shown(node_part(bytes, Field::Path))));
+    print(" stat ");
+    value(node.value);
+    print(" trie ");
+    given(bytes, node.trie, Field::Trie);
+    print(" writers ");
+    writers(bytes, node.writers);
+    print(format_args!(" sequence {}", Numeral(node.sequence)));
 }

@@ -1,9 +1,0 @@
--- `gate_records::show::writers` is safe and ends: the index stays within the list.
-use Rattle.std.proofs.Common.{◌-◌, ◌≤◌}
-use Rattle.gate_records.proofs.show.writers.Given as goal
-
-abbrev pub invariant-loop-i : goal.invariant-loop-i
-invariant-loop-i l = l.i ≤ 8
-
-abbrev pub decreases-loop-i : goal.decreases-loop-i
-decreases-loop-i l = 8 - l.i

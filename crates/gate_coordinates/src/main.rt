@@ -94,6 +94,10 @@ fn there_and_back<F: Fn(&[u8], &mut [u8]) -> Answer, G: Fn(&[u8], &mut [u8]) -> 
     print(format_args!("{name} {}", Said(there(bytes, &mut out))));
     if let Some(made) = out.get(0..bytes.len()) {
         print(format_args!(" {}", Said(back(made, &mut returned))));
-        print(if returned.starts_with(bytes) { " the same\n" } else { " others\n" });
+        if returned.starts_with(bytes) {
+            print(" the same\n");
+        } else {
+            print(" others\n");
+        }
     }
 }

@@ -10,7 +10,8 @@ use gate_printing::{Said, print};
 
 // About powers of two.
 const COUNTS: [u64; 19] = [
-    0, 1, 2, 3, 7, 8, 9, 1023, 1024, 1025, 8191, 8192, 8193, 16383, 16384, 65535, 65536, 524287, 524288,
+    0, 1, 2, 3, 7, 8, 9, 1023, 1024, 1025, 8191, 8192, 8193, 16383, 16384, 65535, 65536, 524287,
+    524288,
 ];
 
 fn main() {
@@ -89,10 +90,10 @@ fn answer(r: Needed) {
     match r.answer {
         Answer::Refused(refusal) => print(format_args!(" {}\n", Said(refusal))),
         Answer::Done => {
-            let Needed { tree, signatures, bitfield, content, .. } = r;
-            print(format_args!(" tree {tree} signatures {signatures} bitfield {bitfield} data {content}"));
-            let Needed { leaves, parents, root, runs, .. } = r;
-            print(format_args!(" leaves {leaves} parents {parents} root {root} runs {runs}\n"));
+            print(format_args!(" tree {} signatures {}", r.tree, r.signatures));
+            print(format_args!(" bitfield {} data {}", r.bitfield, r.content));
+            print(format_args!(" leaves {} parents {}", r.leaves, r.parents));
+            print(format_args!(" root {} runs {}\n", r.root, r.runs));
         }
     }
 }

@@ -1,4 +1,5 @@
 // The lookups, the verified read and the searches on a partial copy. Each gives two numbers, in `out`, which is as it was after a refusal.
+// Each is written out beside its kin in `lookups`: C calls it by a name and parameters of its own, and its body is one call and the encoding they share.
 ghost use Rattle.blake2b.specs.Hash.{node_hash};
 ghost use Rattle.copy_checks.specs.Copy.{copy_of};
 ghost use Rattle.copy_lookup.specs.Lookups.{copy_place_of, copy_byte_at};

@@ -1,4 +1,5 @@
 // The records of a partial copy's chunks, and the paths in them.
+// Each is written out beside its kin in `metadata`: C calls it by a name and parameters of its own, and its body is one call and the encoding they share.
 ghost use Rattle.blake2b.specs.Hash.{node_hash};
 ghost use Rattle.copy_checks.specs.Copy.{copy_of};
 ghost use Rattle.std.specs.Prelude.{◌≡◌};

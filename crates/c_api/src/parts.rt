@@ -1,4 +1,5 @@
 // Parts of audits and of the comparing walk, for threads and for going on later. All of them write nothing but their answer.
+// Each is written out, a copy's beside a register's: C calls it by a name and parameters of its own, and its body is one call and the encoding they share.
 ghost use Rattle.std.specs.Prelude.{◌≡◌};
 ghost use Rattle.answer_types.specs.Verdict.{done};
 ghost use Rattle.blake2b.specs.Hash.{node_hash};

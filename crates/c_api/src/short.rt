@@ -1,5 +1,6 @@
 // The short way: the lookups that add up leaf lengths from chunk 0, and the search that reads data bits in order. Each gives two numbers, in `out`, which
 // is as it was after a refusal.
+// Each is written out beside its kin in `lookups`: C calls it by a name and parameters of its own, and its body is one call and the encoding they share.
 ghost use Rattle.checks.specs.Lent.{register_of};
 ghost use Rattle.short_lookup.specs.ShortLookup.{short_place_of, short_byte_at, short_search_for};
 ghost use Rattle.c_encoding.specs.Encoding.{Gives, as_found};

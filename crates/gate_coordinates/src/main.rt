@@ -2,42 +2,33 @@
 // stdout; and whether each undoes the other.
 #![tactic(auto)]
 
-use answer_types::Refusal;
-use gate_printing::text;
+use answer_types::Answer;
+use coordinates::{group, ungroup};
+use gate_printing::{InHex, Said, front, print};
 
 fn main() {
-    let mut bytes = [0u8; 65537];
-    fill(&mut bytes);
-    rows(&bytes);
-}
-
-// (A reference to the array brings its length along.)
-fn rows(bytes: &[u8; 65537]) {
-    short_lengths(bytes);
-    borders(bytes);
+    let bytes = sequence();
+    short_lengths(&bytes);
+    borders(&bytes);
 }
 
 // The highest byte of each number of a sequence whose steps grow by one number, modulo 2^32.
-fn fill(bytes: &mut [u8; 65537]) {
+fn sequence() -> [u8; 65537] {
+    let mut bytes = [0u8; 65537];
     let mut x: u32 = 1;
     let mut step: u32 = 1;
-    let mut i: usize = 0;
-    while i < 65537 {
-        bytes[i] = (x / 16777216) as u8;
-        let next = std::num::wrapping_add_u32(x, step);
-        x = next;
-        let more = std::num::wrapping_add_u32(step, 2654435769);
-        step = more;
-        i += 1;
+    for byte in &mut bytes {
+        *byte = (x >> 24) as u8;
+        x = x.wrapping_add(step);
+        step = step.wrapping_add(2654435769);
     }
+    bytes
 }
 
 // Lengths 0 to 17: with and without words, and with all counts of remaining bytes.
 fn short_lengths(bytes: &[u8]) {
-    let mut count: usize = 0;
-    while count <= 17 {
+    for count in 0..=17 {
         row(bytes, count, 65540);
-        count += 1;
     }
 }
 
@@ -60,72 +51,53 @@ fn borders(bytes: &[u8]) {
 
 // Both calls on the first `count` bytes, with so much room.
 fn row(bytes: &[u8], count: usize, room: usize) {
-    if count <= bytes.len() {
-        let lent = &bytes[0..count];
-        let mut out = [238u8; 65540];
-        call_line(b"group ", true, lent, &mut out, room);
-        let mut other = [238u8; 65540];
-        call_line(b"ungroup ", false, lent, &mut other, room);
+    if let Some(lent) = bytes.get(0..count) {
+        call_line("group", group, lent, room);
+        call_line("ungroup", ungroup, lent, room);
         if count <= room {
-            returned(lent);
+            there_and_back("group, ungroup", group, ungroup, lent);
+            there_and_back("ungroup, group", ungroup, group, lent);
         }
     }
 }
 
-fn called(grouping: bool, bytes: &[u8], out: &mut [u8]) -> Result<(), Refusal> {
-    if grouping {
-        coordinates::group(bytes, out)
-    } else {
-        coordinates::ungroup(bytes, out)
-    }
-}
-
-fn call_line(name: &[u8], grouping: bool, bytes: &[u8], out: &mut [u8], room: usize) {
-    if room <= out.len() {
-        gate_printing::named(name, bytes.len() as u64);
-        gate_printing::named(b" ", room as u64);
-        text(b" ");
-        gate_printing::answer(called(grouping, bytes, &mut out[0..room]));
-        left(out);
+fn call_line<F: Fn(&[u8], &mut [u8]) -> Answer>(name: &str, call: F, bytes: &[u8], room: usize)
+    requires { F.IsAlwaysCallable call }
+{
+    let mut out = [238u8; 65540];
+    let count = bytes.len();
+    if let Some(lent) = out.get_mut(0..room) {
+        let answer = call(bytes, lent);
+        print(format_args!("{name} {count} {room} {}", Said(answer)));
+        left(&out);
     }
 }
 
 // The first bytes of a buffer and the hash of it all.
 fn left(out: &[u8]) {
-    text(b" ");
-    gate_printing::front(out, 20);
-    text(b" ");
-    gate_printing::hex(&blake2b::hash_parts(b"", b"", out));
-    text(b"\n");
+    let hash = blake2b::hash_parts(b"", b"", out);
+    print(format_args!(" {} {}\n", front(out, 20), InHex(&hash)));
 }
 
-// Whether the bytes come back, both ways round.
-fn returned(bytes: &[u8]) {
+// Whether the bytes come back.
+fn there_and_back<F: Fn(&[u8], &mut [u8]) -> Answer, G: Fn(&[u8], &mut [u8]) -> Answer>(
+    name: &str,
+    there: F,
+    back: G,
+    bytes: &[u8],
+)
+    requires there_callable { F.IsAlwaysCallable there }
+    requires back_callable { G.IsAlwaysCallable back }
+{
     let mut out = [238u8; 65540];
-    let mut back = [238u8; 65540];
-    there_and_back(b"group, ungroup ", true, bytes, &mut out, &mut back);
-    there_and_back(b"ungroup, group ", false, bytes, &mut out, &mut back);
-}
-
-fn there_and_back(name: &[u8], grouping: bool, bytes: &[u8], out: &mut [u8], back: &mut [u8]) {
-    text(name);
-    gate_printing::answer(called(grouping, bytes, out));
-    if out.len() < bytes.len() {
-        return;
-    }
-    text(b" ");
-    gate_printing::answer(called(!grouping, &out[0..bytes.len()], back));
-    same_line(bytes, back);
-}
-
-// Whether the bytes stand at the front of a buffer.
-fn same_line(bytes: &[u8], back: &[u8]) {
-    let count = bytes.len();
-    if count <= back.len() {
-        if byte_strings::same(bytes, &back[0..count]) {
-            text(b" the same\n");
-            return;
+    let mut returned = [238u8; 65540];
+    print(format_args!("{name} {}", Said(there(bytes, &mut out))));
+    if let Some(made) = out.get(0..bytes.len()) {
+        print(format_args!(" {}", Said(back(made, &mut returned))));
+        if returned.starts_with(bytes) {
+            print(" the same\n");
+        } else {
+            print(" others\n");
         }
     }
-    text(b" others\n");
 }

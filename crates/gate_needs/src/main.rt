@@ -2,9 +2,17 @@
 // fullest register with an empty list, each refusal, and each two of them at once.
 #![tactic(auto)]
 
-use answer_types::{Refusal, Refusal};
+ghost use Rattle.std.specs.Prelude.{◌≤◌};
+
+use answer_types::Answer;
 use append_needs::Needed;
-use gate_printing::named;
+use gate_printing::{Said, print};
+
+// About powers of two.
+const COUNTS: [u64; 19] = [
+    0, 1, 2, 3, 7, 8, 9, 1023, 1024, 1025, 8191, 8192, 8193, 16383, 16384, 65535, 65536, 524287,
+    524288,
+];
 
 fn main() {
     lists(0);
@@ -17,66 +25,31 @@ fn main() {
     pairs();
 }
 
-// So many lengths at each of the counts.
-fn lists(k: usize) {
-    at(0, k);
-    at(1, k);
-    at(2, k);
-    at(3, k);
-    at(7, k);
-    at(8, k);
-    at(9, k);
-    at(1023, k);
-    at(1024, k);
-    at(1025, k);
-    at(8191, k);
-    at(8192, k);
-    at(8193, k);
-    at(16383, k);
-    at(16384, k);
-    at(65535, k);
-    at(65536, k);
-    at(524287, k);
-    at(524288, k);
-}
-
-fn at(n: u64, k: usize) {
-    let mut lengths = [0u64; 256];
-    fill(&mut lengths, n);
-    filled(n, k, &lengths);
-}
-
-// (A reference to the array brings its length along.)
-fn filled(n: u64, k: usize, lengths: &[u64; 256]) {
-    first(n, k, lengths);
-}
-
-// The first k of the lengths.
-fn first(n: u64, k: usize, lengths: &[u64]) {
-    if k <= lengths.len() {
-        if n < 1048576 {
-            row(n, 1000 * n, &lengths[0..k]);
-        }
+// So many lengths at each of the counts, where a chunk has 1000 bytes.
+fn lists(k: usize)
+    requires { k ≤ 256 }
+{
+    for n in COUNTS {
+        row(n, n.wrapping_mul(1000), &lengths_from(n)[0..k]);
     }
 }
 
 // Lengths from n on, up to the longest, each 577 above the one before it, modulo 65,537.
-fn fill(lengths: &mut [u64; 256], n: u64) {
-    let mut length = n % 65537;
-    let mut j: usize = 0;
-    while j < 256 {
-        lengths[j] = length;
-        length = (length + 577) % 65537;
-        j += 1;
+fn lengths_from(n: u64) -> [u64; 256] {
+    let mut lengths = [0u64; 256];
+    let mut next = n % 65537;
+    for length in &mut lengths {
+        *length = next;
+        next = next.wrapping_add(577) % 65537;
     }
+    lengths
 }
 
-// k lengths, up to 257, that are all the same.
-fn all(n: u64, size: u64, k: usize, length: u64) {
-    let lengths = [length; 257];
-    if k <= 257 {
-        row(n, size, &lengths[0..k]);
-    }
+// k lengths that are all the same.
+fn all(n: u64, size: u64, k: usize, length: u64)
+    requires { k ≤ 257 }
+{
+    row(n, size, &[length; 257][0..k]);
 }
 
 // One length at a time.
@@ -108,30 +81,19 @@ fn pairs() {
 }
 
 fn row(n: u64, size: u64, lengths: &[u64]) {
-    gate_printing::text(b"needs");
-    named(b" n=", n);
-    named(b" size=", size);
-    named(b" k=", lengths.len() as u64);
-    gate_printing::text(b":");
+    let k = lengths.len();
+    print(format_args!("needs n={n} size={size} k={k}:"));
     answer(append_needs::needs(n, size, lengths));
-    gate_printing::text(b"\n");
 }
 
-fn answer(r: Result<Needed, Refusal>) {
-    match r {
-        Err(refusal) => {
-            gate_printing::text(b" ");
-            gate_printing::refusal(refusal);
-        }
-        Ok(needed) => {
-            named(b" tree ", needed.tree);
-            named(b" signatures ", needed.signatures);
-            named(b" bitfield ", needed.bitfield);
-            named(b" data ", needed.content);
-            named(b" leaves ", needed.leaves);
-            named(b" parents ", needed.parents);
-            named(b" root ", needed.root);
-            named(b" runs ", needed.runs);
+fn answer(r: Needed) {
+    match r.answer {
+        Answer::Refused(refusal) => print(format_args!(" {}\n", Said(refusal))),
+        Answer::Done => {
+            print(format_args!(" tree {} signatures {}", r.tree, r.signatures));
+            print(format_args!(" bitfield {} data {}", r.bitfield, r.content));
+            print(format_args!(" leaves {} parents {}", r.leaves, r.parents));
+            print(format_args!(" root {} runs {}\n", r.root, r.runs));
         }
     }
 }

@@ -1,75 +1,81 @@
 // What the test programs print on standard output: text, numbers, bytes in hexadecimal, and answers.
 #![tactic(auto)]
 
-ghost use Rattle.std.specs.Prelude.{◌<◌};
+use answer_types::{Answer, Place, Refusal};
+use std::fmt;
+use std::fmt::{Display, Write};
 
+// Standard output, which `write!` writes: what it does not take is lost. The library's `println!` asks why a write failed, and so would
+// assume two more functions of C than docs/TRUST.md has.
+#[derive(Clone, Copy)]
+struct Output;
+
+impl Write for Output {
+    fn write_str(&mut self, s: &str) -> fmt::Result {
+        text(s.as_bytes());
+        Ok(())
+    }
+}
+
+// A value, as it is displayed.
+pub fn print<D: Display + Drop>(value: D) {
+    let _ = write!(Output, "{value}");
+}
+
+// Bytes as they are.
 pub fn text(t: &[u8]) {
     io::write_all(1, t);
 }
 
 pub fn number(n: u64) {
-    io::print_decimal(1, n);
+    print(n);
 }
 
-// A number behind its name.
-pub fn named(name: &[u8], n: u64) {
-    text(name);
-    number(n);
-}
+// Bytes, displayed in hexadecimal.
+#[derive(Clone, Copy)]
+pub struct InHex<'a>(pub &'a [u8]);
 
-// The first bytes in hexadecimal, where there are so many.
-pub fn front(bytes: &[u8], count: usize) {
-    if count <= bytes.len() {
-        hex(&bytes[0..count]);
+impl Display for InHex<'_> {
+    fn fmt<W: Write>(&self, f: &mut fmt::Formatter<W>) -> fmt::Result {
+        for byte in self.0 {
+            write!(f, "{byte:02x}")?;
+        }
+        Ok(())
     }
+}
+
+// The first bytes, where there are so many.
+pub fn front(bytes: &[u8], count: usize) -> InHex<'_> {
+    InHex(bytes.get(0..count).unwrap_or(&[]))
 }
 
 // The bytes in hexadecimal.
 pub fn hex(bytes: &[u8]) {
-    let mut i = 0;
-    while i < bytes.len() {
-        hex_byte(bytes[i]);
-        i += 1;
-    }
+    print(InHex(bytes));
 }
 
-fn hex_byte(byte: u8) {
-    let both = [digit(byte / 16), digit(byte % 16)];
-    io::write_all(1, &both);
-}
+// What a call says, to be displayed: a refusal, or an answer that gives nothing but its being done.
+#[derive(Clone, Copy)]
+pub struct Said<T>(pub T);
 
-fn digit(value: u8) -> u8
-    requires { value < 16 }
-{
-    if value < 10 {
-        b'0' + value
-    } else {
-        b'a' - 10 + value
-    }
-}
-
-// A refusal: its number, and its place if it has one.
-pub fn refusal(r: answer_types::Refusal) {
-    text(b"refused ");
-    number(r.number);
-    let place = r.place;
-    match place {
-        answer_types::Place::Nowhere => {}
-        answer_types::Place::Tree(i) => {
-            text(b" tree ");
-            number(i.0);
-        }
-        answer_types::Place::Bitfield(b) => {
-            text(b" bitfield ");
-            number(b.0);
+// Its number, and its place if it has one.
+impl Display for Said<Refusal> {
+    fn fmt<W: Write>(&self, f: &mut fmt::Formatter<W>) -> fmt::Result {
+        let refusal = self.0;
+        write!(f, "refused {}", refusal.number)?;
+        match refusal.place {
+            Place::Nowhere => Ok(()),
+            Place::Tree(i) => write!(f, " tree {}", i.0),
+            Place::Bitfield(b) => write!(f, " bitfield {}", b.0),
         }
     }
 }
 
-// An answer that gives nothing but its being done.
-pub fn answer(a: Result<(), answer_types::Refusal>) {
-    match a {
-        Ok(()) => text(b"done"),
-        Err(r) => refusal(r),
+impl Display for Said<Answer> {
+    fn fmt<W: Write>(&self, f: &mut fmt::Formatter<W>) -> fmt::Result {
+        match self.0 {
+            Answer::Done => f.write_str("done"),
+            Answer::Refused(r) => Said(r).fmt(f),
+        }
     }
 }

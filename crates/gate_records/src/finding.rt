@@ -1,145 +1,90 @@
 // Records of chunks, and paths. A step gives how long the images are that are lent, n, s and the data size.
-use super::given::{Told, behind, first, number};
+use super::given::{behind, first, number};
+use super::show;
+use super::show::Shown;
+use answer_types::Answer;
+use gate_printing::{Said, print};
 use number_types::ChunkNumber;
+use record_find::Found;
+use record_format::HeaderRead;
 use record_parts::Field;
 
-// The register lent, and the chunk asked of it.
+// What is asked of a register: for a path, which stands behind the numbers; or for the record of a chunk, whose number comes last.
 #[derive(Clone, Copy)]
-struct Lent<'a> {
-    tree: &'a [u8],
-    signatures: &'a [u8],
-    bitfield: &'a [u8],
-    data: &'a [u8],
-    n: u64,
-    s: u64,
-    size: u64,
-    chunk: ChunkNumber,
+pub enum Asked {
+    Path,
+    Record,
 }
 
-// A path sought, which stands behind the numbers; or the record of a chunk, whose number comes last.
-pub fn asked(
+pub fn ask(
     tree: &[u8],
     signatures: &[u8],
     bitfield: &[u8],
     data: &[u8],
-    told: Told,
     step: &[u8],
-    path: bool,
-) -> Told {
-    let a = Lent {
-        tree: first(tree, number(step, 0)),
-        signatures: first(signatures, number(step, 1)),
-        bitfield: first(bitfield, number(step, 2)),
-        data: first(data, number(step, 3)),
-        n: number(step, 4),
-        s: number(step, 5),
-        size: number(step, 6),
-        chunk: ChunkNumber(number(step, 7)),
-    };
-    if path {
-        found(a, behind(step, 7));
-    } else if a.chunk.0 == 0 {
-        header(a);
+    asked: Asked,
+) {
+    let t = first(tree, number(step, 0));
+    let g = first(signatures, number(step, 1));
+    let b = first(bitfield, number(step, 2));
+    let d = first(data, number(step, 3));
+    let n = number(step, 4);
+    let s = number(step, 5);
+    let size = number(step, 6);
+    match asked {
+        Asked::Path => found(record_find::find(t, g, b, d, n, s, size, behind(step, 7))),
+        Asked::Record => record(t, g, b, d, n, s, size, ChunkNumber(number(step, 7))),
+    }
+}
+
+fn found(answer: Found) {
+    match answer {
+        Found::Refused(refusal) => print(Said(refusal)),
+        Found::At(chunk) => print(chunk.0),
+        Found::Nowhere => print("none"),
+    }
+}
+
+fn record(t: &[u8], g: &[u8], b: &[u8], d: &[u8], n: u64, s: u64, size: u64, chunk: ChunkNumber) {
+    if chunk.0 == 0 {
+        header(t, g, b, d, n, s, size, chunk);
     } else {
-        node(a);
-        parts(a);
-    }
-    told
-}
-
-fn found(a: Lent, path: &[u8]) {
-    match record_find::find(
-        a.tree,
-        a.signatures,
-        a.bitfield,
-        a.data,
-        a.n,
-        a.s,
-        a.size,
-        path,
-    ) {
-        Err(refusal) => gate_printing::refusal(refusal),
-        Ok(Some(chunk)) => gate_printing::number(chunk.0),
-        Ok(None) => gate_printing::text(b"none"),
+        node(t, g, b, d, n, s, size, chunk);
+        parts(t, g, b, d, n, s, size, chunk);
     }
 }
 
-fn header(a: Lent) {
-    match record_find::header_of(
-        a.tree,
-        a.signatures,
-        a.bitfield,
-        a.data,
-        a.n,
-        a.s,
-        a.size,
-        a.chunk,
-    ) {
-        Err(refusal) => gate_printing::refusal(refusal),
-        Ok(_) => gate_printing::text(b"content"),
+fn header(t: &[u8], g: &[u8], b: &[u8], d: &[u8], n: u64, s: u64, size: u64, chunk: ChunkNumber) {
+    match record_find::header_of(t, g, b, d, n, s, size, chunk) {
+        HeaderRead::Refused(refusal) => print(Said(refusal)),
+        HeaderRead::Content(_) => print("content"),
     }
-    gate_printing::text(b" ");
-    super::show::part(record_parts::header_content_of(
-        a.tree,
-        a.signatures,
-        a.bitfield,
-        a.data,
-        a.n,
-        a.s,
-        a.size,
-        a.chunk,
-    ));
+    let content = record_parts::header_content_of(t, g, b, d, n, s, size, chunk);
+    print(format_args!(" {}", Shown(content)));
 }
 
-fn node(a: Lent) {
-    match record_find::node_of(
-        a.tree,
-        a.signatures,
-        a.bitfield,
-        a.data,
-        a.n,
-        a.s,
-        a.size,
-        a.chunk,
-    ) {
-        Err(refusal) => gate_printing::refusal(refusal),
-        Ok(node) => {
-            let bytes = lookup::read_one(
-                a.tree,
-                a.signatures,
-                a.bitfield,
-                a.data,
-                a.n,
-                a.s,
-                a.size,
-                a.chunk,
-            );
-            super::show::fields(bytes, node);
-        }
+fn node(t: &[u8], g: &[u8], b: &[u8], d: &[u8], n: u64, s: u64, size: u64, chunk: ChunkNumber) {
+    let read = record_find::node_of(t, g, b, d, n, s, size, chunk);
+    let answer = read.answer;
+    let fields = read.node;
+    match answer {
+        Answer::Refused(refusal) => print(Said(refusal)),
+        Answer::Done => show::fields(lookup::read_one(t, g, b, d, n, s, size, chunk), fields),
     }
 }
 
 // The parts of the Node, as they are handed back: nothing after a refusal, and of a field that is absent.
-fn parts(a: Lent) {
-    gate_printing::text(b" parts");
-    for field in [
+fn parts(t: &[u8], g: &[u8], b: &[u8], d: &[u8], n: u64, s: u64, size: u64, chunk: ChunkNumber) {
+    print(" parts");
+    let fields = [
         Field::Path,
         Field::Trie,
         Field::Key(0),
         Field::Permission(0),
         Field::Key(1),
-    ] {
-        gate_printing::text(b" ");
-        super::show::part(record_parts::node_part_of(
-            a.tree,
-            a.signatures,
-            a.bitfield,
-            a.data,
-            a.n,
-            a.s,
-            a.size,
-            a.chunk,
-            field,
-        ));
+    ];
+    for field in fields {
+        let part = record_parts::node_part_of(t, g, b, d, n, s, size, chunk, field);
+        print(format_args!(" {}", Shown(part)));
     }
 }

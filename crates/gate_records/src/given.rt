@@ -1,19 +1,15 @@
 // What a step gives: numbers, and the bytes behind them.
 ghost use Rattle.std.specs.Prelude.{◌<◌};
 
-use record_fields::Part;
+use record_fields::{Bytes, Number, Part};
 use record_format::Stat;
-use record_node::{Node, Writer, Writers};
+use record_node::{Node, Value, Writer, Writers};
 
 // What is told of the register that is made.
-#[derive(Clone, Copy)]
+#[derive(Clone, Copy, Default)]
 pub struct Told {
     pub n: u64,
     pub size: u64,
-}
-
-pub fn none() -> Told {
-    Told { n: 0, size: 0 }
 }
 
 // The number k of a step; 0 where it has none.
@@ -30,26 +26,22 @@ pub fn number(step: &[u8], k: usize) -> u64
 pub fn behind(step: &[u8], k: usize) -> &[u8]
     requires { k < 100 }
 {
-    if step.len() < 8 * k {
-        return &step[0..0];
-    }
-    &step[8 * k..]
+    step.get(8 * k..).unwrap_or(&[])
 }
 
 // The first bytes; all where there are fewer.
 pub fn first(bytes: &[u8], count: u64) -> &[u8] {
-    let end = bytes.len().min(count as usize);
-    &bytes[..end]
+    bytes.get(0..count as usize).unwrap_or(bytes)
 }
 
 // A field that is a number: whether it is there, and the number.
-fn field(step: &[u8], k: usize) -> Option<u64>
+fn field(step: &[u8], k: usize) -> Number
     requires { k < 90 }
 {
     if number(step, k) == 0 {
-        return None;
+        return Number::Absent;
     }
-    Some(number(step, k + 1))
+    Number::Given(number(step, k + 1))
 }
 
 fn part(step: &[u8], k: usize) -> Part
@@ -62,20 +54,20 @@ fn part(step: &[u8], k: usize) -> Part
 }
 
 // A field that is a part: whether it is there, and the part.
-fn bytes(step: &[u8], k: usize) -> Option<Part>
+fn bytes(step: &[u8], k: usize) -> Bytes
     requires { k < 80 }
 {
     if number(step, k) == 0 {
-        return None;
+        return Bytes::Absent;
     }
-    Some(part(step, k + 1))
+    Bytes::Given(part(step, k + 1))
 }
 
-fn value(step: &[u8]) -> Option<Stat> {
+fn value(step: &[u8]) -> Value {
     if number(step, 2) == 0 {
-        return None;
+        return Value::Absent;
     }
-    Some(Stat {
+    Value::Given(Stat {
         mode: field(step, 3),
         uid: field(step, 5),
         gid: field(step, 7),
@@ -99,13 +91,11 @@ fn writer(step: &[u8], k: usize) -> Writer
 
 fn writers(step: &[u8]) -> Writers {
     let mut list = [writer(step, 27); 8];
-    for i in 0..8 {
+    for i in 1..8 {
         list[i] = writer(step, 27 + 5 * i);
     }
-    Writers {
-        count: number(step, 26) as usize,
-        list,
-    }
+    let count = number(step, 26) as usize;
+    Writers { count, list }
 }
 
 // The Node of 67 numbers: the path, whether there is a Stat and its nine fields, the trie, the sequence, the count of the Writers, and eight of

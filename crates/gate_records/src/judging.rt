@@ -1,113 +1,136 @@
 // Texts, and records of lent bytes, written and read.
-ghost use Rattle.std.specs.Prelude.{◌≤◌};
+use super::given::{behind, number};
+use super::making::turn;
+use super::show::Shown;
+use super::{given, show};
+use answer_types::Answer;
+use gate_printing::{Said, print};
+use record_format::{HeaderRead, Written};
 
-use super::given::{Told, behind, number};
-use answer_types::Refusal;
+// What is done with what a step gives, besides asking a register.
+#[derive(Clone, Copy)]
+pub enum Judging {
+    Text,
+    WriteNode,
+    WriteHeader,
+    ReadNode,
+    ReadHeader,
+    Beginnings,
+    Spoilt,
+}
 
-pub fn taken(step: &[u8], told: Told, kind: u8) -> Told {
-    match kind {
-        b'T' => gate_printing::text(step),
-        b'W' => write_node(step),
-        b'w' => write_header(step),
-        b'N' => read_node(step),
-        b'H' => read_header(step),
-        b'B' => beginnings(number(step, 0), behind(step, 1)),
-        b'V' => spoilt(number(step, 0), number(step, 1), behind(step, 2)),
-        _ => {}
+// What bytes may be a record of: by its number, 0 for a Header.
+#[derive(Clone, Copy)]
+enum Record {
+    Header,
+    Node,
+}
+
+impl From<u64> for Record {
+    fn from(number: u64) -> Record {
+        match number {
+            0 => Record::Header,
+            _ => Record::Node,
+        }
     }
-    told
+}
+
+pub fn taken(step: &[u8], judging: Judging) {
+    match judging {
+        Judging::Text => gate_printing::text(step),
+        Judging::WriteNode => write_node(step),
+        Judging::WriteHeader => write_header(step),
+        Judging::ReadNode => read_node(step),
+        Judging::ReadHeader => read_header(step),
+        Judging::Beginnings => beginnings(Record::from(number(step, 0)), behind(step, 1)),
+        Judging::Spoilt => {
+            let record = Record::from(number(step, 0));
+            spoilt(record, number(step, 1), behind(step, 2))
+        }
+    }
 }
 
 // So much of a buffer of a5 is lent; all of that is shown.
-fn room(count: u64) -> usize
-    ensures { result ≤ 4096 }
-{
-    count.min(4096) as usize
-}
-
 fn write_node(step: &[u8]) {
     let mut out = [0xa5u8; 4096];
-    let end = room(number(step, 67));
-    node_into(step, &mut out[..end]);
-}
-
-fn node_into(step: &[u8], out: &mut [u8]) {
-    let written = record_node::write_node(behind(step, 68), super::given::node(step), out);
-    wrote(written, out);
+    let end = number(step, 67).min(4096) as usize;
+    let lent = &mut out[0..end];
+    let written = record_node::write_node(behind(step, 68), given::node(step), lent);
+    wrote(written, lent);
 }
 
 fn write_header(step: &[u8]) {
     let mut out = [0xa5u8; 4096];
-    let end = room(number(step, 0));
-    header_into(step, &mut out[..end]);
+    let end = number(step, 0).min(4096) as usize;
+    let lent = &mut out[0..end];
+    let written = record_format::write_header(behind(step, 1), lent);
+    wrote(written, lent);
 }
 
-fn header_into(step: &[u8], out: &mut [u8]) {
-    let written = record_format::write_header(behind(step, 1), out);
-    wrote(written, out);
-}
-
-fn wrote(written: Result<u64, Refusal>, out: &[u8]) {
+fn wrote(written: Written, out: &[u8]) {
     match written {
-        Err(refusal) => gate_printing::refusal(refusal),
-        Ok(count) => {
-            gate_printing::number(count);
-            gate_printing::text(b" ");
-            super::show::part(super::given::first(out, count));
+        Written::Refused(refusal) => print(Said(refusal)),
+        Written::Length(count) => {
+            print(format_args!("{count} {}", Shown(given::first(out, count))));
         }
     }
-    gate_printing::text(b" ");
-    super::show::part(out);
+    print(format_args!(" {}", Shown(out)));
 }
 
 fn read_node(bytes: &[u8]) {
-    match record_node::read_node(bytes) {
-        Err(refusal) => gate_printing::refusal(refusal),
-        Ok(node) => super::show::fields(bytes, node),
+    let read = record_node::read_node(bytes);
+    let answer = read.answer;
+    let node = read.node;
+    match answer {
+        Answer::Refused(refusal) => print(Said(refusal)),
+        Answer::Done => show::fields(bytes, node),
     }
 }
 
 fn read_header(bytes: &[u8]) {
     match record_format::read_header(bytes) {
-        Err(refusal) => gate_printing::refusal(refusal),
-        Ok(_) => {
-            gate_printing::text(b"content ");
-            super::show::part(record_parts::header_content(bytes));
+        HeaderRead::Refused(refusal) => print(Said(refusal)),
+        HeaderRead::Content(_) => {
+            print(format_args!("content {}", Shown(record_parts::header_content(bytes))));
         }
     }
 }
 
-// 1 where bytes are a Header (kind 0) or a Node, 0 where they are none.
-fn judge(kind: u64, bytes: &[u8]) {
-    let taken = if kind == 0 {
-        record_format::read_header(bytes).is_ok()
-    } else {
-        record_node::read_node(bytes).is_ok()
-    };
-    gate_printing::text(if taken { b"1" } else { b"0" });
+// Whether bytes are such a record.
+fn is_one(record: Record, bytes: &[u8]) -> bool {
+    match record {
+        Record::Header => match record_format::read_header(bytes) {
+            HeaderRead::Refused(_) => false,
+            HeaderRead::Content(_) => true,
+        },
+        Record::Node => match record_node::read_node(bytes).answer {
+            Answer::Refused(_) => false,
+            Answer::Done => true,
+        },
+    }
+}
+
+// 1 where bytes are such a record, 0 where they are none.
+fn judge(record: Record, bytes: &[u8]) {
+    print(u8::from(is_one(record, bytes)));
 }
 
 // Each beginning of a record.
-fn beginnings(kind: u64, record: &[u8]) {
-    for end in 0..record.len() {
-        judge(kind, &record[..end]);
+fn beginnings(record: Record, bytes: &[u8]) {
+    for end in 0..=bytes.len() {
+        judge(record, &bytes[0..end]);
     }
-    judge(kind, record);
 }
 
 // Each byte of a record turned by itself.
-fn spoilt(kind: u64, bits: u64, record: &[u8]) {
+fn spoilt(record: Record, bits: u64, bytes: &[u8]) {
     let mut copy = [0u8; 512];
-    if record.len() <= 512 {
-        byte_strings::copy_to(&mut copy, 0, record);
-        turned(kind, bits, &mut copy[0..record.len()]);
-    }
-}
-
-fn turned(kind: u64, bits: u64, record: &mut [u8]) {
-    for at in 0..record.len() {
-        super::making::turn(record, at as u64, bits);
-        judge(kind, record);
-        super::making::turn(record, at as u64, bits);
+    if let Some(turned) = copy.get_mut(0..bytes.len()) {
+        turned.copy_from_slice(bytes);
+        for at in 0..bytes.len() {
+            turn(turned, at, bits);
+            judge(record, turned);
+            turn(turned, at, bits);
+        }
     }
 }

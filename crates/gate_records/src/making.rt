@@ -1,5 +1,24 @@
 // The register that paths are sought in.
-use super::given::Told;
+use super::given::{Told, number};
+
+// The images of the register, by their numbers from 0 on; any other number is the data's too.
+enum Image {
+    Tree,
+    Signatures,
+    Bitfield,
+    Data,
+}
+
+impl From<u64> for Image {
+    fn from(number: u64) -> Image {
+        match number {
+            0 => Image::Tree,
+            1 => Image::Signatures,
+            2 => Image::Bitfield,
+            _ => Image::Data,
+        }
+    }
+}
 
 pub fn started(
     tree: &mut [u8],
@@ -8,7 +27,7 @@ pub fn started(
     data: &mut [u8],
 ) -> Told {
     writing::start(tree, signatures, bitfield, data);
-    super::given::none()
+    Told::default()
 }
 
 // One more chunk, with a signature of zeros.
@@ -20,13 +39,11 @@ pub fn appended(
     told: Told,
     chunk: &[u8],
 ) -> Told {
-    let n = told.n;
-    let size = told.size;
+    let Told { n, size } = told;
     writing::append(tree, signatures, bitfield, data, n, n, size, chunk);
     let more = n.wrapping_add(1);
     let after = size.wrapping_add(chunk.len() as u64);
-    let zeros = [0u8; 64];
-    writing::store_signature(tree, signatures, bitfield, data, more, n, after, &zeros);
+    writing::store_signature(tree, signatures, bitfield, data, more, n, after, &[0; 64]);
     Told {
         n: more,
         size: after,
@@ -42,20 +59,19 @@ pub fn turned(
     told: Told,
     step: &[u8],
 ) -> Told {
-    let at = super::given::number(step, 1);
-    let bits = super::given::number(step, 2);
-    match super::given::number(step, 0) {
-        0 => turn(tree, at, bits),
-        1 => turn(signatures, at, bits),
-        2 => turn(bitfield, at, bits),
-        _ => turn(data, at, bits),
+    let at = number(step, 1) as usize;
+    let bits = number(step, 2);
+    match Image::from(number(step, 0)) {
+        Image::Tree => turn(tree, at, bits),
+        Image::Signatures => turn(signatures, at, bits),
+        Image::Bitfield => turn(bitfield, at, bits),
+        Image::Data => turn(data, at, bits),
     }
     told
 }
 
-pub fn turn(bytes: &mut [u8], place: u64, bits: u64) {
-    let at = place as usize;
-    if at < bytes.len() {
-        bytes[at] ^= (bits % 256) as u8;
+pub fn turn(bytes: &mut [u8], at: usize, bits: u64) {
+    if let Some(byte) = bytes.get_mut(at) {
+        *byte ^= (bits % 256) as u8;
     }
 }

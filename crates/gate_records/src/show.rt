@@ -1,85 +1,93 @@
 // How the fields of a record are shown.
-use gate_printing::{number, text};
-use record_fields::Part;
-use record_format::Stat;
-use record_node::{Node, Writers};
-use record_parts::Field;
+use gate_printing::{InHex, front, print};
+use record_fields::{Bytes, Number};
+use record_node::{Node, Value, Writers};
+use record_parts::{Field, node_part};
+use std::fmt;
+use std::fmt::Display;
 
 // A part in hexadecimal; of more than 40 bytes its length and the first 8 bytes of its hash.
-pub fn part(bytes: &[u8]) {
-    if bytes.is_empty() {
-        text(b"empty");
-    } else if bytes.len() <= 40 {
-        gate_printing::hex(bytes);
-    } else {
-        number(bytes.len() as u64);
-        text(b":");
-        gate_printing::front(&blake2b::hash_parts(b"", b"", bytes), 8);
+#[derive(Clone, Copy)]
+pub struct Shown<'a>(pub &'a [u8]);
+
+impl Display for Shown<'_> {
+    fn fmt<W: fmt::Write>(&self, f: &mut fmt::Formatter<W>) -> fmt::Result {
+        let bytes = self.0;
+        if bytes.is_empty() {
+            write!(f, "empty")
+        } else if bytes.len() <= 40 {
+            write!(f, "{}", InHex(bytes))
+        } else {
+            let hash = blake2b::hash_parts(b"", b"", bytes);
+            write!(f, "{}:{}", bytes.len(), front(&hash, 8))
+        }
     }
 }
 
 // A part of the Node that bytes are, where the field is there.
-fn given(bytes: &[u8], field: Option<Part>, which: Field) {
+fn given(bytes: &[u8], field: Bytes, which: Field) {
     match field {
-        None => text(b"-"),
-        Some(_) => part(record_parts::node_part(bytes, which)),
+        Bytes::Absent => print("-"),
+        Bytes::Given(_) => print(Shown(node_part(bytes, which))),
     }
 }
 
-fn numeral(field: Option<u64>) {
-    match field {
-        None => text(b"-"),
-        Some(x) => number(x),
+#[derive(Clone, Copy)]
+struct Numeral(Number);
+
+impl Display for Numeral {
+    fn fmt<W: fmt::Write>(&self, f: &mut fmt::Formatter<W>) -> fmt::Result {
+        match self.0 {
+            Number::Absent => write!(f, "-"),
+            Number::Given(x) => write!(f, "{x}"),
+        }
     }
 }
 
-fn next(field: Option<u64>) {
-    text(b",");
-    numeral(field);
-}
-
-fn value(v: Option<Stat>) {
+fn value(v: Value) {
     match v {
-        None => text(b"-"),
-        Some(stat) => {
-            numeral(stat.mode);
-            next(stat.uid);
-            next(stat.gid);
-            next(stat.size);
-            next(stat.blocks);
-            next(stat.offset);
-            next(stat.byte_offset);
-            next(stat.mtime);
-            next(stat.ctime);
+        Value::Absent => print("-"),
+        Value::Given(stat) => {
+            print(Numeral(stat.mode));
+            let others = [
+                stat.uid,
+                stat.gid,
+                stat.size,
+                stat.blocks,
+                stat.offset,
+                stat.byte_offset,
+                stat.mtime,
+                stat.ctime,
+            ];
+            for field in others {
+                print(format_args!(",{}", Numeral(field)));
+            }
         }
     }
 }
 
 fn writers(bytes: &[u8], several: Writers) {
-    let count = several.count.min(8);
-    if count == 0 {
-        text(b"-");
+    let list = several.list;
+    if several.count == 0 {
+        print("-");
     }
-    for (i, writer) in several.list[..count].iter().enumerate() {
+    for (i, one) in list.iter().enumerate().take(several.count) {
         if 0 < i {
-            text(b";");
+            print(";");
         }
-        part(record_parts::node_part(bytes, Field::Key(i)));
-        text(b"/");
-        given(bytes, writer.permission, Field::Permission(i));
+        print(format_args!("{}/", Shown(node_part(bytes, Field::Key(i)))));
+        given(bytes, one.permission, Field::Permission(i));
     }
 }
 
 // The fields of the Node that bytes are, its parts as they are handed back.
 pub fn fields(bytes: &[u8], node: Node) {
-    text(b"path ");
-    part(record_parts::node_part(bytes, Field::Path));
-    text(b" stat ");
+    print(format_args!("path {}", Shown(node_part(bytes, Field::Path))));
+    print(" stat ");
     value(node.value);
-    text(b" trie ");
+    print(" trie ");
     given(bytes, node.trie, Field::Trie);
-    text(b" writers ");
+    print(" writers ");
     writers(bytes, node.writers);
-    text(b" sequence ");
-    numeral(node.sequence);
+    print(format_args!(" sequence {}", Numeral(node.sequence)));
 }

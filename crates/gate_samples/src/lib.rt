@@ -4,20 +4,20 @@
 ghost use Rattle.std.specs.Prelude.{◌<◌, ◌≤◌};
 
 // What a caller tells of a register.
-#[derive(Clone, Copy)]
+#[derive(Clone, Copy, Default)]
 pub struct Told {
     pub n: u64,
     pub s: u64,
     pub size: u64,
 }
 
-// 64 bytes that depend on k.
+// 64 bytes that depend on k: byte i is k % 251 + 3 i, modulo 256.
 pub fn bytes_of(k: u64) -> [u8; 64] {
     let mut bytes = [0u8; 64];
-    let mut i = 0;
-    while i < 64 {
-        bytes[i] = ((k % 251 + 3 * i as u64) % 256) as u8;
-        i += 1;
+    let mut next = (k % 251) as u8;
+    for byte in &mut bytes {
+        *byte = next;
+        next = next.wrapping_add(3);
     }
     bytes
 }
@@ -35,13 +35,11 @@ pub fn grow(
 ) -> Told
     requires { (0 < span) × (span ≤ 64) × (upto ≤ 1048576) }
 {
-    let mut n = told.n;
     let mut size = told.size;
-    while n < upto {
-        let next = step(tree, signatures, bitfield, data, n, size, n % span);
-        size = next;
-        n += 1;
+    for n in told.n..upto {
+        size = step(tree, signatures, bitfield, data, n, size, n % span);
     }
+    let n = told.n.max(upto);
     Told { n, s: n, size }
 }
 
@@ -58,9 +56,9 @@ fn step(
 ) -> u64
     requires { (n < 1048576) × (count ≤ 64) }
 {
-    add(tree, signatures, bitfield, data, n, size, count as usize);
-    let after = std::num::wrapping_add_u64(size, count);
-    let signature = bytes_of(n + 101);
+    let chunk = &bytes_of(n)[0..count as usize];
+    writing::append(tree, signatures, bitfield, data, n, n, size, chunk);
+    let after = size.wrapping_add(count);
     writing::store_signature(
         tree,
         signatures,
@@ -69,49 +67,7 @@ fn step(
         n + 1,
         n,
         after,
-        &signature,
+        &bytes_of(n + 101),
     );
     after
-}
-
-// The chunk n appended: the first `count` of its bytes.
-fn add(
-    tree: &mut [u8],
-    signatures: &[u8],
-    bitfield: &mut [u8],
-    data: &mut [u8],
-    n: u64,
-    size: u64,
-    count: usize,
-)
-    requires { count ≤ 64 }
-{
-    let bytes = bytes_of(n);
-    add_part(tree, signatures, bitfield, data, n, size, &bytes, count);
-}
-
-// The first `count` of the bytes appended. (A reference to the array brings its length along.)
-fn add_part(
-    tree: &mut [u8],
-    signatures: &[u8],
-    bitfield: &mut [u8],
-    data: &mut [u8],
-    n: u64,
-    size: u64,
-    bytes: &[u8; 64],
-    count: usize,
-)
-    requires { count ≤ 64 }
-{
-    let whole: &[u8] = bytes;
-    writing::append(
-        tree,
-        signatures,
-        bitfield,
-        data,
-        n,
-        n,
-        size,
-        &whole[0..count],
-    );
 }

@@ -1,8 +1,10 @@
 // The calls that write nothing, on the first register: t, g, b and d are its tree, signatures, bitfield and data as they are lent.
-use super::parts::Register;
+use super::answers::Shown;
+use super::parts::{Array, Register};
 use super::reading::Line;
-use super::{answers, parts, words};
-use gate_printing::{answer, hex};
+use super::words::Ask;
+use super::{answers, parts};
+use gate_printing::{InHex, Said, front, print};
 use gate_samples::Told;
 use number_types::{ByteOffset, ChunkNumber};
 
@@ -13,6 +15,7 @@ pub fn by(
     data: &[u8],
     text: &[u8],
     line: Line,
+    word: Ask,
     first: Register,
 ) {
     let lent = first.lent;
@@ -20,56 +23,61 @@ pub fn by(
     let g = parts::of(signatures, lent.signatures);
     let b = parts::of(bitfield, lent.bitfield);
     let d = parts::of(data, lent.data);
-    gate_printing::text(b": ");
-    called(t, g, b, d, text, line, first.told);
+    print(": ");
+    called(t, g, b, d, text, line.numbers, word, first.told);
 }
 
-fn called(t: &[u8], g: &[u8], b: &[u8], d: &[u8], text: &[u8], line: Line, told: Told) {
-    let x = line.numbers;
-    let word = line.word;
-    let n = told.n;
-    let s = told.s;
-    let size = told.size;
+fn called(
+    t: &[u8],
+    g: &[u8],
+    b: &[u8],
+    d: &[u8],
+    text: &[u8],
+    x: [u64; 16],
+    word: Ask,
+    told: Told,
+) {
+    let Told { n, s, size } = told;
     let chunk = ChunkNumber(x[1]);
+    let at = ByteOffset(x[1]);
     match word {
-        words::HASH => hashed(x[1], parts::bytes(text, x[2], x[3])),
-        words::SHOW => shown(t, g, b, d, text, x),
-        words::AUDIT => answer(audit::audit(t, g, b, d, n, s, size)),
-        words::CUT => super::cuts::of_register(t, g, b, d, told, x),
-        words::ROOT => answers::root(writing::root_hash(t, g, b, d, n, s, size)),
-        words::OLD => answers::root(prefix_root::prefix_root(t, g, b, d, n, s, size, x[1])),
-        words::PREVIEW => previewed(t, g, b, d, told, parts::bytes(text, x[1], x[2])),
-        words::ENTRY => entry(t, g, b, d, told, chunk),
-        words::SEARCH => answers::search(search::search(t, g, b, d, n, s, size, chunk)),
-        words::PLACE => answers::place(lookup::place(t, g, b, d, n, s, size, chunk)),
-        words::BYTE => answers::byte(lookup::locate(t, g, b, d, n, s, size, ByteOffset(x[1]))),
-        words::PACKET => packed(t, g, b, d, told, chunk, x[2]),
-        _ => super::partial::asked(t, g, b, d, text, line, told),
+        Ask::Hash => hashed(x[1], parts::bytes(text, x[2], x[3])),
+        Ask::Show => shown(t, g, b, d, text, x),
+        Ask::Audit => print(Said(audit::audit(t, g, b, d, n, s, size))),
+        Ask::Cut => super::cuts::of_register(t, g, b, d, told, x),
+        Ask::Root => answers::root(writing::root_hash(t, g, b, d, n, s, size)),
+        Ask::Old => answers::root(prefix_root::prefix_root(t, g, b, d, n, s, size, x[1])),
+        Ask::Preview => previewed(t, g, b, d, told, parts::bytes(text, x[1], x[2])),
+        Ask::Entry => entry(t, g, b, d, told, chunk),
+        Ask::Search => print(Shown(search::search(t, g, b, d, n, s, size, chunk))),
+        Ask::Place => print(Shown(lookup::place(t, g, b, d, n, s, size, chunk))),
+        Ask::Byte => print(Shown(lookup::locate(t, g, b, d, n, s, size, at))),
+        Ask::Packet => packed(t, g, b, d, told, chunk, x[2]),
     }
 }
 
 // The hash with so many bytes.
 fn hashed(output: u64, message: &[u8]) {
     let hashed = blake2b::hash(output as usize, b"", message);
-    gate_printing::front(&hashed.digest, output as usize);
+    print(front(&hashed.digest, output as usize));
 }
 
-// The bytes of a file, or of the text: 0 is the tree, then as they are lent.
+// The bytes of a file, or of the text.
 fn shown(t: &[u8], g: &[u8], b: &[u8], d: &[u8], text: &[u8], x: [u64; 16]) {
-    let part = parts::between(x[2], x[3]);
-    match x[1] {
-        0 => hex(parts::of(t, part)),
-        1 => hex(parts::of(g, part)),
-        2 => hex(parts::of(b, part)),
-        3 => hex(parts::of(d, part)),
-        _ => hex(parts::of(text, part)),
-    }
+    let array = match Array::from(x[1]) {
+        Array::Tree => t,
+        Array::Signatures => g,
+        Array::Bitfield => b,
+        Array::Data => d,
+        Array::Text => text,
+    };
+    print(InHex(parts::bytes(array, x[2], x[3])));
 }
 
 // An append that is only previewed.
 fn previewed(t: &[u8], g: &[u8], b: &[u8], d: &[u8], told: Told, chunk: &[u8]) {
     let r = append_preview::preview(t, g, b, d, told.n, told.s, told.size, chunk);
-    answers::root(r);
+    answers::rooted(r.answer, r.root);
 }
 
 // The stored entry of a leaf.
@@ -81,13 +89,10 @@ fn entry(t: &[u8], g: &[u8], b: &[u8], d: &[u8], told: Told, chunk: ChunkNumber)
 
 // A packet made in a buffer of some bytes that held others before.
 fn packed(t: &[u8], g: &[u8], b: &[u8], d: &[u8], told: Told, chunk: ChunkNumber, room: u64) {
-    let n = told.n;
-    let s = told.s;
-    let size = told.size;
+    let Told { n, s, size } = told;
     let mut out = [0xeeu8; 1200];
     let lent = parts::of_mut(&mut out, parts::between(0, room));
     let made = packet::make(t, g, b, d, n, s, size, chunk, lent);
     let r = writing::root_hash(t, g, b, d, n, s, size);
-    let root = r.unwrap_or([0u8; 32]);
-    answers::packet(made, &out, n, chunk, &root);
+    answers::packet(made, &out, n, chunk, &r.root);
 }

@@ -15,6 +15,11 @@ mod ways;
 mod words;
 mod written;
 
+use gate_printing::{print, text};
+use parts::Both;
+use reading::Line;
+use words::Word;
+
 fn main() {
     let mut tree = [0xa5u8; 1320000];
     let mut signatures = [0xa5u8; 1054000];
@@ -32,7 +37,7 @@ fn main() {
     );
 }
 
-// (References to the arrays bring their lengths along.)
+// Apart from `main`, and lent as arrays, which bring their lengths along: in `main` the checker runs out of stack over the bounds of these slices.
 fn scripted(
     tree: &mut [u8; 1320000],
     signatures: &mut [u8; 1054000],
@@ -42,26 +47,26 @@ fn scripted(
     script: &mut [u8; 524288],
 ) {
     let count = io::read_full(0, script);
-    let all: &[u8] = script;
-    lines(tree, signatures, bitfield, data, text, &all[0..count]);
+    lines(tree, signatures, bitfield, data, text, &script[0..count]);
 }
 
+// Each line is printed again, and behind it its answer.
 fn lines(
     tree: &mut [u8],
     signatures: &mut [u8],
     bitfield: &mut [u8],
     data: &mut [u8],
-    text: &mut [u8],
+    space: &mut [u8],
     script: &[u8],
 ) {
-    let mut turn = parts::before_all();
-    let mut at = 0;
-    while at < script.len() {
-        let end = reading::line_end(script, at);
-        let next = parts::next(script, at, end, turn);
-        run(tree, signatures, bitfield, data, text, next);
-        turn = next;
-        at = reading::next_line(script, at, end);
+    let mut both = Both::default();
+    for ended in script.split_inclusive(|byte| *byte == b'\n') {
+        let whole = ended.strip_suffix(b"\n").unwrap_or(ended);
+        text(whole);
+        let line = Line::from(whole);
+        both = both.after(line);
+        run(tree, signatures, bitfield, data, space, line, both);
+        print("\n");
     }
 }
 
@@ -72,35 +77,33 @@ fn run(
     bitfield: &mut [u8],
     data: &mut [u8],
     text: &mut [u8],
-    turn: parts::Turn,
+    line: Line,
+    both: Both,
 ) {
-    let line = turn.line;
-    let both = turn.both;
-    let word = line.word;
-    let lent = both.first.lent;
+    let Both { first, second } = both;
+    let Some(word) = line.word else {
+        print(": ");
+        return;
+    };
     match word {
-        words::LEND | words::TOLD | words::SWAP | words::REMARK => {}
-        words::FLIP | words::PUT | words::FILL => {
-            edited::by(tree, signatures, bitfield, data, text, line, lent)
+        Word::Lend | Word::Told | Word::Swap | Word::Remark => {}
+        Word::Edit(word) => {
+            edited::by(
+                tree, signatures, bitfield, data, text, line, word, first.lent,
+            )
         }
-        words::BRING => packets::bring(tree, signatures, bitfield, data, text, line, both.second),
-        words::CHECK => packets::checked(text, line),
-        words::WALK => packets::walked(text, line),
-        words::COMPARE | words::PAIR_CUT | words::GET => {
-            let pair = pairs::ordered(line, both);
-            pairs::by(tree, signatures, bitfield, data, line, pair)
+        Word::Write(word) => {
+            written::by(tree, signatures, bitfield, data, text, line, word, first)
         }
-        words::START
-        | words::GROW
-        | words::APPEND
-        | words::LIST
-        | words::SIGN
-        | words::RELEASE
-        | words::MAKE
-        | words::TAKE
-        | words::COPY_RELEASE => {
-            written::by(tree, signatures, bitfield, data, text, line, both.first)
+        Word::Ask(word) => asked::by(tree, signatures, bitfield, data, text, line, word, first),
+        Word::AskCopy(word) => partial::by(tree, bitfield, data, text, line, word, first),
+        Word::BothWays(word) => ways::by(tree, signatures, bitfield, data, line, word, first),
+        Word::OfTwo(word) => {
+            let pair = pairs::ordered(line, word, both);
+            pairs::by(tree, signatures, bitfield, data, line, word, pair)
         }
-        _ => asked::by(tree, signatures, bitfield, data, text, line, both.first),
+        Word::Bring => packets::bring(tree, signatures, bitfield, data, text, line, second),
+        Word::Check => packets::checked(text, line),
+        Word::Walk => packets::walked(text, line),
     }
 }

@@ -1,12 +1,15 @@
 // Packets that are lent, with the root hash: n, the chunk number, where the root hash lies, and from and to where the packets lie.
+use super::answers::Shown;
 use super::reading::Line;
 use super::{answers, parts};
+use gate_printing::print;
+use gate_samples::Told;
 use number_types::ChunkNumber;
 
 pub fn checked(text: &[u8], line: Line) {
     let x = line.numbers;
-    let root = root_at(text, x[3]);
-    gate_printing::text(b": ");
+    let root = parts::copied(text, x[3]);
+    print(": ");
     answers::check(
         parts::bytes(text, x[4], x[5]),
         x[1],
@@ -17,19 +20,12 @@ pub fn checked(text: &[u8], line: Line) {
 
 pub fn walked(text: &[u8], line: Line) {
     let x = line.numbers;
-    let root = root_at(text, x[3]);
+    let root = parts::copied(text, x[3]);
     let first = parts::bytes(text, x[4], x[5]);
     let second = parts::bytes(text, x[6], x[7]);
-    gate_printing::text(b": ");
     let chunk = ChunkNumber(x[2]);
-    answers::walked(packet_compare::compare_packets(first, second, x[1], chunk, &root));
-}
-
-pub fn root_at(text: &[u8], at: u64) -> [u8; 32] {
-    let mut root = [0u8; 32];
-    let end = std::num::wrapping_add_u64(at, 32);
-    parts::copied(&mut root, parts::bytes(text, at, end));
-    root
+    let walked = packet_compare::compare_packets(first, second, x[1], chunk, &root);
+    print(format_args!(": {}", Shown(walked)));
 }
 
 // The packet of a chunk of the second register, from and to where in the text.
@@ -48,10 +44,8 @@ pub fn bring(
     let g = parts::of(signatures, lent.signatures);
     let b = parts::of(bitfield, lent.bitfield);
     let d = parts::of(data, lent.data);
-    let n = second.told.n;
-    let s = second.told.s;
-    let size = second.told.size;
+    let Told { n, s, size } = second.told;
     let out = parts::of_mut(text, parts::between(x[2], x[3]));
-    gate_printing::text(b": ");
-    answers::made(packet::make(t, g, b, d, n, s, size, ChunkNumber(x[1]), out));
+    let made = packet::make(t, g, b, d, n, s, size, ChunkNumber(x[1]), out);
+    print(format_args!(": {}", Shown(made)));
 }

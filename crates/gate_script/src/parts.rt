@@ -1,18 +1,18 @@
 // What is lent and told of the two registers that a script works on.
-ghost use Rattle.std.specs.Prelude.{◌≤◌, length};
+ghost use Rattle.std.specs.Prelude.{◌≤◌};
 
 use super::reading::Line;
-use super::words;
+use super::words::Word;
 use gate_samples::Told;
 
 // From and to where in an array something lies.
-#[derive(Clone, Copy)]
+#[derive(Clone, Copy, Default)]
 pub struct Part {
     pub from: u64,
     pub to: u64,
 }
 
-#[derive(Clone, Copy)]
+#[derive(Clone, Copy, Default)]
 pub struct Lent {
     pub tree: Part,
     pub signatures: Part,
@@ -20,84 +20,79 @@ pub struct Lent {
     pub data: Part,
 }
 
-#[derive(Clone, Copy)]
+#[derive(Clone, Copy, Default)]
 pub struct Register {
     pub lent: Lent,
     pub told: Told,
 }
 
-#[derive(Clone, Copy)]
+// Before any line nothing is lent or told.
+#[derive(Clone, Copy, Default)]
 pub struct Both {
     pub first: Register,
     pub second: Register,
 }
 
-// A line, and the registers after it.
+// The arrays that bytes are shown of or changed in: a register's four, by their numbers from 0 on, or the one of chunks and packets.
 #[derive(Clone, Copy)]
-pub struct Turn {
-    pub line: Line,
-    pub both: Both,
+pub enum Array {
+    Tree,
+    Signatures,
+    Bitfield,
+    Data,
+    Text,
+}
+
+impl From<u64> for Array {
+    fn from(number: u64) -> Array {
+        match number {
+            0 => Array::Tree,
+            1 => Array::Signatures,
+            2 => Array::Bitfield,
+            3 => Array::Data,
+            _ => Array::Text,
+        }
+    }
 }
 
 pub fn between(from: u64, to: u64) -> Part {
     Part { from, to }
 }
 
-// Before any line, where nothing is lent or told.
-pub fn before_all() -> Turn {
-    let line = super::reading::no_line();
-    let register = Register {
-        lent: lent_in(line),
-        told: told_in(line),
-    };
-    let both = Both {
-        first: register,
-        second: register,
-    };
-    Turn { line, both }
-}
+impl Both {
+    // The registers after a line.
+    pub fn after(self, line: Line) -> Both {
+        let Both { first, second } = self;
+        let Register { lent, told } = first;
+        match line.word {
+            Some(Word::Swap) => self.swapped(),
+            Some(Word::Lend) => Both {
+                first: Register {
+                    lent: lent_in(line.numbers),
+                    told,
+                },
+                second,
+            },
+            Some(Word::Told) => Both {
+                first: Register {
+                    lent,
+                    told: told_in(line.numbers),
+                },
+                second,
+            },
+            _ => self,
+        }
+    }
 
-// The next line, behind another.
-pub fn next(script: &[u8], at: usize, end: usize, before: Turn) -> Turn
-    requires { (at ≤ end) × (end ≤ length script.now) }
-{
-    let line = super::reading::line_of(script, at, end);
-    let both = before.both;
-    Turn {
-        line,
-        both: set(line, both),
+    pub fn swapped(self) -> Both {
+        Both {
+            first: self.second,
+            second: self.first,
+        }
     }
 }
 
-// The registers after a line.
-fn set(line: Line, both: Both) -> Both {
-    let word = line.word;
-    let first = both.first;
-    let second = both.second;
-    match word {
-        words::SWAP => swapped(both),
-        words::LEND => with(lent_in(line), first.told, second),
-        words::TOLD => with(first.lent, told_in(line), second),
-        _ => both,
-    }
-}
-
-pub fn swapped(both: Both) -> Both {
-    let first = both.second;
-    let second = both.first;
-    Both { first, second }
-}
-
-// What is lent and told of the first register, and the second.
-fn with(lent: Lent, told: Told, second: Register) -> Both {
-    Both {
-        first: Register { lent, told },
-        second,
-    }
-}
-
-fn lent_in(line: Line) -> Lent {
-    let x = line.numbers;
+fn lent_in(x: [u64; 16]) -> Lent {
     Lent {
         tree: between(x[1], x[2]),
         signatures: between(x[3], x[4]),
@@ -106,8 +101,7 @@ fn lent_in(line: Line) -> Lent {
     }
 }
 
-fn told_in(line: Line) -> Told {
-    let x = line.numbers;
+fn told_in(x: [u64; 16]) -> Told {
     Told {
         n: x[1],
         s: x[2],
@@ -115,48 +109,38 @@ fn told_in(line: Line) -> Told {
     }
 }
 
-// The part of an array, as far as the array reaches.
-pub fn of<'a>(xs: &'a [u8], part: Part) -> &'a [u8] {
-    let end = end_in(part, xs.len());
-    let start = start_in(part, end);
-    &xs[start..end]
+impl Part {
+    // From and to where the part lies in an array of so many bytes, as far as that reaches.
+    fn within(self, count: usize) -> (usize, usize)
+        ensures { (result.0 ≤ result.1) × (result.1 ≤ count) }
+    {
+        let to = self.to.min(count as u64);
+        let from = self.from.min(to);
+        (from as usize, to as usize)
+    }
 }
 
-pub fn bytes<'a>(xs: &'a [u8], from: u64, to: u64) -> &'a [u8] {
+// The part of an array, as far as the array reaches.
+pub fn of(xs: &[u8], part: Part) -> &[u8] {
+    let (from, to) = part.within(xs.len());
+    &xs[from..to]
+}
+
+pub fn bytes(xs: &[u8], from: u64, to: u64) -> &[u8] {
     of(xs, between(from, to))
 }
 
-pub fn of_mut<'a>(xs: &'a mut [u8], part: Part) -> &'a mut [u8] {
-    let end = end_in(part, xs.len());
-    let start = start_in(part, end);
-    &mut xs[start..end]
+pub fn of_mut(xs: &mut [u8], part: Part) -> &mut [u8] {
+    let (from, to) = part.within(xs.len());
+    &mut xs[from..to]
 }
 
-fn end_in(part: Part, count: usize) -> usize
-    ensures { result ≤ count }
-{
-    let whole = count as u64;
-    if part.to < whole {
-        part.to as usize
-    } else {
-        count
+// So many bytes that lie somewhere; zeros where the array has fewer.
+pub fn copied<const N: usize>(xs: &[u8], at: u64) -> [u8; N] {
+    let mut array = [0u8; N];
+    let bytes = bytes(xs, at, at.wrapping_add(N as u64));
+    if bytes.len() == N {
+        array.copy_from_slice(bytes);
     }
-}
-
-fn start_in(part: Part, end: usize) -> usize
-    ensures { result ≤ end }
-{
-    let whole = end as u64;
-    if part.from < whole {
-        part.from as usize
-    } else {
-        end
-    }
-}
-
-// All bytes of an array, where there are as many.
-pub fn copied(to: &mut [u8], bytes: &[u8]) {
-    if bytes.len() == to.len() {
-        byte_strings::copy_to(to, 0, bytes);
-    }
+    array
 }

@@ -1,79 +1,68 @@
 // The quick way, a stroke, and the short way, of each of some numbers, on a register and on a copy.
+use super::answers::Shown;
+use super::parts;
+use super::parts::Register;
 use super::reading::Line;
-use super::{answers, words};
-use gate_printing::text;
+use super::words::Ways;
+use gate_printing::print;
 use gate_samples::Told;
-use lookup::{Located, Placed};
 use number_types::{ByteOffset, ChunkNumber};
+use std::fmt::Display;
 
 // A number, and how many from there on.
-pub fn all(t: &[u8], g: &[u8], b: &[u8], d: &[u8], line: Line, told: Told) {
+pub fn by(
+    tree: &[u8],
+    signatures: &[u8],
+    bitfield: &[u8],
+    data: &[u8],
+    line: Line,
+    word: Ways,
+    first: Register,
+) {
     let x = line.numbers;
-    let first = x[1];
-    let count = super::written::most(x[2], 64);
-    let mut j = 0;
-    while j < count {
-        let number = std::num::wrapping_add_u64(first, j);
-        one(t, g, b, d, line.word, told, number);
-        j += 1;
+    let lent = first.lent;
+    let t = parts::of(tree, lent.tree);
+    let g = parts::of(signatures, lent.signatures);
+    let b = parts::of(bitfield, lent.bitfield);
+    let d = parts::of(data, lent.data);
+    print(": ");
+    for j in 0..x[2].min(64) {
+        one(t, g, b, d, word, first.told, x[1].wrapping_add(j));
     }
 }
 
-fn one(t: &[u8], g: &[u8], b: &[u8], d: &[u8], word: u64, told: Told, number: u64) {
-    let n = told.n;
-    let s = told.s;
-    let size = told.size;
+fn one(t: &[u8], g: &[u8], b: &[u8], d: &[u8], word: Ways, told: Told, number: u64) {
+    let Told { n, s, size } = told;
     let k = ChunkNumber(number);
     let at = ByteOffset(number);
     match word {
-        words::BOTH_PLACES => places(
-            lookup::place(t, g, b, d, n, s, size, k),
-            short_lookup::place(t, g, b, d, n, s, size, k),
+        Ways::Places => both(
+            Shown(lookup::place(t, g, b, d, n, s, size, k)),
+            Shown(short_lookup::place(t, g, b, d, n, s, size, k)),
         ),
-        words::BOTH_BYTES => bytes(
-            lookup::locate(t, g, b, d, n, s, size, at),
-            short_lookup::locate(t, g, b, d, n, s, size, at),
+        Ways::Bytes => both(
+            Shown(lookup::locate(t, g, b, d, n, s, size, at)),
+            Shown(short_lookup::locate(t, g, b, d, n, s, size, at)),
         ),
-        words::BOTH_SEARCHES => searches(
-            search::search(t, g, b, d, n, s, size, k),
-            short_lookup::search(t, g, b, d, n, s, size, k),
+        Ways::Searches => both(
+            Shown(search::search(t, g, b, d, n, s, size, k)),
+            Shown(short_lookup::search(t, g, b, d, n, s, size, k)),
         ),
-        words::COPY_PLACES => places(
-            copy_lookup::place(t, b, d, n, size, k),
-            copy_short_lookup::place(t, b, d, n, size, k),
+        Ways::CopyPlaces => both(
+            Shown(copy_lookup::place(t, b, d, n, size, k)),
+            Shown(copy_short_lookup::place(t, b, d, n, size, k)),
         ),
-        words::COPY_BYTES => bytes(
-            copy_lookup::locate(t, b, d, n, size, at),
-            copy_short_lookup::locate(t, b, d, n, size, at),
+        Ways::CopyBytes => both(
+            Shown(copy_lookup::locate(t, b, d, n, size, at)),
+            Shown(copy_short_lookup::locate(t, b, d, n, size, at)),
         ),
-        words::COPY_SEARCHES => searches(
-            copy_roots::search(t, b, d, n, size, k),
-            copy_short_lookup::search(t, b, d, n, size, k),
+        Ways::CopySearches => both(
+            Shown(copy_roots::search(t, b, d, n, size, k)),
+            Shown(copy_short_lookup::search(t, b, d, n, size, k)),
         ),
-        _ => {}
     }
 }
 
-fn places(quick: Result<Placed, Refusal>, short: Result<Placed, Refusal>) {
-    answers::place(quick);
-    text(b"|");
-    answers::place(short);
-    text(b";");
-}
-
-fn bytes(quick: Result<Located, Refusal>, short: Result<Located, Refusal>) {
-    answers::byte(quick);
-    text(b"|");
-    answers::byte(short);
-    text(b";");
-}
-
-fn searches(
-    quick: Result<Option<ChunkNumber>, Refusal>,
-    short: Result<Option<ChunkNumber>, Refusal>,
-) {
-    answers::search(quick);
-    text(b"|");
-    answers::search(short);
-    text(b";");
+fn both<D: Display + Drop>(quick: D, short: D) {
+    print(format_args!("{quick}|{short};"));
 }

@@ -1,103 +1,165 @@
-// The words of a script, each by its first two letters as a number.
-pub const LEND: u64 = 0x6c65;
+// The words of a script, by their first two letters.
+use std::convert::TryFrom;
 
-pub const TOLD: u64 = 0x746f;
+#[derive(Clone, Copy)]
+pub enum Word {
+    Lend,
+    Told,
+    Swap,
+    Remark,
+    Edit(Edit),
+    Write(Write),
+    Ask(Ask),
+    AskCopy(AskCopy),
+    BothWays(Ways),
+    OfTwo(OfTwo),
+    // A packet of the second register, in a part of the text.
+    Bring,
+    Check,
+    Walk,
+}
 
-pub const SWAP: u64 = 0x7377;
+// Bytes changed by hand.
+#[derive(Clone, Copy)]
+pub enum Edit {
+    Flip,
+    Put,
+    Fill,
+}
 
-pub const REMARK: u64 = 0x2320;
+// Calls that may write, on the first register or copy.
+#[derive(Clone, Copy)]
+pub enum Write {
+    Start,
+    Grow,
+    Append,
+    List,
+    Sign,
+    Release,
+    MakeCopy,
+    TakeIn,
+    ReleaseCopy,
+}
 
-pub const FLIP: u64 = 0x666c;
+// Calls that write nothing, on the first register.
+#[derive(Clone, Copy)]
+pub enum Ask {
+    // The hash of a part of the text, and bytes that are there.
+    Hash,
+    Show,
+    Audit,
+    // Parts of an audit.
+    Cut,
+    Root,
+    Old,
+    Preview,
+    // The stored entry of a leaf.
+    Entry,
+    Search,
+    Place,
+    Byte,
+    Packet,
+}
 
-pub const PUT: u64 = 0x7075;
+// Calls that write nothing, on the first copy.
+#[derive(Clone, Copy)]
+pub enum AskCopy {
+    Audit,
+    Cut,
+    Root,
+    Old,
+    Entry,
+    Get,
+    Packet,
+    Find,
+    Node,
+}
 
-pub const FILL: u64 = 0x6669;
+// The quick way, a stroke, and the short way.
+#[derive(Clone, Copy)]
+pub enum Ways {
+    Places,
+    Bytes,
+    Searches,
+    CopyPlaces,
+    CopyBytes,
+    CopySearches,
+}
 
-pub const START: u64 = 0x7374;
-
-pub const GROW: u64 = 0x6772;
-
-pub const APPEND: u64 = 0x6170;
-
-pub const LIST: u64 = 0x6c69;
-
-pub const SIGN: u64 = 0x7369;
-
-pub const RELEASE: u64 = 0x7265;
-
-// The hash of a part of the text, and bytes that are there.
-pub const HASH: u64 = 0x6861;
-
-pub const SHOW: u64 = 0x7368;
-
-pub const AUDIT: u64 = 0x6175;
-
-pub const ROOT: u64 = 0x726f;
-
-pub const OLD: u64 = 0x6f6c;
-
-// The stored entry of a leaf.
-pub const ENTRY: u64 = 0x656e;
-
-pub const SEARCH: u64 = 0x7365;
-
-pub const PLACE: u64 = 0x706c;
-
-pub const BYTE: u64 = 0x6279;
-
-pub const BOTH_PLACES: u64 = 0x7370;
-
-pub const BOTH_BYTES: u64 = 0x7362;
-
-pub const BOTH_SEARCHES: u64 = 0x7373;
-
-pub const PACKET: u64 = 0x7061;
-
-pub const PREVIEW: u64 = 0x7072;
-
-pub const COMPARE: u64 = 0x636f;
-
-pub const GET: u64 = 0x6765;
-
-pub const CHECK: u64 = 0x6368;
-
-pub const WALK: u64 = 0x7761;
-
-// Parts: of an audit, and of the comparing walk.
-pub const CUT: u64 = 0x6375;
-
-pub const PAIR_CUT: u64 = 0x7877;
-
-// A packet of the second register, in a part of the text.
-pub const BRING: u64 = 0x6272;
+// Calls on two registers.
+#[derive(Clone, Copy)]
+pub enum OfTwo {
+    Compare,
+    // Parts of a comparison.
+    Cut,
+    Get,
+}
 
 // The calls on a copy begin with a capital letter.
-pub const MAKE: u64 = 0x4d61;
+const WORDS: [(&[u8], Word); 49] = [
+    (b"le", Word::Lend),
+    (b"to", Word::Told),
+    (b"sw", Word::Swap),
+    (b"# ", Word::Remark),
+    (b"fl", Word::Edit(Edit::Flip)),
+    (b"pu", Word::Edit(Edit::Put)),
+    (b"fi", Word::Edit(Edit::Fill)),
+    (b"st", Word::Write(Write::Start)),
+    (b"gr", Word::Write(Write::Grow)),
+    (b"ap", Word::Write(Write::Append)),
+    (b"li", Word::Write(Write::List)),
+    (b"si", Word::Write(Write::Sign)),
+    (b"re", Word::Write(Write::Release)),
+    (b"Ma", Word::Write(Write::MakeCopy)),
+    (b"Ta", Word::Write(Write::TakeIn)),
+    (b"Re", Word::Write(Write::ReleaseCopy)),
+    (b"ha", Word::Ask(Ask::Hash)),
+    (b"sh", Word::Ask(Ask::Show)),
+    (b"au", Word::Ask(Ask::Audit)),
+    (b"cu", Word::Ask(Ask::Cut)),
+    (b"ro", Word::Ask(Ask::Root)),
+    (b"ol", Word::Ask(Ask::Old)),
+    (b"pr", Word::Ask(Ask::Preview)),
+    (b"en", Word::Ask(Ask::Entry)),
+    (b"se", Word::Ask(Ask::Search)),
+    (b"pl", Word::Ask(Ask::Place)),
+    (b"by", Word::Ask(Ask::Byte)),
+    (b"pa", Word::Ask(Ask::Packet)),
+    (b"Au", Word::AskCopy(AskCopy::Audit)),
+    (b"Cu", Word::AskCopy(AskCopy::Cut)),
+    (b"Ro", Word::AskCopy(AskCopy::Root)),
+    (b"Ol", Word::AskCopy(AskCopy::Old)),
+    (b"En", Word::AskCopy(AskCopy::Entry)),
+    (b"Ge", Word::AskCopy(AskCopy::Get)),
+    (b"Pa", Word::AskCopy(AskCopy::Packet)),
+    (b"Fi", Word::AskCopy(AskCopy::Find)),
+    (b"No", Word::AskCopy(AskCopy::Node)),
+    (b"sp", Word::BothWays(Ways::Places)),
+    (b"sb", Word::BothWays(Ways::Bytes)),
+    (b"ss", Word::BothWays(Ways::Searches)),
+    (b"Sp", Word::BothWays(Ways::CopyPlaces)),
+    (b"Sb", Word::BothWays(Ways::CopyBytes)),
+    (b"Ss", Word::BothWays(Ways::CopySearches)),
+    (b"co", Word::OfTwo(OfTwo::Compare)),
+    (b"xw", Word::OfTwo(OfTwo::Cut)),
+    (b"ge", Word::OfTwo(OfTwo::Get)),
+    (b"br", Word::Bring),
+    (b"ch", Word::Check),
+    (b"wa", Word::Walk),
+];
 
-pub const TAKE: u64 = 0x5461;
+// Letters that no word begins with.
+#[derive(Clone, Copy)]
+pub struct NoWord;
 
-pub const COPY_RELEASE: u64 = 0x5265;
+impl TryFrom<&[u8]> for Word {
+    type Error = NoWord;
 
-pub const COPY_AUDIT: u64 = 0x4175;
-
-pub const COPY_CUT: u64 = 0x4375;
-
-pub const COPY_ROOT: u64 = 0x526f;
-
-pub const COPY_OLD: u64 = 0x4f6c;
-
-pub const COPY_ENTRY: u64 = 0x456e;
-
-pub const COPY_GET: u64 = 0x4765;
-
-pub const COPY_PACKET: u64 = 0x5061;
-
-pub const COPY_FIND: u64 = 0x4669;
-
-pub const COPY_NODE: u64 = 0x4e6f;
-
-pub const COPY_PLACES: u64 = 0x5370;
-
-pub const COPY_BYTES: u64 = 0x5362;
-
-pub const COPY_SEARCHES: u64 = 0x5373;
+    fn try_from(letters: &[u8]) -> Result<Word, NoWord> {
+        WORDS
+            .iter()
+            .find(|entry| entry.0 == letters)
+            .map(|entry| entry.1)
+            .ok_or(NoWord)
+    }
+}

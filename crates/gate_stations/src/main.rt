@@ -15,6 +15,9 @@ ghost use Rattle.std.specs.Prelude.{◌<◌, ◌≤◌};
 use gate_samples::Told;
 use plan::State;
 
+// Seven chunks for the metadata register and thirteen for the content register, of which two can't be read; then all that is tried. A serving
+// reads the registers as they are when it is made, and the one that is named alone: after a chunk is appended and a byte of chunk 4 changed,
+// and after the header of the bitfield is.
 fn main() {
     let mut mt = [0xaau8; 552];
     let mut ms = [0xbbu8; 480];
@@ -24,93 +27,21 @@ fn main() {
     let mut cs = [0xbbu8; 928];
     let mut cb = [0xccu8; 3360];
     let mut cd = [0xddu8; 26];
-    built(
-        &mut mt, &mut ms, &mut mb, &mut md, &mut ct, &mut cs, &mut cb, &mut cd,
-    );
-}
-
-// Seven chunks for the metadata register and thirteen for the content register, of which two can't be read; then all that is tried.
-fn built(
-    mt: &mut [u8],
-    ms: &mut [u8],
-    mb: &mut [u8],
-    md: &mut [u8],
-    ct: &mut [u8],
-    cs: &mut [u8],
-    cb: &mut [u8],
-    cd: &mut [u8],
-) {
-    begun(mt, ms, mb, md, 7, 4);
-    beside(mt, ms, mb, md, ct, cs, cb, cd);
-}
-
-// The content register beside the metadata register.
-fn beside(
-    mt: &[u8],
-    ms: &[u8],
-    mb: &[u8],
-    md: &[u8],
-    ct: &mut [u8],
-    cs: &mut [u8],
-    cb: &mut [u8],
-    cd: &mut [u8],
-) {
-    let c = damaged(ct, cs, cb, cd);
-    planned(mt, ms, mb, md, ct, cs, cb, cd, c);
-}
-
-fn planned(
-    mt: &[u8],
-    ms: &[u8],
-    mb: &[u8],
-    md: &[u8],
-    ct: &mut [u8],
-    cs: &mut [u8],
-    cb: &mut [u8],
-    cd: &mut [u8],
-    c: Told,
-) {
+    begun(&mut mt, &mut ms, &mut mb, &mut md, 7, 4);
+    let c = damaged(&mut ct, &mut cs, &mut cb, &mut cd);
     let mut table = station_queue::fresh();
-    let s = calls::all(&mut table, mt, ms, mb, md, ct, cs, cb, cd, c, plan::start());
-    changed(&mut table, mt, ms, mb, md, ct, cs, cb, cd, c, s);
-}
-
-// A serving reads the registers as they are when it is made, and the one that is named alone: after a chunk is appended and a byte of chunk
-// 4 changed, and after the header of the bitfield is.
-fn changed(
-    table: &mut [u64; 161],
-    mt: &[u8],
-    ms: &[u8],
-    mb: &[u8],
-    md: &[u8],
-    ct: &mut [u8],
-    cs: &mut [u8],
-    cb: &mut [u8],
-    cd: &mut [u8],
-    c: Told,
-    s: State,
-) {
-    let more = grown(ct, cs, cb, cd, c);
-    later(table, mt, ms, mb, md, ct, cs, cb, cd, more, s);
-}
-
-fn later<'a>(
-    table: &mut [u64; 161],
-    mt: &[u8],
-    ms: &[u8],
-    mb: &[u8],
-    md: &'a [u8],
-    ct: &[u8],
-    cs: &[u8],
-    cb: &mut [u8],
-    cd: &'a [u8],
-    c: Told,
-    s: State,
-) {
-    let then = calls::all(table, mt, ms, mb, md, ct, cs, cb, cd, c, plan::resumed(s));
-    flip(cb, 31);
-    let last = plan::resumed(then);
-    calls::all(table, mt, ms, mb, md, ct, cs, cb, cd, c, last);
+    let first = State::start();
+    let stop = calls::all(&mut table, &mt, &ms, &mb, &md, &ct, &cs, &cb, &cd, c, first);
+    let more = grown(&mut ct, &mut cs, &mut cb, &mut cd, c);
+    let second = stop.resumed();
+    let stop = calls::all(
+        &mut table, &mt, &ms, &mb, &md, &ct, &cs, &cb, &cd, more, second,
+    );
+    flip(&mut cb, 31);
+    let third = stop.resumed();
+    calls::all(
+        &mut table, &mt, &ms, &mb, &md, &ct, &cs, &cb, &cd, more, third,
+    );
 }
 
 // So many chunks, on buffers that held other bytes before.
@@ -118,12 +49,7 @@ fn begun(t: &mut [u8], s: &mut [u8], b: &mut [u8], d: &mut [u8], count: u64, spa
     requires { (0 < span) × (span ≤ 64) × (count ≤ 1048576) }
 {
     writing::start(t, s, b, d);
-    let none = Told {
-        n: 0,
-        s: 0,
-        size: 0,
-    };
-    gate_samples::grow(t, s, b, d, none, count, span)
+    gate_samples::grow(t, s, b, d, Told::default(), count, span)
 }
 
 // The leaf hash of chunk 3 and the first byte of chunk 8 changed.
@@ -142,7 +68,7 @@ fn grown(t: &mut [u8], s: &mut [u8], b: &mut [u8], d: &mut [u8], c: Told) -> Tol
 
 // One byte changed, if it is there.
 fn flip(xs: &mut [u8], at: usize) {
-    if at < xs.len() {
-        xs[at] = xs[at] ^ 1;
+    if let Some(byte) = xs.get_mut(at) {
+        *byte ^= 1;
     }
 }

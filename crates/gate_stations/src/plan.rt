@@ -1,6 +1,7 @@
 // Which call comes next: the rows of the short stories, then the steps of the random runs, then a story about registers that change.
 use super::rows::Step;
-use super::runs::Rule;
+use super::runs;
+use super::runs::Run;
 use super::tally::Tally;
 
 // At which row the plan is, at which step of it, the state of the random numbers, and what was counted.
@@ -8,73 +9,67 @@ use super::tally::Tally;
 pub struct State {
     pub row: u64,
     pub step: u64,
-    pub x: u64,
+    pub x: u32,
     pub tally: Tally,
 }
 
-pub fn start() -> State {
-    at(0)
-}
-
-fn at(row: u64) -> State {
-    let rule = super::runs::rule_of(row);
-    State {
-        row,
-        step: 0,
-        x: rule.seed,
-        tally: super::tally::new(rule.show),
+impl State {
+    pub fn start() -> State {
+        State::at(0)
     }
-}
 
-// The plan behind a stop, or behind a row that is done.
-pub fn resumed(s: State) -> State {
-    at(std::num::wrapping_add_u64(s.row, 1))
-}
+    // The calls of a story are printed.
+    fn at(row: u64) -> State {
+        let run = runs::run_of(row);
+        State {
+            row,
+            step: 0,
+            x: run.map_or(0, |run| run.seed),
+            tally: Tally::new(run.map_or(true, |run| run.show)),
+        }
+    }
 
-pub fn next(s: State) -> Step {
-    let rule = super::runs::rule_of(s.row);
-    if rule.steps == 0 {
-        return super::rows::row(s.row);
+    // The plan behind a stop, or behind a row that is done.
+    pub fn resumed(self) -> State {
+        State::at(self.row.wrapping_add(1))
     }
-    if s.step == 0 {
-        return Step::Fresh;
-    }
-    super::runs::next(rule, s.x)
-}
 
-// The plan after a call, of which this was counted.
-pub fn after(s: State, t: Tally) -> State {
-    let rule = super::runs::rule_of(s.row);
-    if rule.steps == 0 {
-        return after_row(s, super::rows::row(s.row), t);
+    pub fn next(self) -> Step {
+        match runs::run_of(self.row) {
+            None => super::rows::row(self.row),
+            Some(_) if self.step == 0 => Step::Fresh,
+            Some(run) => runs::drawn(run, self.x).0,
+        }
     }
-    if s.step == rule.steps {
-        super::runs::print(rule, t);
-        return resumed(s);
-    }
-    after_step(s, rule, t)
-}
 
-// Servings until no read waits are one row.
-fn after_row(s: State, step: Step, t: Tally) -> State {
-    match step {
-        Step::Stop => s,
-        Step::Empty => { if t.none == 0 { s } else { resumed(s) } }
-        _ => resumed(s),
+    // The plan after a call, of which this was counted.
+    pub fn after(self, t: Tally) -> State {
+        match runs::run_of(self.row) {
+            None => self.after_row(super::rows::row(self.row), t),
+            Some(run) if self.step == run.steps => {
+                runs::print_run(run, t);
+                self.resumed()
+            }
+            Some(run) => self.after_step(run, t),
+        }
     }
-}
 
-fn after_step(s: State, rule: Rule, t: Tally) -> State {
-    let step = s.step;
-    let x = if step == 0 {
-        s.x
-    } else {
-        super::runs::drawn(rule, s.x)
-    };
-    State {
-        row: s.row,
-        step: std::num::wrapping_add_u64(step, 1),
-        x,
-        tally: t,
+    // Servings until no read waits are one row.
+    fn after_row(self, step: Step, t: Tally) -> State {
+        match step {
+            Step::Stop => self,
+            Step::Empty if t.none == 0 => self,
+            _ => self.resumed(),
+        }
+    }
+
+    fn after_step(self, run: Run, t: Tally) -> State {
+        let State { row, step, x, .. } = self;
+        State {
+            row,
+            step: step.wrapping_add(1),
+            x: if step == 0 { x } else { runs::drawn(run, x).1 },
+            tally: t,
+        }
     }
 }

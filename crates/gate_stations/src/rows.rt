@@ -1,11 +1,18 @@
 // The steps of the stories. Empty serves until no read waits; Wrong serves with an s of the metadata register that no call could use; at Stop
 // the registers are changed.
+use lookup::Name;
+use lookup::Name::{Content, Metadata};
+
 #[derive(Clone, Copy)]
 pub enum Step {
     Fresh,
-    Enter(u64, u64, u64),
+    // A station's read of a chunk.
+    Enter(u64, Name, u64),
     Fill,
+    // Numbers that no call wrote, by their seed.
     Spoil(u64),
+    // The highest number in every place.
+    Highest,
     Serve,
     Empty,
     Wrong,
@@ -15,57 +22,45 @@ pub enum Step {
 const LAST: u64 = 18446744073709551615;
 
 pub fn row(k: u64) -> Step {
-    if k < 12 {
-        return beginning(k);
+    match k {
+        0..=11 => beginning(k),
+        12..=49 => limit(k - 12),
+        50..=64 => later(k - 50),
+        65..=142 => flood(k - 65),
+        143..=151 => spoilt(k - 143),
+        _ => then(k),
     }
-    if k < 50 {
-        return limit(k - 12);
-    }
-    if k < 65 {
-        return later(k - 50);
-    }
-    if k < 143 {
-        return flood(k - 65);
-    }
-    if k < 152 {
-        return spoilt(k - 143);
-    }
-    then(k)
 }
 
 // Nobody waits; three stations that came the other way round; station 15 alone, twice.
 fn beginning(k: u64) -> Step {
     match k {
         0 | 7 => Step::Fresh,
-        2 | 3 => Step::Enter(15, 1, 15),
-        4 => Step::Enter(1, 1, 1),
-        5 => Step::Enter(0, 1, 0),
-        8 | 10 => Step::Enter(15, 0, 6),
+        2 | 3 => Step::Enter(15, Content, 15),
+        4 => Step::Enter(1, Content, 1),
+        5 => Step::Enter(0, Content, 0),
+        8 | 10 => Step::Enter(15, Metadata, 6),
         _ => Step::Empty,
     }
 }
 
 // Stations up to 15 are let in, and four reads of each; a station that is not there comes before a full one.
 fn limit(k: u64) -> Step {
-    if 15 <= k {
-        if k < 32 {
-            return Step::Enter(k - 15, 0, 0);
-        }
-    }
     match k {
         0 => Step::Fresh,
-        1..=7 => Step::Enter(station(k), 1, LAST),
-        8 => Step::Enter(5, 1, 1),
-        9 => Step::Enter(5, 1, 2),
-        10 => Step::Enter(5, 1, 4),
-        11 => Step::Enter(5, 1, 6),
-        12 => Step::Enter(5, 1, 7),
-        13 => Step::Enter(5, 1, 9),
+        1..=7 => Step::Enter(station(k), Content, LAST),
+        8 => Step::Enter(5, Content, 1),
+        9 => Step::Enter(5, Content, 2),
+        10 => Step::Enter(5, Content, 4),
+        11 => Step::Enter(5, Content, 6),
+        12 => Step::Enter(5, Content, 7),
+        13 => Step::Enter(5, Content, 9),
         14 => Step::Fill,
-        32 => Step::Enter(LAST, 0, 0),
+        15..=31 => Step::Enter(k - 15, Metadata, 0),
+        32 => Step::Enter(LAST, Metadata, 0),
         33 => Step::Serve,
-        34 => Step::Enter(1, 1, 12),
-        35 | 36 => Step::Enter(0, 1, 12),
+        34 => Step::Enter(1, Content, 12),
+        35 | 36 => Step::Enter(0, Content, 12),
         _ => Step::Empty,
     }
 }
@@ -86,57 +81,47 @@ fn station(k: u64) -> u64 {
 fn later(k: u64) -> Step {
     match k {
         0 | 7 => Step::Fresh,
-        1 => Step::Enter(5, 1, 1),
-        3 => Step::Enter(5, 1, 2),
-        4 => Step::Enter(6, 1, 2),
-        5 => Step::Enter(4, 1, 2),
-        8 => Step::Enter(9, 1, 3),
-        9 => Step::Enter(9, 1, 8),
-        10 => Step::Enter(9, 1, 13),
-        11 => Step::Enter(9, 0, 7),
-        12 => Step::Enter(10, 1, LAST),
-        13 => Step::Enter(8, 0, 5),
+        1 => Step::Enter(5, Content, 1),
+        3 => Step::Enter(5, Content, 2),
+        4 => Step::Enter(6, Content, 2),
+        5 => Step::Enter(4, Content, 2),
+        8 => Step::Enter(9, Content, 3),
+        9 => Step::Enter(9, Content, 8),
+        10 => Step::Enter(9, Content, 13),
+        11 => Step::Enter(9, Metadata, 7),
+        12 => Step::Enter(10, Content, LAST),
+        13 => Step::Enter(8, Metadata, 5),
         _ => Step::Empty,
     }
 }
 
 // Station 3 enters whenever it can; the others once each, from the highest down. Then each serving is followed by an entry of station 3.
 fn flood(k: u64) -> Step {
-    if k == 0 {
-        return Step::Fresh;
+    match k {
+        0 => Step::Fresh,
+        1 => Step::Enter(15, Content, 2),
+        2..=6 => Step::Enter(3, Metadata, 1),
+        7..=36 => {
+            let other = 14 - (k - 7) / 2;
+            if k % 2 == 1 {
+                Step::Enter(other, Content, other % 13)
+            } else {
+                Step::Enter(3, Metadata, other % 7)
+            }
+        }
+        37..=76 if k % 2 == 1 => Step::Serve,
+        37..=76 => Step::Enter(3, Metadata, 6),
+        _ => Step::Empty,
     }
-    if k == 1 {
-        return Step::Enter(15, 1, 2);
-    }
-    if k < 7 {
-        return Step::Enter(3, 0, 1);
-    }
-    if k < 37 {
-        let other = 14 - (k - 7) / 2;
-        return if k % 2 == 1 {
-            Step::Enter(other, 1, other % 13)
-        } else {
-            Step::Enter(3, 0, other % 7)
-        };
-    }
-    if k < 77 {
-        return if k % 2 == 1 {
-            Step::Serve
-        } else {
-            Step::Enter(3, 0, 6)
-        };
-    }
-    Step::Empty
 }
 
 // Tables that hold anything.
 fn spoilt(k: u64) -> Step {
     match k {
         0 => Step::Spoil(1),
-        1 | 4 | 7 => Step::Enter(6, 1, 4),
-        2 | 5 | 8 => Step::Empty,
+        1 | 4 | 7 => Step::Enter(6, Content, 4),
         3 => Step::Spoil(2),
-        6 => Step::Spoil(0),
+        6 => Step::Highest,
         _ => Step::Empty,
     }
 }
@@ -145,11 +130,11 @@ fn spoilt(k: u64) -> Step {
 fn then(k: u64) -> Step {
     match k {
         178 => Step::Fresh,
-        179 => Step::Enter(1, 1, 13),
-        180 => Step::Enter(2, 1, 4),
-        181 => Step::Enter(3, 0, 3),
-        182 => Step::Enter(4, 0, 3),
-        183 => Step::Enter(5, 1, 9),
+        179 => Step::Enter(1, Content, 13),
+        180 => Step::Enter(2, Content, 4),
+        181 => Step::Enter(3, Metadata, 3),
+        182 => Step::Enter(4, Metadata, 3),
+        183 => Step::Enter(5, Content, 9),
         185 | 186 | 188 => Step::Serve,
         189 | 190 => Step::Wrong,
         _ => Step::Stop,

@@ -1,51 +1,57 @@
 // Long runs of entering and serving by random numbers.
+ghost use Rattle.std.specs.Prelude.{◌<◌};
+
 use super::rows::Step;
 use super::tally::Tally;
-use gate_printing::named;
+use gate_printing::print;
+use station_reads::named_by;
 
-// Of a row: whether its calls are printed; and of a random run the seed, how many steps it has, of 8 how many enter a read on average, and which
-// station floods the table: it enters every other read. 99 does not. A row of a story has no steps.
+// Whether the calls of a run are printed; its seed, how many steps it has, of 8 how many enter a read on average, and which station floods
+// the table, if one does: it enters every other read.
 #[derive(Clone, Copy)]
-pub struct Rule {
+pub struct Run {
     pub show: bool,
-    pub seed: u64,
+    pub seed: u32,
     pub steps: u64,
-    pub entering: u64,
-    pub flooding: u64,
+    pub entering: u32,
+    pub flooding: Option<u32>,
 }
 
-// Two short runs, of which each call is printed, and long ones.
-pub fn rule_of(row: u64) -> Rule {
+// Two short runs, of which each call is printed, and long ones. Any other row is one of a story.
+pub fn run_of(row: u64) -> Option<Run> {
     match row {
-        152 => random(true, 1, 300, 4, 99),
-        153 => random(true, 2, 300, 6, 3),
-        154..=177 => long(row),
-        _ => random(true, 0, 0, 0, 99),
+        152 => Some(Run::new(true, 1, 300, 4, None)),
+        153 => Some(Run::new(true, 2, 300, 6, Some(3))),
+        154..=177 => Some(long((row - 154) as u32)),
+        _ => None,
     }
 }
 
-fn random(show: bool, seed: u64, steps: u64, entering: u64, flooding: u64) -> Rule {
-    Rule {
-        show,
-        seed,
-        steps,
-        entering,
-        flooding,
+impl Run {
+    fn new(show: bool, seed: u32, steps: u64, entering: u32, flooding: Option<u32>) -> Run {
+        Run {
+            show,
+            seed,
+            steps,
+            entering,
+            flooding,
+        }
     }
 }
 
-fn long(row: u64) -> Rule {
-    let k = (row % 256 + 102) % 256;
+fn long(k: u32) -> Run
+    requires { k < 24 }
+{
     let first = k / 8;
     let entering = share(k / 2 % 4);
     if k % 2 == 0 {
-        random(false, 100 + first, 2000, entering, 99)
+        Run::new(false, 100 + first, 2000, entering, None)
     } else {
-        random(false, 200 + first, 2000, entering, 5 * first + 3)
+        Run::new(false, 200 + first, 2000, entering, Some(5 * first + 3))
     }
 }
 
-fn share(k: u64) -> u64 {
+fn share(k: u32) -> u32 {
     match k {
         0 => 3,
         1 => 4,
@@ -55,69 +61,49 @@ fn share(k: u64) -> u64 {
 }
 
 // x becomes 1664525 x + 1013904223 modulo 2^32, and its higher 16 bits are used.
-fn turned(x: u64) -> u64 {
-    (1664525 * (x % 4294967296) + 1013904223) % 4294967296
+fn turned(x: u32) -> u32 {
+    x.wrapping_mul(1664525).wrapping_add(1013904223)
 }
 
-pub fn next(rule: Rule, x: u64) -> Step {
+// The next step of a run, and x after the numbers that were drawn for it.
+pub fn drawn(run: Run, x: u32) -> (Step, u32) {
     let first = turned(x);
-    if first / 65536 % 8 < rule.entering {
-        let second = turned(first);
-        let third = turned(second);
-        let fourth = turned(third);
-        let station = flooded(
-            rule.flooding,
-            second / 65536 % 18,
-            turned(fourth) / 65536 % 2,
-        );
-        Step::Enter(station, third / 65536 % 2, fourth / 65536 % 15)
+    if run.entering <= first / 65536 % 8 {
+        return (Step::Serve, first);
+    }
+    let second = turned(first);
+    let third = turned(second);
+    let fourth = turned(third);
+    let (station, last) = flooded(run, second / 65536 % 18, fourth);
+    let register = named_by(u64::from(third / 65536 % 2));
+    let chunk = u64::from(fourth / 65536 % 15);
+    (Step::Enter(u64::from(station), register, chunk), last)
+}
+
+// The station that enters, of a run that is flooded by one more number.
+fn flooded(run: Run, station: u32, x: u32) -> (u32, u32) {
+    let Some(flooding) = run.flooding else {
+        return (station, x);
+    };
+    let last = turned(x);
+    if last / 65536 % 2 == 1 {
+        (flooding, last)
     } else {
-        Step::Serve
+        (station, last)
     }
 }
 
-fn flooded(flooding: u64, station: u64, pick: u64) -> u64 {
-    if flooding == 99 {
-        station
-    } else {
-        if pick == 1 { flooding } else { station }
+pub fn print_run(run: Run, t: Tally) {
+    let Run {
+        seed,
+        steps,
+        entering,
+        ..
+    } = run;
+    print(format_args!("run seed={seed} steps={steps} entering={entering} flooding="));
+    match run.flooding {
+        None => print("none"),
+        Some(station) => print(station),
     }
-}
-
-// x after these numbers were drawn.
-pub fn drawn(rule: Rule, x: u64) -> u64 {
-    let first = turned(x);
-    if first / 65536 % 8 < rule.entering {
-        let fourth = turned(turned(turned(first)));
-        if rule.flooding == 99 {
-            fourth
-        } else {
-            turned(fourth)
-        }
-    } else {
-        first
-    }
-}
-
-pub fn print(rule: Rule, t: Tally) {
-    named(b"run seed=", rule.seed);
-    named(b" steps=", rule.steps);
-    named(b" entering=", rule.entering);
-    gate_printing::text(b" flooding=");
-    if rule.flooding == 99 {
-        gate_printing::text(b"none");
-    } else {
-        gate_printing::number(rule.flooding);
-    }
-    totals(t);
-}
-
-fn totals(t: Tally) {
-    named(b": done ", t.done);
-    named(b" 21 ", t.above);
-    named(b" 22 ", t.full);
-    named(b" served ", t.served);
-    named(b" none ", t.none);
-    named(b" fold ", t.folded);
-    gate_printing::text(b"\n");
+    print(format_args!(": {t}\n"));
 }

@@ -1,9 +1,9 @@
 // Hashes under a key, and labels.
 ghost use Rattle.std.specs.Prelude.{◌≤◌};
 
-use crate::{filled, part};
-use answer_types::Refusal;
-use gate_printing::{named, text};
+use crate::filled;
+use answer_types::Answer;
+use gate_printing::{InHex, Said, front, print};
 
 // Keys of several lengths.
 pub fn lines() {
@@ -31,15 +31,11 @@ fn line(kk: usize, count: usize)
     requires kk_bound { kk ≤ 64 }
     requires count_bound { count ≤ 256 }
 {
-    named(b"key ", kk as u64);
-    named(b" message ", count as u64);
-    text(b":");
-    digest(kk, count, 1);
-    digest(kk, count, 20);
-    digest(kk, count, 32);
-    digest(kk, count, 48);
-    digest(kk, count, 64);
-    text(b"\n");
+    print(format_args!("key {kk} message {count}:"));
+    for output in [1, 20, 32, 48, 64] {
+        digest(kk, count, output);
+    }
+    print("\n");
 }
 
 // A space and the hash with `output` bytes: byte j of the key is 7 j + 1, byte j of the message 13 j + 5, modulo 256.
@@ -49,34 +45,25 @@ fn digest(kk: usize, count: usize, output: usize)
 {
     let key = filled(kk, 1, 7);
     let message = filled(count, 5, 13);
-    let hashed = blake2b::hash(output, part(&key, 0, kk), part(&message, 0, count));
-    text(b" ");
-    gate_printing::front(&hashed.unwrap_or([0u8; 64]), output);
+    let hashed = blake2b::hash(output, &key[0..kk], &message[0..count]);
+    print(format_args!(" {}", front(&hashed.digest, output)));
 }
 
 // Keys that are too long, alone and beside output lengths that are none.
 pub fn refusals() {
-    text(b"key 65 message 0: ");
-    refusal(64, 65);
-    text(b"output 0 key 65: ");
-    refusal(0, 65);
-    text(b"output 65 key 65: ");
-    refusal(65, 65);
-    text(b"output 65 key 64: ");
-    refusal(65, 64);
+    refusal("key 65 message 0", 64, 65);
+    refusal("output 0 key 65", 0, 65);
+    refusal("output 65 key 65", 65, 65);
+    refusal("output 65 key 64", 65, 64);
 }
 
 // What the empty message is refused with.
-fn refusal(output: usize, kk: usize)
+fn refusal(name: &str, output: usize, kk: usize)
     requires { kk ≤ 65 }
 {
     let key = filled(kk, 1, 7);
-    let hashed = blake2b::hash(output, part(&key, 0, kk), b"");
-    match hashed {
-        Ok(_) => text(b"done"),
-        Err(refusal) => gate_printing::refusal(refusal),
-    }
-    text(b"\n");
+    let hashed = blake2b::hash(output, &key[0..kk], b"");
+    print(format_args!("{name}: {}\n", Said(hashed.answer)));
 }
 
 // The labels of one root hash under keys of several lengths.
@@ -88,28 +75,16 @@ pub fn labels() {
     label(65);
 }
 
-// The label under the key of `kk` bytes, or its refusal.
+// The label under the key of `kk` bytes, or its refusal. Byte j of the root hash is 3 j + 2.
 fn label(kk: usize)
     requires { kk ≤ 65 }
 {
-    named(b"label key ", kk as u64);
-    text(b": ");
-    let key = filled(kk, 1, 7);
-    let labelled = root_label::label(&root(), part(&key, 0, kk));
-    match labelled {
-        Ok(bytes) => gate_printing::hex(&bytes),
-        Err(refusal) => gate_printing::refusal(refusal),
-    }
-    text(b"\n");
-}
-
-// A root hash: byte j is 3 j + 2.
-fn root() -> [u8; 32] {
     let mut root = [0u8; 32];
-    let message = filled(32, 2, 3);
-    let bytes = part(&message, 0, 32);
-    if bytes.len() == 32 {
-        byte_strings::copy_to(&mut root, 0, bytes);
+    root.copy_from_slice(&filled(32, 2, 3)[0..32]);
+    let key = filled(kk, 1, 7);
+    let labelled = root_label::label(&root, &key[0..kk]);
+    match labelled.answer {
+        Answer::Done => print(format_args!("label key {kk}: {}\n", InHex(&labelled.bytes))),
+        Answer::Refused(refusal) => print(format_args!("label key {kk}: {}\n", Said(refusal))),
     }
-    root
 }

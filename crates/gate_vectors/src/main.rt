@@ -7,12 +7,13 @@ mod self_test;
 
 ghost use Rattle.std.specs.Prelude.{◌+◌, ◌≤◌};
 
-use gate_printing::text;
+use answer_types::Answer;
+use gate_printing::{InHex, front, print};
 
 fn main() {
-    text(b"abc 64 ");
+    print("abc 64 ");
     hash_line(b"abc", 64);
-    self_test::published(b"selftest ", false);
+    self_test::published("selftest", false);
     lines(0);
     lines(1);
     lines(127);
@@ -31,7 +32,7 @@ fn main() {
     parts(200, 300);
     refusal(0);
     refusal(65);
-    self_test::published(b"selftest whole ", true);
+    self_test::published("selftest whole", true);
     keyed::lines();
     keyed::refusals();
     keyed::labels();
@@ -42,11 +43,10 @@ fn lines(count: usize)
     requires { count ≤ 1024 }
 {
     let message = filled(count, (count % 256) as u8, 7);
-    line(part(&message, 0, count), 1);
-    line(part(&message, 0, count), 20);
-    line(part(&message, 0, count), 32);
-    line(part(&message, 0, count), 63);
-    line(part(&message, 0, count), 64);
+    for output in [1, 20, 32, 63, 64] {
+        print(format_args!("{count} {output} "));
+        hash_line(&message[0..count], output);
+    }
 }
 
 // A message of `count` bytes: the first, and each later one `step` more than the one before, modulo 256.
@@ -54,66 +54,34 @@ fn filled(count: usize, first: u8, step: u8) -> [u8; 1024]
     requires { count ≤ 1024 }
 {
     let mut message = [0u8; 1024];
-    let mut byte = first;
-    let mut i = 0;
-    while i < count {
-        message[i] = byte;
-        byte = std::num::wrapping_add_u8(byte, step);
-        i += 1;
+    let mut next = first;
+    for byte in &mut message[0..count] {
+        *byte = next;
+        next = next.wrapping_add(step);
     }
     message
-}
-
-// The bytes from `start` up to `end`.
-fn part(message: &[u8; 1024], start: usize, end: usize) -> &[u8]
-    requires start_le_end { start ≤ end }
-    requires end_bound { end ≤ 1024 }
-{
-    let whole: &[u8] = message;
-    &whole[start..end]
-}
-
-// The message's length, the output length and the hash.
-fn line(message: &[u8], output: usize) {
-    number(message.len());
-    number(output);
-    hash_line(message, output);
 }
 
 // The hash, and the line's end.
 fn hash_line(message: &[u8], output: usize) {
     let hashed = blake2b::hash(output, b"", message);
-    gate_printing::front(&hashed.unwrap_or([0u8; 64]), output);
-    text(b"\n");
+    print(format_args!("{}\n", front(&hashed.digest, output)));
 }
 
 // The hash of a message that is lent as a prefix and a body.
 fn parts(prefix: usize, body: usize)
     requires { prefix + body ≤ 1024 }
 {
-    text(b"parts ");
-    number(prefix);
-    number(body);
     let end = prefix + body;
     let message = filled(end, (end % 256) as u8, 7);
-    let digest = blake2b::hash_parts(b"", part(&message, 0, prefix), part(&message, prefix, end));
-    gate_printing::hex(&digest);
-    text(b"\n");
+    let digest = blake2b::hash_parts(b"", &message[0..prefix], &message[prefix..end]);
+    print(format_args!("parts {prefix} {body} {}\n", InHex(&digest)));
 }
 
 // What an output length that is none is refused with.
 fn refusal(output: usize) {
     let hashed = blake2b::hash(output, b"", b"");
-    if let Err(refusal) = hashed {
-        text(b"refused ");
-        number(output);
-        gate_printing::number(refusal.number);
-        text(b"\n");
+    if let Answer::Refused(refusal) = hashed.answer {
+        print(format_args!("refused {output} {}\n", refusal.number));
     }
-}
-
-// A number and a space.
-fn number(n: usize) {
-    gate_printing::number(n as u64);
-    text(b" ");
 }

@@ -1,25 +1,18 @@
 // Appendix E of RFC 7693: the hash over the hashes of several messages, with several output lengths.
 ghost use Rattle.std.specs.Prelude.{◌+◌, ◌*◌, ◌≤◌};
 
-use crate::{hash_line, part};
+use crate::hash_line;
+use gate_printing::print;
 
 // Each message without a key; and then, where the test is whole, with one.
-pub fn published(name: &[u8], whole: bool) {
-    gate_printing::text(name);
+pub fn published(name: &str, whole: bool) {
+    print(format_args!("{name} "));
     let mut results = [0u8; 1968];
     let first = messages(&mut results, 0, 20, whole);
     let second = messages(&mut results, first, 32, whole);
     let third = messages(&mut results, second, 48, whole);
     let end = messages(&mut results, third, 64, whole);
-    sum(&results, end);
-}
-
-// The hash over the first `end` bytes of the results. (A reference to the array brings its length along.)
-fn sum(results: &[u8; 1968], end: usize)
-    requires { end ≤ 1968 }
-{
-    let all: &[u8] = results;
-    hash_line(&all[0..end], 32);
+    hash_line(&results[0..end], 32);
 }
 
 // The results of `output` bytes each, one after the other from `at` on; where they end.
@@ -40,22 +33,22 @@ fn message(results: &mut [u8; 1968], at: usize, output: usize, count: usize, who
     requires { (at + 2 * output ≤ 1968) × (output ≤ 64) × (count ≤ 1024) }
     ensures { result ≤ at + 2 * output }
 {
-    result(results, at, output, count, 0);
+    put(results, at, output, count, 0);
     if whole {
-        result(results, at + output, output, count, output);
+        put(results, at + output, output, count, output);
         return at + 2 * output;
     }
     at + output
 }
 
 // The hash of the message of `count` bytes under the key of `kk` bytes, put at `at`.
-fn result(results: &mut [u8; 1968], at: usize, output: usize, count: usize, kk: usize)
+fn put(results: &mut [u8; 1968], at: usize, output: usize, count: usize, kk: usize)
     requires { (at + output ≤ 1968) × (output ≤ 64) × (count ≤ 1024) × (kk ≤ 64) }
 {
     let message = generated(count);
     let key = generated(kk);
-    let hashed = blake2b::hash(output, part(&key, 0, kk), part(&message, 0, count));
-    put(results, at, &hashed.unwrap_or([0u8; 64]), output);
+    let hashed = blake2b::hash(output, &key[0..kk], &message[0..count]);
+    results[at..at + output].copy_from_slice(&hashed.digest[0..output]);
 }
 
 // The message, or key, of `count` bytes, with that number as the seed.
@@ -63,23 +56,13 @@ fn generated(count: usize) -> [u8; 1024]
     requires { count ≤ 1024 }
 {
     let mut message = [0u8; 1024];
-    let mut a = (0xdead4bad * count as u64 % 0x100000000) as u32;
+    let mut a = 0xdead4badu32.wrapping_mul(count as u32);
     let mut b = 1u32;
-    let mut i = 0;
-    while i < count {
-        let t = std::num::wrapping_add_u32(a, b);
+    for byte in &mut message[0..count] {
+        let t = a.wrapping_add(b);
         a = b;
         b = t;
-        message[i] = (t / 0x1000000) as u8;
-        i += 1;
+        *byte = (t >> 24) as u8;
     }
     message
-}
-
-// Copies the first `count` bytes of the digest to `at`.
-fn put(results: &mut [u8; 1968], at: usize, digest: &[u8; 64], count: usize)
-    requires { (at + count ≤ 1968) × (count ≤ 64) }
-{
-    let all: &[u8] = digest;
-    byte_strings::copy_to(results, at, &all[0..count]);
 }

@@ -2,7 +2,7 @@
 // stdout; and whether each undoes the other.
 #![tactic(auto)]
 
-use answer_types::Answer;
+use answer_types::Refusal;
 use coordinates::{group, ungroup};
 use gate_printing::{InHex, Said, front, print};
 
@@ -61,7 +61,7 @@ fn row(bytes: &[u8], count: usize, room: usize) {
     }
 }
 
-fn call_line<F: Fn(&[u8], &mut [u8]) -> Answer>(name: &str, call: F, bytes: &[u8], room: usize)
+fn call_line<F: Fn(&[u8], &mut [u8]) -> Result<(), Refusal>>(name: &str, call: F, bytes: &[u8], room: usize)
     requires { F.IsAlwaysCallable call }
 {
     let mut out = [238u8; 65540];
@@ -80,7 +80,7 @@ fn left(out: &[u8]) {
 }
 
 // Whether the bytes come back.
-fn there_and_back<F: Fn(&[u8], &mut [u8]) -> Answer, G: Fn(&[u8], &mut [u8]) -> Answer>(
+fn there_and_back<F: Fn(&[u8], &mut [u8]) -> Result<(), Refusal>, G: Fn(&[u8], &mut [u8]) -> Result<(), Refusal>>(
     name: &str,
     there: F,
     back: G,

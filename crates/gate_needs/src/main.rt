@@ -4,7 +4,7 @@
 
 ghost use Rattle.std.specs.Prelude.{◌≤◌};
 
-use answer_types::Answer;
+use answer_types::Refusal;
 use append_needs::Needed;
 use gate_printing::{Said, print};
 
@@ -88,8 +88,8 @@ fn row(n: u64, size: u64, lengths: &[u64]) {
 
 fn answer(r: Needed) {
     match r.answer {
-        Answer::Refused(refusal) => print(format_args!(" {}\n", Said(refusal))),
-        Answer::Done => {
+        Err(refusal) => print(format_args!(" {}\n", Said(refusal))),
+        Ok(()) => {
             print(format_args!(" tree {} signatures {}", r.tree, r.signatures));
             print(format_args!(" bitfield {} data {}", r.bitfield, r.content));
             print(format_args!(" leaves {} parents {}", r.leaves, r.parents));

@@ -1,7 +1,7 @@
 // What the test programs print on standard output: text, numbers, bytes in hexadecimal, and answers.
 #![tactic(auto)]
 
-use answer_types::{Answer, Place, Refusal};
+use answer_types::{Place, Refusal};
 use std::fmt;
 use std::fmt::{Display, Write};
 
@@ -71,11 +71,11 @@ impl Display for Said<Refusal> {
     }
 }
 
-impl Display for Said<Answer> {
+impl Display for Said<Result<(), Refusal>> {
     fn fmt<W: Write>(&self, f: &mut fmt::Formatter<W>) -> fmt::Result {
         match self.0 {
-            Answer::Done => f.write_str("done"),
-            Answer::Refused(r) => Said(r).fmt(f),
+            Ok(()) => f.write_str("done"),
+            Err(r) => Said(r).fmt(f),
         }
     }
 }

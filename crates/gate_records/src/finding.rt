@@ -2,7 +2,7 @@
 use super::given::{behind, first, number};
 use super::show;
 use super::show::Shown;
-use answer_types::Answer;
+use answer_types::Refusal;
 use gate_printing::{Said, print};
 use number_types::ChunkNumber;
 use record_find::Found;
@@ -68,8 +68,8 @@ fn node(t: &[u8], g: &[u8], b: &[u8], d: &[u8], n: u64, s: u64, size: u64, chunk
     let answer = read.answer;
     let fields = read.node;
     match answer {
-        Answer::Refused(refusal) => print(Said(refusal)),
-        Answer::Done => show::fields(lookup::read_one(t, g, b, d, n, s, size, chunk), fields),
+        Err(refusal) => print(Said(refusal)),
+        Ok(()) => show::fields(lookup::read_one(t, g, b, d, n, s, size, chunk), fields),
     }
 }
 

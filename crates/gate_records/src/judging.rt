@@ -3,7 +3,7 @@ use super::given::{behind, number};
 use super::making::turn;
 use super::show::Shown;
 use super::{given, show};
-use answer_types::Answer;
+use answer_types::Refusal;
 use gate_printing::{Said, print};
 use record_format::{HeaderRead, Written};
 
@@ -82,8 +82,8 @@ fn read_node(bytes: &[u8]) {
     let answer = read.answer;
     let node = read.node;
     match answer {
-        Answer::Refused(refusal) => print(Said(refusal)),
-        Answer::Done => show::fields(bytes, node),
+        Err(refusal) => print(Said(refusal)),
+        Ok(()) => show::fields(bytes, node),
     }
 }
 
@@ -104,8 +104,8 @@ fn is_one(record: Record, bytes: &[u8]) -> bool {
             HeaderRead::Content(_) => true,
         },
         Record::Node => match record_node::read_node(bytes).answer {
-            Answer::Refused(_) => false,
-            Answer::Done => true,
+            Err(_) => false,
+            Ok(()) => true,
         },
     }
 }

@@ -1,5 +1,5 @@
 // How what a call answers is printed.
-use answer_types::Answer;
+use answer_types::Refusal;
 use compare::Compared;
 use gate_printing::{InHex, Said, front, print};
 use lookup::{Located, Placed};
@@ -14,7 +14,7 @@ use stored_leaf::Stored;
 use writing::{Appended, Rooted};
 
 // An answer, and the root hash beside it.
-pub fn rooted(answer: Answer, root: [u8; 32]) {
+pub fn rooted(answer: Result<(), Refusal>, root: [u8; 32]) {
     print(format_args!("{}:{}", Said(answer), InHex(&root)));
 }
 

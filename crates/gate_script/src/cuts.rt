@@ -1,5 +1,5 @@
 // Parts of audits: a part of the tree entries and one of the bitfield's entries, and what the two say together.
-use answer_types::Answer;
+use answer_types::Refusal;
 use gate_printing::{Said, print};
 use gate_samples::Told;
 use number_types::TreeIndex;
@@ -20,7 +20,7 @@ pub fn of_copy(t: &[u8], b: &[u8], d: &[u8], n: u64, size: u64, x: [u64; 16]) {
     both(entries, rows);
 }
 
-fn both(entries: Answer, rows: Answer) {
+fn both(entries: Result<(), Refusal>, rows: Result<(), Refusal>) {
     let earlier = parts_audit::earlier(entries, rows);
     print(format_args!("{} {} {}", Said(entries), Said(rows), Said(earlier)));
 }

@@ -4,7 +4,7 @@ use super::parts::Register;
 use super::reading::Line;
 use super::words::Write;
 use super::{answers, parts};
-use answer_types::Answer;
+use answer_types::Refusal;
 use gate_printing::{Said, print};
 use gate_samples::Told;
 use number_types::ChunkNumber;
@@ -105,7 +105,7 @@ fn lengths_in(x: [u64; 16]) -> [u64; 257] {
 }
 
 // A signature: where it lies.
-fn signed(t: &[u8], g: &mut [u8], b: &[u8], d: &[u8], text: &[u8], told: Told, at: u64) -> Answer {
+fn signed(t: &[u8], g: &mut [u8], b: &[u8], d: &[u8], text: &[u8], told: Told, at: u64) -> Result<(), Refusal> {
     let Told { n, s, size } = told;
     writing::store_signature(t, g, b, d, n, s, size, &parts::copied(text, at))
 }
@@ -119,7 +119,7 @@ fn taken(
     lent: &[u8],
     told: Told,
     x: [u64; 16],
-) -> Answer {
+) -> Result<(), Refusal> {
     let root = parts::copied(text, x[4]);
     copy_take_in::take_in(t, b, d, told.n, told.size, lent, ChunkNumber(x[3]), &root)
 }

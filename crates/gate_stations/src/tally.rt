@@ -1,5 +1,5 @@
 // What is printed of a call, and counted of many.
-use answer_types::Answer;
+use answer_types::Refusal;
 use gate_printing::{InHex, Said, print};
 use lookup::Name;
 use station_reads::Served;
@@ -36,11 +36,11 @@ impl Tally {
         self.folded = self.folded.wrapping_mul(31).wrapping_add(low);
     }
 
-    pub fn entry(mut self, answer: Answer) -> Tally {
+    pub fn entry(mut self, answer: Result<(), Refusal>) -> Tally {
         match answer {
-            Answer::Done => count(&mut self.done),
-            Answer::Refused(refusal) if refusal.number == 21 => count(&mut self.above),
-            Answer::Refused(_) => count(&mut self.full),
+            Ok(()) => count(&mut self.done),
+            Err(refusal) if refusal.number == 21 => count(&mut self.above),
+            Err(_) => count(&mut self.full),
         }
         self.fold(number_of(answer));
         self
@@ -82,10 +82,10 @@ fn count(n: &mut u64) {
     *n = n.wrapping_add(1);
 }
 
-fn number_of(answer: Answer) -> u64 {
+fn number_of(answer: Result<(), Refusal>) -> u64 {
     match answer {
-        Answer::Done => 0,
-        Answer::Refused(refusal) => refusal.number,
+        Ok(()) => 0,
+        Err(refusal) => refusal.number,
     }
 }
 
@@ -104,15 +104,15 @@ fn print_serving(said: Served, part: &[u8]) {
     }
 }
 
-fn print_part(answer: Answer, part: &[u8]) {
+fn print_part(answer: Result<(), Refusal>, part: &[u8]) {
     match answer {
-        Answer::Refused(_) => print(format_args!("{}\n", InHex(part))),
-        Answer::Done if part.is_empty() => print(" empty\n"),
-        Answer::Done => print(format_args!(" {}\n", InHex(part))),
+        Err(_) => print(format_args!("{}\n", InHex(part))),
+        Ok(()) if part.is_empty() => print(" empty\n"),
+        Ok(()) => print(format_args!(" {}\n", InHex(part))),
     }
 }
 
-pub fn print_entry(station: u64, register: Name, chunk: u64, answer: Answer) {
+pub fn print_entry(station: u64, register: Name, chunk: u64, answer: Result<(), Refusal>) {
     let name = match register {
         Name::Metadata => "metadata",
         Name::Content => "content",

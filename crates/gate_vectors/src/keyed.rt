@@ -2,7 +2,7 @@
 ghost use Rattle.std.specs.Prelude.{◌≤◌};
 
 use crate::filled;
-use answer_types::Answer;
+use answer_types::Refusal;
 use gate_printing::{InHex, Said, front, print};
 
 // Keys of several lengths.
@@ -84,7 +84,7 @@ fn label(kk: usize)
     let key = filled(kk, 1, 7);
     let labelled = root_label::label(&root, &key[0..kk]);
     match labelled.answer {
-        Answer::Done => print(format_args!("label key {kk}: {}\n", InHex(&labelled.bytes))),
-        Answer::Refused(refusal) => print(format_args!("label key {kk}: {}\n", Said(refusal))),
+        Ok(()) => print(format_args!("label key {kk}: {}\n", InHex(&labelled.bytes))),
+        Err(refusal) => print(format_args!("label key {kk}: {}\n", Said(refusal))),
     }
 }

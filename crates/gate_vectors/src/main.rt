@@ -7,7 +7,7 @@ mod self_test;
 
 ghost use Rattle.std.specs.Prelude.{◌+◌, ◌≤◌};
 
-use answer_types::Answer;
+use answer_types::Refusal;
 use gate_printing::{InHex, front, print};
 
 fn main() {
@@ -81,7 +81,7 @@ fn parts(prefix: usize, body: usize)
 // What an output length that is none is refused with.
 fn refusal(output: usize) {
     let hashed = blake2b::hash(output, b"", b"");
-    if let Answer::Refused(refusal) = hashed.answer {
+    if let Err(refusal) = hashed.answer {
         print(format_args!("refused {output} {}\n", refusal.number));
     }
 }

@@ -1,6 +1,6 @@
 -- Reading accepts exactly the encodings: the checks 1 to 7 pass where the bytes are those of a well_formed journal.
 --
--- The notions in it: `Journal`, `WellFormed`, `body` and `journal_bytes` (journal, Form), `read` and `is_ok` (journal, Reading), `HashFunction` (file_format, Messages).
+-- The notions in it: `Journal`, `WellFormed`, `body` and `journal_bytes` (journal, Form), `read` (journal, Reading), `is_ok` (std, Result), `HashFunction` (file_format, Messages).
 use Rattle.std.specs.Prelude.{ℕ, ◌≡◌, ◌↔◌, true, List, length, is_ok}
 use Rattle.byte_strings.specs.Lists.{Bytes}
 use Rattle.file_format.specs.Messages.{HashFunction}

@@ -1,7 +1,5 @@
 -- Laws on the two ways that a call's answer goes.
 pub mod Laws
 pub mod Turns
-pub mod Told
 pub mod Copied
 pub mod Restored
-pub mod StoredLeaves

@@ -1,9 +1,0 @@
--- `c_api::grouping::sleep_flat_group` meets its contract.
-use Rattle.c_encoding.proofs.Laws.{coded}
-use Rattle.c_api.proofs.grouping.sleep_flat_group.Goals as goal
-
-pub returns : goal.returns
-returns c = record {
-  answers = coded _ _ _ c.encode.ensures c.group.ensures.answers;
-  buffer = c.group.ensures.buffer;
-}

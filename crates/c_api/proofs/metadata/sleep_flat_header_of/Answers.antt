@@ -1,6 +1,0 @@
--- `c_api::metadata::sleep_flat_header_of` meets its contract.
-use Rattle.c_api.proofs.Told.{header_same}
-use Rattle.c_api.proofs.metadata.sleep_flat_header_of.Goals as goal
-
-pub returns : goal.returns
-returns c = header_same _ _ _ _ _ c.header_of-read.ensures c.give_header.ensures

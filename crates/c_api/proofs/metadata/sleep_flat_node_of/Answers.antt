@@ -1,7 +1,0 @@
--- `c_api::metadata::sleep_flat_node_of` meets its contract.
-use mathlib.Core.Path.{ap, ◌∙◌}
-use Rattle.c_api.specs.Metadata.{encoded_node}
-use Rattle.c_api.proofs.metadata.sleep_flat_node_of.Goals as goal
-
-pub returns : goal.returns
-returns c = c.flat.ensures ∙ ap encoded_node c.node_of.ensures

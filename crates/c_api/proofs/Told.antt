@@ -1,34 +1,23 @@
 -- What the calls on records answer to C, from the case that their answer is.
 use Prim.Native.Nat.{ℕ}
 use mathlib.Core.Path.{◌≡◌, refl, sym, ap, ap₂, ◌∙◌, subst}
-use mathlib.Core.List.{List, [], ◌∷◌, ◌++◌}
+use mathlib.Core.List.{List, ◌∷◌, ◌++◌}
 use lib.ListN.{length, get_or}
 use Rattle.answer_types.specs.Verdict.{Verdict, done, refused, unless_refused}
-use Rattle.answer_types.specs.Meaning.{said, refusal_of}
-use Rattle.answer_types.specs.declared.Answer.{Answer}
 use Rattle.answer_types.specs.declared.Refusal.{Refusal}
 use Rattle.record_fields.specs.declared.rows.Part.{Part}
-use Rattle.record_format.specs.Post.{WrittenAs, write_verdict, length_unless, header_told}
-use Rattle.std.specs.Prelude.{Option, Result, Ok, Err}
-use Rattle.number_types.specs.declared.ChunkNumber.{ChunkNumber}
+use Rattle.record_format.specs.Post.{WrittenAs, write_verdict, length_unless}
+use Rattle.std.specs.Prelude.{Result}
 use Rattle.record_node.specs.Post.{NodeWrittenAs, node_told}
 use Rattle.record_node.specs.declared.reading.Node.{Node}
-use Rattle.record_find.specs.Finding.{found_of}
 use Rattle.c_records.specs.Flat.{flat_node, node_in}
 use Rattle.c_records.specs.Numbers.{node_numbers, flat_at}
 use Rattle.c_records.specs.declared.FlatNode.{FlatNode}
 use Rattle.c_encoding.specs.Encoding.{encoded}
 use Rattle.c_encoding.proofs.Laws.{three_of}
-use Rattle.c_api.specs.Metadata.{Told, Writes, WritesNode, GivesHeader, encoded_node, encoded_found}
+use Rattle.c_api.specs.Metadata.{Told, Writes, WritesNode, GivesHeader, encoded_node}
 
 -- ---- writing
-
-pub told_refused : (w : Result ℕ Refusal) (x : Refusal) (long : ℕ) (a : List ℕ) → w ≡ Err x → a ≡ encoded (refusal_of x) → Told w long a long
-told_refused w x long a e q =
-    subst (λ (v : Result ℕ Refusal). Told v long a long) (sym e) (record { answers = q; number = refl })
-
-pub told_length : (w : Result ℕ Refusal) (k long : ℕ) (a : List ℕ) → w ≡ Ok k → a ≡ encoded done → Told w long a k
-told_length w k long a e q = subst (λ (v : Result ℕ Refusal). Told v long a k) (sym e) (record { answers = q; number = refl })
 
 number_of : (v : Verdict) (k long : ℕ) → unless_refused v (length_unless v k) long ≡ unless_refused v k long
 number_of done k long = refl
@@ -54,16 +43,6 @@ writes_node d k f n p e out w after h long long_after a t =
 
 -- ---- reading
 
-pub header_none : (r : Result Part Refusal) (x : Refusal) (before : List ℕ) (a : List ℕ) → r ≡ Err x → a ≡ encoded (refusal_of x)
-    → GivesHeader (header_told r) before a before
-header_none r x before a e q =
-    subst (λ (y : Result Part Refusal). GivesHeader (header_told y) before a before) (sym e) (record { answers = q; numbers = refl })
-
-pub header_given : (r : Result Part Refusal) (p : Part) (before : List ℕ) (a : List ℕ) → r ≡ Ok p → a ≡ encoded done
-    → GivesHeader (header_told r) before a (p.at ∷ p.len ∷ [])
-header_given r p before a e q =
-    subst (λ (y : Result Part Refusal). GivesHeader (header_told y) before a (p.at ∷ p.len ∷ [])) (sym e) (record { answers = q; numbers = refl })
-
 pub header_same : (told other : Verdict × Part) (before a after : List ℕ) → told ≡ other → GivesHeader told before a after → GivesHeader other before a after
 header_same told other before a after e h = subst (λ (t : Verdict × Part). GivesHeader t before a after) e h
 
@@ -72,8 +51,3 @@ pub node_told_lem : (r a : List ℕ) (read : Result Node Refusal) (v : Verdict) 
 node_told_lem r a read v f n t e p q =
     e ∙ ap (λ (x : FlatNode). get_or a 0 0 ∷ get_or a 1 0 ∷ get_or a 2 0 ∷ node_numbers x) q
     ∙ ap (λ (x : List ℕ). x ++ node_numbers (flat_node n)) (three_of a v p) ∙ ap encoded_node (sym t)
-
--- ---- finding, from the case that the answer is
-
-pub found_by : (f g : Result (Option ChunkNumber) Refusal) (x : List ℕ) → f ≡ g → x ≡ encoded_found (found_of g) → x ≡ encoded_found (found_of f)
-found_by f g x e h = h ∙ ap (λ (y : Result (Option ChunkNumber) Refusal). encoded_found (found_of y)) (sym e)

@@ -1,7 +1,7 @@
 -- What a call answers to C, from the case that its answer is.
 use Rattle.std.specs.Prelude.{Ok, Err, Result}
 use Prim.Native.Nat.{ℕ}
-use mathlib.Core.Path.{◌≡◌, sym, ap, ap₂, ◌∙◌}
+use mathlib.Core.Path.{◌≡◌, subst, sym, ap, ap₂, ◌∙◌}
 use mathlib.Core.List.{List, [], ◌∷◌}
 use Rattle.answer_types.specs.Verdict.{Verdict, done, unless_refused}
 use Rattle.answer_types.specs.Meaning.{said, refusal_of}
@@ -46,22 +46,23 @@ makes r c out long answer m after long_after h a l =
     }
 
 -- what a job needs, from the case that the answer is
-module _ (n size : ℕ) (ls before : List ℕ) (answer : List ℕ) (r : Needed) (h : NeedPost n size ls r) where
-  pub needs_refused : (x : Refusal) → r.answer ≡ Err x → answer ≡ encoded (refusal_of x) → Needs n size ls before answer before
-  needs_refused x e a =
+module _ (n size : ℕ) (ls before : List ℕ) (answer : List ℕ) (a : Result Needed Refusal) (h : NeedPost n size ls a) where
+  pub needs_refused : (x : Refusal) → a ≡ Err x → answer ≡ encoded (refusal_of x) → Needs n size ls before answer before
+  needs_refused x e w =
       let v : refusal_of x ≡ need_verdict n size ls = sym (ap said e) ∙ h.answer in
-      record { answers = a ∙ ap encoded v; numbers = ap (λ (u : Verdict). unless_refused u (need_numbers (need_of n size ls)) before) v }
+      record { answers = w ∙ ap encoded v; numbers = ap (λ (u : Verdict). unless_refused u (need_numbers (need_of n size ls)) before) v }
 
-  pub needs_done : r.answer ≡ (Ok tt) → answer ≡ encoded done
+  pub needs_done : (r : Needed) → a ≡ Ok r → answer ≡ encoded done
       → Needs n size ls before answer (r.tree ∷ r.signatures ∷ r.bitfield ∷ r.content ∷ r.leaves ∷ r.parents ∷ r.root ∷ r.runs ∷ [])
   unfolding need_given
-  needs_done e a =
-      let v : done ≡ need_verdict n size ls = sym (ap said e) ∙ h.answer in
-      let all : numbers_of r ≡ need_of n size ls = h.numbers ∙ sym (ap (λ (u : Verdict). unless_refused u (need_of n size ls) nothing) v) in
+  needs_done r e w =
+      let g : NeedPost n size ls (Ok r) = subst (NeedPost n size ls) e h in
+      let v : done ≡ need_verdict n size ls = g.answer in
+      let all : numbers_of r ≡ need_of n size ls = g.numbers ∙ sym (ap (λ (u : Verdict). unless_refused u (need_of n size ls) nothing) v) in
       record {
-        answers = a ∙ ap encoded v;
+        answers = w ∙ ap encoded v;
         numbers =
-            ap (λ (k : ℕ). r.tree ∷ r.signatures ∷ r.bitfield ∷ r.content ∷ r.leaves ∷ r.parents ∷ r.root ∷ k ∷ []) h.runs
+            ap (λ (k : ℕ). r.tree ∷ r.signatures ∷ r.bitfield ∷ r.content ∷ r.leaves ∷ r.parents ∷ r.root ∷ k ∷ []) g.runs
             ∙ ap need_numbers all ∙ ap (λ (u : Verdict). unless_refused u (need_numbers (need_of n size ls)) before) v;
       }
 

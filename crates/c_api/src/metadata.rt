@@ -12,7 +12,7 @@ ghost use Rattle.record_find.specs.Finding.{found_of, find_in};
 ghost use Rattle.c_encoding.specs.Encoding.{encoded};
 ghost use Rattle.c_api.specs.Metadata.{WritesHeader, WritesNode, Told, GivesHeader, encoded_node, encoded_found};
 
-use answer_types::{Refusal};
+use answer_types::Refusal;
 use c_records::FlatNode;
 use number_types::ChunkNumber;
 use record_fields::Part;

@@ -105,7 +105,15 @@ fn lengths_in(x: [u64; 16]) -> [u64; 257] {
 }
 
 // A signature: where it lies.
-fn signed(t: &[u8], g: &mut [u8], b: &[u8], d: &[u8], text: &[u8], told: Told, at: u64) -> Result<(), Refusal> {
+fn signed(
+    t: &[u8],
+    g: &mut [u8],
+    b: &[u8],
+    d: &[u8],
+    text: &[u8],
+    told: Told,
+    at: u64,
+) -> Result<(), Refusal> {
     let Told { n, s, size } = told;
     writing::store_signature(t, g, b, d, n, s, size, &parts::copied(text, at))
 }

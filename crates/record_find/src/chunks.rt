@@ -30,7 +30,11 @@ fn no_record(chunk: ChunkNumber) -> Refusal
 }
 
 // Inner: the Header that a chunk is, behind its read.
-pub fn header_behind(read: Result<Verified, Refusal>, content: &[u8], chunk: ChunkNumber) -> Result<Part, Refusal>
+pub fn header_behind(
+    read: Result<Verified, Refusal>,
+    content: &[u8],
+    chunk: ChunkNumber,
+) -> Result<Part, Refusal>
     requires { ReadIn content.now chunk.0 (verified_of read) }
     ensures { header_told result ≡ header_behind content.now chunk.0 (verified_of read) }
 {
@@ -43,7 +47,11 @@ pub fn header_behind(read: Result<Verified, Refusal>, content: &[u8], chunk: Chu
 }
 
 // Inner: the Node that a chunk is, behind its read.
-pub fn node_behind(read: Result<Verified, Refusal>, content: &[u8], chunk: ChunkNumber) -> Result<Node, Refusal>
+pub fn node_behind(
+    read: Result<Verified, Refusal>,
+    content: &[u8],
+    chunk: ChunkNumber,
+) -> Result<Node, Refusal>
     requires { ReadIn content.now chunk.0 (verified_of read) }
     ensures { node_told result ≡ node_behind content.now chunk.0 (verified_of read) }
 {

@@ -14,7 +14,6 @@ ghost use Rattle.c_api.specs.Waiting.{Enters, Hands};
 use answer_types::Refusal;
 use lookup::Name;
 use number_types::ChunkNumber;
-use station_queue::Turn;
 
 // A table for which nobody waits, as if station 15 had been served.
 #[unsafe(no_mangle)]
@@ -130,12 +129,12 @@ pub extern "C" fn sleep_flat_serve(
     let turn = station_queue::next(table);
     station_queue::leave(table);
     match turn {
-        Turn::Nobody => {
+        None => {
             *answer = [0, 0, 0, 0, 0, 0, 0];
         }
-        Turn::Of(station, register, chunk) => {
-            let name = station_reads::named_by(register);
-            let number = chunk.0;
+        Some(turn) => {
+            let name = station_reads::named_by(turn.register);
+            let number = turn.chunk.0;
             let mut told = [0, 0, 0];
             read_named(
                 name,
@@ -158,7 +157,7 @@ pub extern "C" fn sleep_flat_serve(
                 &mut told,
             );
             let named = station_reads::number_of(name);
-            *answer = [1, station, named, number, told[0], told[1], told[2]];
+            *answer = [1, turn.station, named, number, told[0], told[1], told[2]];
         }
     }
 }

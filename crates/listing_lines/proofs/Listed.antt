@@ -29,8 +29,8 @@ use Rattle.listing_lines.specs.Input.{Input, chunks, before, input_of}
 use Rattle.listing_lines.specs.Lines.{line, kind_word, hole_word, first_under, count_under, start_of, length_of, first_line, entry_line, lines_of, lines_for, refused_line, listing}
 use Rattle.listing_lines.specs.Inner.{Put, Read, Printable, Ready, Reading, behind, first_of, roots_of, stored_line, stored_entries, stored_lines}
 use Rattle.listing_lines.specs.Post.{list_verdict, listing_bytes, Listed}
-use Rattle.listing_lines.specs.declared.Listing.{Listing}
-use Rattle.listing_lines.specs.declared.Listing.TheVariants.{Refused, Written}
+use Rattle.std.specs.Prelude.{Result, Ok, Err}
+use Rattle.answer_types.specs.declared.Refusal.{Refusal}
 use Rattle.listing_lines.proofs.Put.{wider_put, same_put}
 use Rattle.file_format.proofs.Hashed.{hash_function}
 use Rattle.listing_lines.proofs.Entries.{first_le}
@@ -147,7 +147,7 @@ has_room xs out b e = ap (λ (f : Bool). judged (record { number = 14; right = f
 
 -- the lines copied to a lent buffer, or not
 module _ (xs out : List ℕ) {t t' : List ℕ} {len : ℕ} (p : Put t 0 9371 (listing xs) len t') where
-  pub list_short : length out < len → Listed xs out (Refused (record { number = 14; place = Nowhere })) out
+  pub list_short : length out < len → Listed xs out (Err (record { number = 14; place = Nowhere })) out
   unfolding judged
   list_short h =
       let v : refused 14 none ≡ list_verdict xs out =
@@ -159,7 +159,7 @@ module _ (xs out : List ℕ) {t t' : List ℕ} {len : ℕ} (p : Put t 0 9371 (li
         most = p.few;
       }
 
-  pub list_copied : {after : List ℕ} → len ≤ length out → after ≡ put out 0 (take (len - 0) (drop 0 t')) → Listed xs out (Written len) after
+  pub list_copied : {after : List ℕ} → len ≤ length out → after ≡ put out 0 (take (len - 0) (drop 0 t')) → Listed xs out (Ok len) after
   unfolding judged
   list_copied h q =
       let v : done ≡ list_verdict xs out = sym (has_room xs out true (le-leb (length (listing xs)) (length out) (omega (arith, p.next)))) in
@@ -173,7 +173,7 @@ module _ (xs out : List ℕ) {t t' : List ℕ} {len : ℕ} (p : Put t 0 9371 (li
       }
 
 -- the length that is answered is one of bytes of the buffer
-pub listed_length : {xs out after : List ℕ} {answer : Listing} (r : ℕ) → Listed xs out answer after → answer ≡ Written r → r ≤ length out
+pub listed_length : {xs out after : List ℕ} {answer : Result ℕ Refusal} (r : ℕ) → Listed xs out answer after → answer ≡ Ok r → r ≤ length out
 unfolding judged
 listed_length {xs} {out} {after} {answer} r g w = by_room (leb (length (listing xs)) (length out)) refl
   where

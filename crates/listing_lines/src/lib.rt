@@ -16,13 +16,6 @@ use crate::lines::put_lines;
 use crate::text::put_text;
 use answer_types::{Place, Refusal};
 
-// What a listing answers: a refusal, or the length of its lines.
-#[derive(Clone, Copy)]
-pub enum Listing {
-    Refused(Refusal),
-    Written(usize),
-}
-
 // Inner: the lines into a buffer that has room for those of every input.
 fn put_listing(
     input: &[u8],
@@ -51,23 +44,23 @@ fn list_on(
     signatures: &mut [u8],
     bitfield: &mut [u8],
     content: &mut [u8],
-) -> Listing
+) -> Result<usize, Refusal>
     requires { (length text.old ≡ 9371) × Rooms tree.old signatures.old bitfield.old content.old }
     ensures { Listed input.now out.old result out.new }
 {
     let len = put_listing(input, text, tree, signatures, bitfield, content);
     if out.len() < len {
-        return Listing::Refused(Refusal {
+        return Err(Refusal {
             number: 14,
             place: Place::Nowhere,
         });
     }
     byte_strings::copy_to(out, 0, &text[0..len]);
-    Listing::Written(len)
+    Ok(len)
 }
 
 // The listing of an input at the front of a buffer, and its length; refusal 14 where the buffer is too short, which then keeps its bytes.
-pub fn list(input: &[u8], out: &mut [u8]) -> Listing
+pub fn list(input: &[u8], out: &mut [u8]) -> Result<usize, Refusal>
     ensures { Listed input.now out.old result out.new }
 {
     let mut text = [0u8; 9371];

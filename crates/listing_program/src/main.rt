@@ -1,8 +1,6 @@
 // The listing of what standard input holds, on standard output.
 #![tactic(auto)]
 
-use listing_lines::Listing;
-
 fn main() {
     let mut input = [0u8; 4357];
     let mut out = [0u8; 9371];
@@ -13,7 +11,7 @@ fn main() {
 // library's `Limits`). Every listing has room in 9,371 bytes, so none is refused.
 fn list_on(input: &mut [u8], out: &mut [u8]) {
     let count = io::read_full(0, input);
-    if let Listing::Written(len) = listing_lines::list(&input[0..count], out) {
+    if let Ok(len) = listing_lines::list(&input[0..count], out) {
         io::write_all(1, &out[0..len]);
     }
 }

@@ -1,17 +1,16 @@
 -- What the calls on a lent table answer and leave.
 use Rattle.answer_types.specs.declared.Refusal.{Refusal}
-use Rattle.std.specs.Prelude.{ℕ, ◌≡◌, List, Result, ⊤}
+use Rattle.std.specs.Prelude.{ℕ, ◌≡◌, List, Result, ⊤, Option, Some, None}
 use Rattle.answer_types.specs.Verdict.{unless_refused}
 use Rattle.answer_types.specs.Meaning.{said}
 use Rattle.station_queue.specs.declared.Turn.{Turn as Answered}
-use Rattle.station_queue.specs.declared.Turn.TheVariants.{Nobody, Of}
 use Rattle.station_queue.specs.Table.{Read, Turn, nobody, turn, fresh, enter_verdict, entered, next, served}
 use Rattle.station_queue.specs.Words.{fresh_numbers, stored_at, left_at, table_of}
 
 -- whose turn an answer names
-abbrev pub turn_of : Answered → Turn
-turn_of Nobody = nobody
-turn_of (Of s register chunk) = turn s (record { register = register; chunk = chunk.0 })
+abbrev pub turn_of : Option Answered → Turn
+turn_of None = nobody
+turn_of (Some t) = turn t.station (record { register = t.register; chunk = t.chunk.0 })
 
 -- a fresh table: its numbers, and what they are read as
 pub record Begun (numbers : List ℕ) : Type 0 where

@@ -14,9 +14,10 @@ use number_types::ChunkNumber;
 
 // Whose turn it is: a station, with the register and the chunk of its read that came first.
 #[derive(Clone, Copy)]
-pub enum Turn {
-    Nobody,
-    Of(u64, u64, ChunkNumber),
+pub struct Turn {
+    pub station: u64,
+    pub register: u64,
+    pub chunk: ChunkNumber,
 }
 
 // A table for which nobody waits, as if station 15 had been served.
@@ -40,8 +41,8 @@ pub fn enter(
     words::enter(table, station, register, chunk.0)
 }
 
-// Whose turn it is: the next station in rising number, going round after the one last served, that has a read waiting.
-pub fn next(table: &[u64; 161]) -> Turn
+// Whose turn it is: the next station in rising number, going round after the one last served, that has a read waiting; none where nobody waits.
+pub fn next(table: &[u64; 161]) -> Option<Turn>
     ensures { turn_of result ≡ Table·next (table_of table.now) }
 {
     words::next(table)

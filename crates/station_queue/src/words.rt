@@ -1,5 +1,5 @@
 // The calls on the numbers of a table. Each function here asks that they are 161, which the fronts' arrays are.
-ghost use Rattle.std.specs.Prelude.{◌≡◌, ◌<◌, ◌≤◌, length};
+ghost use Rattle.std.specs.Prelude.{◌≡◌, ◌<◌, ◌≤◌, length, Some};
 ghost use Rattle.station_queue.specs.Table.{next as Table·next, turn};
 ghost use Rattle.station_queue.specs.Words.{table_words, count_at, first_at, read_at, dropped_at, table_of};
 ghost use Rattle.station_queue.specs.Post.{turn_of, Entered, Left};
@@ -51,16 +51,20 @@ pub fn enter(table: &mut [u64], station: u64, register: u64, chunk: u64) -> Resu
 #[tactic(auto, using(crate::proofs::Numbers::first_read))]
 fn turn_of(table: &[u64], s: usize) -> Turn
     requires { (length table.now ≡ table_words) × (s < 16) }
-    ensures { turn_of result ≡ turn s (read_at table.now s (first_at table.now s)) }
+    ensures { turn_of (Some result) ≡ turn s (read_at table.now s (first_at table.now s)) }
 {
     let place = first(table, s) as usize;
     let at = 4 * s + place;
-    Turn::Of(s as u64, table[32 + at], ChunkNumber(table[96 + at]))
+    Turn {
+        station: s as u64,
+        register: table[32 + at],
+        chunk: ChunkNumber(table[96 + at]),
+    }
 }
 
 // Inner: whose turn it is.
 #[tactic(auto, using(crate::proofs::Calls::pass_one, crate::proofs::Calls::meet_one, crate::proofs::Calls::none_met))]
-pub fn next(table: &[u64]) -> Turn
+pub fn next(table: &[u64]) -> Option<Turn>
     requires { length table.now ≡ table_words }
     ensures { turn_of result ≡ Table·next (table_of table.now) }
 {
@@ -68,10 +72,10 @@ pub fn next(table: &[u64]) -> Turn
     for k in 0..16 {
         let s = (last + 1 + k) % 16;
         if 0 < count(table, s) {
-            return turn_of(table, s);
+            return Some(turn_of(table, s));
         }
     }
-    Turn::Nobody
+    None
 }
 
 // Inner: the first read of a station that has one leaves the table, and the station is the one last served.
@@ -92,8 +96,7 @@ pub fn leave(table: &mut [u64])
     requires { length table.old ≡ table_words }
     ensures { Left table.old table.new }
 {
-    match next(table) {
-        Turn::Nobody => {}
-        Turn::Of(station, _, _) => drop_first(table, station as usize),
+    if let Some(turn) = next(table) {
+        drop_first(table, turn.station as usize);
     }
 }

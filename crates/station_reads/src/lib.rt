@@ -15,14 +15,13 @@ ghost use Rattle.station_reads.specs.Meaning.{served_of};
 use answer_types::Refusal;
 use lookup::Name;
 use number_types::ChunkNumber;
-use station_queue::Turn;
 pub use station_queue::fresh;
 
-// What a serving answers: which station is served and what its read is answered, or that no read waits.
+// A station that is served, and what its read is answered.
 #[derive(Clone, Copy)]
-pub enum Served {
-    Nobody,
-    Station(u64, Result<(), Refusal>),
+pub struct Served {
+    pub station: u64,
+    pub answer: Result<(), Refusal>,
 }
 
 // The number under which a table keeps the name of a register. `From` for this and for the way back could stand only in the crate of `Name`, which knows of
@@ -59,7 +58,7 @@ pub fn enter(
     station_queue::enter(table, station, number_of(name), chunk)
 }
 
-// Beside a serving, and made before it: whom it serves, and what the read is answered.
+// Beside a serving, and made before it: whom it serves, and what the read is answered; none where no read waits.
 pub fn serve_answer(
     table: &[u64; 161],
     mtree: &[u8],
@@ -76,37 +75,36 @@ pub fn serve_answer(
     cn: u64,
     cs: u64,
     csize: u64,
-) -> Served
+) -> Option<Served>
     ensures { served_of result ≡
         serving node_hash (next (table_of table.now))
         (register_of mtree.now msignatures.now mbitfield.now mdata.now mn ms msize)
         (register_of ctree.now csignatures.now cbitfield.now cdata.now cn cs csize) }
 {
-    match station_queue::next(table) {
-        Turn::Nobody => Served::Nobody,
-        Turn::Of(station, register, chunk) => {
-            let name = named_by(register);
-            let answer = lookup::read_answer(
-                name,
-                mtree,
-                msignatures,
-                mbitfield,
-                mdata,
-                mn,
-                ms,
-                msize,
-                ctree,
-                csignatures,
-                cbitfield,
-                cdata,
-                cn,
-                cs,
-                csize,
-                chunk,
-            );
-            Served::Station(station, answer)
-        }
-    }
+    let turn = station_queue::next(table)?;
+    let name = named_by(turn.register);
+    let answer = lookup::read_answer(
+        name,
+        mtree,
+        msignatures,
+        mbitfield,
+        mdata,
+        mn,
+        ms,
+        msize,
+        ctree,
+        csignatures,
+        cbitfield,
+        cdata,
+        cn,
+        cs,
+        csize,
+        turn.chunk,
+    );
+    Some(Served {
+        station: turn.station,
+        answer,
+    })
 }
 
 // A serving: the bytes of the read whose turn it is, in the data of the register that it names; nothing where it is refused or no read
@@ -136,9 +134,9 @@ pub fn serve<'a>(
     let turn = station_queue::next(table);
     station_queue::leave(table);
     match turn {
-        Turn::Nobody => &cdata[0..0],
-        Turn::Of(_, register, chunk) => {
-            let name = named_by(register);
+        None => &cdata[0..0],
+        Some(turn) => {
+            let name = named_by(turn.register);
             lookup::read(
                 name,
                 mtree,
@@ -155,7 +153,7 @@ pub fn serve<'a>(
                 cn,
                 cs,
                 csize,
-                chunk,
+                turn.chunk,
             )
         }
     }

@@ -61,7 +61,12 @@ fn row(bytes: &[u8], count: usize, room: usize) {
     }
 }
 
-fn call_line<F: Fn(&[u8], &mut [u8]) -> Result<(), Refusal>>(name: &str, call: F, bytes: &[u8], room: usize)
+fn call_line<F: Fn(&[u8], &mut [u8]) -> Result<(), Refusal>>(
+    name: &str,
+    call: F,
+    bytes: &[u8],
+    room: usize,
+)
     requires { F.IsAlwaysCallable call }
 {
     let mut out = [238u8; 65540];
@@ -80,12 +85,10 @@ fn left(out: &[u8]) {
 }
 
 // Whether the bytes come back.
-fn there_and_back<F: Fn(&[u8], &mut [u8]) -> Result<(), Refusal>, G: Fn(&[u8], &mut [u8]) -> Result<(), Refusal>>(
-    name: &str,
-    there: F,
-    back: G,
-    bytes: &[u8],
-)
+fn there_and_back<
+    F: Fn(&[u8], &mut [u8]) -> Result<(), Refusal>,
+    G: Fn(&[u8], &mut [u8]) -> Result<(), Refusal>,
+>(name: &str, there: F, back: G, bytes: &[u8])
     requires there_callable { F.IsAlwaysCallable there }
     requires back_callable { G.IsAlwaysCallable back }
 {

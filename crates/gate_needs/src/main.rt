@@ -86,10 +86,10 @@ fn row(n: u64, size: u64, lengths: &[u64]) {
     answer(append_needs::needs(n, size, lengths));
 }
 
-fn answer(r: Needed) {
-    match r.answer {
+fn answer(needed: Result<Needed, Refusal>) {
+    match needed {
         Err(refusal) => print(format_args!(" {}\n", Said(refusal))),
-        Ok(()) => {
+        Ok(r) => {
             print(format_args!(" tree {} signatures {}", r.tree, r.signatures));
             print(format_args!(" bitfield {} data {}", r.bitfield, r.content));
             print(format_args!(" leaves {} parents {}", r.leaves, r.parents));

@@ -5,8 +5,6 @@ use super::show::Shown;
 use answer_types::Refusal;
 use gate_printing::{Said, print};
 use number_types::ChunkNumber;
-use record_find::Found;
-use record_format::HeaderRead;
 use record_parts::Field;
 
 // What is asked of a register: for a path, which stands behind the numbers; or for the record of a chunk, whose number comes last.
@@ -37,11 +35,11 @@ pub fn ask(
     }
 }
 
-fn found(answer: Found) {
+fn found(answer: Result<Option<ChunkNumber>, Refusal>) {
     match answer {
-        Found::Refused(refusal) => print(Said(refusal)),
-        Found::At(chunk) => print(chunk.0),
-        Found::Nowhere => print("none"),
+        Err(refusal) => print(Said(refusal)),
+        Ok(Some(chunk)) => print(chunk.0),
+        Ok(None) => print("none"),
     }
 }
 
@@ -56,20 +54,17 @@ fn record(t: &[u8], g: &[u8], b: &[u8], d: &[u8], n: u64, s: u64, size: u64, chu
 
 fn header(t: &[u8], g: &[u8], b: &[u8], d: &[u8], n: u64, s: u64, size: u64, chunk: ChunkNumber) {
     match record_find::header_of(t, g, b, d, n, s, size, chunk) {
-        HeaderRead::Refused(refusal) => print(Said(refusal)),
-        HeaderRead::Content(_) => print("content"),
+        Err(refusal) => print(Said(refusal)),
+        Ok(_) => print("content"),
     }
     let content = record_parts::header_content_of(t, g, b, d, n, s, size, chunk);
     print(format_args!(" {}", Shown(content)));
 }
 
 fn node(t: &[u8], g: &[u8], b: &[u8], d: &[u8], n: u64, s: u64, size: u64, chunk: ChunkNumber) {
-    let read = record_find::node_of(t, g, b, d, n, s, size, chunk);
-    let answer = read.answer;
-    let fields = read.node;
-    match answer {
+    match record_find::node_of(t, g, b, d, n, s, size, chunk) {
         Err(refusal) => print(Said(refusal)),
-        Ok(()) => show::fields(lookup::read_one(t, g, b, d, n, s, size, chunk), fields),
+        Ok(fields) => show::fields(lookup::read_one(t, g, b, d, n, s, size, chunk), fields),
     }
 }
 

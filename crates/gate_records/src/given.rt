@@ -1,9 +1,9 @@
 // What a step gives: numbers, and the bytes behind them.
 ghost use Rattle.std.specs.Prelude.{◌<◌};
 
-use record_fields::{Bytes, Number, Part};
+use record_fields::Part;
 use record_format::Stat;
-use record_node::{Node, Value, Writer, Writers};
+use record_node::{Node, Writer, Writers};
 
 // What is told of the register that is made.
 #[derive(Clone, Copy, Default)]
@@ -35,13 +35,13 @@ pub fn first(bytes: &[u8], count: u64) -> &[u8] {
 }
 
 // A field that is a number: whether it is there, and the number.
-fn field(step: &[u8], k: usize) -> Number
+fn field(step: &[u8], k: usize) -> Option<u64>
     requires { k < 90 }
 {
     if number(step, k) == 0 {
-        return Number::Absent;
+        return None;
     }
-    Number::Given(number(step, k + 1))
+    Some(number(step, k + 1))
 }
 
 fn part(step: &[u8], k: usize) -> Part
@@ -54,20 +54,20 @@ fn part(step: &[u8], k: usize) -> Part
 }
 
 // A field that is a part: whether it is there, and the part.
-fn bytes(step: &[u8], k: usize) -> Bytes
+fn bytes(step: &[u8], k: usize) -> Option<Part>
     requires { k < 80 }
 {
     if number(step, k) == 0 {
-        return Bytes::Absent;
+        return None;
     }
-    Bytes::Given(part(step, k + 1))
+    Some(part(step, k + 1))
 }
 
-fn value(step: &[u8]) -> Value {
+fn value(step: &[u8]) -> Option<Stat> {
     if number(step, 2) == 0 {
-        return Value::Absent;
+        return None;
     }
-    Value::Given(Stat {
+    Some(Stat {
         mode: field(step, 3),
         uid: field(step, 5),
         gid: field(step, 7),

@@ -5,7 +5,6 @@ use super::show::Shown;
 use super::{given, show};
 use answer_types::Refusal;
 use gate_printing::{Said, print};
-use record_format::{HeaderRead, Written};
 
 // What is done with what a step gives, besides asking a register.
 #[derive(Clone, Copy)]
@@ -67,10 +66,10 @@ fn write_header(step: &[u8]) {
     wrote(written, lent);
 }
 
-fn wrote(written: Written, out: &[u8]) {
+fn wrote(written: Result<u64, Refusal>, out: &[u8]) {
     match written {
-        Written::Refused(refusal) => print(Said(refusal)),
-        Written::Length(count) => {
+        Err(refusal) => print(Said(refusal)),
+        Ok(count) => {
             print(format_args!("{count} {}", Shown(given::first(out, count))));
         }
     }
@@ -78,19 +77,16 @@ fn wrote(written: Written, out: &[u8]) {
 }
 
 fn read_node(bytes: &[u8]) {
-    let read = record_node::read_node(bytes);
-    let answer = read.answer;
-    let node = read.node;
-    match answer {
+    match record_node::read_node(bytes) {
         Err(refusal) => print(Said(refusal)),
-        Ok(()) => show::fields(bytes, node),
+        Ok(node) => show::fields(bytes, node),
     }
 }
 
 fn read_header(bytes: &[u8]) {
     match record_format::read_header(bytes) {
-        HeaderRead::Refused(refusal) => print(Said(refusal)),
-        HeaderRead::Content(_) => {
+        Err(refusal) => print(Said(refusal)),
+        Ok(_) => {
             print(format_args!("content {}", Shown(record_parts::header_content(bytes))));
         }
     }
@@ -99,14 +95,8 @@ fn read_header(bytes: &[u8]) {
 // Whether bytes are such a record.
 fn is_one(record: Record, bytes: &[u8]) -> bool {
     match record {
-        Record::Header => match record_format::read_header(bytes) {
-            HeaderRead::Refused(_) => false,
-            HeaderRead::Content(_) => true,
-        },
-        Record::Node => match record_node::read_node(bytes).answer {
-            Err(_) => false,
-            Ok(()) => true,
-        },
+        Record::Header => record_format::read_header(bytes).is_ok(),
+        Record::Node => record_node::read_node(bytes).is_ok(),
     }
 }
 

@@ -26,7 +26,7 @@ pub fn started(
     bitfield: &mut [u8],
     data: &mut [u8],
 ) -> Told {
-    writing::start(tree, signatures, bitfield, data);
+    let _ = writing::start(tree, signatures, bitfield, data);
     Told::default()
 }
 
@@ -40,10 +40,10 @@ pub fn appended(
     chunk: &[u8],
 ) -> Told {
     let Told { n, size } = told;
-    writing::append(tree, signatures, bitfield, data, n, n, size, chunk);
+    let _ = writing::append(tree, signatures, bitfield, data, n, n, size, chunk);
     let more = n.wrapping_add(1);
     let after = size.wrapping_add(chunk.len() as u64);
-    writing::store_signature(tree, signatures, bitfield, data, more, n, after, &[0; 64]);
+    let _ = writing::store_signature(tree, signatures, bitfield, data, more, n, after, &[0; 64]);
     Told {
         n: more,
         size: after,

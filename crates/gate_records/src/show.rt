@@ -1,7 +1,8 @@
 // How the fields of a record are shown.
 use gate_printing::{InHex, front, print};
-use record_fields::{Bytes, Number};
-use record_node::{Node, Value, Writers};
+use record_fields::Part;
+use record_format::Stat;
+use record_node::{Node, Writers};
 use record_parts::{Field, node_part};
 use std::fmt;
 use std::fmt::Display;
@@ -25,29 +26,29 @@ impl Display for Shown<'_> {
 }
 
 // A part of the Node that bytes are, where the field is there.
-fn given(bytes: &[u8], field: Bytes, which: Field) {
+fn given(bytes: &[u8], field: Option<Part>, which: Field) {
     match field {
-        Bytes::Absent => print("-"),
-        Bytes::Given(_) => print(Shown(node_part(bytes, which))),
+        None => print("-"),
+        Some(_) => print(Shown(node_part(bytes, which))),
     }
 }
 
 #[derive(Clone, Copy)]
-struct Numeral(Number);
+struct Numeral(Option<u64>);
 
 impl Display for Numeral {
     fn fmt<W: fmt::Write>(&self, f: &mut fmt::Formatter<W>) -> fmt::Result {
         match self.0 {
-            Number::Absent => write!(f, "-"),
-            Number::Given(x) => write!(f, "{x}"),
+            None => write!(f, "-"),
+            Some(x) => write!(f, "{x}"),
         }
     }
 }
 
-fn value(v: Value) {
+fn value(v: Option<Stat>) {
     match v {
-        Value::Absent => print("-"),
-        Value::Given(stat) => {
+        None => print("-"),
+        Some(stat) => {
             print(Numeral(stat.mode));
             let others = [
                 stat.uid,

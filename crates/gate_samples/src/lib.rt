@@ -57,9 +57,9 @@ fn step(
     requires { (n < 1048576) × (count ≤ 64) }
 {
     let chunk = &bytes_of(n)[0..count as usize];
-    writing::append(tree, signatures, bitfield, data, n, n, size, chunk);
+    let _ = writing::append(tree, signatures, bitfield, data, n, n, size, chunk);
     let after = size.wrapping_add(count);
-    writing::store_signature(
+    let _ = writing::store_signature(
         tree,
         signatures,
         bitfield,

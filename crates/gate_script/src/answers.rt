@@ -4,86 +4,58 @@ use compare::Compared;
 use gate_printing::{InHex, Said, front, print};
 use lookup::{Located, Placed};
 use number_types::ChunkNumber;
-use packet::Made;
 use packet_compare::Walked;
-use record_find::Found;
-use search::Searched;
 use std::fmt;
 use std::fmt::Display;
-use stored_leaf::Stored;
-use writing::{Appended, Rooted};
-
-// An answer, and the root hash beside it.
-pub fn rooted(answer: Result<(), Refusal>, root: [u8; 32]) {
-    print(format_args!("{}:{}", Said(answer), InHex(&root)));
-}
-
-pub fn root(r: Rooted) {
-    rooted(r.answer, r.root);
-}
-
-pub fn appended(a: Appended) {
-    rooted(a.answer, a.root);
-}
 
 // What a call answers, to be displayed.
 #[derive(Clone, Copy)]
 pub struct Shown<T>(pub T);
 
-impl Display for Shown<Searched> {
+// Whether it is done, and the root hash: zeros after a refusal.
+impl Display for Shown<Result<[u8; 32], Refusal>> {
+    fn fmt<W: fmt::Write>(&self, f: &mut fmt::Formatter<W>) -> fmt::Result {
+        let answer = self.0.map(|_| ());
+        let root = self.0.unwrap_or([0u8; 32]);
+        write!(f, "{}:{}", Said(answer), InHex(&root))
+    }
+}
+
+// What a search or a path comes to.
+impl Display for Shown<Result<Option<ChunkNumber>, Refusal>> {
     fn fmt<W: fmt::Write>(&self, f: &mut fmt::Formatter<W>) -> fmt::Result {
         match self.0 {
-            Searched::Refused(r) => write!(f, "{}", Said(r)),
-            Searched::At(chunk) => write!(f, "{}", chunk.0),
-            Searched::Nothing => write!(f, "none"),
+            Err(r) => write!(f, "{}", Said(r)),
+            Ok(Some(chunk)) => write!(f, "{}", chunk.0),
+            Ok(None) => write!(f, "none"),
         }
     }
 }
 
-impl Display for Shown<Found> {
+impl Display for Shown<Result<Placed, Refusal>> {
     fn fmt<W: fmt::Write>(&self, f: &mut fmt::Formatter<W>) -> fmt::Result {
         match self.0 {
-            Found::Refused(r) => write!(f, "{}", Said(r)),
-            Found::At(chunk) => write!(f, "{}", chunk.0),
-            Found::Nowhere => write!(f, "none"),
+            Err(r) => write!(f, "{}", Said(r)),
+            Ok(placed) => write!(f, "{} {}", placed.start.0, placed.length),
         }
     }
 }
 
-impl Display for Shown<Placed> {
+impl Display for Shown<Result<Located, Refusal>> {
     fn fmt<W: fmt::Write>(&self, f: &mut fmt::Formatter<W>) -> fmt::Result {
         match self.0 {
-            Placed::Refused(r) => write!(f, "{}", Said(r)),
-            Placed::At(start, length) => write!(f, "{} {length}", start.0),
+            Err(r) => write!(f, "{}", Said(r)),
+            Ok(located) => write!(f, "{} {}", located.chunk.0, located.rest),
         }
     }
 }
 
-impl Display for Shown<Located> {
+// The length in a leaf's stored entry or of a packet, or why there is none.
+impl Display for Shown<Result<u64, Refusal>> {
     fn fmt<W: fmt::Write>(&self, f: &mut fmt::Formatter<W>) -> fmt::Result {
         match self.0 {
-            Located::Refused(r) => write!(f, "{}", Said(r)),
-            Located::In(chunk, less) => write!(f, "{} {less}", chunk.0),
-        }
-    }
-}
-
-// The length in a leaf's stored entry, or why none is told.
-impl Display for Shown<Stored> {
-    fn fmt<W: fmt::Write>(&self, f: &mut fmt::Formatter<W>) -> fmt::Result {
-        match self.0 {
-            Stored::Refused(r) => write!(f, "{}", Said(r)),
-            Stored::Length(length) => write!(f, "{length}"),
-        }
-    }
-}
-
-// The length of a packet, or why none was made.
-impl Display for Shown<Made> {
-    fn fmt<W: fmt::Write>(&self, f: &mut fmt::Formatter<W>) -> fmt::Result {
-        match self.0 {
-            Made::Refused(r) => write!(f, "{}", Said(r)),
-            Made::Length(length) => write!(f, "{length}"),
+            Err(r) => write!(f, "{}", Said(r)),
+            Ok(length) => write!(f, "{length}"),
         }
     }
 }
@@ -114,19 +86,23 @@ impl Display for Shown<Walked> {
 }
 
 // What a call says of a leaf's stored entry, and what the bytes lent for its hash then hold.
-pub fn leaf(found: Stored, hash: &[u8; 32]) {
+pub fn leaf(found: Result<u64, Refusal>, hash: &[u8; 32]) {
     print(format_args!("{}:{}", Shown(found), InHex(hash)));
 }
 
 // A packet that was made in the front of a buffer, a sum of the buffer, and the packet's check. Where none was made no byte is checked.
-pub fn packet(answer: Made, out: &[u8], n: u64, chunk: ChunkNumber, root: &[u8; 32]) {
+pub fn packet(
+    answer: Result<u64, Refusal>,
+    out: &[u8],
+    n: u64,
+    chunk: ChunkNumber,
+    root: &[u8; 32],
+) {
     print(Shown(answer));
     sum(out);
     print(" ");
-    match answer {
-        Made::Refused(_) => check(super::parts::bytes(out, 0, 0), n, chunk, root),
-        Made::Length(length) => check(super::parts::bytes(out, 0, length), n, chunk, root),
-    }
+    let length = answer.unwrap_or(0);
+    check(super::parts::bytes(out, 0, length), n, chunk, root);
 }
 
 // What the check of a packet answers, and the chunk's part.

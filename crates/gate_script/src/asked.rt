@@ -45,8 +45,8 @@ fn called(
         Ask::Show => shown(t, g, b, d, text, x),
         Ask::Audit => print(Said(audit::audit(t, g, b, d, n, s, size))),
         Ask::Cut => super::cuts::of_register(t, g, b, d, told, x),
-        Ask::Root => answers::root(writing::root_hash(t, g, b, d, n, s, size)),
-        Ask::Old => answers::root(prefix_root::prefix_root(t, g, b, d, n, s, size, x[1])),
+        Ask::Root => print(Shown(writing::root_hash(t, g, b, d, n, s, size))),
+        Ask::Old => print(Shown(prefix_root::prefix_root(t, g, b, d, n, s, size, x[1]))),
         Ask::Preview => previewed(t, g, b, d, told, parts::bytes(text, x[1], x[2])),
         Ask::Entry => entry(t, g, b, d, told, chunk),
         Ask::Search => print(Shown(search::search(t, g, b, d, n, s, size, chunk))),
@@ -59,7 +59,7 @@ fn called(
 // The hash with so many bytes.
 fn hashed(output: u64, message: &[u8]) {
     let hashed = blake2b::hash(output as usize, b"", message);
-    print(front(&hashed.digest, output as usize));
+    print(front(&hashed.unwrap_or([0u8; 64]), output as usize));
 }
 
 // The bytes of a file, or of the text.
@@ -77,7 +77,7 @@ fn shown(t: &[u8], g: &[u8], b: &[u8], d: &[u8], text: &[u8], x: [u64; 16]) {
 // An append that is only previewed.
 fn previewed(t: &[u8], g: &[u8], b: &[u8], d: &[u8], told: Told, chunk: &[u8]) {
     let r = append_preview::preview(t, g, b, d, told.n, told.s, told.size, chunk);
-    answers::rooted(r.answer, r.root);
+    print(Shown(r));
 }
 
 // The stored entry of a leaf.
@@ -94,5 +94,5 @@ fn packed(t: &[u8], g: &[u8], b: &[u8], d: &[u8], told: Told, chunk: ChunkNumber
     let lent = parts::of_mut(&mut out, parts::between(0, room));
     let made = packet::make(t, g, b, d, n, s, size, chunk, lent);
     let r = writing::root_hash(t, g, b, d, n, s, size);
-    answers::packet(made, &out, n, chunk, &r.root);
+    answers::packet(made, &out, n, chunk, &r.unwrap_or([0u8; 32]));
 }

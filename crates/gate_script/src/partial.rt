@@ -6,7 +6,6 @@ use super::words::AskCopy;
 use super::{answers, parts};
 use gate_printing::{InHex, Said, print};
 use number_types::ChunkNumber;
-use record_format::HeaderRead;
 
 pub fn by(
     tree: &[u8],
@@ -28,8 +27,8 @@ pub fn by(
     match word {
         AskCopy::Audit => print(Said(copy_audit::audit(t, b, d, n, size))),
         AskCopy::Cut => super::cuts::of_copy(t, b, d, n, size, x),
-        AskCopy::Root => answers::root(copy_roots::root_hash(t, b, d, n, size)),
-        AskCopy::Old => answers::root(copy_roots::prefix_root_hash(t, b, d, n, size, x[1])),
+        AskCopy::Root => print(Shown(copy_roots::root_hash(t, b, d, n, size))),
+        AskCopy::Old => print(Shown(copy_roots::prefix_root_hash(t, b, d, n, size, x[1]))),
         AskCopy::Entry => entry(t, b, d, n, size, chunk),
         AskCopy::Get => got(t, b, d, n, size, chunk),
         AskCopy::Packet => packed(t, b, d, n, size, chunk, x[2]),
@@ -60,18 +59,16 @@ fn packed(t: &[u8], b: &[u8], d: &[u8], n: u64, size: u64, chunk: ChunkNumber, r
     let lent = parts::of_mut(&mut out, parts::between(0, room));
     let made = copy_packet::make(t, b, d, n, size, chunk, lent);
     let r = copy_roots::root_hash(t, b, d, n, size);
-    answers::packet(made, &out, n, chunk, &r.root);
+    answers::packet(made, &out, n, chunk, &r.unwrap_or([0u8; 32]));
 }
 
 // The record of a chunk, a Header at 0.
 fn record(t: &[u8], b: &[u8], d: &[u8], n: u64, size: u64, chunk: ChunkNumber) {
     if chunk.0 == 0 {
-        match copy_records::header_of(t, b, d, n, size, chunk) {
-            HeaderRead::Refused(refusal) => print(Said(refusal)),
-            HeaderRead::Content(_) => print("done"),
-        }
+        let read = copy_records::header_of(t, b, d, n, size, chunk);
+        print(Said(read.map(|_| ())));
     } else {
         let read = copy_records::node_of(t, b, d, n, size, chunk);
-        print(Said(read.answer));
+        print(Said(read.map(|_| ())));
     }
 }

@@ -1,5 +1,6 @@
 // The calls that may write, on the first register or copy: t, g, b and d are its tree, signatures, bitfield and data as they are lent. Behind the
 // answer stands a sum of each of them.
+use super::answers::Shown;
 use super::parts::Register;
 use super::reading::Line;
 use super::words::Write;
@@ -49,7 +50,7 @@ fn called(
     match word {
         Write::Start => print(Said(writing::start(t, g, b, d))),
         Write::Grow => grown(t, g, b, d, told, x[1], x[2]),
-        Write::Append => answers::appended(writing::append(t, g, b, d, n, s, size, lent)),
+        Write::Append => print(Shown(writing::append(t, g, b, d, n, s, size, lent))),
         Write::List => listed(t, g, b, d, lent, told, x),
         Write::Sign => print(Said(signed(t, g, b, d, text, told, x[1]))),
         Write::Release => print(Said(release::release(t, g, b, d, n, s, size, chunk))),
@@ -86,7 +87,7 @@ fn listed(
     let Told { n, s, size } = told;
     let count = x[3].min(257) as usize;
     let lengths = &lengths_in(x)[0..count];
-    answers::appended(append_list::append_list(t, g, b, d, n, s, size, lengths, lent));
+    print(Shown(append_list::append_list(t, g, b, d, n, s, size, lengths, lent)));
 }
 
 // The lengths of up to twelve chunks stand in the line; those of more follow from their places and from a number.

@@ -48,7 +48,7 @@ fn main() {
 fn begun(t: &mut [u8], s: &mut [u8], b: &mut [u8], d: &mut [u8], count: u64, span: u64) -> Told
     requires { (0 < span) × (span ≤ 64) × (count ≤ 1048576) }
 {
-    writing::start(t, s, b, d);
+    let _ = writing::start(t, s, b, d);
     gate_samples::grow(t, s, b, d, Told::default(), count, span)
 }
 

@@ -46,7 +46,7 @@ fn digest(kk: usize, count: usize, output: usize)
     let key = filled(kk, 1, 7);
     let message = filled(count, 5, 13);
     let hashed = blake2b::hash(output, &key[0..kk], &message[0..count]);
-    print(format_args!(" {}", front(&hashed.digest, output)));
+    print(format_args!(" {}", front(&hashed.unwrap_or([0u8; 64]), output)));
 }
 
 // Keys that are too long, alone and beside output lengths that are none.
@@ -63,7 +63,7 @@ fn refusal(name: &str, output: usize, kk: usize)
 {
     let key = filled(kk, 1, 7);
     let hashed = blake2b::hash(output, &key[0..kk], b"");
-    print(format_args!("{name}: {}\n", Said(hashed.answer)));
+    print(format_args!("{name}: {}\n", Said(hashed.map(|_| ()))));
 }
 
 // The labels of one root hash under keys of several lengths.
@@ -83,8 +83,8 @@ fn label(kk: usize)
     root.copy_from_slice(&filled(32, 2, 3)[0..32]);
     let key = filled(kk, 1, 7);
     let labelled = root_label::label(&root, &key[0..kk]);
-    match labelled.answer {
-        Ok(()) => print(format_args!("label key {kk}: {}\n", InHex(&labelled.bytes))),
+    match labelled {
+        Ok(bytes) => print(format_args!("label key {kk}: {}\n", InHex(&bytes))),
         Err(refusal) => print(format_args!("label key {kk}: {}\n", Said(refusal))),
     }
 }

@@ -48,7 +48,7 @@ fn put(results: &mut [u8; 1968], at: usize, output: usize, count: usize, kk: usi
     let message = generated(count);
     let key = generated(kk);
     let hashed = blake2b::hash(output, &key[0..kk], &message[0..count]);
-    results[at..at + output].copy_from_slice(&hashed.digest[0..output]);
+    results[at..at + output].copy_from_slice(&hashed.unwrap_or([0u8; 64])[0..output]);
 }
 
 // The message, or key, of `count` bytes, with that number as the seed.

@@ -47,19 +47,19 @@ impl Tally {
     }
 
     // What a serving says, and the bytes that it hands back.
-    pub fn serving(mut self, said: Served, part: &[u8]) -> Tally {
+    pub fn serving(mut self, said: Option<Served>, part: &[u8]) -> Tally {
         if self.show {
             print_serving(said, part);
         }
         match said {
-            Served::Nobody => {
+            None => {
                 count(&mut self.none);
                 self.fold(100);
             }
-            Served::Station(station, answer) => {
+            Some(served) => {
                 count(&mut self.served);
-                self.fold(station);
-                self.fold(number_of(answer));
+                self.fold(served.station);
+                self.fold(number_of(served.answer));
                 self.fold(sum(part));
             }
         }
@@ -94,12 +94,13 @@ fn sum(part: &[u8]) -> u64 {
         .fold(0, |total, byte| total.wrapping_add(u64::from(*byte)))
 }
 
-fn print_serving(said: Served, part: &[u8]) {
+fn print_serving(said: Option<Served>, part: &[u8]) {
     match said {
-        Served::Nobody => print("serve: none\n"),
-        Served::Station(station, answer) => {
-            print(format_args!("serve: {station} {}", Said(answer)));
-            print_part(answer, part);
+        None => print("serve: none\n"),
+        Some(served) => {
+            let station = served.station;
+            print(format_args!("serve: {station} {}", Said(served.answer)));
+            print_part(served.answer, part);
         }
     }
 }

@@ -5,12 +5,12 @@ use Rattle.station_queue.proofs.Calls.{has_turn, nobody_left, one_left}
 use Rattle.station_queue.proofs.words.leave.Goals as goal
 
 pub drop_first-requires : goal.drop_first-requires
-drop_first-requires c = (c.requires, has_turn c.args.table.now c.in-Of.station (record { register = c.in-Of.field-1; chunk = c.in-Of.field-2.0 }) (sym (ap turn_of c.in-Of.is) ∙ c.next.ensures))
+drop_first-requires c = (c.requires, has_turn c.args.table.now c.in-Some.turn.station (record { register = c.in-Some.turn.register; chunk = c.in-Some.turn.chunk.0 }) (sym (ap turn_of c.in-Some.is) ∙ c.next.ensures))
 
-pub returns-in-Nobody : goal.returns-in-Nobody
-returns-in-Nobody c = nobody_left c.args.table.now (sym (ap turn_of c.in-Nobody.is) ∙ c.next.ensures)
+pub returns-in_default : goal.returns-in_default
+returns-in_default c = nobody_left c.args.table.now (sym (ap turn_of c.in_default.is) ∙ c.next.ensures)
 
-pub returns-in-Of : goal.returns-in-Of
-returns-in-Of c =
-    one_left c.args.table.now c.drop_first.new.table c.in-Of.station (record { register = c.in-Of.field-1; chunk = c.in-Of.field-2.0 }) c.requires
-    (sym (ap turn_of c.in-Of.is) ∙ c.next.ensures) c.drop_first.ensures
+pub returns-in-Some : goal.returns-in-Some
+returns-in-Some c =
+    one_left c.args.table.now c.drop_first.new.table c.in-Some.turn.station (record { register = c.in-Some.turn.register; chunk = c.in-Some.turn.chunk.0 }) c.requires
+    (sym (ap turn_of c.in-Some.is) ∙ c.next.ensures) c.drop_first.ensures

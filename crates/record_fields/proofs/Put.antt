@@ -4,13 +4,12 @@ use mathlib.Core.Path.{◌≡◌, refl, sym, ap, ◌∙◌, subst}
 use mathlib.Core.List.{List, [], ◌∷◌, ◌++◌}
 use mathlib.Core.Option.{some}
 use native.Mathlib.Omega.{arith}
-use lib.ListN.{length, set, take, drop, length-set, length-append, length-drop}
-use lib.Seq.{length-take-le}
+use lib.ListN.{length, set, take, drop, length-set, length-append}
 use Rattle.byte_strings.specs.Lists.{part, put}
 use Rattle.byte_strings.proofs.Lists.{put_nil, put_one, put_append, length_put}
 use Rattle.record_fields.specs.Varints.{digits, varint, Fits}
 use Rattle.record_fields.specs.Fields.{number_field, part_field}
-use Rattle.record_fields.specs.Inner.{number_of, bytes_of, BytesInside, size_of, PutAt, Roomy, BytesRoomy}
+use Rattle.record_fields.specs.Inner.{number_of, bytes_of, PutAt, Roomy, BytesRoomy}
 use Rattle.record_fields.specs.declared.rows.Part.{Part}
 use Rattle.std.specs.Prelude.{Option as Maybe, None, Some}
 use Rattle.record_fields.proofs.Digits.{small, large, some_digits, above_last, fits_rest}
@@ -122,10 +121,6 @@ module _ (k : ℕ) (out : List ℕ) (at : ℕ) (field : Maybe ℕ) where
         (subst (λ (t : List ℕ). PutAt (t ++ varint x) out at next after) (sym (small 9 (8 * k) (omega arith)))
         (put_then ((8 * k) ∷ []) (varint x) out at (at + 1) next (set out at (8 * k)) after (omega arith) (put_byte out at (8 * k) (omega arith)) p))
 
-    pub number_kept : (next : ℕ) (after : List ℕ) → PutAt (varint x) (set out at (8 * k)) (at + 1) next after → length after ≡ length out
-    number_kept next after p =
-        put_length (varint x) (set out at (8 * k)) (at + 1) next after (simp length-set (omega (arith, digits_size 9 x))) p ∙ length-set out at (8 * k)
-
 -- ---- a field that is a part
 
 module _ (k : ℕ) (out : List ℕ) (at : ℕ) (bytes : List ℕ) (kind : k < 16) (room : at + 11 + length bytes ≤ length out) (word : length bytes < 2 ^ 64) where
@@ -152,9 +147,6 @@ module _ (k : ℕ) (out : List ℕ) (at : ℕ) (bytes : List ℕ) (kind : k < 16
         (put_then (varint (length bytes)) bytes (set out at (8 * k + 2)) (at + 1) next (next + length bytes) mid after (simp length-set (omega arith)) p
         (record { ends = refl; holds = q })))
 
-    pub part_kept : (after : List ℕ) → after ≡ put mid next bytes → length after ≡ length out
-    part_kept after q = ap length q ∙ length_put mid next bytes part_room ∙ mid_length
-
 -- ---- a part of the bytes lent, or none
 
 module _ (d : List ℕ) (field : Maybe Part) (k : ℕ) (out : List ℕ) (at : ℕ) (w : BytesRoomy d field k out at) where
@@ -163,18 +155,8 @@ module _ (d : List ℕ) (field : Maybe Part) (k : ℕ) (out : List ℕ) (at : �
   bytes_absent e = subst (λ (f : Maybe Part). PutAt (part_field k (bytes_of d f)) out at at out) (sym e) (put_nothing out at)
 
   module _ (q : Part) (e : field ≡ Some q) where
-    pub given_inside : q.at + q.len ≤ length d
-    given_inside = subst (BytesInside d) e w.inside
-
-    pub given_room : at + 11 + q.len ≤ length out
-    given_room = omega (arith, w.room, ap size_of e)
-
     taken : q.at + q.len - q.at ≡ q.len
     taken = omega arith
-
-    pub given_fits : at + 11 + length (take (q.at + q.len - q.at) (drop q.at d)) ≤ length out
-    given_fits =
-        omega (arith, given_room, length-take-le (q.at + q.len - q.at) (drop q.at d) (rw length-drop (omega (arith, given_inside))))
 
     pub given_put : (bytes : List ℕ) (next : ℕ) (after : List ℕ) → bytes ≡ take (q.at + q.len - q.at) (drop q.at d) → PutAt (part_field k (some bytes)) out at next after
         → PutAt (part_field k (bytes_of d field)) out at next after

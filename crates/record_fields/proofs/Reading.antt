@@ -1,7 +1,7 @@
--- Laws of reading: one value behind another, bounds judged afterwards, and bytes that are read whole. Assumes nothing.
+-- Laws of reading: one value behind another. Assumes nothing.
 use Prim.Native.Nat.{ℕ}
-use mathlib.Core.Path.{◌≡◌, sym, ap, ap₂, ◌∙◌, subst}
-use mathlib.Core.List.{List, [], ◌++◌, append_assoc, append-nil}
+use mathlib.Core.Path.{◌≡◌, sym, ap, ap₂, ◌∙◌}
+use mathlib.Core.List.{List, ◌++◌, append_assoc}
 use lib.ListN.{drop}
 use Rattle.record_fields.specs.Reading.{Begins, BeginsNot, both, Both}
 use Rattle.record_fields.specs.Inner.{Upto}
@@ -49,27 +49,3 @@ module _ {A B : Type 0} (w₁ : A → List ℕ) (W₁ : A → Type 0) (F₁ : Li
   pub then_read : {a : A} {next : ℕ} {b : B} {end : ℕ} → Upto w₁ W₁ F₁ d at a next → Upto w₂ W₂ F₂ d next b end
       → Upto (both w₁ w₂) (Both W₁ W₂) F₂ d at (a, b) end
   then_read u v = record { begins = both_read w₁ W₁ F₁ w₂ W₂ F₂ leads u.begins v.begins; inside = v.inside }
-
--- ---- narrower bounds, judged of the value read
-
-module _ {A : Type 0} (w : A → List ℕ) (W N : A → Type 0) (F : List ℕ → Type 0) (narrower : (a : A) → N a → W a) {s : List ℕ} {a : A} {rest : List ℕ} (g : Begins w W F s a rest) where
-  pub narrowed : N a → Begins w N F s a rest
-  narrowed v = record { made = g.made; within = v; only = λ b t u f e. g.only b t (narrower b u) f e }
-
-  pub narrowed_not : (N a → ⊥) → BeginsNot w N F s
-  narrowed_not n b t u f e = n (subst N (g.only b t (narrower b u) f e).0 u)
-
--- ---- bytes read whole: nothing follows
-
-abbrev pub Ends : List ℕ → Type 0
-Ends t = t ≡ []
-
-module _ {A : Type 0} (w : A → List ℕ) (W : A → Type 0) (F : List ℕ → Type 0) (ends : F []) {s : List ℕ} where
-  pub whole_not : BeginsNot w W F s → (b : A) → W b → s ≡ w b → ⊥
-  whole_not n b u e = n b [] u ends (e ∙ sym (append-nil (w b)))
-
-  pub whole_read : {a : A} → Begins w W F s a [] → s ≡ w a
-  whole_read {a} g = g.made ∙ append-nil (w a)
-
-  pub whole_left : {a : A} {rest : List ℕ} → Begins w W F s a rest → (rest ≡ [] → ⊥) → (b : A) → W b → s ≡ w b → ⊥
-  whole_left g n b u e = n (sym (g.only b [] u ends (e ∙ sym (append-nil (w b)))).1)

@@ -6,16 +6,13 @@ use mathlib.Core.List.{List, ◌++◌}
 use mathlib.Core.Option.{Option}
 use native.Mathlib.Omega.{arith}
 use lib.ListN.{length, length-append}
-use Rattle.record_fields.specs.Fields.{number_field, Most}
-use Rattle.record_fields.specs.Inner.{number_of, PutAt}
-use Rattle.std.specs.Prelude.{Option as Maybe, None, Some}
+use Rattle.record_fields.specs.Fields.{number_field}
+use Rattle.record_fields.specs.Inner.{PutAt}
 use Rattle.record_fields.proofs.Unique.{number_size}
 use Rattle.record_fields.proofs.Put.{put_next, put_three}
-use Rattle.record_format.specs.Records.{Stat, StatWithin, stat_bytes, rows_of, RowsWithin}
-use Rattle.record_format.specs.Records as fields
-use Rattle.record_format.specs.Post.{Decides, stat_of}
+use Rattle.record_format.specs.Records.{Stat, stat_bytes}
+use Rattle.record_format.specs.Post.{Decides}
 use Rattle.record_format.specs.Inner.{three_fields}
-use Rattle.record_format.specs.declared.stats.Stat.{Stat as CodeStat}
 use Rattle.record_format.proofs.Nine.{nine_bytes}
 
 -- ---- whether something holds
@@ -29,28 +26,6 @@ no W r e d = subst (Decides W) e d
 pub carried : (A W : Type 0) (r : Bool) → (A → W) → (W → A) → Decides A r → Decides W r
 carried A W true f g d = f d
 carried A W false f g d = λ w. d (g w)
-
--- ---- bounds
-
-module _ (field : Maybe ℕ) (most : ℕ) where
-  pub fits_absent : field ≡ None → Most most (number_of field)
-  fits_absent e = subst (λ (f : Maybe ℕ). Most most (number_of f)) (sym e) tt
-
-  pub fits_given : (x : ℕ) → field ≡ Some x → x ≤ most → Most most (number_of field)
-  fits_given x e h = subst (λ (f : Maybe ℕ). Most most (number_of f)) (sym e) h
-
-  pub fits_over : (x : ℕ) → field ≡ Some x → most < x → Most most (number_of field) → ⊥
-  fits_over x e h w = let u : x ≤ most = subst (λ (f : Maybe ℕ). Most most (number_of f)) e w in omega arith
-
--- the mode must be there
-module _ (s : CodeStat) where
-  pub no_mode : s.mode ≡ None → StatWithin (stat_of s) → ⊥
-  no_mode e w = subst (λ (f : Maybe ℕ). fields.Given (number_of f)) e w.mode
-
-  pub with_mode_lem : (x : ℕ) (r : Bool) → s.mode ≡ Some x → Decides (RowsWithin 1 (rows_of (stat_of s))) r → Decides (StatWithin (stat_of s)) r
-  with_mode_lem x r e d =
-      carried (RowsWithin 1 (rows_of (stat_of s))) (StatWithin (stat_of s)) r
-      (λ w. record { mode = subst (λ (f : Maybe ℕ). fields.Given (number_of f)) (sym e) tt; rows = w }) (λ w. w.rows) d
 
 -- ---- three fields put
 

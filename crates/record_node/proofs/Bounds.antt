@@ -1,23 +1,19 @@
 -- When the fields of a Node are within the bounds. Assumes nothing.
-use Prim.Native.Nat.{ℕ, ◌+◌, ◌<◌, ◌≤◌}
+use Prim.Native.Nat.{ℕ, ◌<◌, ◌≤◌}
 use mathlib.Core.Path.{◌≡◌, refl, sym, ap, ◌∙◌, subst}
 use mathlib.Core.Bool.{Bool, true, false}
 use lib.Dec.{eqb}
 use borrow.Author.Tests.{eqb-true, eqb-false}
-use mathlib.Core.Logic.{⊎_elim}
 use mathlib.Core.List.{List}
 use native.Mathlib.Omega.{arith}
 use native.Mathlib.Nat.{add-zero}
 use lib.ListN.{length, get_or}
-use Rattle.std.specs.Prelude.{Option as Maybe, None, Some}
+use Rattle.std.specs.Prelude.{Option as Maybe, Some}
 use Rattle.byte_strings.proofs.Lists.{get_d_part, length_part, length_run}
 use Rattle.record_fields.specs.Fields.{Most}
 use Rattle.record_fields.specs.Inner.{part_of, number_of, Inside}
 use Rattle.record_fields.specs.declared.rows.Part.{Part}
-use Rattle.record_fields.proofs.Digits.{two}
-use Rattle.record_format.specs.Records.{StatWithin}
-use Rattle.record_format.specs.Post.{Decides, stat_of}
-use Rattle.record_format.specs.declared.stats.Stat.{Stat as CodeStat}
+use Rattle.record_format.specs.Post.{Decides}
 use Rattle.record_format.proofs.Writing.{carried}
 use Rattle.record_node.specs.Post.{no_writer, writer_at, NodeFits}
 use Rattle.record_node.specs.Inner.{Lies, PathLies, BytesLie, WriterLies, WritersLie, ValueFits}
@@ -42,9 +38,6 @@ module _ (d : List ℕ) (p : Part) (h : Inside d p) where
   path_long l w = omega (arith, long, w.within.short)
 
   module _ (some : p.len ≡ 0 → ⊥) where
-    pub path_first : p.at < length d
-    path_first = omega (arith, h, some)
-
     pub path_decided : p.len ≤ 255 → Decides (PathLies d p) (eqb (get_or d p.at 0) 47)
     path_decided l = go (eqb (get_or d p.at 0) 47) refl
       where
@@ -56,9 +49,6 @@ module _ (d : List ℕ) (p : Part) (h : Inside d p) where
         go false e = λ w. eqb-false (get_or d p.at 0) 47 e (sym (first (omega (arith, some))) ∙ w.within.slash)
 
 -- ---- parts
-
-pub lie_absent : {d : List ℕ} {field : Maybe Part} {longest : ℕ} → field ≡ None → BytesLie d field longest
-lie_absent {d} {longest = longest} e = subst (λ (o : Maybe Part). BytesLie d o longest) (sym e) (record { inside = tt; within = tt })
 
 module _ (d : List ℕ) {field : Maybe Part} (longest : ℕ) {p : Part} (e : field ≡ Some p) where
   pub lie_long : longest < p.len → BytesLie d field longest → ⊥
@@ -81,9 +71,6 @@ module _ {d : List ℕ} {w : CodeWriter} where
   pub key_short : (w.key.len ≡ 32 → ⊥) → WriterLies d w → ⊥
   key_short n h = n (sym (length_part d w.key.at w.key.len h.inside.key) ∙ h.within.key)
 
-  pub key_outside : (Lies d w.key → ⊥) → WriterLies d w → ⊥
-  key_outside n h = n h.inside.key
-
 module _ (d : List ℕ) (w : CodeWriter) where
   pub writer_lies_lem : w.key.len ≡ 32 → Lies d w.key → (r : Bool) → Decides (BytesLie d w.permission 16) r → Decides (WriterLies d w) r
   writer_lies_lem e i r h = carried (BytesLie d w.permission 16) (WriterLies d w) r to (λ v. record { inside = v.inside.permission; within = v.within.permission }) h
@@ -98,17 +85,7 @@ module _ (d : List ℕ) (w : CodeWriter) where
 abbrev pub Judged : List ℕ → List CodeWriter → ℕ → Type 0
 Judged d list i = (j : ℕ) → j < i → WriterLies d (get_or list j no_writer)
 
-pub judged_none : (d : List ℕ) (list : List CodeWriter) → Judged d list 0
-judged_none d list j l = absurd (omega arith)
-
-pub judged_next : (d : List ℕ) (list : List CodeWriter) (i : ℕ) → Judged d list i → WriterLies d (get_or list i no_writer) → Judged d list (i + 1)
-judged_next d list i h w j l =
-    ⊎_elim (λ (a : j < i). h j a) (λ (b : i ≤ j). let q : i ≡ j = omega arith in subst (λ (n : ℕ). WriterLies d (get_or list n no_writer)) q w) (two j i)
-
 module _ {d : List ℕ} {ws : Writers} where
-  pub writers_many : 8 < ws.count → WritersLie d ws → ⊥
-  writers_many l w = omega (arith, w.inside.count)
-
   pub writers_one : (i : ℕ) → i < ws.count → (WriterLies d (writer_at ws i) → ⊥) → WritersLie d ws → ⊥
   writers_one i l n w = n (record { inside = w.inside.each i l; within = all_within (listed d ws.list) ws.count w.within i l })
 
@@ -118,28 +95,7 @@ module _ {d : List ℕ} {ws : Writers} where
     within = within_all (listed d ws.list) ws.count (λ j k. (h j (omega arith)).within);
   }
 
--- ---- the Stat
-
-pub value_absent : {v : Maybe CodeStat} → v ≡ None → ValueFits v
-value_absent e = subst ValueFits (sym e) tt
-
-pub value_given : {v : Maybe CodeStat} {s : CodeStat} → v ≡ Some s → (r : Bool) → Decides (StatWithin (stat_of s)) r → Decides (ValueFits v) r
-value_given e r h = subst (λ (x : Maybe CodeStat). Decides (ValueFits x) r) (sym e) h
-
 -- ---- all fields
-
-module _ {d : List ℕ} {n : CodeNode} where
-  pub no_path : (PathLies d n.path → ⊥) → NodeFits d n → ⊥
-  no_path x w = x (record { inside = w.inside.path; within = w.within.path })
-
-  pub no_value : (ValueFits n.value → ⊥) → NodeFits d n → ⊥
-  no_value x w = x w.within.value
-
-  pub no_trie : (BytesLie d n.trie 1024 → ⊥) → NodeFits d n → ⊥
-  no_trie x w = x (record { inside = w.inside.trie; within = w.within.trie })
-
-  pub no_sequence : (Most 18446744073709551615 (number_of n.sequence) → ⊥) → NodeFits d n → ⊥
-  no_sequence x w = x w.within.writers_sequence
 
 module _ (d : List ℕ) (n : CodeNode) where
   pub node_lies : Most 18446744073709551615 (number_of n.sequence) → PathLies d n.path → ValueFits n.value → BytesLie d n.trie 1024

@@ -18,7 +18,7 @@ use Rattle.record_fields.specs.declared.rows.Part.{Part}
 use Rattle.record_fields.proofs.Reading.{Leads, first_not, then_not, then_read}
 use Rattle.record_fields.proofs.Fields.{later_nil, later_part, later_number}
 use Rattle.record_fields.proofs.Placed.{upto_next, bytes_placed_lem}
-use Rattle.record_format.specs.Records.{Stat, stat_bytes, writers_bytes, Node, NodeWithin, node_bytes, stat_part, PathWithin}
+use Rattle.record_format.specs.Records.{Stat, stat_bytes, writers_bytes, Node, NodeWithin, node_bytes, stat_part}
 use Rattle.record_format.specs.Theorems.{Rejected}
 use Rattle.record_format.specs.Post.{stat_of, stat_told, told_of, StatReadAs}
 use Rattle.record_format.specs.declared.stats.Stat.{Stat as CodeStat}
@@ -26,7 +26,7 @@ use Rattle.record_format.proofs.Unique.{stat_size, writers_later}
 use Rattle.record_format.proofs.From.{each_read}
 use Rattle.record_node.specs.Post.{writers_of, value_of, node_of, all_placed, value_told, node_placed, no_node, node_told, read_node}
 use Rattle.record_node.specs.Inner.{WritersFew, WritersUpto, WritersRead, three_parts, PartsLongest, PartsUpto, PartsRead, tail_bytes, TailWithin, TailAt}
-use Rattle.record_node.specs.Inner.{TailRead, RawFields, raw_bytes, RawWithin, RawAt, RawRead, PathLies, WithPathAs, ValueReadAs, NodeAt, NodeFound}
+use Rattle.record_node.specs.Inner.{TailRead, RawFields, raw_bytes, RawWithin, RawAt, RawRead, WithPathAs, ValueReadAs, NodeAt, NodeFound}
 use Rattle.record_node.proofs.Keyed.{given_part}
 use Rattle.record_node.specs.declared.writers.Writers.{Writers}
 use Rattle.record_node.specs.declared.reading.Node.{Node as CodeNode}
@@ -191,23 +191,7 @@ raw_rejected x n w e = x (raw_of n) (raw_within n w) (raw_bytes_lem n ∙ e)
 -- ---- the path and the Stat judged
 
 module _ (d : List ℕ) (field : Maybe Part) where
-  pub path_absent : field ≡ None → WithPathAs d field None
-  path_absent e p w q = let z : none ≡ some p = ap (bytes_of d) (sym e) ∙ q in let y : ◌≡◌ {A = ℕ} 0 1 = cc in omega arith
-
-  module _ {p : Part} (e : field ≡ Some p) where
-    pub path_given : PathLies d p → WithPathAs d field (Some p)
-    path_given w = (w, e)
-
-    pub path_wrong : BytesInside d field → (PathLies d p → ⊥) → WithPathAs d field None
-    path_wrong i n q w f =
-        let z : some (part_of d p) ≡ some q = ap (bytes_of d) (sym e) ∙ f in
-        let y : q ≡ part_of d p = cc in
-        n (record { inside = subst (BytesInside d) e i; within = subst PathWithin y w })
-
   module _ {p : Part} (e : field ≡ Some p) (i : BytesInside d field) where
-    pub value_inside : p.at + p.len ≤ length d
-    value_inside = subst (BytesInside d) e i
-
     cut : take (p.at + p.len - p.at) (drop p.at d) ≡ part_of d p
     unfolding part
     cut = let n : p.at + p.len - p.at ≡ p.len = omega arith in ap (λ (k : ℕ). take k (drop p.at d)) n
@@ -223,9 +207,6 @@ module _ (d : List ℕ) (field : Maybe Part) where
         → ValueReadAs d field (Some (Some s))
     value_right {b} s q a =
         (a.within, ap {B = Option (List ℕ)} some (a.bytes ∙ q ∙ cut) ∙ sym (ap (bytes_of d) e))
-
-  pub value_none : field ≡ None → ValueReadAs d field (Some None)
-  value_none e = (tt, sym (ap (bytes_of d) e))
 
 code_node : Part → Maybe CodeStat → Maybe Part → Writers → Maybe ℕ → CodeNode
 code_node p v t w s = record { path = p; value = v; trie = t; writers = w; sequence = s }

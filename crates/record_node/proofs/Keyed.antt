@@ -27,9 +27,6 @@ use Rattle.record_node.specs.declared.writers.Writer.{Writer as CodeWriter}
 
 -- ---- cases
 
-pub absent_given : {p : Part} → None ≡ Some p → ⊥
-absent_given e = let z : ◌≡◌ {A = ℕ} 0 1 = cc in omega arith
-
 pub given_part : {p q : Part} → Some p ≡ Some q → p ≡ q
 given_part e = cc
 
@@ -176,9 +173,6 @@ module _ (d : List ℕ) (at : ℕ) where
       (p ∙ append_assoc (given_field 4 (writer_bytes w)) (writers_bytes ws) t)
 
   module _ {field : Maybe Part} {next : ℕ} (read : PartUpto d at 4 70 field next) where
-    pub one_end : field ≡ None → (get_or (drop at d) 0 256 ≡ 34 → ⊥)
-    one_end f = (subst (λ (o : Maybe Part). PartUpto d at 4 70 o next) f read).tag
-
     module _ {p : Part} (f : field ≡ Some p) where
       given : PartUpto d at 4 70 (Some p) next
       given = subst (λ (o : Maybe Part). PartUpto d at 4 70 o next) f read

@@ -115,10 +115,6 @@ module _ {d : List ℕ} {ws : Writers} {out₀ : List ℕ} {at : ℕ} (r : Write
     pub one_len : len ≤ 70
     one_len = omega (arith, p.ends, writer_size (writer_of d (writer_at ws i)) lies.within)
 
-    pub one_room : next + 11 + length (take (len - 0) filled) ≤ length out
-    one_room =
-        omega (arith, ap length taken, writer_size (listed d ws.list i) lies.within, g.ends, g.same, r.room, few_left)
-
     pub one_placed : {end : ℕ} {after : List ℕ} → PutAt (part_field 4 (some (take (len - 0) filled))) out next end after → Placed d ws.list out₀ at after end (i + 1)
     one_placed {end} {after} q =
         let field = subst (λ (b : List ℕ). PutAt (part_field 4 (some b)) out next end after) taken q in
@@ -133,10 +129,6 @@ module _ {d : List ℕ} {ws : Writers} {out₀ : List ℕ} {at : ℕ} (r : Write
           few = omega (arith, few_left);
         }
 
-pub placed_all : {d : List ℕ} (ws : Writers) {out₀ : List ℕ} {at : ℕ} {out : List ℕ} {next i : ℕ} → Placed d ws.list out₀ at out next i → i ≡ ws.count
-    → PutAt (writers_bytes (writers_of d ws)) out₀ at next out
-placed_all {d} ws {out₀} {at} {out} {next} g e = subst (λ (n : ℕ). PutAt (writers_bytes (run (listed d ws.list) 0 n)) out₀ at next out) e g.put
-
 -- ---- the Stat
 
 pub value_nothing : {v : Maybe CodeStat} {out : List ℕ} {at : ℕ} → v ≡ None → PutAt (part_field 2 (stat_part (value_of v))) out at at out
@@ -149,9 +141,6 @@ module _ {v : Maybe CodeStat} {s : CodeStat} (e : v ≡ Some s) {scratch : List 
 
   pub stat_len : len ≤ 99
   stat_len = omega (arith, p.ends, stat_size (stat_of s))
-
-  pub stat_room : (out : List ℕ) (at : ℕ) → at + 110 ≤ length out → at + 11 + length (take (len - 0) filled) ≤ length out
-  stat_room out at h = omega (arith, ap length taken_stat, stat_size (stat_of s))
 
   pub value_put : {out : List ℕ} {at next : ℕ} {after : List ℕ} → PutAt (part_field 2 (some (take (len - 0) filled))) out at next after
       → PutAt (part_field 2 (stat_part (value_of v))) out at next after

@@ -10,7 +10,6 @@ use lib.ListN.{length, get_or, take, drop, get_or-eq_default}
 use borrow.Author.Tests.{lt-ltb, le-ltb}
 use Rattle.answer_types.specs.Verdict.{Verdict}
 use Rattle.answer_types.specs.Verdict as verdicts
-use Rattle.answer_types.specs.Meaning.{spot_of}
 use Rattle.answer_types.specs.declared.Refusal.{Refusal}
 use Rattle.byte_strings.specs.Lists.{part, run}
 use Rattle.byte_strings.proofs.Lists.{get_or_run, length_run}
@@ -20,12 +19,12 @@ use Rattle.record_fields.specs.Fronts.{or_nothing}
 use Rattle.record_fields.specs.Inner.{bytes_of, part_of, Inside, BytesInside}
 use Rattle.record_fields.proofs.Digits.{two}
 use Rattle.record_fields.specs.declared.rows.Part.{Part}
-use Rattle.std.specs.Prelude.{Option, None, Some, Result, Ok, Err}
+use Rattle.std.specs.Prelude.{Option, None, Some, Result, Ok}
 use Rattle.record_format.specs.Records.{Header, header_bytes, Writer, Node, node_bytes}
 use Rattle.record_format.specs.From.{header_from, node_from}
 use Rattle.record_format.specs.Post.{no_part, content_part, read_header, header_told}
 use Rattle.record_format.proofs.From.{each_read}
-use Rattle.record_format.proofs.Whole.{told_refused, told_some, content_placed}
+use Rattle.record_format.proofs.Whole.{told_some, content_placed}
 use Rattle.record_node.specs.Post.{writer_of, writers_of, writer_at, no_writer, node_of, node_placed, no_node, node_told, read_node, WriterInside, WritersInside, NodeInside}
 use Rattle.record_node.specs.declared.writers.Writers.{Writers}
 use Rattle.record_node.specs.declared.reading.Node.{Node as CodeNode}
@@ -107,10 +106,6 @@ module _ (d : List ℕ) where
 
   -- what was read: no Node, or one whose parts lie in the bytes
   module _ (x : Result CodeNode Refusal) (h : node_told x ≡ read_node verdicts.none d) where
-    pub node_none : (y : Refusal) → x ≡ Err y → (f : Field) (r : List ℕ) → r ≡ [] → r ≡ node_handed f d
-    node_none y e f r q =
-        q ∙ ap (handed (field_of f)) (sym (told_refused verdicts.none verdicts.none no_node node_placed (node_from d) y.number (spot_of y.place) no_node (sym (ap node_told e) ∙ h)))
-
     module _ (n : CodeNode) (e : x ≡ Ok n) where
       read_as : (m : Node) × ((node_from d ≡ some m) × (n ≡ node_placed m))
       read_as = told_some verdicts.none verdicts.none no_node node_placed (node_from d) n (sym (ap node_told e) ∙ h)
@@ -136,10 +131,6 @@ module _ (d : List ℕ) where
   content h = content_part
 
   module _ (x : Result Part Refusal) (h : header_told x ≡ read_header verdicts.none d) where
-    pub header_none : (y : Refusal) → x ≡ Err y → (r : List ℕ) → r ≡ [] → r ≡ header_handed d
-    header_none y e r q =
-        q ∙ ap (handed content_of) (sym (told_refused verdicts.none verdicts.none no_part content (header_from d) y.number (spot_of y.place) no_part (sym (ap header_told e) ∙ h)))
-
     module _ (p : Part) (e : x ≡ Ok p) where
       header_as : (m : Header) × ((header_from d ≡ some m) × (p ≡ content_part))
       header_as = told_some verdicts.none verdicts.none no_part content (header_from d) p (sym (ap header_told e) ∙ h)

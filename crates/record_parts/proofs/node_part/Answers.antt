@@ -1,5 +1,5 @@
 -- Nothing, or the part that was chosen, of the Node that was read.
-use Rattle.record_parts.proofs.Handed.{node_none, chosen_inside, node_handed_lem}
+use Rattle.record_parts.proofs.Handed.{chosen_inside, node_handed_lem}
 use Rattle.record_parts.proofs.node_part.Goals as goal
 
 pub taken-requires-in-Ok : goal.taken-requires-in-Ok
@@ -7,12 +7,6 @@ taken-requires-in-Ok c =
     let read = c.read_node in
     let a = c.args in
     chosen_inside a.bytes.now read.result read.ensures c.in-Ok.node c.in-Ok.is a.field c.chosen.result c.chosen.ensures
-
-pub returns-in-Err : goal.returns-in-Err
-returns-in-Err c =
-    let read = c.read_node in
-    let a = c.args in
-    node_none a.bytes.now read.result read.ensures _ c.in-Err.is a.field _ c.taken.ensures
 
 pub returns-in-Ok : goal.returns-in-Ok
 returns-in-Ok c =

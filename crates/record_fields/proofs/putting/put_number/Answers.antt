@@ -1,7 +1,7 @@
 -- The tag is a byte; the number follows it.
 use borrow.Author.Rules.{rules}
 use native.Mathlib.Omega.{arith}
-use Rattle.record_fields.proofs.Put.{number_absent, number_roomy, number_put, number_kept}
+use Rattle.record_fields.proofs.Put.{number_absent, number_roomy, number_put}
 use Rattle.record_fields.proofs.putting.put_number.Goals as goal
 
 pub put_digits-requires : goal.put_digits-requires
@@ -12,11 +12,6 @@ put_digits-requires c =
 
 pub returns-in-None : goal.returns-in-None
 returns-in-None c = let a = c.args in number_absent a.k a.out.now a.at a.field c.in-None.is
-
-pub shape_of-out : goal.shape_of-out
-shape_of-out c =
-    let a = c.args in
-    number_kept a.k a.out.now a.at a.field _ c.in-Some.is c.requires.0 c.requires.1 _ _ c.put_digits.ensures
 
 pub returns-in-Some : goal.returns-in-Some
 returns-in-Some c =

@@ -16,10 +16,6 @@ pub returns-then-k-eq0 : goal.returns-then-k-eq0
 returns-then-k-eq0 t c =
     digits_none c.args.d.now c.args.k c.args.at c.from-low.result c.if-d-at.false c.from-low.ensures c.if-low-lt128.false c.if-k-eq0.true
 
--- what was read fits
-pub joined-requires : goal.joined-requires
-joined-requires t c = omega (arith, c.from-low.ensures, (c.type_inv.d c.args.at).fits)
-
 -- one more and what follows it
 pub returns : goal.returns
 returns t c =

@@ -1,27 +1,16 @@
 -- The proof of the cycle of calls {put_digits}. Assumes nothing.
 use native.Mathlib.Omega.{arith}
-use Rattle.record_fields.proofs.Put.{some_length, longer, put_last, put_room, put_more, put_same}
+use Rattle.record_fields.proofs.Put.{some_length, longer, put_last, put_room, put_more}
 use Rattle.record_fields.proofs.varints.+put_digits.Goals as goal
 
 pub bounds-out-at : goal.bounds-out-at
 bounds-out-at t c = omega (arith, c.requires.room, some_length c.args.k c.args.x)
-
-pub overflow_add-result : goal.overflow_add-result
-overflow_add-result t c = omega (arith, c.requires.room, some_length c.args.k c.args.x)
 
 pub returns-then-x-lt128 : goal.returns-then-x-lt128
 returns-then-x-lt128 t c = put_last c.args.k c.args.x c.args.out.now c.args.at c.if-x-lt128.true c.requires
 
 pub bounds-out-at-2 : goal.bounds-out-at-2
 bounds-out-at-2 t c = omega (arith, c.requires.room, some_length c.args.k c.args.x)
-
--- the next place
-pub overflow_add-at : goal.overflow_add-at
-overflow_add-at t c = omega (arith, c.requires.room, some_length c.args.k c.args.x)
-
--- a byte less may follow
-pub overflow_sub-k : goal.overflow_sub-k
-overflow_sub-k t c = omega (arith, longer c.args.k c.args.x c.requires.fits c.if-x-lt128.false)
 
 -- the call
 pub put_digits-requires : goal.put_digits-requires
@@ -30,12 +19,6 @@ put_digits-requires t c =
       omega (arith, longer a.k a.x c.requires.fits c.if-x-lt128.false),
       put_room a.k a.x a.out.now a.at _ c.if-x-lt128.false c.requires,
     )
-
--- the length behind the call
-pub shape_of-out : goal.shape_of-out
-shape_of-out t c =
-    let a = c.args in
-    put_same a.k a.x a.out.now a.at _ _ _ c.if-x-lt128.false c.requires c.put_digits.ensures
 
 -- one byte and what follows it
 pub returns : goal.returns

@@ -3,11 +3,8 @@ use mathlib.Core.Path.{sym, subst}
 use borrow.Author.Tests.{lt-leb}
 use Rattle.record_format.specs.Post.{Decides}
 use Rattle.record_node.specs.Inner.{BytesLie}
-use Rattle.record_node.proofs.Bounds.{lie_absent, lie_long, lie_given}
+use Rattle.record_node.proofs.Bounds.{lie_long, lie_given}
 use Rattle.record_node.proofs.judging.bytes_lie.Goals as goal
-
-pub returns-in-None : goal.returns-in-None
-returns-in-None c = lie_absent c.in-None.is
 
 pub returns-then-part-longest : goal.returns-then-part-longest
 returns-then-part-longest c = lie_given c.args.d.now c.args.longest c.in-Some.is c.if-part-longest.true c.lies.result c.lies.ensures

@@ -1,7 +1,7 @@
 -- Each test by itself.
 use Rattle.record_fields.specs.Inner.{Inside}
-use Rattle.record_format.proofs.Writing.{yes, no}
-use Rattle.record_node.proofs.Bounds.{path_empty, path_long, path_first, path_decided}
+use Rattle.record_format.proofs.Writing.{yes}
+use Rattle.record_node.proofs.Bounds.{path_empty, path_long, path_decided}
 use Rattle.record_node.proofs.judging.path_lies.Goals as goal
 
 -- past the first test the part lies within the bytes
@@ -10,19 +10,10 @@ returns-then-part-gt255 c =
     let lying : Inside c.args.d.now c.args.part = yes _ c.lies.result c.if-not-lies.false c.lies.ensures in
     path_long _ _ lying c.if-part-gt255.true
 
-pub bounds-d-part : goal.bounds-d-part
-bounds-d-part c =
-    let lying : Inside c.args.d.now c.args.part = yes _ c.lies.result c.if-not-lies.false c.lies.ensures in
-    let a = c.args in
-    path_first a.d.now a.part lying c.if-part-eq0.false
-
 pub returns : goal.returns
 returns c =
     let lying : Inside c.args.d.now c.args.part = yes _ c.lies.result c.if-not-lies.false c.lies.ensures in
     path_decided _ _ lying c.if-part-eq0.false c.if-part-gt255.false
-
-pub returns-then-not-lies : goal.returns-then-not-lies
-returns-then-not-lies c w = no _ c.lies.result c.if-not-lies.true c.lies.ensures w.inside
 
 pub returns-then-part-eq0 : goal.returns-then-part-eq0
 returns-then-part-eq0 c =

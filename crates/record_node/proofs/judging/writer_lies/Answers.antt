@@ -1,6 +1,6 @@
 -- The key decides, and then the permission.
-use Rattle.record_format.proofs.Writing.{yes, no}
-use Rattle.record_node.proofs.Bounds.{key_short, key_outside, writer_lies_lem}
+use Rattle.record_format.proofs.Writing.{yes}
+use Rattle.record_node.proofs.Bounds.{key_short, writer_lies_lem}
 use Rattle.record_node.proofs.judging.writer_lies.Goals as goal
 
 pub returns : goal.returns
@@ -10,6 +10,3 @@ returns c =
 
 pub returns-then-writer-ne32 : goal.returns-then-writer-ne32
 returns-then-writer-ne32 c = key_short c.if-writer-ne32.true
-
-pub returns-then-not-lies : goal.returns-then-not-lies
-returns-then-not-lies c = key_outside (no _ c.lies.result (c.if-not-lies.true) c.lies.ensures)

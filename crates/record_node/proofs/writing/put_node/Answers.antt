@@ -3,12 +3,6 @@ use native.Mathlib.Omega.{arith}
 use Rattle.record_node.proofs.Placed.{path_room, value_room, trie_room, writers_room, number_room, node_put}
 use Rattle.record_node.proofs.writing.put_node.Goals as goal
 
-pub overflow_add-to : goal.overflow_add-to
-overflow_add-to c = omega (arith, c.requires.fits.inside.path)
-
-pub slice_bounds-put_part-end : goal.slice_bounds-put_part-end
-slice_bounds-put_part-end c = omega (arith, c.requires.fits.inside.path)
-
 pub put_part-second-requires : goal.put_part-second-requires
 put_part-second-requires c = (omega arith, path_room c.requires.fits c.args.out.now c.requires.room)
 

@@ -1,13 +1,10 @@
 -- Nothing of an absent one; else its bytes, made beside and put as a part.
 use native.Mathlib.Omega.{arith}
-use Rattle.record_node.proofs.Placed.{value_nothing, stat_len, stat_room, value_put}
+use Rattle.record_node.proofs.Placed.{value_nothing, stat_len, value_put}
 use Rattle.record_node.proofs.writing.put_value.Goals as goal
 
 pub slice_bounds-put_part-end : goal.slice_bounds-put_part-end
 slice_bounds-put_part-end c = omega (arith, stat_len c.in-Some.is c.put_stat-len.ensures)
-
-pub put_part-requires : goal.put_part-requires
-put_part-requires c = (omega arith, stat_room c.in-Some.is c.put_stat-len.ensures c.args.out.now c.args.at c.requires)
 
 pub returns-in-Some : goal.returns-in-Some
 returns-in-Some c = value_put c.in-Some.is c.put_stat-len.ensures c.put_part.ensures

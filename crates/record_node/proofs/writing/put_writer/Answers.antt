@@ -1,13 +1,7 @@
 -- The key, and behind it the permission.
 use native.Mathlib.Omega.{arith}
-use Rattle.record_node.proofs.Placed.{key_inside, key_room, permission_room, writer_put}
+use Rattle.record_node.proofs.Placed.{key_room, permission_room, writer_put}
 use Rattle.record_node.proofs.writing.put_writer.Goals as goal
-
-pub overflow_add-to : goal.overflow_add-to
-overflow_add-to c = omega (arith, key_inside c.requires)
-
-pub slice_bounds-put_part-end : goal.slice_bounds-put_part-end
-slice_bounds-put_part-end c = omega (arith, key_inside c.requires)
 
 pub put_part-second-requires : goal.put_part-second-requires
 put_part-second-requires c = (omega arith, key_room c.requires)

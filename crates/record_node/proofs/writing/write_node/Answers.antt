@@ -24,8 +24,3 @@ returns c =
     let a = c.args in
     written_given (NodeFits a.bytes.now a.node) (node_bytes (node_of a.bytes.now a.node)) _ a.out.now _ _ (fits) (front_of c.put_node-len.ensures)
     c.give.ensures
-
-pub put_node-len-requires : goal.put_node-len-requires
-put_node-len-requires c =
-    let fits : NodeFits c.args.bytes.now c.args.node = yes _ c.node_fits.result (c.if-not-node_fits.false) c.node_fits.ensures in
-    record { fits = fits; room = omega arith }

@@ -1,5 +1,0 @@
--- Field by field.
-use Rattle.c_records.proofs.numbers.stat_at.Goals as goal
-
-pub returns : goal.returns
-returns c = cc

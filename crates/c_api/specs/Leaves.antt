@@ -1,5 +1,5 @@
 -- The numbers that stand for what the calls for a stored leaf entry say.
-use Rattle.std.specs.Prelude.{ℕ, ◌≡◌, List, Result, Ok, Err}
+use Rattle.std.specs.Prelude.{ℕ, ◌≡◌, List, Result}
 use Rattle.answer_types.specs.Verdict.{Verdict, unless_refused}
 use Rattle.stored_leaf.specs.StoredLeaf.{leaf_hash, leaf_length}
 use Rattle.stored_leaf.specs.Post.{stored_verdict, stored_length}

@@ -4,7 +4,7 @@ use Prim.Native.Nat.{ℕ}
 use mathlib.Core.Path.{◌≡◌, refl, sym, ap, ap₂, ◌∙◌, subst}
 use mathlib.Core.List.{List, [], ◌∷◌}
 use lib.ListN.{get_or}
-use Rattle.answer_types.specs.Verdict.{Spot, Verdict, done, refused, none, tree, bitfield, unless_refused}
+use Rattle.answer_types.specs.Verdict.{Verdict, done, refused, none, tree, bitfield, unless_refused}
 use Rattle.answer_types.specs.Meaning.{said, refusal_of, spot_of}
 use Rattle.answer_types.specs.declared.Place.{Place}
 use Rattle.answer_types.specs.declared.Refusal.{Refusal}

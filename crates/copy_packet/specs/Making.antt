@@ -1,5 +1,5 @@
 -- The making of a packet from a copy.
-use Rattle.std.specs.Prelude.{ℕ, List, length, Result, Ok, Err}
+use Rattle.std.specs.Prelude.{ℕ, List, length, Result}
 use Rattle.answer_types.specs.Verdict.{Verdict, unless_refused}
 use Rattle.byte_strings.specs.Lists.{put}
 use Rattle.packet.specs.Packet.{packet_of, make_behind}

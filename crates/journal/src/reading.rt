@@ -234,7 +234,11 @@ pub fn next(journal: &[u8], at: usize) -> Result<RangeAt, JournalError>
 // The states of a file.
 #[tactic(auto, unfolding(crate::specs::Reading::states_said, crate::specs::Reading::whether, crate::specs::Places::length_right))]
 pub fn states(journal: &[u8], file: u64) -> Result<States, JournalError>
-    ensures { MatchResult result (λ states. (states_said journal.now file ≡ Ok 0) × (states.old ≡ old_at journal.now file) × (states.new ≡ new_at journal.now file)) (λ error. states_said journal.now file ≡ Err error) }
+    ensures { MatchResult result
+        (λ states. (states_said journal.now file ≡ Ok 0)
+        × (states.old ≡ old_at journal.now file)
+        × (states.new ≡ new_at journal.now file))
+        (λ error. states_said journal.now file ≡ Err error) }
 {
     if !length_right(journal.len()) {
         return Err(JournalError::Length);

@@ -7,8 +7,8 @@ use mathlib.Core.List.{List, [], ◌∷◌, ◌++◌, map, map-append}
 use native.Mathlib.Nat.{mod-eq_of_lt, zero-add, add-zero}
 use native.Mathlib.Numerals.{add-one}
 use native.Mathlib.Omega.{arith}
-use lib.ListN.{length, take, get_or, replicate, length-append, length-map, length-take}
-use lib.Seq.{get_or-take, take-suc, take_all}
+use lib.ListN.{length, take, get_or}
+use lib.Seq.{take-suc, take_all}
 use lib.Pow.{pow_pos}
 use Rattle.byte_strings.specs.Lists.{run, joined, total}
 use Rattle.byte_strings.proofs.Lists.{run_add, total_append}
@@ -16,10 +16,7 @@ use Rattle.tree_index.specs.Tree.{depth, block, filled, roots, entries}
 use Rattle.tree_index.proofs.Index.{index_of}
 use Rattle.tree_index.proofs.Filled.{block_end, filled_end}
 use Rattle.tree_index.proofs.Words.{end_below}
-use Rattle.tree_index.specs.Numbers.{numbers}
-use Rattle.tree_index.proofs.Numbers.{number_in}
 use Rattle.tree_index.proofs.Roots.{length_roots_le}
-use Rattle.number_types.specs.declared.TreeIndex.{TreeIndex}
 use Rattle.writing.proofs.Written.{joined_snoc}
 use Rattle.file_format.specs.Sizes.{entry_place}
 use Rattle.file_format.specs.Stored.{stored_size, stored_start}
@@ -136,22 +133,6 @@ entries_all tree n i h e p =
 pub roots_none : (n : ℕ) (xs : List ℕ) (at : ℕ) → Put xs at (21 * 0) (roots_up_to n 0) at xs
 unfolding joined roots_up_to
 roots_none n xs at = nothing_put xs at 0
-
--- where the loop over the roots at the front of the array is, and where it ends
-module _ (is : List TreeIndex) (n : ℕ) {m j : ℕ} (f : m ≡ length (roots n)) (e : numbers is ≡ roots n ++ replicate (20 - length (roots n)) 0) where
-  pub root_read : j < length (take (m - 0) is) → (j < length (roots n)) × ((get_or (take (m - 0) is) j (record { 0 = 0 })).0 ≡ get_or (roots n) j 0)
-  root_read h =
-      let l : j < m - 0 = omega (arith, length-take (m - 0) is) in
-      let g : j < length (roots n) = omega arith in (
-        g,
-        ap (λ (i : TreeIndex). i.0) (get_or-take (m - 0) is j (record { 0 = 0 }) l)
-            ∙ number_in is (roots n) (replicate (20 - length (roots n)) 0) j (record { 0 = 0 }) e g,
-      )
-
-  pub roots_read : j ≤ length (take (m - 0) is) → length (take (m - 0) is) ≤ j → j ≡ length (roots n)
-  unfolding numbers
-  roots_read l h =
-      omega (arith, length-take (m - 0) is, length-map is (λ (i : TreeIndex). i.0), ap length e, length-append (roots n) (replicate (20 - length (roots n)) 0))
 
 pub roots_more : {xs ys zs us : List ℕ} {at r s t i : ℕ} (n j : ℕ) → (j < length (roots n)) × (i ≡ get_or (roots n) j 0)
     → Put xs at (21 * j) (roots_up_to n j) r ys → Put ys r 1 (32 ∷ []) s zs → Put zs s 20 (decimal i) t us

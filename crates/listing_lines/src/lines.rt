@@ -1,5 +1,5 @@
 // The lines of a register, from its stored tree. Every function is inner: the caller sees to the room.
-ghost use Rattle.std.specs.Prelude.{◌≡◌, ◌+◌, ◌*◌, ◌≤◌, ◌<◌, length};
+ghost use Rattle.std.specs.Prelude.{◌≡◌, ◌+◌, ◌≤◌, ◌<◌, length};
 ghost use Rattle.tree_index.specs.Tree.{entries};
 ghost use Rattle.file_format.specs.Stored.{stored_start};
 ghost use Rattle.listing_lines.specs.Lines.{line, first_under};

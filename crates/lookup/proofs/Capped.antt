@@ -9,8 +9,8 @@ use native.Mathlib.Numerals.{add-one}
 use native.Mathlib.Omega.{arith}
 use borrow.Author.Tests.{ltb-true, ltb-false, lt-ltb, le-ltb}
 use lib.Dec.{leb, ltb, eqb}
-use lib.ListN.{length, get_or, take, drop, replicate, length-append, length-map, length-take, get_or-append, drop_of_length-le}
-use lib.Seq.{drop-cons, get_or-take}
+use lib.ListN.{length, get_or, take, drop, replicate, get_or-append, drop_of_length-le}
+use lib.Seq.{drop-cons}
 use Rattle.tree_index.specs.Tree.{index, depth, block, roots, filled}
 use Rattle.tree_index.proofs.Roots.{root_filled}
 use Rattle.tree_index.specs.Numbers.{numbers}
@@ -78,19 +78,6 @@ pub root_of_lem : (is : List TreeIndex) (n j : ℕ) → numbers is ≡ roots n +
     → (get_or is j (record { 0 = 0 })).0 ≡ get_or (roots n) j 0
 root_of_lem is n j e h =
     sym (number_at is j) ∙ ap (λ (l : List ℕ). get_or l j 0) e ∙ get_or-append (roots n) (replicate (20 - length (roots n)) 0) 0 j h
-
--- where a loop over the roots at the front of the array is, and where it ends
-module _ (is : List TreeIndex) (n : ℕ) {m j : ℕ} (f : m ≡ length (roots n)) (e : numbers is ≡ roots n ++ replicate (20 - length (roots n)) 0) where
-  pub root_lent : j < length (take (m - 0) is) → (j < length (roots n)) × ((get_or (take (m - 0) is) j (record { 0 = 0 })).0 ≡ get_or (roots n) j 0)
-  root_lent h =
-      let l : j < m - 0 = omega (arith, length-take (m - 0) is) in
-      let g : j < length (roots n) = omega arith in
-      (g, ap (λ (i : TreeIndex). i.0) (get_or-take (m - 0) is j (record { 0 = 0 }) l) ∙ root_of_lem is n j e g)
-
-  pub roots_lent : length (take (m - 0) is) ≤ j → length (roots n) ≤ j
-  unfolding numbers
-  roots_lent h =
-      omega (arith, length-take (m - 0) is, length-map is (λ (i : TreeIndex). i.0), ap length e, length-append (roots n) (replicate (20 - length (roots n)) 0))
 
 -- what is left of a search from the root j on, whose bytes begin at a start that is told as x; `left` is what is sought told from there on
 pub record Rest (known : ℕ → Bool) (q : Sought) (t : List ℕ) (n x : ℕ) (left : Sought) (j : ℕ) : Type 0 where

@@ -38,4 +38,5 @@ returns-then-n-size c =
 pub returns : goal.returns
 returns c =
     let a = c.args in
-    by_tests a.n a.size a.lengths.now (sym c.count_after-end.ensures ∙ le-leb _ _ c.if-end-gt1048576.false) (le-leb _ _ c.if-count-gt256.false) (sym c.all_short.ensures ∙ c.if-not-all_short.false) (le-leb _ _ c.if-n-size.false) refl
+    by_tests a.n a.size a.lengths.now (sym c.count_after-end.ensures ∙ le-leb _ _ c.if-end-gt1048576.false)
+    (le-leb _ _ c.if-count-gt256.false) (sym c.all_short.ensures ∙ c.if-not-all_short.false) (le-leb _ _ c.if-n-size.false) refl

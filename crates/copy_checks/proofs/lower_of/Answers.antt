@@ -18,9 +18,11 @@ returns-in-None-b c = sym (ap₂ lower_of (ap first_entry c.in-Some.is) (ap firs
 pub returns-then-i-j : goal.returns-then-i-j
 unfolding lower_of
 returns-then-i-j c =
-    sym (ap₂ lower_of (ap first_entry c.in-Some.is) (ap first_entry c.in-Some-b.is) ∙ ap (λ (x : Bool). cond x (first c.in-Some.i.0) (first c.in-Some-b.j.0)) (lt-ltb c.in-Some.i.0 c.in-Some-b.j.0 c.if-i-j.true))
+    sym (ap₂ lower_of (ap first_entry c.in-Some.is) (ap first_entry c.in-Some-b.is)
+    ∙ ap (λ (x : Bool). cond x (first c.in-Some.i.0) (first c.in-Some-b.j.0)) (lt-ltb c.in-Some.i.0 c.in-Some-b.j.0 c.if-i-j.true))
 
 pub returns-else-i-j : goal.returns-else-i-j
 unfolding lower_of
 returns-else-i-j c =
-    sym (ap₂ lower_of (ap first_entry c.in-Some.is) (ap first_entry c.in-Some-b.is) ∙ ap (λ (x : Bool). cond x (first c.in-Some.i.0) (first c.in-Some-b.j.0)) (le-ltb c.in-Some.i.0 c.in-Some-b.j.0 c.if-i-j.false))
+    sym (ap₂ lower_of (ap first_entry c.in-Some.is) (ap first_entry c.in-Some-b.is)
+    ∙ ap (λ (x : Bool). cond x (first c.in-Some.i.0) (first c.in-Some-b.j.0)) (le-ltb c.in-Some.i.0 c.in-Some-b.j.0 c.if-i-j.false))

@@ -17,7 +17,8 @@ index_of-index-requires c =
 
 pub loop-j-init : goal.loop-j-init
 loop-j-init c =
-    passing_start c.entry_offset-at.ensures (index_by c.args.xs.now c.args.e (c.entry_offset-at.result.0 + 1024 - c.entry_offset-at.result.0) c.entry_offset-at.ensures c.index_of-index.ensures (omega arith))
+    passing_start c.entry_offset-at.ensures
+    (index_by c.args.xs.now c.args.e (c.entry_offset-at.result.0 + 1024 - c.entry_offset-at.result.0) c.entry_offset-at.ensures c.index_of-index.ensures (omega arith))
 
 pub bounds-xs-place : goal.bounds-xs-place
 bounds-xs-place c = let room = entry_within c.requires c.entry_offset-at.ensures in omega (arith, room.0, room.1)

@@ -33,11 +33,13 @@ wrong_by_leaf-requires c = record { files = c.requires.0; chunk = leaf_chunk c.a
 
 pub returns-then-i-eq0 : goal.returns-then-i-eq0
 returns-then-i-eq0 c =
-    by_leaf node_hash _ c.args.i.0 (sym c.is_filled.ensures ∙ c.if-not-is_filled.false) (sym c.is_known.ensures ∙ c.if-not-is_known.false) c.if-i-eq0.true c.chunk_of_leaf.ensures c.wrong_by_leaf.ensures
+    by_leaf node_hash _ c.args.i.0 (sym c.is_filled.ensures ∙ c.if-not-is_filled.false) (sym c.is_known.ensures ∙ c.if-not-is_known.false)
+    c.if-i-eq0.true c.chunk_of_leaf.ensures c.wrong_by_leaf.ensures
 
 pub parent_right-requires : goal.parent_right-requires
 parent_right-requires c = family_at c.requires.0 c.if-i-eq0.false (sym c.is_filled.ensures ∙ c.if-not-is_filled.false)
 
 pub returns : goal.returns
 returns c =
-    by_parent node_hash _ c.args.i.0 (sym c.is_filled.ensures ∙ c.if-not-is_filled.false) (sym c.is_known.ensures ∙ c.if-not-is_known.false) c.if-i-eq0.false c.parent_right.ensures c.wrong_unless-2.ensures
+    by_parent node_hash _ c.args.i.0 (sym c.is_filled.ensures ∙ c.if-not-is_filled.false) (sym c.is_known.ensures ∙ c.if-not-is_known.false)
+    c.if-i-eq0.false c.parent_right.ensures c.wrong_unless-2.ensures

@@ -1,5 +1,4 @@
 -- `listing_lines::build::stands` meets its contract. Assumes nothing.
-use native.Mathlib.Omega.{arith}
 use Prim.Native.Nat.{◌-◌}
 use Rattle.listing_lines.proofs.Stands.{stands_short, stands_large, stands_last}
 use Rattle.listing_lines.proofs.build.stands.Goals as goal

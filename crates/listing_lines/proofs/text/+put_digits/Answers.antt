@@ -1,5 +1,4 @@
 -- The proof of the cycle of calls {put_digits}. Assumes nothing.
-use native.Mathlib.Omega.{arith}
 use Rattle.listing_lines.proofs.Put.{none_digits, one_digit, more_digits}
 use Rattle.listing_lines.proofs.text.+put_digits.Goals as goal
 

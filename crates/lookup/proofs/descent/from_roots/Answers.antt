@@ -4,7 +4,8 @@ use native.Mathlib.Omega.{arith}
 use Rattle.tree_index.proofs.Roots.{length_roots_le}
 use Rattle.lookup.specs.Descent.{Ending}
 use Rattle.lookup.specs.Capped.{capped_ending, moved_by}
-use Rattle.lookup.proofs.Capped.{root_lent, roots_lent, whole, none_left, root_entry, root_bit, root_stands, root_unknown, found_here, not_here, passed}
+use Rattle.tree_index.proofs.Numbers.{root_lent, roots_lent}
+use Rattle.lookup.proofs.Capped.{whole, none_left, root_entry, root_bit, root_stands, root_unknown, found_here, not_here, passed}
 use Rattle.lookup.proofs.descent.from_roots.Goals as goal
 
 pub slice_bounds-i-items-end : goal.slice_bounds-i-items-end

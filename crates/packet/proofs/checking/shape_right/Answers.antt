@@ -10,10 +10,14 @@ pub returns-then-length-gt65536 : goal.returns-then-length-gt65536
 returns-then-length-gt65536 c = too_long (counted c.read_be32-length.ensures c.sibling_count-up.ensures.same c.other_count-others.ensures.same) c.if-packet-lt4.false c.if-length-gt65536.true
 
 pub returns-then-packet-second : goal.returns-then-packet-second
-returns-then-packet-second c = not_whole (counted c.read_be32-length.ensures c.sibling_count-up.ensures.same c.other_count-others.ensures.same) c.if-packet-lt4.false c.if-length-gt65536.false c.if-packet-second.true
+returns-then-packet-second c =
+    not_whole (counted c.read_be32-length.ensures c.sibling_count-up.ensures.same c.other_count-others.ensures.same)
+    c.if-packet-lt4.false c.if-length-gt65536.false c.if-packet-second.true
 
 pub returns-then-from-up : goal.returns-then-from-up
-returns-then-from-up c = not_up (counted c.read_be32-length.ensures c.sibling_count-up.ensures.same c.other_count-others.ensures.same) c.if-packet-lt4.false c.if-length-gt65536.false c.if-packet-second.false c.from.ensures c.if-from-up.true
+returns-then-from-up c =
+    not_up (counted c.read_be32-length.ensures c.sibling_count-up.ensures.same c.other_count-others.ensures.same)
+    c.if-packet-lt4.false c.if-length-gt65536.false c.if-packet-second.false c.from.ensures c.if-from-up.true
 
 pub returns : goal.returns
 returns c =

@@ -3,7 +3,7 @@ use mathlib.Core.Path.{sym, ap, ◌∙◌}
 use native.Mathlib.Omega.{arith}
 use Rattle.tree_index.specs.Tree.{filled, roots}
 use Rattle.tree_index.proofs.Roots.{length_roots_le}
-use Rattle.lookup.proofs.Capped.{root_lent, roots_lent}
+use Rattle.tree_index.proofs.Numbers.{root_lent, roots_lent}
 use Rattle.packet.proofs.Above.{seeking_none, seeking_found, seeking_next, seeking_end, root_small}
 use Rattle.packet.proofs.path.root_place.Goals as goal
 

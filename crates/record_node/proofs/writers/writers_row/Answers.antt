@@ -14,7 +14,9 @@ pub returns-in-None : goal.returns-in-None
 returns-in-None c = grown_end c.loop-count.invariant c.in_ok-row.row.next c.in-None.is c.in_ok-row.ensures
 
 pub loop-count-preserved : goal.loop-count-preserved
-loop-count-preserved c = grown_more c.loop-count.invariant (one_there c.args.d.now c.loop-count.next c.in_ok-row.row.next c.in-Some.is c.in_ok-row.ensures) (λ e. omega (arith, e, c.loop-count-test.true))
+loop-count-preserved c =
+    grown_more c.loop-count.invariant (one_there c.args.d.now c.loop-count.next c.in_ok-row.row.next c.in-Some.is c.in_ok-row.ensures)
+    (λ e. omega (arith, e, c.loop-count-test.true))
 
 pub returns-in_err-ninth : goal.returns-in_err-ninth
 returns-in_err-ninth c = rw c.from_residual-in_err-ninth.ensures (grown_bad c.loop-count.invariant c.in_err-ninth.ensures)

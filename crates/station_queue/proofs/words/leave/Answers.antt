@@ -5,7 +5,11 @@ use Rattle.station_queue.proofs.Calls.{has_turn, nobody_left, one_left}
 use Rattle.station_queue.proofs.words.leave.Goals as goal
 
 pub drop_first-requires : goal.drop_first-requires
-drop_first-requires c = (c.requires, has_turn c.args.table.now c.in-Some.turn.station (record { register = c.in-Some.turn.register; chunk = c.in-Some.turn.chunk.0 }) (sym (ap turn_of c.in-Some.is) ∙ c.next.ensures))
+drop_first-requires c = (
+  c.requires,
+  has_turn c.args.table.now c.in-Some.turn.station (record { register = c.in-Some.turn.register; chunk = c.in-Some.turn.chunk.0 })
+      (sym (ap turn_of c.in-Some.is) ∙ c.next.ensures),
+)
 
 pub returns-in_default : goal.returns-in_default
 returns-in_default c = nobody_left c.args.table.now (sym (ap turn_of c.in_default.is) ∙ c.next.ensures)

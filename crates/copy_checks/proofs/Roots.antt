@@ -2,7 +2,7 @@
 use Prim.Native.Nat.{ℕ, ◌+◌, ◌/◌, ◌≤◌, ◌<◌}
 use mathlib.Core.Path.{◌≡◌, sym, subst}
 use mathlib.Core.List.{List}
-use lib.ListN.{length, get_or, take}
+use lib.ListN.{length, get_or}
 use Rattle.tree_index.specs.Tree.{roots}
 use Rattle.tree_index.proofs.Roots.{root_filled}
 use Rattle.bitfield.specs.Append.{bits_place}

@@ -9,7 +9,7 @@ use native.Mathlib.Numerals.{add-one}
 use native.Mathlib.Omega.{arith}
 use borrow.Author.Tests.{ltb-true, ltb-false, lt-ltb, le-ltb}
 use lib.Dec.{leb, ltb, eqb}
-use lib.ListN.{length, get_or, take, drop, replicate, get_or-append, drop_of_length-le}
+use lib.ListN.{length, get_or, drop, replicate, get_or-append, drop_of_length-le}
 use lib.Seq.{drop-cons}
 use Rattle.tree_index.specs.Tree.{index, depth, block, roots, filled}
 use Rattle.tree_index.proofs.Roots.{root_filled}

@@ -11,7 +11,7 @@ use Rattle.lookup.specs.Lookup.{Found}
 use Rattle.lookup.specs.Read.{read_found}
 use Rattle.lookup.proofs.Calls.{held_by, searched_held, placed_in, verified, read_says_lem, read_bytes}
 use Rattle.record_find.specs.ChunkRecords.{compared_told, header_after, path_after}
-use Rattle.record_find.specs.Finding.{nowhere, goes, find_down, find_by, find_in}
+use Rattle.record_find.specs.Finding.{nowhere, unless_failed, goes, find_down, find_among, find_by, find_in}
 use Rattle.record_find.specs.Inner.{Readable, read_behind, find_behind}
 use Rattle.answer_types.specs.declared.Refusal.{Refusal}
 use Rattle.std.specs.Prelude.{Result}
@@ -39,6 +39,12 @@ module _ {judge : ℕ → Verdict × Bool} {n k : ℕ} where
         let below : k - 1 ≡ suc (k - 1 - 1) = omega arith in
         ap (λ (t : Verdict × Bool). goes (k - 1) t (find_down judge (k - 1 - 1))) (sym (ap compared_told e) ∙ p)
         ∙ ap (λ (j : ℕ). goes j (judge j) (find_down judge (k - 1 - 1))) below ∙ sym (ap (find_down judge) below) ∙ l.rest
+
+-- chunk 0 comes first
+pub with_head : (judge : ℕ → Verdict × Bool) {n : ℕ} {w head : Verdict} → (n ≡ 0 → ⊥) → w ≡ head → unless_failed w (find_down judge (n - 1)) ≡ find_among judge head n
+with_head judge {n} {w} {head} some e =
+    let begun : suc (n - 1) ≡ n = omega arith in
+    ap (λ (u : Verdict). unless_failed u (find_down judge (n - 1))) e ∙ ap (find_among judge head) begun
 
 -- what is found depends on no more than what the checks and the reads answer and give
 pub reads_same : {v w : ℕ → Verdict} {d e : ℕ → List ℕ} {x y : Verdict} → ((c : ℕ) → v c ≡ w c) → ((c : ℕ) → d c ≡ e c) → x ≡ y → (path : List ℕ) (n : ℕ)

@@ -4,13 +4,19 @@ use mathlib.Core.Path.{◌≡◌, sym, ap, ◌∙◌}
 use native.Mathlib.Omega.{arith}
 use lib.ListN.{length}
 use Rattle.std.specs.Prelude.{Ok}
+use Rattle.std.proofs.lemmas.Result.{err_from_is_err_and}
 use Rattle.answer_types.specs.Verdict.{Verdict}
 use Rattle.lookup.specs.Read.{verdict_found}
 use Rattle.lookup.specs.Meaning.{verified_of}
 use Rattle.record_node.specs.Post.{node_told}
 use Rattle.record_find.specs.ChunkRecords.{node_after, path_after}
-use Rattle.record_find.proofs.Chunk.{path_inside, path_compared}
+use Rattle.record_find.proofs.Chunk.{path_none, path_inside, path_compared}
 use Rattle.record_find.proofs.chunks.path_behind.Goals as goal
+
+pub returns-in_err-node : goal.returns-in_err-node
+returns-in_err-node c =
+    let p = err_from_is_err_and c.from_residual.result c.from_residual.ensures.1 in
+    rw (p.1, p.2) (path_none (verdict_found (verified_of c.args.read)) _ _ c.args.path.now c.in_err-node.field-0.0 c.in_err-node.ensures)
 
 pub overflow_add-to : goal.overflow_add-to
 overflow_add-to c =

@@ -1,11 +1,19 @@
 use Prim.Native.Nat.{◌-◌}
 use mathlib.Core.Path.{refl, ap, ◌∙◌}
 use native.Mathlib.Omega.{arith}
+use Rattle.blake2b.specs.Hash.{node_hash}
 use Rattle.std.specs.Prelude.{Ok, Err}
 use Rattle.std.proofs.lemmas.Result.{err_from_is_err_and}
 use Rattle.record_find.specs.Inner.{path_behind}
-use Rattle.record_find.proofs.Search.{left_none, left_told}
+use Rattle.record_find.proofs.Chunk.{read_placed}
+use Rattle.record_find.proofs.Search.{left_all, left_none, left_told}
 use Rattle.record_find.proofs.finding.search.Goals as goal
+
+pub path_behind-requires : goal.path_behind-requires
+path_behind-requires c = read_placed c.requires node_hash _ c.read_in-read.ensures
+
+pub loop-c-init : goal.loop-c-init
+loop-c-init c = left_all refl
 
 pub returns-in_err-same : goal.returns-in_err-same
 returns-in_err-same c =

@@ -1,0 +1,23 @@
+-- The read's own refusal, or what is told of the bytes read.
+use mathlib.Core.Path.{refl, sym, ap, ◌∙◌}
+use Rattle.answer_types.specs.Meaning.{said}
+use Rattle.record_find.specs.ChunkRecords.{node_after}
+use Rattle.record_find.proofs.Chunk.{node_none, node_done, behind}
+use Rattle.record_find.proofs.chunks.node_behind.Goals as goal
+
+pub no_record-requires : goal.no_record-requires
+no_record-requires c = c.requires.small (sym c.answer_of.ensures ∙ ap said c.in-Done.is)
+
+pub returns-in-Refused : goal.returns-in-Refused
+returns-in-Refused c =
+    -- what is told where the read answers so
+    behind (λ v d. node_after v d c.args.chunk.0) c.in-Refused.is c.answer_of.ensures c.bytes_of-bytes.ensures refl
+
+pub returns-in-Err : goal.returns-in-Err
+returns-in-Err c =
+    behind (λ v d. node_after v d c.args.chunk.0) c.in-Done.is c.answer_of.ensures c.bytes_of-bytes.ensures
+    (node_none _ _ c.no_record.result c.in-Err.is c.read_node.ensures c.no_record.ensures)
+
+pub returns-in-Ok : goal.returns-in-Ok
+returns-in-Ok c =
+    behind (λ v d. node_after v d c.args.chunk.0) c.in-Done.is c.answer_of.ensures c.bytes_of-bytes.ensures (node_done _ _ c.in-Ok.is c.read_node.ensures)

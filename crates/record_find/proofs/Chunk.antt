@@ -10,7 +10,6 @@ use Rattle.answer_types.specs.Verdict.{Spot, Verdict, tree, done, refused}
 use Rattle.answer_types.specs.Verdict as verdicts
 use Rattle.answer_types.specs.Meaning.{refusal_of, said, spot_of}
 use Rattle.answer_types.specs.declared.Refusal.{Refusal}
-use Rattle.answer_types.specs.declared.Answer.{Answer}
 use Rattle.byte_strings.specs.Lists.{part, same_list}
 use Rattle.tree_index.specs.Tree.{index}
 use Rattle.file_format.specs.Messages.{leaf_message}
@@ -26,7 +25,7 @@ use Rattle.record_fields.specs.declared.rows.Part.{Part}
 use Rattle.record_format.specs.Records.{Header, Node}
 use Rattle.record_format.specs.From.{header_from, node_from}
 use Rattle.record_format.specs.Post.{told_of, no_part, content_part, header_told, read_header}
-use Rattle.std.specs.Prelude.{Result, Ok, Err}
+use Rattle.std.specs.Prelude.{Result, Ok, Err, ⊤}
 use Rattle.record_format.proofs.Whole.{told_done, told_some}
 use Rattle.record_node.specs.Post.{node_placed, no_node, node_told, read_node}
 use Rattle.record_node.specs.Theorems.{Placed}
@@ -65,7 +64,7 @@ module _ (d : List ℕ) (i : ℕ) where
 -- ---- behind the read
 
 -- what is told where the read answers b is told behind it
-pub behind : {T : Type 0} (after : Verdict → List ℕ → T) {a b : Answer} {v : Verdict} {d e : List ℕ} {x : T} → a ≡ b → said a ≡ v → d ≡ e → x ≡ after (said b) d → x ≡ after v e
+pub behind : {T : Type 0} (after : Verdict → List ℕ → T) {a b : Result ⊤ Refusal} {v : Verdict} {d e : List ℕ} {x : T} → a ≡ b → said a ≡ v → d ≡ e → x ≡ after (said b) d → x ≡ after v e
 behind after p q g h = h ∙ ap₂ after (sym (ap said p) ∙ q) g
 
 -- another thing that is told of the same record is refused as the first is

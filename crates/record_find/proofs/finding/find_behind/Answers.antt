@@ -13,39 +13,40 @@ use Rattle.record_find.proofs.finding.find_behind.Goals as goal
 pub returns-then-n-eq0 : goal.returns-then-n-eq0
 returns-then-n-eq0 c =
     let answer : Verdict → Outcome = λ v. let a = c.args in find_behind a.partly a.tree.now a.bitfield.now a.content.now a.n node_hash v a.path.now in
-    ap (find_among _ _) (sym c.if-n-eq0.true) ∙ sym (ap (answer) (ap said c.in-Done.is))
+    ap (find_among _ _) (sym c.if-n-eq0.true) ∙ sym (ap (answer) (ap said c.in_ok-checked.was))
 
-pub returns-in-Refused : goal.returns-in-Refused
-returns-in-Refused c =
+pub returns-in_err-checked : goal.returns-in_err-checked
+returns-in_err-checked c =
+    let p = err_from_is_err_and c.from_residual.result c.from_residual.ensures.1 in
     let answer : Verdict → Outcome = λ v. let a = c.args in find_behind a.partly a.tree.now a.bitfield.now a.content.now a.n node_hash v a.path.now in
-    sym (ap (answer) (ap said c.in-Refused.is))
+    rw (p.1, p.2) (sym (ap answer (ap said c.in_err-checked.was)))
 
-pub returns-in_err-_header-in-Done : goal.returns-in_err-_header-in-Done
-returns-in_err-_header-in-Done c =
+pub returns-in_err-_header : goal.returns-in_err-_header
+returns-in_err-_header c =
     let answer : Verdict → Outcome = λ v. let a = c.args in find_behind a.partly a.tree.now a.bitfield.now a.content.now a.n node_hash v a.path.now in
     let a = c.args in
-    let p = err_from_is_err_and c.from_residual.result c.from_residual.ensures.1 in
+    let p = err_from_is_err_and c.from_residual-in_err-_header.result c.from_residual-in_err-_header.ensures.1 in
     rw (p.1, p.2)
     -- what follows on what is told of chunk 0
     (with_head _ c.if-n-eq0.false
-    (ap (λ x. x.0) c.in_err-_header-in-Done.ensures ∙ ap (λ f. (header_behind a.content.now 0 f).0) c.read_in-read.ensures)
-    ∙ sym (ap (answer) (ap said c.in-Done.is)))
+    (ap (λ x. x.0) c.in_err-_header.ensures ∙ ap (λ f. (header_behind a.content.now 0 f).0) c.read_in-read.ensures)
+    ∙ sym (ap (answer) (ap said c.in_ok-checked.was)))
 
-pub returns-in_ok-_header-in-Done : goal.returns-in_ok-_header-in-Done
-returns-in_ok-_header-in-Done c =
+pub returns : goal.returns
+returns c =
     let answer : Verdict → Outcome = λ v. let a = c.args in find_behind a.partly a.tree.now a.bitfield.now a.content.now a.n node_hash v a.path.now in
     let a = c.args in
     c.search.ensures
     ∙ with_head _ c.if-n-eq0.false
-    (ap (λ x. x.0) c.in_ok-_header-in-Done.ensures ∙ ap (λ f. (header_behind a.content.now 0 f).0) c.read_in-read.ensures)
-    ∙ sym (ap (answer) (ap said c.in-Done.is))
+    (ap (λ x. x.0) c.in_ok-_header.ensures ∙ ap (λ f. (header_behind a.content.now 0 f).0) c.read_in-read.ensures)
+    ∙ sym (ap (answer) (ap said c.in_ok-checked.was))
 
 pub search-requires : goal.search-requires
-search-requires c = c.requires (ap said c.in-Done.is)
+search-requires c = c.requires (ap said c.in_ok-checked.was)
 
 pub read_in-read-requires : goal.read_in-read-requires
-read_in-read-requires c = c.requires (ap said c.in-Done.is)
+read_in-read-requires c = c.requires (ap said c.in_ok-checked.was)
 
 pub header_behind-requires : goal.header_behind-requires
 header_behind-requires c =
-    read_placed (c.requires (ap said c.in-Done.is)) node_hash 0 c.read_in-read.ensures
+    read_placed (c.requires (ap said c.in_ok-checked.was)) node_hash 0 c.read_in-read.ensures

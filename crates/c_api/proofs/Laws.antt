@@ -16,12 +16,8 @@ use Rattle.packet.specs.Post.{MadeAs, made_verdict, made_bytes}
 use Rattle.append_needs.specs.Needs.{need_of, need_verdict, nothing, need_given}
 use Rattle.append_needs.specs.Post.{numbers_of, NeedPost}
 use Rattle.append_needs.specs.declared.Needed.{Needed}
-use Rattle.compare.specs.Meaning.{compared}
-use Rattle.compare.specs.declared.Compared.{Compared}
-use Rattle.packet_compare.specs.Meaning.{walk_of}
-use Rattle.packet_compare.specs.declared.Walked.{Walked}
 use Rattle.c_encoding.specs.Encoding.{encoded}
-use Rattle.c_api.specs.Encoding.{packet_part, Makes, need_numbers, Needs, encoded_comparison, encoded_walk}
+use Rattle.c_api.specs.Encoding.{packet_part, Makes, need_numbers, Needs}
 
 -- a packet, from the case that its check's answer is
 module _ (p : List ℕ) (n c : ℕ) (root : List ℕ) where
@@ -65,11 +61,3 @@ module _ (n size : ℕ) (ls before : List ℕ) (answer : List ℕ) (a : Result N
             ap (λ (k : ℕ). r.tree ∷ r.signatures ∷ r.bitfield ∷ r.content ∷ r.leaves ∷ r.parents ∷ r.root ∷ k ∷ []) g.runs
             ∙ ap need_numbers all ∙ ap (λ (u : Verdict). unless_refused u (need_numbers (need_of n size ls)) before) v;
       }
-
--- a comparison, from the case that its answer is
-pub compared_as : (a b : Compared) → a ≡ b → encoded_comparison (compared b) ≡ encoded_comparison (compared a)
-compared_as a b e = ap (λ (x : Compared). encoded_comparison (compared x)) (sym e)
-
--- a walk along two packets, likewise
-pub walked_as : (a b : Walked) → a ≡ b → encoded_walk (walk_of b) ≡ encoded_walk (walk_of a)
-walked_as a b e = ap (λ (x : Walked). encoded_walk (walk_of x)) (sym e)

@@ -4,14 +4,14 @@ ghost use Rattle.answer_types.specs.Meaning.{said as toldBy};
 ghost use Rattle.blake2b.specs.Hash.{node_hash};
 ghost use Rattle.checks.specs.Lent.{register_of};
 ghost use Rattle.compare.specs.Walk as Walk;
-ghost use Rattle.compare.specs.Meaning.{compared as Answered·compared};
+ghost use Rattle.compare.specs.Meaning.{told as Answered·compared};
 ghost use Rattle.packet_compare.specs.Walk.{compare_packets};
-ghost use Rattle.packet_compare.specs.Meaning.{walk_of};
+ghost use Rattle.packet_compare.specs.Meaning.{told as walk_told};
 ghost use Rattle.c_encoding.specs.Encoding.{encoded};
 ghost use Rattle.c_api.specs.Encoding.{encoded_comparison, encoded_walk};
 
 use answer_types::Refusal;
-use compare::Compared;
+use compare::{CompareError, Compared};
 use number_types::ChunkNumber;
 use packet_compare::Walked;
 
@@ -25,16 +25,20 @@ fn with_outcome(outcome: u64, said: Result<(), Refusal>) -> [u64; 4]
 }
 
 // The numbers of a comparison. A collision at a tree index has the index as its place.
-pub fn encode_comparison(compared: Compared) -> [u64; 4]
+pub fn encode_comparison(compared: Result<Compared, CompareError>) -> [u64; 4]
     ensures { result ≡ encoded_comparison (Answered·compared compared) }
 {
     match compared {
-        Compared::Equal => with_outcome(0, Ok(())),
-        Compared::RootsDiffer => with_outcome(1, Ok(())),
-        Compared::AtRoots => with_outcome(2, Ok(())),
-        Compared::AtIndex(index) => [3, 0, 1, index.0],
-        Compared::FirstRefused(refusal) => with_outcome(4, Err(refusal)),
-        Compared::SecondRefused(refusal) => with_outcome(5, Err(refusal)),
+        Ok(found) => match found {
+            Compared::Equal => with_outcome(0, Ok(())),
+            Compared::RootsDiffer => with_outcome(1, Ok(())),
+            Compared::AtRoots => with_outcome(2, Ok(())),
+            Compared::AtIndex(index) => [3, 0, 1, index.0],
+        },
+        Err(refused) => match refused {
+            CompareError::First(refusal) => with_outcome(4, Err(refusal)),
+            CompareError::Second(refusal) => with_outcome(5, Err(refusal)),
+        },
     }
 }
 
@@ -80,15 +84,19 @@ pub extern "C" fn sleep_flat_compare(
 }
 
 // The numbers of a walk along two packets.
-fn encode_walk(walked: Walked) -> [u64; 4]
-    ensures { result ≡ encoded_walk (walk_of walked) }
+fn encode_walk(walked: Result<Walked, CompareError>) -> [u64; 4]
+    ensures { result ≡ encoded_walk (walk_told walked) }
 {
     match walked {
-        Walked::SameChunk => with_outcome(0, Ok(())),
-        Walked::AtRoots => with_outcome(2, Ok(())),
-        Walked::AtIndex(index) => [3, 0, 1, index.0],
-        Walked::FirstRefused(refusal) => with_outcome(4, Err(refusal)),
-        Walked::SecondRefused(refusal) => with_outcome(5, Err(refusal)),
+        Ok(found) => match found {
+            Walked::SameChunk => with_outcome(0, Ok(())),
+            Walked::AtRoots => with_outcome(2, Ok(())),
+            Walked::AtIndex(index) => [3, 0, 1, index.0],
+        },
+        Err(refused) => match refused {
+            CompareError::First(refusal) => with_outcome(4, Err(refusal)),
+            CompareError::Second(refusal) => with_outcome(5, Err(refusal)),
+        },
     }
 }
 

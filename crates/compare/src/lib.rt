@@ -13,17 +13,22 @@ ghost use Rattle.file_format.specs.Inner.{RootsIn};
 ghost use Rattle.checks.specs.Lent.{register_of};
 ghost use Rattle.audit.specs.Audit.{lowest};
 ghost use Rattle.compare.specs.Walk as spec;
-ghost use Rattle.compare.specs.Meaning.{compared, roots_told};
+ghost use Rattle.compare.specs.Meaning.{compared, told, roots_told};
 ghost use Rattle.compare.specs.Inner.{collides_at};
 
 use answer_types::Refusal;
 use number_types::{ChunkNumber, TreeIndex};
 
-// What the walk answers: a refusal and which register it is of, "roots differ", a collision at the roots or at a tree index, or "equal".
+// Which of two lent to a comparison is refused, and how.
+#[derive(Clone, Copy)]
+pub enum CompareError {
+    First(Refusal),
+    Second(Refusal),
+}
+
+// What the walk finds: "roots differ", a collision at the roots or at a tree index, or "equal".
 #[derive(Clone, Copy)]
 pub enum Compared {
-    FirstRefused(Refusal),
-    SecondRefused(Refusal),
     RootsDiffer,
     AtRoots,
     AtIndex(TreeIndex),
@@ -171,8 +176,8 @@ pub fn compare(
     n2: u64,
     s2: u64,
     size2: u64,
-) -> Compared
-    ensures { compared result ≡
+) -> Result<Compared, CompareError>
+    ensures { told result ≡
         spec.compare
         node_hash
         (register_of tree.now signatures.now bitfield.now content.now n s size)
@@ -180,11 +185,11 @@ pub fn compare(
 {
     let first = judge_whole(tree, signatures, bitfield, content, n, s, size);
     if let Err(refusal) = first {
-        return Compared::FirstRefused(refusal);
+        return Err(CompareError::First(refusal));
     }
     let second = judge_whole(tree2, signatures2, bitfield2, content2, n2, s2, size2);
     if let Err(refusal) = second {
-        return Compared::SecondRefused(refusal);
+        return Err(CompareError::Second(refusal));
     }
-    walk(tree, content, n, tree2, content2, n2)
+    Ok(walk(tree, content, n, tree2, content2, n2))
 }

@@ -1,6 +1,6 @@
 // How what a call answers is printed.
 use answer_types::Refusal;
-use compare::Compared;
+use compare::{CompareError, Compared};
 use gate_printing::{InHex, Said, front, print};
 use lookup::{Located, Placed};
 use number_types::ChunkNumber;
@@ -60,27 +60,34 @@ impl Display for Shown<Result<u64, Refusal>> {
     }
 }
 
-impl Display for Shown<Compared> {
+impl Display for Shown<CompareError> {
     fn fmt<W: fmt::Write>(&self, f: &mut fmt::Formatter<W>) -> fmt::Result {
         match self.0 {
-            Compared::FirstRefused(r) => write!(f, "first {}", Said(r)),
-            Compared::SecondRefused(r) => write!(f, "second {}", Said(r)),
-            Compared::RootsDiffer => write!(f, "roots differ"),
-            Compared::AtRoots => write!(f, "collision at the roots"),
-            Compared::AtIndex(index) => write!(f, "collision tree {}", index.0),
-            Compared::Equal => write!(f, "equal"),
+            CompareError::First(r) => write!(f, "first {}", Said(r)),
+            CompareError::Second(r) => write!(f, "second {}", Said(r)),
         }
     }
 }
 
-impl Display for Shown<Walked> {
+impl Display for Shown<Result<Compared, CompareError>> {
     fn fmt<W: fmt::Write>(&self, f: &mut fmt::Formatter<W>) -> fmt::Result {
         match self.0 {
-            Walked::SameChunk => write!(f, "same chunk"),
-            Walked::AtRoots => write!(f, "collision at the roots"),
-            Walked::AtIndex(index) => write!(f, "collision tree {}", index.0),
-            Walked::FirstRefused(r) => write!(f, "first {}", Said(r)),
-            Walked::SecondRefused(r) => write!(f, "second {}", Said(r)),
+            Err(refused) => Shown(refused).fmt(f),
+            Ok(Compared::RootsDiffer) => write!(f, "roots differ"),
+            Ok(Compared::AtRoots) => write!(f, "collision at the roots"),
+            Ok(Compared::AtIndex(index)) => write!(f, "collision tree {}", index.0),
+            Ok(Compared::Equal) => write!(f, "equal"),
+        }
+    }
+}
+
+impl Display for Shown<Result<Walked, CompareError>> {
+    fn fmt<W: fmt::Write>(&self, f: &mut fmt::Formatter<W>) -> fmt::Result {
+        match self.0 {
+            Err(refused) => Shown(refused).fmt(f),
+            Ok(Walked::SameChunk) => write!(f, "same chunk"),
+            Ok(Walked::AtRoots) => write!(f, "collision at the roots"),
+            Ok(Walked::AtIndex(index)) => write!(f, "collision tree {}", index.0),
         }
     }
 }

@@ -9,19 +9,16 @@ ghost use Rattle.file_format.specs.Entries.{parent_of};
 ghost use Rattle.packet.specs.Check.{packet_chunk, entry_in, ordered};
 ghost use Rattle.packet.specs.Inner.{entry_of};
 ghost use Rattle.packet_compare.specs.Walk.{walk as walkAlong, compare_packets};
-ghost use Rattle.packet_compare.specs.Meaning.{walk_of};
+ghost use Rattle.packet_compare.specs.Meaning.{walk_of, told};
 ghost use Rattle.packet_compare.specs.Inner.{Framed, Steppable, Climbable2, up_along, Accepted2};
 
-use answer_types::Refusal;
+use compare::CompareError;
 use number_types::{ChunkNumber, TreeIndex};
 use packet::Node;
 
-// What the walk answers: a refusal and which packet it is of, "same chunk", or two different messages with one hash, at a tree index or at the
-// roots.
+// What the walk finds: "same chunk", or two different messages with one hash, at a tree index or at the roots.
 #[derive(Clone, Copy)]
 pub enum Walked {
-    FirstRefused(Refusal),
-    SecondRefused(Refusal),
     SameChunk,
     AtIndex(TreeIndex),
     AtRoots,
@@ -100,14 +97,14 @@ pub fn compare_packets(
     n: u64,
     chunk: ChunkNumber,
     root: &[u8; 32],
-) -> Walked
-    ensures { walk_of result ≡ compare_packets node_hash first.now second.now n chunk.0 root.now }
+) -> Result<Walked, CompareError>
+    ensures { told result ≡ compare_packets node_hash first.now second.now n chunk.0 root.now }
 {
     match packet::check_answer(first, n, chunk, root) {
-        Err(refusal) => Walked::FirstRefused(refusal),
+        Err(refusal) => Err(CompareError::First(refusal)),
         Ok(()) => match packet::check_answer(second, n, chunk, root) {
-            Err(refusal) => Walked::SecondRefused(refusal),
-            Ok(()) => walk(first, second, n, chunk),
+            Err(refusal) => Err(CompareError::Second(refusal)),
+            Ok(()) => Ok(walk(first, second, n, chunk)),
         },
     }
 }

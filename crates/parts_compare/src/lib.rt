@@ -4,11 +4,11 @@
 ghost use Rattle.std.specs.Prelude.{◌≡◌};
 ghost use Rattle.blake2b.specs.Hash.{node_hash};
 ghost use Rattle.checks.specs.Lent.{register_of};
-ghost use Rattle.compare.specs.Meaning.{compared};
+ghost use Rattle.compare.specs.Meaning.{told};
 ghost use Rattle.parts_compare.specs.Part.{roots_part, walk_part};
 
 use answer_types::Refusal;
-use compare::{Compared, Roots};
+use compare::{CompareError, Compared, Roots};
 use number_types::TreeIndex;
 
 // The checks 2 to 6 of both registers, then "roots differ", or a collision at the roots, or "equal" where neither is so.
@@ -27,8 +27,8 @@ pub fn roots_part(
     n2: u64,
     s2: u64,
     size2: u64,
-) -> Compared
-    ensures { compared result ≡
+) -> Result<Compared, CompareError>
+    ensures { told result ≡
         roots_part
         node_hash
         (register_of tree.now signatures.now bitfield.now content.now n s size)
@@ -36,16 +36,16 @@ pub fn roots_part(
 {
     let first = checks::judge(tree, signatures, bitfield, content, n, s, size);
     if let Err(refusal) = first {
-        return Compared::FirstRefused(refusal);
+        return Err(CompareError::First(refusal));
     }
     let second = checks::judge(tree2, signatures2, bitfield2, content2, n2, s2, size2);
     if let Err(refusal) = second {
-        return Compared::SecondRefused(refusal);
+        return Err(CompareError::Second(refusal));
     }
     match compare::compare_roots(tree, n, tree2, n2) {
-        Roots::Differ => Compared::RootsDiffer,
-        Roots::Collide => Compared::AtRoots,
-        Roots::Same => Compared::Equal,
+        Roots::Differ => Ok(Compared::RootsDiffer),
+        Roots::Collide => Ok(Compared::AtRoots),
+        Roots::Same => Ok(Compared::Equal),
     }
 }
 
@@ -67,8 +67,8 @@ pub fn walk_part(
     size2: u64,
     from: TreeIndex,
     to: TreeIndex,
-) -> Compared
-    ensures { compared result ≡
+) -> Result<Compared, CompareError>
+    ensures { told result ≡
         walk_part
         (register_of tree.now signatures.now bitfield.now content.now n s size)
         (register_of tree2.now signatures2.now bitfield2.now content2.now n2 s2 size2)
@@ -77,19 +77,19 @@ pub fn walk_part(
 {
     let first = checks::judge(tree, signatures, bitfield, content, n, s, size);
     if let Err(refusal) = first {
-        return Compared::FirstRefused(refusal);
+        return Err(CompareError::First(refusal));
     }
     let second = checks::judge(tree2, signatures2, bitfield2, content2, n2, s2, size2);
     if let Err(refusal) = second {
-        return Compared::SecondRefused(refusal);
+        return Err(CompareError::Second(refusal));
     }
     if n != n2 {
-        return Compared::Equal;
+        return Ok(Compared::Equal);
     }
     let end = TreeIndex(parts_audit::lesser(to.0, audit::entry_count(n)));
     let used = size as usize;
     let used2 = size2 as usize;
-    compare::lowest_collision(
+    Ok(compare::lowest_collision(
         tree,
         &content[0..used],
         tree2,
@@ -97,5 +97,5 @@ pub fn walk_part(
         n,
         from,
         end,
-    )
+    ))
 }

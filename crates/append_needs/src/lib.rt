@@ -14,8 +14,7 @@ ghost use Rattle.append_needs.specs.Inner.{Listed, Asked, Answered};
 
 use answer_types::Refusal;
 
-// An answer, and beside it the sizes of the four files and the runs for the new leaves, the completed parents and the root hash, and all runs
-// together; zeros after a refusal.
+// The sizes of the four files, the runs for the new leaves, the completed parents and the root hash, and all runs together.
 #[derive(Clone, Copy)]
 pub struct Needed {
     pub tree: u64,

@@ -26,7 +26,7 @@ pub fn header_of(
     record_find::header_behind(read, content, chunk)
 }
 
-// The Node that a chunk is: its fields, with parts of the chunk; a Node that says nothing beside a refusal.
+// The Node that a chunk is: its fields, with parts of the chunk.
 pub fn node_of(
     tree: &[u8],
     bitfield: &[u8],

@@ -49,7 +49,7 @@ pub fn taken(step: &[u8], judging: Judging) {
     }
 }
 
-// So much of a buffer of a5 is lent; all of that is shown.
+// A Node is written into the front of a buffer of a5, which is shown up to the length lent.
 fn write_node(step: &[u8]) {
     let mut out = [0xa5u8; 4096];
     let end = number(step, 67).min(4096) as usize;

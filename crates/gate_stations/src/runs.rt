@@ -80,7 +80,7 @@ pub fn drawn(run: Run, x: u32) -> (Step, u32) {
     (Step::Enter(u64::from(station), register, chunk), last)
 }
 
-// The station that enters, of a run that is flooded by one more number.
+// The station that enters, which a flooded run picks by one more number, and the random number behind it.
 fn flooded(run: Run, station: u32, x: u32) -> (u32, u32) {
     let Some(flooding) = run.flooding else {
         return (station, x);

@@ -12,7 +12,7 @@ ghost use Rattle.journal_meeting.specs.Between as Between;
 
 use journal::{JournalError, Kind, RangeAt};
 
-// Inner: the first byte of a range that lies outside the file, or is neither the old one nor the new one.
+// Inner: the offset of a range of which not all lies in the file, or else of its first byte that is neither the old one nor the new one.
 fn first_strange(file: &[u8], at: usize, old: &[u8], new: &[u8]) -> Option<usize>
     requires { length old.now ≡ length new.now }
     ensures { place_of result ≡ met_range file.now (replaced at old.now new.now) }

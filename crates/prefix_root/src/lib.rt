@@ -43,7 +43,7 @@ fn judge(
     up_to(n, m)
 }
 
-// Inner: an answer, and beside it, where it is done, the root hash that the stored roots of the first m chunks give; zeros after a refusal.
+// Inner: behind an answer, the root hash that the stored roots of the first m chunks give.
 pub fn rooted(found: Result<(), Refusal>, tree: &[u8], m: u64) -> Result<[u8; 32], Refusal>
     requires { said found ≡ done → RootsIn tree.now m }
     ensures { RootedPost (said found) tree.now m (said result) (result_unwrap_or result (zeros 32)) }
@@ -52,7 +52,7 @@ pub fn rooted(found: Result<(), Refusal>, tree: &[u8], m: u64) -> Result<[u8; 32
     Ok(file_format::roots::stored_root_hash(tree, m))
 }
 
-// The root hash of the first m chunks, from the stored entries; zeros after a refusal.
+// The root hash of the first m chunks, from the stored entries.
 pub fn prefix_root(
     tree: &[u8],
     signatures: &[u8],

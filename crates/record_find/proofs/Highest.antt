@@ -60,20 +60,10 @@ pub map_long : (ns : List Node) → length (map node_bytes ns) ≡ length ns
 map_long [] = refl
 map_long (n ∷ ns) = ap suc (map_long ns)
 
-module _ (verdict : ℕ → Verdict) (bytes : ℕ → List ℕ) (h : Header) (ns : List Node) (r : Reading verdict bytes h ns) (path : List ℕ) where
-  judge : ℕ → Verdict × Bool
-  judge c = path_after (verdict c) (bytes c) c path
-
-  -- what is told of the chunk of a Node is whether its path is the one sought
-  told : (j : ℕ) → j < length ns → judge (suc j) ≡ (done, same_list (path_at ns j) path)
-  unfolding judge
-  told j l =
-      let a = r.reads (suc j) (omega arith) in
-      let read : node_from (bytes (suc j)) ≡ some (get_or ns j beyond) =
-      each_read.nodes.accepts (bytes (suc j)) (get_or ns j beyond) (record { within = r.nodes j l; bytes = sym (a.1 ∙ node_at_lem ns j l) }) in
-      ap (λ (v : Verdict). after_read false v (read_path path (tree (index 0 (suc j))) (bytes (suc j)))) a.0
-      ∙ ap (told_of (tree (index 0 (suc j))) false (λ (n : Node). same_list n.path path)) read
-
+-- the search by any judge that tells of each chunk of a Node whether its path is the one sought: of a judge with a definition two of its values that
+-- differ would be computed before they are told apart
+module _ (judge : ℕ → Verdict × Bool) (ns : List Node) (path : List ℕ)
+    (told : (j : ℕ) → j < length ns → judge (suc j) ≡ (done, same_list (path_at ns j) path)) where
   down : (k : ℕ) → k ≤ length ns → Below path ns k (find_down judge k)
   unfolding find_down
   down zero l = λ j m. absurd (omega arith)
@@ -87,6 +77,20 @@ module _ (verdict : ℕ → Verdict) (bytes : ℕ → List ℕ) (h : Header) (ns
         where
           no : false ≡ true → ⊥
           no x = let z : ◌≡◌ {A = ℕ} 0 1 = cc in omega arith
+
+module _ (verdict : ℕ → Verdict) (bytes : ℕ → List ℕ) (h : Header) (ns : List Node) (r : Reading verdict bytes h ns) (path : List ℕ) where
+  judge : ℕ → Verdict × Bool
+  judge c = path_after (verdict c) (bytes c) c path
+
+  -- what is told of the chunk of a Node is whether its path is the one sought
+  told : (j : ℕ) → j < length ns → judge (suc j) ≡ (done, same_list (path_at ns j) path)
+  unfolding judge
+  told j l =
+      let a = r.reads (suc j) (omega arith) in
+      let read : node_from (bytes (suc j)) ≡ some (get_or ns j beyond) =
+      each_read.nodes.accepts (bytes (suc j)) (get_or ns j beyond) (record { within = r.nodes j l; bytes = sym (a.1 ∙ node_at_lem ns j l) }) in
+      ap (λ (v : Verdict). after_read false v (read_path path (tree (index 0 (suc j))) (bytes (suc j)))) a.0
+      ∙ ap (told_of (tree (index 0 (suc j))) false (λ (n : Node). same_list n.path path)) read
 
   whole : (o : Outcome) → Below path ns (length ns) o → Highest path ns o
   whole (failed m spot) b = b
@@ -103,7 +107,7 @@ module _ (verdict : ℕ → Verdict) (bytes : ℕ → List ℕ) (h : Header) (ns
   highest : Highest path ns (find_by judge done (header_after (verdict 0) (bytes 0) 0).0 (suc (length ns)))
   highest =
       subst (λ (v : Verdict). Highest path ns (find_among judge v (suc (length ns)))) (sym first)
-      (whole (find_down judge (length ns)) (down (length ns) (omega arith)))
+      (whole (find_down judge (length ns)) (down judge ns path told (length ns) (omega arith)))
 
 pub finds_highest : FindsHighest
 unfolding judge

@@ -10,7 +10,7 @@
   `pub use` or `pub mod`, or where C can call it. A `pub` function that has a `requires` says "Inner" in its comment, or its file's first comment says
   that all of them are.
 - The functions of the C header are those that the code exports to C.
-- Every enum that a function without `requires` answers is named in a definition that the row on enums cites.
+- The refusal and every enum that a function without `requires` answers, in a `Result` or an `Option` too, is named in a definition that the row on enums cites.
 
 Usage: tests/claims.py, from anywhere; --table prints the table of functions as the code gives it, --write puts it into the page; --seeded makes a mistake of
 each kind, in memory, and looks whether it is found.
@@ -61,8 +61,8 @@ class Function:
         self.crate, self.path, self.name = crate, path, name
         self.module = os.path.splitext(os.path.basename(path))[0]
         signature = re.split(r"^\s*(?:requires|ensures)\b", head, flags=re.M)[0]
-        answer = re.search(r"\) -> (\w+)", signature)
-        self.answer = answer.group(1) if answer else None
+        answer = re.search(r"\) -> ([^\n{]+)", signature)
+        self.answers = re.findall(r"\w+", answer.group(1)) if answer else []
         self.requires = re.search(r"^\s*requires\b", head, re.M) is not None
         self.writes = "&mut " in signature
         self.from_c = 'extern "C"' in signature
@@ -328,18 +328,19 @@ def check():
     enums_of = {}
     for c in crates:
         for path in files_below(f"crates/{c}/src", ".rt"):
-            for name in re.findall(r"^pub enum (\w+)", read(path), re.M):
+            for name in re.findall(r"^pub (?:enum |struct (?=Refusal\b))(\w+)", read(path), re.M):
                 enums_of.setdefault(name, {})[c] = path
     on_enums = next((kept_by(row, more.get(ENUMS, [])) for row in rows if row["Name"] == ENUMS), "")
     definitions = [p for p in re.findall(r"`(\w+/specs/\w+)`", on_enums) if is_file(f"crates/{p}.antt")]
     for c, functions in free(crates).items():
         for name, f in functions:
-            if f.answer not in enums_of:
-                continue
-            brought = [path.split("::")[0] for path, _, name in used_in(read(f.path)) if name == f.answer]
-            owner = c if c in enums_of[f.answer] else (brought or [None])[0]
-            if not any(p.startswith(f"{owner}/") and word_in(f.answer, read(f"crates/{p}.antt")) for p in definitions):
-                say(ENUMS, f"cites no definition for `{f.answer}` of {owner}, which `{c}::{name}` answers")
+            for answer in f.answers:
+                if answer not in enums_of:
+                    continue
+                brought = [path.split("::")[0] for path, _, name in used_in(read(f.path)) if name == answer]
+                owner = c if c in enums_of[answer] else (brought or [None])[0]
+                if not any(p.startswith(f"{owner}/") and word_in(answer, read(f"crates/{p}.antt")) for p in definitions):
+                    say(ENUMS, f"cites no definition for `{answer}` of {owner}, which `{c}::{name}` answers")
     return sorted(set(wrong))
 
 
@@ -405,7 +406,7 @@ def seeded_in_more(page, found):
     call = re.search(r"`(\w+)::(\w+)`", more)
     entry = re.search(r"^- \*\*(\S+)\*\* .*\n", more, re.M)
     on_enums = more[more.index(f"- **{ENUMS}** ") :]
-    given = re.search(r"`\w+/specs/\w+`", on_enums).group(0)
+    given = "`packet_compare/specs/Meaning`"
     put("an edit that is not there", f"`{label}`", f"`{label}_gone`", "_gone`, and there is none")
     put("an edit that no row cites", f"`{label}`", "", f"{label}: is an edit that no row cites")
     put("a path that is not there", path.group(1), path.group(1) + "Gone", "Gone`, and there is no such file")

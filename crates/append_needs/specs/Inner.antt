@@ -17,7 +17,7 @@ pub record Asked (n size : ℕ) (ls : List ℕ) : Type 0 where
   pub listed : Listed ls
   pub held : size ≤ longest_chunk * n
 
--- all that an answer holds which is not a refusal
+-- all that is given where nothing is refused
 pub record Answered (n size : ℕ) (ls : List ℕ) (r : Needed) : Type 0 where
   pub numbers : numbers_of r ≡ need_of n size ls
   pub runs : r.runs ≡ r.leaves + r.parents + r.root

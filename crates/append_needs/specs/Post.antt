@@ -19,7 +19,7 @@ numbers_of r =
       root = r.root;
     }
 
--- what is given, and zeros after a refusal
+-- zeros, which stand for what is given after a refusal
 abbrev pub none_needed : Needed
 none_needed = record { tree = 0; signatures = 0; bitfield = 0; content = 0; leaves = 0; parents = 0; root = 0; runs = 0 }
 

@@ -14,7 +14,8 @@ use record_fields::Part;
 use record_format::Stat;
 use record_node::{Node, Writer, Writers};
 
-// A number's field: `given` is 0 where it is absent, and `value` is 0 then.
+// A number's field: `given` is 0 where it is absent, and `value` is 0 then. C reads these fields, here and below, as numbers one behind the other, so a flag
+// stands beside the value.
 #[derive(Clone, Copy)]
 pub struct FlatNumber {
     pub given: u64,

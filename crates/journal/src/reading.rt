@@ -223,7 +223,11 @@ pub fn check(journal: &[u8]) -> Result<usize, JournalError>
 // The range at a place of a journal.
 #[tactic(auto, unfolding(crate::specs::Reading::next_said, crate::specs::Reading::whether, crate::specs::Places::length_right))]
 pub fn next(journal: &[u8], at: usize) -> Result<RangeAt, JournalError>
-    ensures { MatchResult result (λ range. (next_said journal.now at ≡ Ok range.behind) × (numbers_of range ≡ numbers_at journal.now at)) (λ error. next_said journal.now at ≡ Err error) }
+    ensures { MatchResult result
+        (λ range. (next_said journal.now at ≡ Ok range.behind)
+        × (numbers_of range ≡ numbers_at journal.now at)
+        × (range.at ≡ at))
+        (λ error. next_said journal.now at ≡ Err error) }
 {
     if !length_right(journal.len()) {
         return Err(JournalError::Length);

@@ -204,7 +204,7 @@ extern "C" {
 
 /* The version of this header: 1,000,000 times its first number, which rises where a caller has to change something, and 1,000 times its second. sleep_version
  * tells that of the archive that is linked. docs/CHANGELOG.md has what each brought. */
-#define SLEEP_VERSION 3046000u
+#define SLEEP_VERSION 3050000u
 
 #define SLEEP_MOST_CHUNKS 1048576u
 #define SLEEP_LONGEST_CHUNK 65536u

@@ -45,7 +45,7 @@ pub enum Walked {
 pub const PACKET_EXTRA: usize = 1526;
 
 /// The version that this wrapper is of, as include/sleep_register.h has it; `version` tells that of the archive that is linked.
-pub const VERSION: u64 = 3050000;
+pub const VERSION: u64 = 3051000;
 
 /// The stored entry of a chunk's leaf: its hash and its length.
 #[derive(Clone, Copy, Debug, PartialEq, Eq)]

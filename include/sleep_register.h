@@ -126,9 +126,8 @@
  *   most 20. Figures: docs/FIGURES.md.
  *
  * WHAT FIRMWARE HAS TO PROVIDE
- *   Code with its read-only constants, at most, in bytes: x86-64 112,000; x86-64-v3 100,000; aarch64 84,000; aarch64-strict 136,000; riscv64 124,000;
- *   riscv64-soft 124,000; s390x 155,000; armv7 136,000. (Of this code x86-64 alone is counted: it was 88,000 before, so expect a quarter more of the
- *   others.) The archive has no variables: no static data, zeroed or not, and nothing to set up. From outside
+ *   Code with its read-only constants, at most, in bytes: x86-64 96,000; x86-64-v3 100,000; aarch64 84,000; aarch64-strict 136,000; riscv64 124,000;
+ *   riscv64-soft 124,000; s390x 155,000; armv7 136,000. The archive has no variables: no static data, zeroed or not, and nothing to set up. From outside
  *   it needs memcpy, memset, memmove and memcmp at most; it allocates nothing. The stack that each call takes at most, counted from the caller's frame,
  *   with arguments, return address and what memcpy or memset takes, is SLEEP_STACK_.. below.
  *   tests/run and tests/targets hold the archive to all of this, the stack by calls on a painted one.
@@ -204,7 +203,7 @@ extern "C" {
 
 /* The version of this header: 1,000,000 times its first number, which rises where a caller has to change something, and 1,000 times its second. sleep_version
  * tells that of the archive that is linked. docs/CHANGELOG.md has what each brought. */
-#define SLEEP_VERSION 3050000u
+#define SLEEP_VERSION 3051000u
 
 #define SLEEP_MOST_CHUNKS 1048576u
 #define SLEEP_LONGEST_CHUNK 65536u
@@ -263,7 +262,7 @@ extern "C" {
 #define SLEEP_STACK_READ 7168u
 #define SLEEP_STACK_RELEASE 7168u
 #define SLEEP_STACK_SERVE 7168u
-#define SLEEP_STACK_CHECK_PACKET 11264u
+#define SLEEP_STACK_CHECK_PACKET 8192u
 #define SLEEP_STACK_HEADER_OF 8192u
 #define SLEEP_STACK_FIND 8192u
 #define SLEEP_STACK_MAKE_PACKET 7168u
@@ -273,13 +272,13 @@ extern "C" {
 #define SLEEP_STACK_APPEND_LIST 6144u
 #define SLEEP_STACK_PREVIEW 6144u
 #define SLEEP_STACK_READ_NODE 7168u
-#define SLEEP_STACK_TAKE_IN 14336u
+#define SLEEP_STACK_TAKE_IN 11264u
 #define SLEEP_STACK_NODE_OF 11264u
 #define SLEEP_STACK_WRITE_NODE 6144u
-#define SLEEP_STACK_COMPARE_PACKETS 11264u
+#define SLEEP_STACK_COMPARE_PACKETS 9216u
 #define SLEEP_STACK_COMPARE 9216u
 #define SLEEP_STACK_AUDIT_TREE_PART 3072u
-#define SLEEP_STACK_AUDIT_BITFIELD_PART 3072u
+#define SLEEP_STACK_AUDIT_BITFIELD_PART 2048u
 #define SLEEP_STACK_COPY_AUDIT_TREE_PART 6144u
 #define SLEEP_STACK_COPY_AUDIT_BITFIELD_PART 2048u
 #define SLEEP_STACK_COMPARE_HELD_PART 2048u

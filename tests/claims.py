@@ -57,8 +57,10 @@ def files_below(path, ending):
 
 
 class Function:
-    def __init__(self, crate, path, name, head, comment):
-        self.crate, self.path, self.name = crate, path, name
+    """A function that a file hands on, or may: `shown` is its name on the page, and `of` the types that its `impl` block speaks of, if it stands in one."""
+
+    def __init__(self, crate, path, name, head, comment, shown, of):
+        self.crate, self.path, self.name, self.shown, self.of = crate, path, name, shown, of
         self.module = os.path.splitext(os.path.basename(path))[0]
         signature = re.split(r"^\s*(?:requires|ensures)\b", head, flags=re.M)[0]
         answer = re.search(r"\) -> ([^\n{]+)", signature)
@@ -75,19 +77,25 @@ def functions_in(crate, path):
     while len(first) < len(lines) and lines[len(first)].startswith("//"):
         first.append(lines[len(first)][2:])
     all_inner = re.search(r"\b(all|every)\b[^.]*\binner\b|\bInner:", " ".join(first), re.I) is not None
-    found = []
+    found, block = [], None
     for at, line in enumerate(lines):
-        match = re.match(r'pub (?:extern "C" )?fn (\w+)', line)
+        # an `impl` block: its trait, if it is of one, and its type
+        block = re.match(r"impl(?:<.*?>)? (?:([\w<>]+) for )?(.+?) \{$", line) or (None if line == "}" else block)
+        match = re.match(r'pub (?:extern "C" )?fn (\w+)', line) or (block and re.match(r"    %sfn (\w+)" % ("" if block.group(1) else "pub "), line))
         if not match:
             continue
         end = at
-        while lines[end] != "{" and not re.search(r"\)(?: -> [^{]*)? \{$", lines[end]):
+        while lines[end].strip() != "{" and not re.search(r"\)(?: -> [^{]*)? \{$", lines[end]):
             end += 1
         above = at
-        while above > 0 and lines[above - 1].startswith(("//", "#[")):
+        while above > 0 and lines[above - 1].lstrip().startswith(("//", "#[")):
             above -= 1
         inner = all_inner or re.search(r"\binner\b", " ".join(lines[above:at]), re.I) is not None
-        found.append(Function(crate, path, match.group(1), "\n".join(lines[at : end + 1]), inner))
+        shown, of = match.group(1), set()
+        if block and line.startswith(" "):
+            shown = f"{block.group(1)} for {block.group(2)}" if block.group(1) else f"{block.group(2)}::{shown}"
+            of = set(re.findall(r"\w+", block.group(0)))
+        found.append(Function(crate, path, match.group(1), "\n".join(lines[at : end + 1]), inner, shown, of))
     return found
 
 
@@ -118,7 +126,11 @@ def exported(crate, functions):
     used = {(path.split("::")[-1], name): renamed for path, name, renamed in used_in(root, public=True)}
     shown = []
     for f in functions:
-        if f.from_c or f.module == "lib":
+        if f.of:
+            # a method is handed on with a type of its block
+            if f.module in modules + ["lib"] or any((f.module, name) in used for name in f.of):
+                shown.append((f.shown, f))
+        elif f.from_c or f.module == "lib":
             shown.append((f.name, f))
         elif (f.module, f.name) in used:
             shown.append((used[(f.module, f.name)], f))

@@ -44,8 +44,9 @@ def parameters(crate, name):
 def main(path):
     with open(path) as file:
         page = file.read()
-    calls = re.findall(r'(\w+)::(\w+)\((.*)\);', shown(page, 'rattle'))
-    assert len(calls) >= 4, 'calls in Rattle'
+    lines = shown(page, 'rattle').splitlines()
+    calls = [found.groups() for found in (re.match(r'(?:let \w+ = )?(\w+)::(\w+)\((.*)\)\?;', line) for line in lines) if found]
+    assert len(calls) == len(lines) == 5, 'calls in Rattle, each with its `?`'
     for crate, name, given in calls:
         assert len(given.split(',')) == parameters(crate, name), '%s::%s: as many arguments as parameters' % (crate, name)
     built_and_run(C_WORDS, 'shown.c', shown(page, 'c'), ROOT + '/target/staticlib/libc_api.a')

@@ -67,7 +67,9 @@ fn leaves_of(s: &[u8]) -> [u8; 256]
     out
 }
 
-// Inner: the bytes of one level, count of them, each from the two that stand half before and half behind it.
+// Inner: the bytes of one level, count of them, each from the two that stand half before and half behind it. Out of line, since for each of the seven
+// levels the loop would be unrolled by itself.
+#[inline(never)]
 #[tactic(auto, using(crate::proofs::Levels::room, crate::proofs::Levels::level_zero, crate::proofs::Levels::level_next))]
 fn make_level(out: &mut [u8; 256], half: usize, count: usize)
     requires { (0 < half) × (4 * half * count ≡ 256) × (length out.old ≡ 256) }

@@ -7,7 +7,8 @@ use mathlib.Core.Bool.{Bool, true, ◌&&◌}
 use mathlib.Core.List.{List, [], ◌∷◌, ◌++◌, append_assoc, append-nil}
 use lib.ListN.{length, get_or, set, take, drop, length-append, length-drop, length-replicate, take-append-drop, drop_of_length-le}
 use lib.Seq.{length-take-le, take_at, drop_at, take-append-le, drop-append-le, get_or-take, get_or-drop, get_or-append-add, drop-append-add, take-append-add}
-use lib.Seq.{take-take, drop-drop, take-add, set_split, ext_get_or, take-nil}
+use lib.Seq.{take-take, drop-drop, take-add, set_split, ext_get_or, take-nil, take-suc}
+use native.Mathlib.Numerals.{add-one}
 use lib.Dec.{eqb}
 use borrow.Author.Tests.{eqb-true, eq-eqb}
 use borrow.Rule.Slice.PartMut.{put_mid}
@@ -144,6 +145,22 @@ module _ {A : Type 0} where
   pub put_one : (xs : List A) (at : ℕ) (a : A) → at < length xs → set xs at a ≡ put xs at (a ∷ [])
   unfolding put
   put_one xs at a h = set_split xs at a h ∙ ap (λ (i : ℕ). take at xs ++ (a ∷ drop i xs)) (sym (add-suc at 0 ∙ ap suc (add-zero at)))
+
+  -- a turn of a loop that stores: one element more behind those that stand there
+  pub put_snoc : (xs : List A) (at : ℕ) (ys : List A) (a : A) → at + length ys < length xs
+      → set (put xs at ys) (at + length ys) a ≡ put xs at (ys ++ (a ∷ []))
+  put_snoc xs at ys a h =
+      put_one (put xs at ys) (at + length ys) a (subst (λ (k : ℕ). at + length ys < k) (sym (length_put xs at ys (omega arith))) h)
+      ∙ put_append xs at ys (a ∷ []) (omega arith)
+
+  -- the same, where the elements come from another list
+  pub put_take : (xs : List A) (at : ℕ) (ys : List A) (i : ℕ) (d : A) → at + length ys ≤ length xs → i < length ys
+      → set (put xs at (take i ys)) (at + i) (get_or ys i d) ≡ put xs at (take (i + 1) ys)
+  put_take xs at ys i d h l =
+      let e : length (take i ys) ≡ i = length-take-le i ys (omega arith) in
+      ap (λ (k : ℕ). set (put xs at (take i ys)) (at + k) (get_or ys i d)) (sym e)
+      ∙ put_snoc xs at (take i ys) (get_or ys i d) (omega (arith, e))
+      ∙ ap (put xs at) (sym (take-suc ys i d l) ∙ ap (λ (k : ℕ). take k ys) (sym (add-one i)))
 
   -- ---- runs
 

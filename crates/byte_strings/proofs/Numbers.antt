@@ -1,18 +1,18 @@
 -- Laws of big-endian numbers. Assumes nothing.
 use mathlib.Core.Path.{◌≡◌, refl, sym, ap, ◌∙◌, subst}
-use Prim.Native.Nat.{ℕ, zero, suc, ◌+◌, ◌-◌, ◌*◌, ◌/◌, ◌%◌, ◌^◌, ◌<◌, ◌≤◌}
+use Prim.Native.Nat.{ℕ, zero, suc, ◌+◌, ◌*◌, ◌/◌, ◌%◌, ◌^◌, ◌<◌, ◌≤◌}
 use native.Mathlib.Nat.{add_assoc, mul_assoc, zero-add, add-mul, pow-suc, pow-succ', suc_inj, div-add-mod', div-lt_iff_lt-mul, suc-ne-zero}
 use native.Mathlib.Omega.{arith}
 use mathlib.Core.List.{List, [], ◌∷◌, ◌++◌}
-use lib.ListN.{length, get_or, take, drop, length-append}
-use lib.Seq.{take-take}
+use lib.ListN.{length, get_or, length-append}
+use native.Mathlib.Numerals.{add-one, add-two, add-three, add-four, add_five, add_six, add_seven}
 use lib.Dec.{lit<}
 use lib.Arith.{digits_div, digits_mod, digits_lt}
 use Rattle.std.specs.Int.{w32, w64, from_be_bytes, to_be_bytes, bytes_high_first}
 use Rattle.std.proofs.lemmas.Nat.{from_be_bytes-to_be_bytes_4, from_be_bytes-to_be_bytes_8}
 use Rattle.byte_strings.specs.Lists.{Bytes, part, run}
 use Rattle.byte_strings.specs.Numbers.{be, number, number_from}
-use Rattle.byte_strings.proofs.Lists.{bytes_append, bytes_part, length_part, run_get_or}
+use Rattle.byte_strings.proofs.Lists.{bytes_append, bytes_part, length_part, part_run, run_get_or}
 
 -- ---- the bytes of a number
 
@@ -103,10 +103,6 @@ unfolding number
 number_append xs ys = from_append 0 xs ys ∙ from_eq (number_from 0 xs) ys
 
 -- what std reads from four bytes and from eight, and writes as them
-front_of_rest : (xs : List ℕ) (at k : ℕ) → at + k ≤ length xs → take k (take (length xs - at) (drop at xs)) ≡ part xs at k
-unfolding part
-front_of_rest xs at k h = take-take k (length xs - at) (drop at xs) (omega arith)
-
 bytes_high : (k x : ℕ) → Bytes (bytes_high_first k x)
 bytes_high zero x i = omega arith
 bytes_high (suc zero) x zero = omega arith
@@ -120,10 +116,13 @@ worth_4 xs = omega arith
 from_4 : (xs : List ℕ) → length xs ≡ 4 → from_be_bytes w32 xs ≡ number xs
 from_4 xs e = worth_4 xs ∙ ap number (run_get_or xs 4 0 e)
 
-pub read_4 : (xs ys : List ℕ) (at : ℕ) → at + 4 ≤ length xs → ys ≡ take 4 (take (length xs - at) (drop at xs)) → from_be_bytes w32 ys ≡ number (part xs at 4)
-read_4 xs ys at h e =
-    let f : ys ≡ part xs at 4 = e ∙ front_of_rest xs at 4 h in
-    from_4 ys (ap length f ∙ length_part xs at 4 h) ∙ ap number f
+four_run : (xs : List ℕ) (at : ℕ) → run (λ j. get_or xs j 0) at 4 ≡ get_or xs at 0 ∷ get_or xs (at + 1) 0 ∷ get_or xs (at + 2) 0 ∷ get_or xs (at + 3) 0 ∷ []
+unfolding run
+four_run xs at = simp (add-one, add-two, add-three)
+
+pub read_4 : (xs : List ℕ) (at : ℕ) → at + 4 ≤ length xs
+    → from_be_bytes w32 (get_or xs at 0 ∷ get_or xs (at + 1) 0 ∷ get_or xs (at + 2) 0 ∷ get_or xs (at + 3) 0 ∷ []) ≡ number (part xs at 4)
+read_4 xs at h = from_4 _ refl ∙ ap number (sym (part_run xs at 4 0 h ∙ four_run xs at))
 
 pub written_4 : (x : ℕ) → x < 2 ^ 32 → to_be_bytes w32 x ≡ be 4 x
 written_4 x h =
@@ -137,10 +136,18 @@ worth_8 xs = omega arith
 from_8 : (xs : List ℕ) → length xs ≡ 8 → from_be_bytes w64 xs ≡ number xs
 from_8 xs e = worth_8 xs ∙ ap number (run_get_or xs 8 0 e)
 
-pub read_8 : (xs ys : List ℕ) (at : ℕ) → at + 8 ≤ length xs → ys ≡ take 8 (take (length xs - at) (drop at xs)) → from_be_bytes w64 ys ≡ number (part xs at 8)
-read_8 xs ys at h e =
-    let f : ys ≡ part xs at 8 = e ∙ front_of_rest xs at 8 h in
-    from_8 ys (ap length f ∙ length_part xs at 8 h) ∙ ap number f
+eight_run : (xs : List ℕ) (at : ℕ) → run (λ j. get_or xs j 0) at 8
+    ≡ get_or xs at 0 ∷ get_or xs (at + 1) 0 ∷ get_or xs (at + 2) 0 ∷ get_or xs (at + 3) 0
+    ∷ get_or xs (at + 4) 0 ∷ get_or xs (at + 5) 0 ∷ get_or xs (at + 6) 0 ∷ get_or xs (at + 7) 0 ∷ []
+unfolding run
+eight_run xs at = simp (add-one, add-two, add-three, add-four, add_five, add_six, add_seven)
+
+pub read_8 : (xs : List ℕ) (at : ℕ) → at + 8 ≤ length xs
+    → from_be_bytes w64
+    (get_or xs at 0 ∷ get_or xs (at + 1) 0 ∷ get_or xs (at + 2) 0 ∷ get_or xs (at + 3) 0
+    ∷ get_or xs (at + 4) 0 ∷ get_or xs (at + 5) 0 ∷ get_or xs (at + 6) 0 ∷ get_or xs (at + 7) 0 ∷ [])
+    ≡ number (part xs at 8)
+read_8 xs at h = from_8 _ refl ∙ ap number (sym (part_run xs at 8 0 h ∙ eight_run xs at))
 
 pub written_8 : (x : ℕ) → x < 2 ^ 64 → to_be_bytes w64 x ≡ be 8 x
 written_8 x h =

@@ -7,5 +7,5 @@ ghost use Rattle.c_api.specs.Version.{version};
 pub extern "C" fn sleep_flat_version() -> u64
     ensures { result ≡ version }
 {
-    3050000
+    3051000
 }

@@ -145,8 +145,10 @@ fn sizes_add_up(roots: Roots, size: u64) -> bool
     requires { roots.count ≤ 20 }
     ensures { result ≡ eqb (total (take roots.count roots.sizes)) size }
 {
+    // Lent out of `roots` itself, all of its arrays would be kept in memory.
+    let sizes = roots.sizes;
     let mut left = size;
-    for here in &roots.sizes[0..roots.count] {
+    for here in &sizes[0..roots.count] {
         let Some(rest) = left.checked_sub(*here) else {
             return false;
         };

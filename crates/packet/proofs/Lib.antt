@@ -8,7 +8,6 @@ pub mod InTurn
 pub mod Right
 pub mod Rows
 pub mod Makes
-pub mod Mapped
 pub mod Pieces
 pub mod Answers
 pub mod Inside

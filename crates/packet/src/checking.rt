@@ -1,6 +1,6 @@
 // The check of a packet: "takes packet, n, i and root hash; it answers the chunk's part of the packet unless 2, 9, 12 or 13 holds".
 // Any bytes may be lent as a packet: its counts and lengths are judged before anything is read at them.
-ghost use Rattle.std.specs.Prelude.{◌≡◌, ◌++◌, true, map, ◌+◌, ◌-◌, ◌*◌, ◌≤◌, ◌<◌, length};
+ghost use Rattle.std.specs.Prelude.{◌≡◌, ◌++◌, true, ◌+◌, ◌-◌, ◌*◌, ◌≤◌, ◌<◌, length};
 ghost use Rattle.answer_types.specs.Verdict.{unless_refused};
 ghost use Rattle.answer_types.specs.Meaning.{said};
 ghost use Rattle.byte_strings.specs.Lists.{put, total, zeros};
@@ -194,17 +194,28 @@ fn in_turn(packet: &[u8], at: usize, place: usize, node: Node, j: usize) -> Node
     entry_node(packet, at + 40 * (j - 1))
 }
 
-// Inner: the entries of all roots, the one above the chunk in its turn among the others, and empty ones behind them.
-fn nodes_in_turn(packet: &[u8], at: usize, place: usize, node: Node, count: usize) -> [Node; 20]
+// Inner: the hashes and the lengths of all roots, the one above the chunk in its turn among the others, and zeros behind them. Both are filled as they
+// are read: an array of entries would be taken apart in two more passes over all twenty places.
+fn roots_in_turn(
+    packet: &[u8],
+    at: usize,
+    place: usize,
+    node: Node,
+    count: usize,
+) -> ([[u8; 32]; 20], [u64; 20])
     requires { TurnsIn packet.now at place count }
-    ensures hashes { map (λ e. e.hash) result ≡ padded (zeros 32) count (hash_row packet.now at place (entry_of node) count) }
-    ensures sizes { map (λ e. e.size) result ≡ padded 0 count (size_row packet.now at place (entry_of node) count) }
+    ensures hashes { result.0 ≡ padded (zeros 32) count (hash_row packet.now at place (entry_of node) count) }
+    ensures sizes { result.1 ≡ padded 0 count (size_row packet.now at place (entry_of node) count) }
 {
-    let mut nodes = [no_node(); 20];
+    let mut hashes = [[0u8; 32]; 20];
+    let mut sizes = [0u64; 20];
     for j in 0..count {
-        nodes[j] = in_turn(packet, at, place, node, j);
+        let entry = in_turn(packet, at, place, node, j);
+        let hash = entry.hash;
+        hashes[j] = hash;
+        sizes[j] = entry.size;
     }
-    nodes
+    (hashes, sizes)
 }
 
 // Inner: the root hash that the root above a chunk and the other roots in a packet give.
@@ -215,14 +226,7 @@ fn root_hash_with(packet: &[u8], at: usize, n: u64, chunk: ChunkNumber, node: No
     let place = super::path::root_place(n, chunk);
     let count = tree_index::root_count(n);
     let indexes = tree_index::root_indexes(n);
-    let nodes = nodes_in_turn(packet, at, place, node, count);
-    let sizes = nodes.map(|entry| entry.size);
-    // Of a closure that hands out an array nothing is known but what it says.
-    let hashes = nodes.map(
-        |entry|
-            ensures { result ≡ entry.hash }
-        { entry.hash },
-    );
+    let (hashes, sizes) = roots_in_turn(packet, at, place, node, count);
     let roots = Roots {
         count,
         indexes,

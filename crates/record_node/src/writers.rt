@@ -43,7 +43,9 @@ fn read_writer(d: &[u8], at: usize) -> Option<Writer>
     with_key(key.value, permission.value)
 }
 
-// Inner: one more Writer at a place: none where its field is badly written, and a Writer that is none where there is no such field.
+// Inner: one more Writer at a place: none where its field is badly written, and a Writer that is none where there is no such field. In line, since around a
+// call of it the loop over eight of them is unrolled, which is three times the code.
+#[inline(always)]
 fn one_writer(d: &[u8], at: usize) -> Option<Read<Option<Writer>>>
     requires { at ≤ length d.now }
     ensures { OneRead d.now at result }

@@ -67,9 +67,8 @@ fn leaves_of(s: &[u8]) -> [u8; 256]
     out
 }
 
-// Inner: the bytes of one level, count of them, each from the two that stand half before and half behind it. Out of line, since for each of the seven
-// levels the loop would be unrolled by itself.
-#[inline(never)]
+// Inner: the bytes of one level, count of them, each from the two that stand half before and half behind it.
+#[inline(always)]
 #[tactic(auto, using(crate::proofs::Levels::room, crate::proofs::Levels::level_zero, crate::proofs::Levels::level_next))]
 fn make_level(out: &mut [u8; 256], half: usize, count: usize)
     requires { (0 < half) × (4 * half * count ≡ 256) × (length out.old ≡ 256) }
@@ -81,6 +80,15 @@ fn make_level(out: &mut [u8; 256], half: usize, count: usize)
     }
 }
 
+// Inner: the same, out of line. The first level has half of the bytes, and is compiled for itself; code for each of the others would be a thousand bytes more.
+#[inline(never)]
+fn make_higher_level(out: &mut [u8; 256], half: usize, count: usize)
+    requires { (0 < half) × (4 * half * count ≡ 256) × (length out.old ≡ 256) }
+    ensures { out.new ≡ level out.old half count }
+{
+    make_level(out, half, count);
+}
+
 // Inner: the Index of the data bytes of one entry.
 #[tactic(auto, using(crate::proofs::Levels::levels, crate::proofs::Levels::length_leaves, crate::proofs::Levels::length_level))]
 pub fn index_of(s: &[u8]) -> [u8; 256]
@@ -89,11 +97,11 @@ pub fn index_of(s: &[u8]) -> [u8; 256]
 {
     let mut out = leaves_of(s);
     make_level(&mut out, 1, 64);
-    make_level(&mut out, 2, 32);
-    make_level(&mut out, 4, 16);
-    make_level(&mut out, 8, 8);
-    make_level(&mut out, 16, 4);
-    make_level(&mut out, 32, 2);
-    make_level(&mut out, 64, 1);
+    make_higher_level(&mut out, 2, 32);
+    make_higher_level(&mut out, 4, 16);
+    make_higher_level(&mut out, 8, 8);
+    make_higher_level(&mut out, 16, 4);
+    make_higher_level(&mut out, 32, 2);
+    make_higher_level(&mut out, 64, 1);
     out
 }

@@ -1,6 +1,8 @@
 // What the test programs print on standard output: text, numbers, bytes in hexadecimal, and answers.
 #![tactic(auto)]
 
+ghost use Rattle.std.specs.Prelude.{◌<◌};
+
 use answer_types::{Place, Refusal};
 use std::fmt;
 use std::fmt::{Display, Write};
@@ -35,10 +37,23 @@ pub fn number(n: u64) {
 #[derive(Clone, Copy)]
 pub struct InHex<'a>(pub &'a [u8]);
 
+// The digit of a value below 16.
+fn digit(value: u8) -> u8
+    requires { value < 16 }
+{
+    if value < 10 {
+        b'0' + value
+    } else {
+        b'a' - 10 + value
+    }
+}
+
+// A byte is one write: `{byte:02x}` fills it up to two digits by a write of its own.
 impl Display for InHex<'_> {
     fn fmt<W: Write>(&self, f: &mut fmt::Formatter<W>) -> fmt::Result {
         for byte in self.0 {
-            write!(f, "{byte:02x}")?;
+            let both = [digit(byte / 16), digit(byte % 16)];
+            f.write_str(std::str::from_utf8(&both).unwrap_or(""))?;
         }
         Ok(())
     }

@@ -7,7 +7,7 @@
 - No cell but a quotation, and no line of "More", is longer than BOUND; a row cites at most MOST_EDITS edits, and "More" the others.
 - Every edit of crates/*/must-fail is cited.
 - The table of the functions without `requires` is the one that the code gives. A function is exported where its crate's root has it, or hands it on by
-  `pub use` or `pub mod`, or where C can call it. A `pub` function that has a `requires` says "Inner" in its comment, or its file's first comment says
+  `pub use` or `pub mod`, or where C can call it, and a method with a type of its `impl` block. A `pub` function or method that has a `requires` says "Inner" in its comment, or its file's first comment says
   that all of them are.
 - The functions of the C header are those that the code exports to C.
 - The refusal and every enum that a function without `requires` answers, in a `Result` or an `Option` too, is named in a definition that the row on enums cites.
@@ -397,6 +397,11 @@ def seeded():
     line = next(line for line in table_of(crates)[2:] if "`, " in line)
     found("a function that the code lacks", PAGE, page.replace(line, line.replace("`, ", "`, `gone`, ", 1), 1), "the page has this line")
     asks = new.replace("    ensures", "    requires { n < 5 }\n    ensures")
+    method = "\nimpl Refusal {\n    // A new one.\n    pub fn new_one(&self) -> u64\n        ensures { result ≡ self.now.number }\n    {\n        self.number\n    }\n}\n"
+    types = next(path for path in files_below("crates/answer_types/src", ".rt") if "pub struct Refusal" in read(path))
+    found("a method that the table lacks", types, read(types) + method, "`Refusal::new_one`")
+    asked = method.replace("        ensures", "        requires { self.now.number < 5 }\n        ensures")
+    found("a method's requires that is not called inner", types, read(types) + asked, '`new_one` has a `requires`, and no comment says "Inner"')
     found("a requires that is not called inner", f.path, read(f.path) + asks, '`new_one` has a `requires`, and no comment says "Inner"')
     found("a function that C lacks", HEADER, read(HEADER) + "\nint sleep_gone(int n);\n", "`sleep_gone` is in the header")
     cut = next(line for line in page.split("\n") if line.startswith(f"| {ENUMS} |"))
